@@ -20,7 +20,7 @@ use Rattle.split_core.specs.Splitter.{IsPositive}
 use Rattle.split_core.specs.PartState.{parts_work}
 use Rattle.split_core.specs.Round.{round_plan, round_work}
 use Rattle.split_core.specs.laws.CutLaws.{short_some, full_from, whole_of_none, whole_some, rest_short}
-use Rattle.split_core.specs.laws.ShareLaws.{cut_first, parts_on, settled_count}
+use Rattle.split_core.specs.laws.ShareLaws.{cut_first, one_on, parts_on, settled_count}
 use Rattle.split_core.specs.laws.PartStateLaws as part_law
 use Rattle.split_core.specs.laws.RoundLaws as round_law
 use Rattle.split_core.proofs.MoveLemmas.{named_before}
@@ -65,9 +65,7 @@ named_each : (names : Naming) (place : ℕ) (one : List ℕ) (those : List (List
 named_each names place one [] is = ap (λ has. cond has (one ∷ []) []) (named_before names place (place + 0) is (omega arith))
 named_each names place one (two ∷ those) is =
     ap (λ has. cond has (one ∷ named_bytes names (place + 1) (two ∷ those)) []) (named_before names place (place + suc (length those)) is (omega arith))
-    ∙ ap (λ rest. one ∷ rest) (named_each names (place + 1) two those (subst (λ n. is_named names n ≡ true) (moved place (length those)) is)) where
-      moved : (n m : ℕ) → n + suc m ≡ n + 1 + m
-      moved n m = omega arith
+    ∙ ap (λ rest. one ∷ rest) (named_each names (place + 1) two those (subst (λ n. is_named names n ≡ true) (one_on place (length those)) is))
 
 -- where all have names, none is left out
 pub each_named : (names : Naming) (those : List (List ℕ)) → are_named names (length those) ≡ true → named_bytes names 0 those ≡ those

@@ -128,9 +128,6 @@ first_seen delim x ahead at sees is some = (
   first : IsFirstAt delim (take ahead.width (drop ahead.passed x)) at
   first = subst (λ n. IsFirstAt delim (take ahead.width (drop ahead.passed x)) n) (sym is) (first_marked delim (take ahead.width (drop ahead.passed x)) (subst (λ n. 0 < n) sees.marked some))
 
-pub line_seen : (delim : ℕ) (x : List ℕ) (ahead : Ahead) (at : ℕ) → IsFirstAt delim x (ahead.passed + at) → IsFirstLine delim x (take (ahead.passed + at + 1) x) (drop (ahead.passed + at + 1) x)
-line_seen delim x ahead at first = first_line delim x (ahead.passed + at) first
-
 pub sees_rest : (delim : ℕ) (x : List ℕ) (ahead : Ahead) (at mask : ℕ) → Sees delim x ahead → at < ahead.width → mask ≡ ahead.mask / 2 ^ at / 2 → Sees delim (drop (ahead.passed + at + 1) x) (record { passed = 0; width = ahead.width - (at + 1); mask = mask })
 sees_rest delim x ahead at mask sees inside is = record {
   within = let all : ahead.passed + ahead.width ≤ length x = sees.within in let rest = length-drop (ahead.passed + at + 1) x in omega arith;
@@ -150,14 +147,11 @@ sees_rest delim x ahead at mask sees inside is = record {
       ∙ drop-take (suc at) (ahead.width - (at + 1)) (drop ahead.passed x)
       ∙ ap (take (ahead.width - (at + 1))) (drop-drop (suc at) ahead.passed x ∙ ap (λ n. drop n x) place)
 
-unmarked_first : (rest : ℕ) → rest ≡ 0 → cond false 1 0 + 2 * rest ≡ 0
-unmarked_first rest none = omega arith
-
 -- other bytes after a text leave the mask as it is
 pub mask_padded : (delim other : ℕ) (x : List ℕ) (n : ℕ) → eqb other delim ≡ false → delimiter_mask delim (x ++ replicate n other) ≡ delimiter_mask delim x
 mask_padded delim other [] zero differs = refl
 mask_padded delim other [] (suc n) differs = let rest : delimiter_mask delim (replicate n other) ≡ 0 = mask_padded delim other [] n differs in
-    ap (λ is. cond is 1 0 + 2 * delimiter_mask delim (replicate n other)) differs ∙ unmarked_first (delimiter_mask delim (replicate n other)) rest
+    ap (λ is. cond is 1 0 + 2 * delimiter_mask delim (replicate n other)) differs ∙ omega (arith, rest)
 mask_padded delim other (byte ∷ x) n differs = ap (λ rest. cond (eqb byte delim) 1 0 + 2 * rest) (mask_padded delim other x n differs)
 
 lowest_bit : (delim : ℕ) (x : List ℕ) (ahead : Ahead) → Sees delim x ahead → 0 < ahead.mask → count_trailing_zeros 64 ahead.mask ≡ before_first delim (take ahead.width (drop ahead.passed x))
@@ -173,17 +167,14 @@ seen_at delim x ahead sees some = first_seen delim x ahead (count_trailing_zeros
 pub split_line : (delim : ℕ) (x y line rest : List ℕ) (ahead : Ahead) → x ≡ y → Sees delim x ahead → ahead.mask ≢ 0 → line ≡ take (ahead.passed + count_trailing_zeros 64 ahead.mask + 1) x → rest ≡ drop (ahead.passed + count_trailing_zeros 64 ahead.mask + 1) x → IsFirstLine delim y line rest
 split_line delim x y line rest ahead same sees some front back =
     rw (front, back) (subst (λ text. IsFirstLine delim text (take (ahead.passed + count_trailing_zeros 64 ahead.mask + 1) x) (drop (ahead.passed + count_trailing_zeros 64 ahead.mask + 1) x)) same
-    (line_seen delim x ahead (count_trailing_zeros 64 ahead.mask) (seen_at delim x ahead sees some).0))
+    (first_line delim x (ahead.passed + count_trailing_zeros 64 ahead.mask) (seen_at delim x ahead sees some).0))
 
 pub split_rest : (delim : ℕ) (x rest : List ℕ) (ahead : Ahead) → Sees delim x ahead → ahead.mask ≢ 0 → rest ≡ drop (ahead.passed + count_trailing_zeros 64 ahead.mask + 1) x
     → Sees delim rest (record { passed = 0; width = ahead.width - (count_trailing_zeros 64 ahead.mask + 1); mask = ahead.mask / 2 ^ count_trailing_zeros 64 ahead.mask / 2 })
 split_rest delim x rest ahead sees some back = rw back (sees_rest delim x ahead (count_trailing_zeros 64 ahead.mask) _ sees (seen_at delim x ahead sees some).1 refl)
 
--- the complement of a byte is another one
-other_byte : (delim other : ℕ) → other ≡ 255 - delim → delim < 256 → eqb other delim ≡ false
-other_byte delim other is small = ne_eqb other delim (λ same. omega (arith, same, is))
-
+-- a text that is padded with the complement of the delimiter, which is another byte, keeps its mask
 pub mask_of_padded : (delim other : ℕ) (x lanes : List ℕ) → length x < 64 → other ≡ 255 - delim → delim < 256 → lanes ≡ x ++ replicate (64 - length x) other → delimiter_mask delim (take 64 lanes) ≡ delimiter_mask delim (take 64 x)
 mask_of_padded delim other x lanes short complement small is =
     ap (delimiter_mask delim) (take_all 64 lanes (let long : length lanes ≡ 64 = ap length is ∙ length-append x (replicate (64 - length x) other) ∙ ap (λ n. length x + n) (length-replicate (64 - length x) other) ∙ omega arith in omega arith) ∙ is)
-    ∙ mask_padded delim other x (64 - length x) (other_byte delim other complement small) ∙ ap (delimiter_mask delim) (sym (take_all 64 x (omega arith)))
+    ∙ mask_padded delim other x (64 - length x) (ne_eqb other delim (λ same. omega (arith, same, complement, small))) ∙ ap (delimiter_mask delim) (sym (take_all 64 x (omega arith)))

@@ -314,17 +314,15 @@ reached_owned files next old new (Err why) ready made is fails = owned_unopened 
 
 -- what reaching a file and writing to it owes
 
+-- there is such a file once it was reached
+pub sent_within : (told : Bool) (files between : FilesState) (old mid : List Slot) (place : ℕ) → Became told files (filled (place + 1)) (place + 1) old between mid → place < length between.outputs
+sent_within told files between old mid place before = let count : length between.outputs ≡ max (length files.outputs) (place + 1) = before.opened in omega arith
+
 pub sent : (told : Bool) (files between : FilesState) (old mid new : List Slot) (place slot : ℕ) (bytes : List ℕ) → Became told files (filled (place + 1)) (place + 1) old between mid → slot ≡ output_at between place
     → new ≡ with_written slot (told_of told bytes) mid → Became told files (λ these. changed_at place (λ had. had ++ bytes) (filled (place + 1) these)) (place + 1) old between new
 sent told files between old mid new place slot bytes before slot_is is =
     became_then told files (filled (place + 1)) (changed_at place (λ had. had ++ bytes)) _ (place + 1) (place + 1) (place + 1) old mid new between between before
-    (became_written told between mid new place bytes before.ready within (is ∙ ap (λ at. with_written at (told_of told bytes) mid) slot_is)) (λ these. refl) (omega arith) where
-      within : place < length between.outputs
-      within = let count : length between.outputs ≡ max (length files.outputs) (place + 1) = before.opened in omega arith
-
--- there is such a file once it was reached
-pub sent_within : (told : Bool) (files between : FilesState) (old mid : List Slot) (place : ℕ) → Became told files (filled (place + 1)) (place + 1) old between mid → place < length between.outputs
-sent_within told files between old mid place before = let count : length between.outputs ≡ max (length files.outputs) (place + 1) = before.opened in omega arith
+    (became_written told between mid new place bytes before.ready (sent_within told files between old mid place before) (is ∙ ap (λ at. with_written at (told_of told bytes) mid) slot_is)) (λ these. refl) (omega arith)
 
 pub sent_short : (told : Bool) (files between : FilesState) (old mid new : List Slot) (place slot : ℕ) (bytes : List ℕ) (n : ℕ) → place ≤ length files.outputs → Became told files (filled (place + 1)) (place + 1) old between mid → slot ≡ output_at between place
     → BrokeAfter told mid new slot bytes n → StopsAt told files (λ these. changed_at place (λ had. had ++ bytes) (filled (place + 1) these)) place old new (fault.Write slot)

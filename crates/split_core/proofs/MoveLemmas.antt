@@ -20,7 +20,7 @@ use Rattle.ports_core.proofs.SlotSteps.{rose_later, write_rose, open_rose}
 use Rattle.split_core.specs.Split.{Share, share, split_means, is_named, file_at, named, name_of}
 use Rattle.split_core.specs.inner.ShareLaws.{AllShut, SharesBegin}
 use Rattle.split_core.proofs.ShareLaws.{shares_more, last_grows}
-use Rattle.split_core.specs.laws.ShareLaws.{part_begins, no_more}
+use Rattle.split_core.specs.laws.ShareLaws.{part_begins, no_more, one_on}
 use Rattle.split_core.specs.inner.PartsState.{IsAtEnd}
 use Rattle.split_core.specs.PartsState.{OwnsFile}
 use Rattle.split_core.specs.inner.Moves.{part_of, Moves, Halts, KeepsFile, Breaks, OpensNone, wants_memory, breaks_write, breaks_open, lacks_names}
@@ -38,12 +38,9 @@ pub named_on : (names : Naming) (place : ℕ) (front rest : List Share) → is_n
 named_on names place [] rest is = ap (λ n. named names n rest) (sym (add-zero place))
 named_on names place (one ∷ front) rest is =
     ap (λ has. cond has (file_at names place one ∷ named names (place + 1) (front ++ rest)) []) here
-    ∙ ap (λ files. file_at names place one ∷ files) (named_on names (place + 1) front rest (subst (λ n. is_named names n ≡ true) (moved place (length front)) is))
-    ∙ ap (λ n. file_at names place one ∷ (named names (place + 1) front ++ named names n rest)) (sym (moved place (length front)))
+    ∙ ap (λ files. file_at names place one ∷ files) (named_on names (place + 1) front rest (subst (λ n. is_named names n ≡ true) (one_on place (length front)) is))
+    ∙ ap (λ n. file_at names place one ∷ (named names (place + 1) front ++ named names n rest)) (sym (one_on place (length front)))
     ∙ ap (λ has. cond has (file_at names place one ∷ named names (place + 1) front) [] ++ named names (place + suc (length front)) rest) (sym here) where
-      moved : (n m : ℕ) → n + suc m ≡ n + 1 + m
-      moved n m = omega arith
-
       here : is_named names place ≡ true
       here = named_before names place (place + suc (length front)) is (omega arith)
 
@@ -105,10 +102,7 @@ named_count : (names : Naming) (place : ℕ) (shares : List Share) → is_named 
 named_count names place [] is = refl
 named_count names place (one ∷ shares) is =
     ap (λ has. length (cond has (file_at names place one ∷ named names (place + 1) shares) [])) here
-    ∙ ap suc (named_count names (place + 1) shares (subst (λ n. is_named names n ≡ true) (moved place (length shares)) is)) where
-      moved : (n m : ℕ) → n + suc m ≡ n + 1 + m
-      moved n m = omega arith
-
+    ∙ ap suc (named_count names (place + 1) shares (subst (λ n. is_named names n ≡ true) (one_on place (length shares)) is)) where
       here : is_named names place ≡ true
       here = named_before names place (place + suc (length shares)) is (omega arith)
 

@@ -21,7 +21,7 @@ use Rattle.split_core.specs.inner.PartsState.{IsAtEnd}
 use Rattle.split_core.specs.inner.Moves.{Moves, Halts, KeepsFile, begun_share, Took, Stopped, Finishes}
 use Rattle.ports_core.proofs.SlotSteps as slot_steps
 use Rattle.split_core.proofs.MoveLemmas as move
-use Rattle.split_core.proofs.PartsLemmas.{count_one, some_share}
+use Rattle.split_core.proofs.PartsLemmas.{count_one, none_begun, some_share}
 use Rattle.split_core.proofs.TakenLemmas.{are_named_drawn, names_drawn}
 
 pub took_none : (told : Bool) (parts : PartsState) (slots : List Slot) → IsReady parts.current slots → Took told parts [] slots slots parts
@@ -112,16 +112,12 @@ module _ (told : Bool) (state : PartsState) (old : List Slot) (ready : IsReady s
 
   no_rest : (x : List ℕ) → Stands state x → state.current ≡ None → rest_bytes x ≡ []
   no_rest x stands none = by (rest_bytes x) (settled_some state.limit (rest_bytes x)) where
-    empty : is_some (begun_bytes x) ≡ false
-    empty = sym stands.opened ∙ ap is_given none
-
-    some_long : (bytes : List ℕ) → is_some bytes ≡ false → 0 < length bytes → ⊥
-    some_long [] is some = omega (arith, some)
-    some_long (byte ∷ bytes) is some = false≢true (sym is)
+    empty : length (begun_bytes x) ≡ 0
+    empty = ap length (none_begun (begun_bytes x) (sym stands.opened ∙ ap is_given none))
 
     by : (rest : List ℕ) → (0 < length rest → 0 < length (begun_bytes x)) → rest ≡ []
     by [] some = refl
-    by (byte ∷ rest) some = absurd (some_long (begun_bytes x) empty (some (omega arith)))
+    by (byte ∷ rest) some = absurd (omega (arith, empty, some (omega arith)))
 
   pub finishes_none : state.current ≡ None → Finishes told state old old (Ok tt)
   finishes_none none x stands at_end =

@@ -6,6 +6,7 @@ use Rattle.std.proofs.Math.Seq.{drop-length}
 use Rattle.std.specs.List.{filter, range_with_len}
 use Rattle.std.proofs.lemmas.Bool.{cases_lt, false≢true}
 use Rattle.std.proofs.lemmas.List.{append-nil, length-map}
+use Rattle.std.proofs.lemmas.Result.{IfErr-weaker, on_ok_weaker}
 use Rattle.std.proofs.lemmas.List.FromFn.{length-map-range_with_len, take-map-range_with_len}
 use Rattle.seg_core.specs.Line.{joined, lines_of, delimiters, line_count}
 use Rattle.seg_core.proofs.Delimiters.{delimiters-append}
@@ -258,16 +259,14 @@ module _ (told : Bool) (round : RoundState) (old new : List Slot) where
   -- by the result of closing the files
 
   pub ended : (next : RoundState) (result : Result (Unit {0}) Fault) → Closes told round old new next result → OnOk result (Finishes ways.Holds ways.Owns ways.work (way.Round round) told old new)
-  ended next (Ok u) closes = finishes closes.closed
-  ended next (Err why) closes = tt
+  ended next result closes = on_ok_weaker result finishes closes.closed
 
   pub ended_short : (next : RoundState) (result : Result (Unit {0}) Fault) → Closes told round old new next result → IfErr result (EndsShort ways.Holds ways.Owns ways.work (way.Round round) told old new)
   ended_short next (Ok u) closes = tt
   ended_short next (Err why) closes = ends_short why closes.caused closes.cut
 
   pub ended_met : (next : RoundState) (result : Result (Unit {0}) Fault) → Closes told round old new next result → IfErr result (IsMet (work round).means (work round).means.closing (Unit {0}) (EndsThere ways.Holds ways.work (way.Round round)) old new)
-  ended_met next (Ok u) closes = tt
-  ended_met next (Err why) closes = end_met why closes.caused
+  ended_met next result closes = IfErr-weaker result _ _ end_met closes.caused
 
 -- The start
 

@@ -1,7 +1,7 @@
 -- The spots of split's files are right, where lines are dealt.
 use Rattle.std.proofs.Common.{◌≡◌, ℕ, ◌+◌, ◌%◌, ◌<◌, ◌&&◌, nat_lt, zero, suc, List, [], ◌∷◌, ◌++◌, length, map, take, drop, get_or, Bool, true, false, cond, eqb, inl, inr, refl, sym, ◌∙◌, ap, subst, arith, length-append}
 use Rattle.std.specs.List.{range_with_len}
-use Rattle.std.proofs.Math.Nat.{mod-lt}
+use Rattle.std.proofs.Math.Nat.{mod-lt, zero-add}
 use Rattle.std.proofs.Math.Seq.{drop-cons, get_or-append_seam}
 use Rattle.std.proofs.lemmas.Bool.{cases_lt, lt-ltb, ltb-true, eq-eqb, eqb-true}
 use Rattle.std.proofs.lemmas.List.{take-take, take-append-drop, get_or_past, length-take-le}
@@ -118,12 +118,9 @@ find delim n file place (byte ∷ x) k less =
 
 -- The files
 
-all_of : (count : ℕ) (f : ℕ → List ℕ) (file : ℕ) → file < count → get_or (map f (range_with_len 0 count)) file [] ≡ f file
-all_of count f file within = get_or-map-range_with_len f 0 count file file [] within (let e : 0 + file ≡ file = omega arith in e)
-
 file_is : (delim : ℕ) (elide : Bool) (n : ℕ) (x : List ℕ) (file : ℕ) → file < n → get_or (dealt_files delim elide n x) file [] ≡ share_of delim n x file
 file_is delim elide n x file within = ap (λ files. get_or files file []) (dealt_files_are delim elide n x) ∙ elim (cases_lt file (opened_by delim elide n x)) [
-  | inl less ↦ all_of (opened_by delim elide n x) (share_of delim n x) file less
+  | inl less ↦ get_or-map-range_with_len (share_of delim n x) 0 (opened_by delim elide n x) file file [] less (zero-add file)
   | inr past ↦ get_or_past (map (share_of delim n x) (range_with_len 0 (opened_by delim elide n x))) file [] (let count = length-map-range_with_len (share_of delim n x) 0 (opened_by delim elide n x) in omega (arith, past, count))
       ∙ sym (none_yet delim elide n x file past within)
 ]

@@ -418,9 +418,6 @@ module _ (told : Bool) (parts mid : PartsState) (piece past : List ℕ) (end byt
         (move.moves_by told parts.names mid.names _ _ wet new extends.names_same (ran.1 (move.stays_last parts.current mid.current old wet extends.owned at_end))));
   }
 
-pub starts : (end bytes : ℕ) → 0 < end → end ≤ bytes → 0 < bytes
-starts end bytes some within = omega (arith, some, within)
-
 -- all of the piece waits, or there is no room for it
 pub waited : (told : Bool) (parts next : PartsState) (piece : List ℕ) (slots : List Slot) (result : Result ℕ Fault) → 0 < length piece → LeadsOn parts piece Waits → IsReady parts.current slots → IfOk result (λ n. n ≡ length piece)
     → OnOk result (next ≡ record parts { left = parts.left - length piece; waiting = parts.waiting ++ piece }) → IfErr result (λ f. (f ≡ fault.Memory) × (next ≡ parts)) → Steps told parts piece slots slots next result

@@ -10,6 +10,7 @@ use Rattle.ports_core.specs.declared.fault.Fault.{Fault}
 use Rattle.ports_core.proofs.SlotLemmas.{length-changed_at}
 use Rattle.ports_core.proofs.PartLemmas.{begins_itself}
 use Rattle.split_core.specs.Parts.{most}
+use Rattle.split_core.specs.laws.DealLaws.{is_some_of}
 use Rattle.split_core.specs.Split.{Share, share, is_some, is_named, are_named}
 use Rattle.split_core.proofs.ShareLaws.{shut_more, last_grows}
 use Rattle.seg_core.specs.Window.{ByteWindowState}
@@ -66,9 +67,6 @@ turns_not_closed told parts bytes old new next _ ready (failed slot is next_is c
 
 -- nothing follows the part
 
-no_share : (bytes : List ℕ) → bytes ≡ [] → begun_share bytes ≡ []
-no_share bytes none = ap begun_share none
-
 pub turned_alone : (told : Bool) (parts : PartsState) (bytes : List ℕ) (old new : List Slot) (mid next : PartsState) (left : ℕ) → ClosedFacts told parts old new mid → bytes ≡ [] → parts.waiting ≡ [] → left ≡ most parts.limit - length (parts.waiting ++ bytes)
     → next ≡ record mid { left = left; has_line = false } → Turned told parts bytes old new next
 turned_alone told parts bytes old new mid next left facts no_bytes none_wait left_is is =
@@ -79,10 +77,10 @@ turned_alone told parts bytes old new mid next left facts no_bytes none_wait lef
           ∙ ap (λ (names : Naming). record parts { names = names; left = most parts.limit - length (parts.waiting ++ bytes); has_line = false; waiting = []; current = None }) (sym (ap (λ (those : PartsState). those.names) whole))
           ∙ ap (λ current. record parts { names = next.names; left = most parts.limit - length (parts.waiting ++ bytes); has_line = false; waiting = []; current = current }) (sym (ap (λ (those : PartsState). those.current) whole));
       names_same = ap (λ (those : PartsState). those.names) whole ∙ ap (λ n. record parts.names { drawn = n }) (sym (ap (λ (those : PartsState). those.names.drawn) whole));
-      moves = λ shares begun last given at_end. subst (λ more. Moves told parts.names (shares ++ share state.Open begun ∷ []) (shares ++ share state.Closed begun ∷ more) old new) (sym (no_share (parts.waiting ++ bytes) none)) (facts.moves shares begun last given at_end);
+      moves = λ shares begun last given at_end. subst (λ more. Moves told parts.names (shares ++ share state.Open begun ∷ []) (shares ++ share state.Closed begun ∷ more) old new) (sym (ap begun_share none)) (facts.moves shares begun last given at_end);
       drawn = λ shares begun last given.
           let count : length (shares ++ share state.Closed begun ∷ begun_share (parts.waiting ++ bytes)) ≡ suc (length shares)
-          = ap (λ more. length (shares ++ share state.Closed begun ∷ more)) (no_share (parts.waiting ++ bytes) none) ∙ count_one shares (share state.Closed begun) in
+          = ap (λ more. length (shares ++ share state.Closed begun ∷ more)) (ap begun_share none) ∙ count_one shares (share state.Closed begun) in
           (ap (λ (those : PartsState). those.names.drawn) whole ∙ last.drawn ∙ sym count, ap (are_named parts.names) count ∙ last.named);
       given = ap (λ (those : PartsState). is_given those.current) whole ∙ ap is_some (sym none);
       keeps = facts.keeps;
@@ -103,9 +101,7 @@ next_begun parts mid shares begun names none last = record {
   count = ap length (append-nil (shares ++ share state.Closed begun ∷ [])) ∙ count_one shares (share state.Closed begun)
 
 pub some_bytes : (waiting bytes : List ℕ) → 0 < length bytes → is_some (waiting ++ bytes) ≡ true
-some_bytes [] [] some = absurd (omega (arith, some))
-some_bytes [] (byte ∷ bytes) some = refl
-some_bytes (one ∷ waiting) bytes some = refl
+some_bytes waiting bytes some = is_some_of (waiting ++ bytes) (omega (arith, some, length-append waiting bytes))
 
 two_shares : (shares : List Share) (begun next : List ℕ) → is_some next ≡ true → (shares ++ share state.Closed begun ∷ []) ++ share state.Open next ∷ [] ≡ shares ++ share state.Closed begun ∷ begun_share next
 two_shares shares begun next some = append_assoc shares (share state.Closed begun ∷ []) (share state.Open next ∷ []) ∙ ap (λ more. shares ++ share state.Closed begun ∷ more) (sym (some_share next some))

@@ -25,6 +25,7 @@ use Rattle.split_core.specs.Round.{round_plan}
 use Rattle.split_core.specs.laws.CutLaws.{whole_some}
 use Rattle.split_core.proofs.CutLaws.{open_of_none, cut_all}
 use Rattle.split_core.specs.laws.PartStateLaws as part_law
+use Rattle.split_core.specs.laws.ShareLaws.{one_on}
 use Rattle.split_core.proofs.PlaceLemmas.{all_dealt}
 use Rattle.split_core.proofs.SectionLemmas.{settled_list, list_all}
 use Rattle.split_core.proofs.AgreedLemmas.{named_bytes, named_more, each_named, whole_files, settled_files, list_count, decides_lines, one_of, delimiters_some, dealt_settled, plan_by}
@@ -39,10 +40,8 @@ spots_after place i (bytes ∷ front) back past =
     let long = length-append bytes (joined front) in
     spot_past place i bytes (front ++ back) (omega (arith, past, long))
     ∙ spots_after (place + 1) (i - length bytes) front back (omega (arith, past, long))
-    ∙ ap (λ at. spots_from at back (i - length bytes - length (joined front))) (moved place (length front))
-    ∙ ap (λ at. spots_from (place + suc (length front)) back at) (let e : i - length bytes - length (joined front) ≡ i - length (bytes ++ joined front) = omega (arith, long) in e) where
-      moved : (n m : ℕ) → n + 1 + m ≡ n + suc m
-      moved n m = omega arith
+    ∙ ap (λ at. spots_from at back (i - length bytes - length (joined front))) (sym (one_on place (length front)))
+    ∙ ap (λ at. spots_from (place + suc (length front)) back at) (let e : i - length bytes - length (joined front) ≡ i - length (bytes ++ joined front) = omega (arith, long) in e)
 
 -- only the last file may be open
 abbrev OnlyLastOpen : List File → Type 0

@@ -1,6 +1,6 @@
 -- Laws that traits cite: laws of parts that follow one another: what a text that goes on is cut into.
 use Rattle.std.proofs.Common.{◌≡◌, ℕ, ◌+◌, ◌-◌, ◌<◌, ◌≤◌, zero, suc, List, [], ◌∷◌, ◌++◌, length, take, drop, Bool, true, false, cond, ◌&&◌, nat_lt, nat_le, refl, sym, ◌∙◌, ap, subst, arith, length-append, length-drop}
-use Rattle.std.proofs.lemmas.Bool.{false≢true}
+use Rattle.std.proofs.lemmas.Bool.{false≢true, ltb-true}
 use Rattle.std.proofs.lemmas.Bool.Decides.{nat_tests}
 use Rattle.std.proofs.lemmas.List.{append-nil, take-append-le, drop-append-le, length-take, length-take-le}
 use Rattle.seg_core.specs.Line.{delimiters, first_lines, after_lines}
@@ -49,20 +49,12 @@ full-append limit x y full =
     ≡ measure limit x + measure limit y = measure-append limit x y in
     let enough : most limit ≤ measure limit x = is.1 in omega arith)
 
-pub nothing_short : (limit : Limit) (x : List ℕ) → length x ≡ 0 → is_full limit x ≡ false
-nothing_short limit x none = is_short (is_full limit x) refl where
-  is_short : (b : Bool) → is_full limit x ≡ b → is_full limit x ≡ false
-  is_short false is = is
-  is_short true is =
-      let full = full_some limit x is in
-      let few : measure limit x ≤ length x = measure-le-length limit x in
-      let some : 0 < most limit = full.0 in let enough : most limit ≤ measure limit x =
-      full.1 in absurd (none_of some enough few) where
-        none_of : 0 < most limit → most limit ≤ measure limit x → measure limit x ≤ length x → ⊥
-        none_of some enough few = omega (arith, none)
+nothing_test : (most measure : ℕ) → measure ≡ 0 → (nat_lt 0 most && nat_le most measure) ≡ false
+nothing_test most measure none = grind (arith, nat_tests, none)
 
-some_lines : (n : ℕ) → nat_lt 0 n ≡ true → 0 < n
-some_lines n is = grind (arith, nat_tests, is)
+pub nothing_short : (limit : Limit) (x : List ℕ) → length x ≡ 0 → is_full limit x ≡ false
+nothing_short limit x none =
+    nothing_test (most limit) (measure limit x) (omega (arith, none, measure-le-length limit x))
 
 pub has_lines : (n : ℕ) → 0 < n → nat_lt 0 n ≡ true
 has_lines n some = grind (arith, nat_tests, some)
@@ -102,7 +94,7 @@ whole_some delim x some = by (nat_lt 0 (delimiters delim x)) refl where
       let few : delimiters delim (first_lines delim (delimiters delim x) x)
       ≤ length (first_lines delim (delimiters delim x) x) =
       delimiters-le-length delim (first_lines delim (delimiters delim x) x) in
-      let has_one : 0 < delimiters delim x = some_lines (delimiters delim x) is in omega arith
+      let has_one : 0 < delimiters delim x = ltb-true 0 (delimiters delim x) is in omega arith
   by false is = some
 
 length-take_few : (n : ℕ) (x : List ℕ) → length (take n x) ≤ length x

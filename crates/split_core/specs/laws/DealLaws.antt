@@ -105,7 +105,7 @@ each_line : (delim : ℕ) (x : List ℕ) → EachSome (lines_of delim x)
 each_line delim [] = tt
 each_line delim (byte ∷ x) = each_step (eqb byte delim) byte (lines_of delim x) (each_line delim x)
 
-is_some_of : (bytes : List ℕ) → 0 < length bytes → is_some bytes ≡ true
+pub is_some_of : (bytes : List ℕ) → 0 < length bytes → is_some bytes ≡ true
 is_some_of [] some = absurd (omega arith)
 is_some_of (byte ∷ bytes) some = refl
 

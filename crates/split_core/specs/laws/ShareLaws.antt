@@ -63,6 +63,10 @@ pub no_more : (names : Naming) (place more : ℕ) → is_named names place ≡ f
     → is_named names more ≡ false
 no_more names place more is less = no_more_test names.auto _ place more is less
 
+-- the place after the next ones is that after the first of them
+pub one_on : (n m : ℕ) → n + suc m ≡ n + 1 + m
+one_on n m = omega arith
+
 -- where a place has no name, what stands from there on makes no file
 pub named_short : (names : Naming) (place : ℕ) (front rest : List Share) → is_named names (place + length front) ≡ false
     → named names place (front ++ rest) ≡ named names place front
@@ -73,9 +77,7 @@ named_short names place [] (share ∷ rest) none =
 named_short names place (share ∷ front) rest none =
     ap (λ files. cond (is_named names place) (file_at names place share ∷ files) [])
     (named_short names (place + 1) front rest
-    (subst (λ n. is_named names n ≡ false) (moved place (length front)) none)) where
-      moved : (n m : ℕ) → n + suc m ≡ n + 1 + m
-      moved n m = omega arith
+    (subst (λ n. is_named names n ≡ false) (one_on place (length front)) none))
 
 -- the parts of whole texts
 
