@@ -43,8 +43,7 @@ stands_before first place (Err fault) stands = stands
 stands_lettered : (place : ℕ) (rest : List ℕ) (others : Result Meaning Fault) (option : Option (Choice × Takes)) → Stands place others → Stands place (lettered place rest others option)
 stands_lettered place rest others None stands = omega arith
 stands_lettered place rest others (Some (choice, takes.Value kind)) stands = stands_attached choice kind place rest
-stands_lettered place rest others (Some (choice, takes.Nothing)) stands = stands_before (bare choice place) place others stands
-stands_lettered place rest others (Some (choice, takes.Optional kind)) stands = stands_before (bare choice place) place others stands
+stands_lettered place rest others (Some (choice, other)) stands = stands_before (bare choice place) place others stands
 
 stands_cluster : (rows : List OptionRow) (place : ℕ) (letters : List ℕ) → Stands place (cluster rows place letters)
 stands_cluster rows place [] = tt
@@ -92,15 +91,11 @@ word_of default meant = default
 
 ends_after : (least : ℕ) (state : State) (kind : UsageKind) (word : ℕ) → Awaits least state → ended state ≡ Err (Usage kind word) → least ≤ word
 ends_after least (Awaiting choice awaited option) kind word awaits is = let same : option ≡ word = ap (word_of 0) is in omega (arith, awaits, same)
-ends_after least (First choice awaited) kind word awaits is = absurd (cc)
-ends_after least Reading kind word awaits is = absurd (cc)
-ends_after least OnlyOperands kind word awaits is = absurd (cc)
+ends_after least state kind word awaits is = absurd (cc)
 
 awaits_later : (least place : ℕ) (state : State) → least ≤ place → Awaits place state → Awaits least state
 awaits_later least place (Awaiting choice kind option) within awaits = omega (arith, within, awaits)
-awaits_later least place (First choice kind) within awaits = tt
-awaits_later least place Reading within awaits = tt
-awaits_later least place OnlyOperands within awaits = tt
+awaits_later least place state within awaits = tt
 
 module _ (rows : List OptionRow) (kind : UsageKind) (word : ℕ) where
   goes_after : (least place : ℕ) (rest : State → Result Given Fault) (meant : Result Meaning Fault) → least ≤ place → Stands place meant → ((state : State) → Awaits least state → rest state ≡ Err (Usage kind word) → least ≤ word)
@@ -117,9 +112,7 @@ module _ (rows : List OptionRow) (kind : UsageKind) (word : ℕ) where
 
   well_end : (state : State) (given : Given) (least : ℕ) → ended state ≡ Ok given → Awaits least state
   well_end (Awaiting choice awaited option) given least is = absurd (cc)
-  well_end (First choice awaited) given least is = tt
-  well_end Reading given least is = tt
-  well_end OnlyOperands given least is = tt
+  well_end state given least is = tt
 
   later_by : (first more : List (List ℕ)) (place : ℕ) (given : Given) (meant : Result Meaning Fault)
       → ((state : State) (rest : Given) → spelled rows first (place + 1) state ≡ Ok rest → spelled rows (first ++ more) (place + 1) state ≡ Err (Usage kind word) → place + 1 + length first ≤ word)

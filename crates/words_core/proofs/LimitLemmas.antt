@@ -192,10 +192,8 @@ onward-among place word words rest (Ok meaning) is among = before-among place wo
 onward-among place word words rest (Err fault) is among = tt
 
 spelled-gives : (rows : List OptionRow) (words : List (List ℕ)) (place : ℕ) (state : State) → GivesAmong place words (spelled rows words place state)
-spelled-gives rows [] place (First choice kind) = (tt, none place)
-spelled-gives rows [] place Reading = (tt, none place)
 spelled-gives rows [] place (Awaiting choice kind option) = tt
-spelled-gives rows [] place OnlyOperands = (tt, none place)
+spelled-gives rows [] place state = (tt, none place)
 spelled-gives rows (word ∷ words) place state =
     onward-among place word words (spelled rows words (place + 1)) (meaning_of rows state place word) (meaning-gives rows state place word) (λ next. spelled-gives rows words (place + 1) next)
 
@@ -299,12 +297,10 @@ csplit-can : (given : Given) → AreSound given.options → IfOk (csplit_asked g
 csplit-can given sound = asked_of-few (style_of given.options) given.operands (asked-keeps csplit_by (λ asked. asked.digits ≤ 255) csplit_by-few given.options plain (omega arith) sound)
 
 settled-can : (which : Tool) (given : Given) → AreSound given.options → IfOk (settings_for which given) CanRun
-settled-can tool.Head given sound = tt
 settled-can tool.Tail given sound = then_check-kept (λ asked. ⊤) CanRun (tail_asked given) _ (anything (tail_asked given)) (λ asked is. tt)
 settled-can tool.Split given sound = then_check-kept CanSplit CanRun (split_asked given) _ (asked-can given sound) (λ asked is. is)
 settled-can tool.Csplit given sound = then_check-kept (λ asked. asked.style.digits ≤ 255) CanRun (csplit_asked given) _ (csplit-can given sound) (λ asked is. is)
-settled-can tool.Tee given sound = tt
-settled-can tool.Cutters given sound = tt
+settled-can which given sound = tt
 
 -- what was read of words can be done
 pub read-can : (row : ToolRow) (words : List (List ℕ)) (given : Given) (which : Tool) (result : Result Settings Fault) → given_by row words ≡ Ok given → IfOk result (λ settings. settings_for which given ≡ Ok settings) → IfOk result CanRun
