@@ -183,9 +183,8 @@ append_is mode.Fresh is = absurd (cc)
 -- at most one way to split
 
 pub few_ways : (ways : List GivenOption) → (IsOk (only_way ways) → length ways ≤ 1) × (length ways ≤ 1 → IsOk (only_way ways))
-few_ways [] = (λ is. omega arith, λ few. refl)
-few_ways (way ∷ []) = (λ is. omega arith, λ few. refl)
 few_ways (way ∷ second ∷ more) = (λ is. absurd (cc), λ few. absurd (omega (arith, few)))
+few_ways ways = (λ is. omega arith, λ few. refl)
 
 -- the ways among options, of which one is a way
 ways_around : (before after : List GivenOption) (option : GivenOption) → is_way option ≡ true
@@ -196,9 +195,8 @@ ways_around before after option is =
 
 way_among : (front rest : List GivenOption) (option : GivenOption) (cut : Cut) → only_way (front ++ option ∷ rest) ≡ Ok cut → cut ≡ way_in option.value option.choice
 way_among [] [] option cut is = cc
-way_among [] (second ∷ rest) option cut is = absurd (cc)
 way_among (way ∷ []) rest option cut is = absurd (cc)
-way_among (way ∷ second ∷ front) rest option cut is = absurd (cc)
+way_among front rest option cut is = absurd (cc)
 
 pub way_is : (before after : List GivenOption) (option : GivenOption) (cut : Cut) → is_way option ≡ true
     → way_of (before ++ option ∷ after) ≡ Ok cut → cut ≡ way_in option.value option.choice
@@ -206,9 +204,8 @@ way_is before after option cut is splits_so =
     way_among (filter is_way before) (filter is_way after) option cut (ap only_way (sym (ways_around before after option is)) ∙ splits_so)
 
 second_among : (front rest : List GivenOption) (option : GivenOption) → length front ≡ 1 → only_way (front ++ option ∷ rest) ≡ Err (Usage TwoWays option.word)
-second_among [] rest option one = absurd (omega (arith, one))
 second_among (way ∷ []) rest option one = refl
-second_among (way ∷ second ∷ front) rest option one = absurd (omega (arith, one))
+second_among front rest option one = absurd (omega (arith, one))
 
 pub second_told : (before after : List GivenOption) (option : GivenOption) → length (filter is_way before) ≡ 1 → is_way option ≡ true
     → way_of (before ++ option ∷ after) ≡ Err (Usage TwoWays option.word)

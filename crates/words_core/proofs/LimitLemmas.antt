@@ -133,9 +133,8 @@ attached-gives choice kind place (byte ∷ text) = valued-gives choice kind plac
 
 lettered-gives : (place : ℕ) (rest : List ℕ) (others : Result Meaning Fault) (option : Option (Choice × Takes)) → GivesOptions others → GivesOptions (lettered place rest others option)
 lettered-gives place rest others None is = tt
-lettered-gives place rest others (Some (choice, takes.Nothing)) is = bare-gives choice place others is
 lettered-gives place rest others (Some (choice, takes.Value kind)) is = attached-gives choice kind place rest
-lettered-gives place rest others (Some (choice, takes.Optional kind)) is = bare-gives choice place others is
+lettered-gives place rest others (Some (choice, other)) is = bare-gives choice place others is
 
 cluster-gives : (rows : List OptionRow) (place : ℕ) (letters : List ℕ) → GivesOptions (cluster rows place letters)
 cluster-gives rows place [] = (tt, refl)

@@ -1,8 +1,6 @@
-use Rattle.std.proofs.Common.{◌≡◌, ◌∙◌, ap, map, arith, Ok, IfOk, IfErr, inl, inr}
+use Rattle.std.proofs.Common.{◌∙◌, ap, map, arith, inl, inr}
 use Rattle.std.proofs.lemmas.Bool.Decides.{nat_tests}
-use Rattle.words_core.specs.CsplitWords.{HasBadOperand, csplit_asked}
 use Rattle.words_core.specs.Given.{Given, operand_seen, option_seen}
-use Rattle.words_core.specs.Spelling.{IsRefused}
 use Rattle.words_core.proofs.CsplitLemmas.{lacks_operand, settled}
 use Rattle.words_core.proofs.csplit_words.settle_csplit.Goals as goal
 
@@ -16,17 +14,11 @@ returns-then-is_empty-clause-err c =
     inr (inl (lacks_operand c.args.spelled.now c.as_slice.result.now
     (ap (map operand_seen) c.as_slice.ensures.value ∙ ap (λ (given : Given). given.operands) c.spelled.view_is) (grind (arith, nat_tests))))
 
-returned : (c : goal.After-read_settings)
-    → IfOk c.read_settings.result (λ settings. csplit_asked c.args.spelled.now ≡ Ok settings)
-    × IfErr c.read_settings.result (IsRefused HasBadOperand (csplit_asked c.args.spelled.now))
-returned c =
+pub returns : goal.returns
+returns c =
+    let there =
     settled c.args.spelled.now c.deref.result.now _ c.as_slice.result.now c.in_ok-style.style c.read_settings.result
     (ap (map option_seen) c.deref.ensures.value ∙ ap (λ (given : Given). given.options) c.spelled.view_is)
     (ap (map operand_seen) c.as_slice.ensures.value ∙ ap (λ (given : Given). given.operands) c.spelled.view_is)
-    c.in_ok-style.ensures.ok c.in-len1-up.len_at_least (grind (arith, nat_tests)) c.read_settings.ensures.ok c.read_settings.ensures.err
-
-pub returns-clause-ok : goal.returns-clause-ok
-returns-clause-ok c = (returned c).0
-
-pub returns-clause-err : goal.returns-clause-err
-returns-clause-err c = (returned c).1
+    c.in_ok-style.ensures.ok c.in-len1-up.len_at_least (grind (arith, nat_tests)) c.read_settings.ensures.ok c.read_settings.ensures.err in
+    record { ok = there.0; err = there.1; operands = c.read_settings.ensures.operands }

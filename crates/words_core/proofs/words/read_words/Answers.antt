@@ -13,15 +13,13 @@ returns-in_err-spelled-clause-err c =
     fault_is _ _ _ c.from_residual.ensures.1
     (refused _ _ _ _ _ c.in-len1-up.len_at_least c.all_tools.ensures c.in-Some.ensures c.in_err-spelled.ensures)
 
-pub returns-clause-ok : goal.returns-clause-ok
-returns-clause-ok c =
-    (returned _ _ _ _ _ _ c.in-len1-up.len_at_least c.all_tools.ensures c.in-Some.ensures c.in_ok-spelled.ensures
-    c.settle.ensures.ok c.settle.ensures.err).0
-
-pub returns-clause-err : goal.returns-clause-err
-returns-clause-err c =
-    (returned _ _ _ _ _ _ c.in-len1-up.len_at_least c.all_tools.ensures c.in-Some.ensures c.in_ok-spelled.ensures
-    c.settle.ensures.ok c.settle.ensures.err).1
-
-pub returns-clause-can : goal.returns-clause-can
-returns-clause-can c = read-can (tool_seen c.in-Some.row.now) _ c.in_ok-spelled.spelled c.in-Some.row.now.1 c.settle.result c.in_ok-spelled.ensures c.settle.ensures.ok
+pub returns : goal.returns
+returns c =
+    let there =
+    returned _ _ _ _ _ c.settle.result c.in-len1-up.len_at_least c.all_tools.ensures c.in-Some.ensures c.in_ok-spelled.ensures
+    c.settle.ensures.ok c.settle.ensures.err in record {
+      ok = there.0;
+      err = there.1;
+      can = read-can (tool_seen c.in-Some.row.now) _ c.in_ok-spelled.spelled c.in-Some.row.now.1 c.settle.result c.in_ok-spelled.ensures c.settle.ensures.ok;
+      operands = c.settle.ensures.operands;
+    }
