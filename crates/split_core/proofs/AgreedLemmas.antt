@@ -57,9 +57,8 @@ count_step false one two these those same = refl
 
 pub count_named : (names : Naming) (place : ℕ) (these those : List (List ℕ)) → length these ≡ length those → length (named_bytes names place these) ≡ length (named_bytes names place those)
 count_named names place [] [] same = refl
-count_named names place [] (two ∷ those) same = absurd (omega (arith, same))
-count_named names place (one ∷ these) [] same = absurd (omega (arith, same))
 count_named names place (one ∷ these) (two ∷ those) same = count_step (is_named names place) one two _ _ (count_named names (place + 1) these those (omega (arith, same)))
+count_named names place these those same = absurd (omega (arith, same))
 
 named_each : (names : Naming) (place : ℕ) (one : List ℕ) (those : List (List ℕ)) → is_named names (place + length those) ≡ true → named_bytes names place (one ∷ those) ≡ one ∷ those
 named_each names place one [] is = ap (λ has. cond has (one ∷ []) []) (named_before names place (place + 0) is (omega arith))

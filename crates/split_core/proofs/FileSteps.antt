@@ -233,11 +233,9 @@ pub record Closing (told : Bool) (files : FilesState) (place : ℕ) (old now : L
   pub sound : KeepsBroken old now
 
 writable_other : (slots : List Slot) (place other : ℕ) → place ≢ other → is_writable (changed_at place closes slots) other ≡ is_writable slots other
-writable_other [] place other differs = refl
 writable_other (one ∷ slots) zero zero differs = absurd (differs refl)
-writable_other (one ∷ slots) zero (suc other) differs = refl
-writable_other (one ∷ slots) (suc place) zero differs = refl
 writable_other (one ∷ slots) (suc place) (suc other) differs = writable_other slots place other (λ is. differs (ap suc is))
+writable_other slots place other differs = refl
 
 closes_next : (told : Bool) (files : FilesState) (before : List Slot) (these : List (List ℕ)) (old now new : List Slot) (place : ℕ) → Closing told files place old now → place < length files.outputs
     → new ≡ changed_at (output_at files place) closes now → StandAt told files before these old → OutputsAt told before (closing_part files.names (suc place) these) new
@@ -263,15 +261,13 @@ closing_begins names these n m few = parts_begin (from_start names) _ _ (closed_
 -- which files are closed by then
 
 take_closed : (place n : ℕ) (these : List (List ℕ)) → place ≤ n → take place (closed_first (suc place) these) ≡ take place (closed_first n these)
-take_closed zero n these few = refl
 take_closed (suc place) zero these few = absurd (omega arith)
-take_closed (suc place) (suc n) [] few = refl
 take_closed (suc place) (suc n) (bytes ∷ these) few = ap (λ rest. share Rattle.ports_core.specs.declared.slot.State.TheVariants.Closed bytes ∷ rest) (take_closed place n these (omega arith))
+take_closed place n these few = refl
 
 drop_closed : (n : ℕ) (these : List (List ℕ)) → drop n (closed_first n these) ≡ drop n (map (share Open) these)
-drop_closed zero these = refl
-drop_closed (suc n) [] = refl
 drop_closed (suc n) (bytes ∷ these) = drop_closed n these
+drop_closed n these = refl
 
 pub stops_closing : (told : Bool) (files : FilesState) (place : ℕ) (old now new : List Slot) → AreReady files old → place < length files.outputs → Closing told files place old now
     → new ≡ with_broken (output_at files place) (changed_at (output_at files place) closes now) → ClosesShort told files (length files.outputs) old new (fault.Write (output_at files place))

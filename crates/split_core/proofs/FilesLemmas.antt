@@ -92,9 +92,8 @@ added_begin (bytes ∷ these) [] = all_begin_themselves (bytes ∷ these)
 added_begin (bytes ∷ these) (next ∷ more) = (begins_more bytes next, added_begin these more)
 
 take_begin : (n : ℕ) (more : List (List ℕ)) → AllBegin (take n more) more
-take_begin zero more = tt
-take_begin (suc n) [] = tt
 take_begin (suc n) (next ∷ more) = (begins_itself next, take_begin n more)
+take_begin n more = tt
 
 -- where fewer of the new bytes are added, files begin those that get all
 pub added_fewer : (n : ℕ) (these more : List (List ℕ)) → AllBegin (added these (take n more)) (added these more)
@@ -112,9 +111,8 @@ filled_same (suc n) (bytes ∷ these) few = ap (λ rest. bytes ∷ rest) (filled
 
 pub filled_next : (n : ℕ) (these : List (List ℕ)) → length these ≡ n → filled (suc n) these ≡ these ++ [] ∷ []
 filled_next zero [] is = refl
-filled_next (suc n) [] is = absurd (omega (arith, is))
-filled_next zero (bytes ∷ these) is = absurd (omega (arith, is))
 filled_next (suc n) (bytes ∷ these) is = ap (λ rest. bytes ∷ rest) (filled_next n these (omega (arith, is)))
+filled_next n these is = absurd (omega (arith, is))
 
 pub filled_again : (n : ℕ) (these : List (List ℕ)) → filled (suc n) (filled n these) ≡ filled (suc n) these
 filled_again zero these = refl
@@ -187,11 +185,9 @@ length_begin (bytes ∷ these) (whole ∷ those) begin = let rest = length_begin
 
 -- the first files have all that is added to them, once this many got theirs
 pub added_before : (place : ℕ) (these more : List (List ℕ)) → take place (added these (take place more)) ≡ take place (added these more)
-added_before zero these more = refl
-added_before (suc place) [] [] = refl
 added_before (suc place) [] (next ∷ more) = ap (λ rest. next ∷ rest) (added_before place [] more)
-added_before (suc place) (bytes ∷ these) [] = refl
 added_before (suc place) (bytes ∷ these) (next ∷ more) = ap (λ rest. (bytes ++ next) ∷ rest) (added_before place these more)
+added_before place these more = refl
 
 -- and the others have what they had
 pub added_after : (place : ℕ) (these more : List (List ℕ)) → place < length more → drop place (added these (take place more)) ≡ drop place these
@@ -210,9 +206,8 @@ pub added_past : (place : ℕ) (these more : List (List ℕ)) → place < length
 added_past place these more within = drop_next place _ _ (added_after place these more within)
 
 pub take_changed : (place : ℕ) (change : List ℕ → List ℕ) (these : List (List ℕ)) → take place (changed_at place change these) ≡ take place these
-take_changed zero change these = refl
-take_changed (suc place) change [] = refl
 take_changed (suc place) change (bytes ∷ these) = ap (λ rest. bytes ∷ rest) (take_changed place change these)
+take_changed place change these = refl
 
 pub drop_changed : (place : ℕ) (change : List ℕ → List ℕ) (these : List (List ℕ)) → drop (suc place) (changed_at place change these) ≡ drop (suc place) these
 drop_changed place change [] = refl
@@ -220,10 +215,9 @@ drop_changed zero change (bytes ∷ these) = refl
 drop_changed (suc place) change (bytes ∷ these) = drop_changed place change these
 
 pub take_filled : (place n : ℕ) (these : List (List ℕ)) → place ≤ length these → take place (filled n these) ≡ take place these
-take_filled zero n these few = refl
-take_filled (suc place) zero these few = refl
 take_filled (suc place) (suc n) [] few = absurd (omega arith)
 take_filled (suc place) (suc n) (bytes ∷ these) few = ap (λ rest. bytes ∷ rest) (take_filled place n these (omega arith))
+take_filled place n these few = refl
 
 pub take_further : (place n : ℕ) (these : List (List ℕ)) → place ≤ n → take place (filled place these) ≡ take place (filled n these)
 take_further zero n these few = refl
@@ -240,9 +234,8 @@ pub drop_past_filled : (n : ℕ) (these : List (List ℕ)) → drop (suc n) (fil
 drop_past_filled n these = drop_next n _ _ (drop_filled n these)
 
 pub take_filed : (n : ℕ) (names : Naming) (place : ℕ) (shares : List Share) → take n (filed names place shares) ≡ filed names place (take n shares)
-take_filed zero names place shares = refl
-take_filed (suc n) names place [] = refl
 take_filed (suc n) names place (one ∷ shares) = ap (λ rest. file_at names place one ∷ rest) (take_filed n names (place + 1) shares)
+take_filed n names place shares = refl
 
 pub drop_filed : (n : ℕ) (names : Naming) (place : ℕ) (shares : List Share) → drop n (filed names place shares) ≡ filed names (place + n) (drop n shares)
 drop_filed zero names place shares = let here : place ≡ place + 0 = omega arith in ap (λ at. filed names at shares) here

@@ -222,10 +222,8 @@ open_breaks names old new fault none = absurd none
 
 -- they are no verdict but for want of names
 pub unjudged : (old new : List Slot) (fault : Fault) → Breaks old new fault → (fault ≡ Suffixes → ⊥) → is_verdict fault ≡ false
-unjudged old new _ wants_memory named = refl
-unjudged old new _ (breaks_write slot two rose) named = refl
-unjudged old new _ (breaks_open slot rose) named = refl
 unjudged old new _ lacks_names named = absurd (named refl)
+unjudged old new _ breaks named = refl
 
 pub met_files : (Ends : Fault → Type 0) (old new : List Slot) (fault : Fault) → Breaks old new fault → (fault ≡ Suffixes → Ends fault) → IsMet split_means split_means.feeding (true ≡ true) Ends old new fault
 met_files Ends old new _ wants_memory ends = (refl, refl)

@@ -169,8 +169,7 @@ pub record Goes (delim n : ℕ) (names : Naming) (x : List ℕ) (i : ℕ) (at : 
 goes_by : (delim n : ℕ) (names : Naming) (x : List ℕ) (i : ℕ) (at : Spot) (less has : Bool) → nat_lt i (length x) ≡ less → is_named names (dealt_to delim n x i) ≡ has
     → GoesTo at (cond (less && has) (spot (dealt_to delim n x i + 1) (had delim n (dealt_to delim n x i) x i) ∷ []) []) → Goes delim n names x i at
 goes_by delim n names x i at true true less has goes = record { within = ltb-true i (length x) less; named = has; is = only_spot at _ goes }
-goes_by delim n names x i at true false less has goes = absurd goes
-goes_by delim n names x i at false has less is goes = absurd goes
+goes_by delim n names x i at less has within named goes = absurd goes
 
 dealt_goes : (delim n : ℕ) (names : Naming) (x : List ℕ) (i : ℕ) (at : Spot) → GoesTo at (dealt_spots delim n names x i) → Goes delim n names x i at
 dealt_goes delim n names x i at goes = goes_by delim n names x i at (nat_lt i (length x)) (is_named names (dealt_to delim n x i)) refl refl goes

@@ -27,15 +27,12 @@ use Rattle.split_core.specs.inner.CutLaws.{Cuts, stops, goes}
 
 -- more room for runs changes nothing
 runs_bound : {X : Type 0} (low high n : ℕ) (xs : List X) → 0 < n → length xs ≤ low → length xs ≤ high → runs_within low n xs ≡ runs_within high n xs
-runs_bound zero zero n xs some few little = refl
-runs_bound zero (suc high) n [] some few little = refl
 runs_bound zero (suc high) n (x ∷ xs) some few little = absurd (omega arith)
-runs_bound (suc low) zero n [] some few little = refl
 runs_bound (suc low) zero n (x ∷ xs) some few little = absurd (omega arith)
-runs_bound (suc low) (suc high) n [] some few little = refl
 runs_bound (suc low) (suc high) n (x ∷ xs) some few little =
     let left : length (drop n (x ∷ xs)) ≡ suc (length xs) - n = length-drop n (x ∷ xs) in
     ap (λ runs. take n (x ∷ xs) ∷ runs) (runs_bound low high n (drop n (x ∷ xs)) some (omega arith) (omega arith))
+runs_bound low high n xs some few little = refl
 
 -- a run, and then the runs of what stands after it
 pub runs_next : {X : Type 0} (n : ℕ) (xs : List X) → 0 < n → 0 < length xs → runs_of n xs ≡ take n xs ∷ runs_of n (drop n xs)
@@ -52,9 +49,8 @@ runs_last n (x ∷ xs) has few =
     ap (λ run. run ∷ runs_within (length xs) n (drop n (x ∷ xs))) (take_all n (x ∷ xs) few)
     ∙ ap (λ runs. (x ∷ xs) ∷ runs) (no_runs (length xs) n (drop n (x ∷ xs)) (omega arith)) where
       no_runs : {X : Type 0} (bound n : ℕ) (xs : List X) → length xs ≡ 0 → runs_within bound n xs ≡ []
-      no_runs zero n xs empty = refl
-      no_runs (suc bound) n [] empty = refl
       no_runs (suc bound) n (x ∷ xs) empty = absurd (omega arith)
+      no_runs bound n xs empty = refl
 
 run_within : {X : Type 0} (bound n i : ℕ) (xs : List X) → 0 < n → length xs ≤ bound → get_or (runs_within bound n xs) i [] ≡ take n (drop (i * n) xs)
 run_within zero n i [] some few = sym (ap (take n) (drop-nil (i * n)) ∙ take-nil n)
@@ -87,13 +83,12 @@ one_more (suc runs) n left all is some (low, high) =
     let next : suc (suc runs) * n ≡ suc runs * n + n = suc-mul (suc runs) n in (omega arith, omega arith)
 
 count_within : {X : Type 0} (bound n : ℕ) (xs : List X) → 0 < n → length xs ≤ bound → AreFewest (length (runs_within bound n xs)) n (length xs)
-count_within zero n [] some few = no_run n some
 count_within zero n (x ∷ xs) some few = absurd (omega arith)
-count_within (suc bound) n [] some few = no_run n some
 count_within (suc bound) n (x ∷ xs) some few =
     let left : length (drop n (x ∷ xs)) ≡ suc (length xs) - n = length-drop n (x ∷ xs) in
     one_more (length (runs_within bound n (drop n (x ∷ xs)))) n (length (drop n (x ∷ xs))) (suc (length xs)) left (omega arith)
     (count_within bound n (drop n (x ∷ xs)) some (omega arith))
+count_within bound n xs some few = no_run n some
 
 -- there are as few runs as can hold all members
 pub runs_count : {X : Type 0} (n : ℕ) (xs : List X) → 0 < n → AreFewest (length (runs_of n xs)) n (length xs)
@@ -204,11 +199,10 @@ joined_parts limit x =
     joined-append (cut_up limit x).full (unless_empty (cut_up limit x).rest) ∙ ap (λ rest. joined (cut_up limit x).full ++ rest) (joined_one (cut_up limit x).rest) ∙ cut_all limit x
 
 waits_few : (limit : Limit) (rest : List ℕ) → 0 < most limit → is_full limit rest ≡ false → length (waiting_rest limit rest) < most limit
-waits_few (Lines n delim) rest some short = some
-waits_few (Bytes n) rest some short = some
 waits_few (LineBytes n delim) rest some short =
     let few : length rest < n = short_some (LineBytes n delim) rest short some in
     let both : length (whole_lines delim rest) + length (open_line delim rest) ≡ length rest = sym (length-append (whole_lines delim rest) (open_line delim rest)) ∙ ap length (whole_then_open delim rest) in omega arith
+waits_few limit rest some short = some
 
 -- what waits is shorter than a part
 pub waiting_few : (limit : Limit) (x : List ℕ) → 0 < most limit → length (waiting_rest limit (cut_up limit x).rest) < most limit

@@ -46,11 +46,8 @@ shut_more (share ∷ shares) one shut is = (shut.0, shut_more shares one shut.1 
 -- a text that isn't empty has a part
 
 some_by : (full : List (List ℕ)) (rest x : List ℕ) → joined full ++ rest ≡ x → 0 < length x → 0 < length (full ++ unless_empty rest)
-some_by [] [] x is some = absurd (none_of (ap length is)) where
-  none_of : 0 ≡ length x → ⊥
-  none_of e = omega (arith, e, some)
-some_by [] (byte ∷ rest) x is some = omega arith
-some_by (part ∷ full) rest x is some = omega arith
+some_by [] [] x is some = absurd (omega (arith, some, ap length is))
+some_by full rest x is some = omega arith
 
 pub parts_some : (limit : Limit) (x : List ℕ) → 0 < length x → 0 < length (parts limit x)
 parts_some limit x some = some_by (cut_up limit x).full (cut_up limit x).rest x (cut_all limit x) some

@@ -34,13 +34,11 @@ short_some limit x short some = short_test (most limit) (measure limit x) short 
 
 pub measure-append : (limit : Limit) (x y : List ℕ) → measure limit (x ++ y) ≡ measure limit x + measure limit y
 measure-append (Lines n delim) x y = delimiters-append delim x y
-measure-append (Bytes n) x y = length-append x y
-measure-append (LineBytes n delim) x y = length-append x y
+measure-append limit x y = length-append x y
 
 pub measure-le-length : (limit : Limit) (x : List ℕ) → measure limit x ≤ length x
 measure-le-length (Lines n delim) x = delimiters-le-length delim x
-measure-le-length (Bytes n) x = omega arith
-measure-le-length (LineBytes n delim) x = omega arith
+measure-le-length limit x = omega arith
 
 pub full-append : (limit : Limit) (x y : List ℕ) → is_full limit x ≡ true → is_full limit (x ++ y) ≡ true
 full-append limit x y full =
@@ -211,11 +209,9 @@ cut_none limit x short = cut_once limit x [] x (stops x short)
 
 -- what is left is what is settled of it, and what waits
 pub settled_then_waiting : (limit : Limit) (rest : List ℕ) → settled_rest limit rest ++ waiting_rest limit rest ≡ rest
-settled_then_waiting (Lines n delim) rest = append-nil rest
-settled_then_waiting (Bytes n) rest = append-nil rest
 settled_then_waiting (LineBytes n delim) rest = whole_then_open delim rest
+settled_then_waiting limit rest = append-nil rest
 
 pub settled_some : (limit : Limit) (rest : List ℕ) → 0 < length rest → 0 < length (settled_rest limit rest)
-settled_some (Lines n delim) rest some = some
-settled_some (Bytes n) rest some = some
 settled_some (LineBytes n delim) rest some = whole_some delim rest some
+settled_some limit rest some = some

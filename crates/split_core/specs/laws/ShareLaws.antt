@@ -139,9 +139,8 @@ settled_in_full (LineBytes n delim) x y short =
     (whole_begins delim x taken.0)
 
 settled_in_rest : (limit : Limit) (x y : List ℕ) → IsBeginning (settled_rest limit x) (settled_rest limit (x ++ y))
-settled_in_rest (Lines n delim) x y = begins_more x y
-settled_in_rest (Bytes n) x y = begins_more x y
 settled_in_rest (LineBytes n delim) x y = whole_begins delim x y
+settled_in_rest limit x y = begins_more x y
 
 pub settled_in_whole : (limit : Limit) (x : List ℕ) → IsBeginning (settled_rest limit x) x
 settled_in_whole limit x = (_, sym (settled_then_waiting limit x))
