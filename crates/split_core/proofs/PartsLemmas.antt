@@ -1,15 +1,17 @@
 -- What each call on parts leaves: their files, and the part that was begun.
-use Rattle.std.proofs.Common.{◌≡◌, ℕ, ◌+◌, ◌≤◌, suc, List, [], ◌∷◌, ◌++◌, length, Bool, true, false, IsTrue, Some, None, Result, Ok, Err, OnOk, IfErr, inl, refl, sym, ◌∙◌, ap, subst, add-one, arith, append_assoc, length-append}
+use Rattle.std.proofs.Common.{◌≡◌, ℕ, ◌+◌, ◌≤◌, suc, List, [], ◌∷◌, ◌++◌, length, map, Bool, true, false, IsTrue, Some, None, Result, Ok, Err, OnOk, IfErr, inl, refl, sym, ◌∙◌, ap, subst, add-one, arith, append_assoc, length-append}
 use Rattle.std.proofs.lemmas.List.{append-nil}
 use Rattle.std.proofs.lemmas.Bool.{false≢true}
 use Rattle.ports_core.specs.Name.{Naming, next_name, has_next, with_one_drawn}
 use Rattle.ports_core.specs.Slot.{Slot, changed_at, opened, closes, with_written, with_broken, told_of, is_writable, is_closable}
 use Rattle.ports_core.specs.inner.Slot.{KeepsBroken}
 use Rattle.ports_core.specs.declared.slot.Mode.TheVariants.{Fresh}
+use Rattle.ports_core.specs.declared.slot.State.{State}
 use Rattle.ports_core.specs.declared.slot.State.TheVariants as state
 use Rattle.ports_core.specs.declared.fault.Fault.{Fault}
 use Rattle.ports_core.specs.declared.fault.Fault.TheVariants as fault
 use Rattle.ports_core.specs.inner.Write.{WritesShort}
+use Rattle.split_core.specs.Parts.{unless_empty}
 use Rattle.split_core.specs.Split.{Share, share, is_some, is_named, are_named}
 use Rattle.split_core.specs.inner.ShareLaws.{SharesBegin}
 use Rattle.split_core.proofs.ShareLaws.{shares_themselves, shares_more, last_grows}
@@ -42,9 +44,9 @@ pub record FileFacts (told : Bool) (parts : PartsState) (old mid : List Slot) (n
   pub after : 2 ≤ slot
   pub writable : IsTrue (is_writable mid slot)
 
-pub some_share : (begun : List ℕ) → is_some begun ≡ true → begun_share begun ≡ share state.Open begun ∷ []
-some_share [] is = absurd (false≢true is)
-some_share (byte ∷ begun) is = refl
+pub some_share : (now : State) (bytes : List ℕ) → is_some bytes ≡ true → map (share now) (unless_empty bytes) ≡ share now bytes ∷ []
+some_share now [] is = absurd (false≢true is)
+some_share now (byte ∷ bytes) is = refl
 
 pub none_begun : (begun : List ℕ) → is_some begun ≡ false → begun ≡ []
 none_begun [] is = refl
@@ -70,7 +72,7 @@ there_facts told parts old slot is ready =
       writable = open_file.1;
     } where
       one_share : (begun : List ℕ) → is_given parts.current ≡ is_some begun → begun_share begun ≡ share state.Open begun ∷ []
-      one_share begun given = some_share begun (sym given ∙ ap is_given is)
+      one_share begun given = some_share state.Open begun (sym given ∙ ap is_given is)
 
       counted : (shares : List Share) (begun : List ℕ) → Begun parts shares begun → length (shares ++ begun_share begun) ≡ suc (length shares)
       counted shares begun has = ap (λ more. length (shares ++ more)) (one_share begun has.given) ∙ count_one shares (share state.Open begun)

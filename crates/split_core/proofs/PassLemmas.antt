@@ -10,7 +10,7 @@ use Rattle.ports_core.proofs.PartLemmas.{begins_itself}
 use Rattle.ports_core.proofs.SlotLemmas.{length-changed_at}
 use Rattle.ports_core.specs.inner.Write.{WritesShort}
 use Rattle.split_core.specs.declared.limit.Limit.{Limit}
-use Rattle.split_core.specs.Parts.{cut_up, parts, unless_empty, settled_rest, waiting_rest}
+use Rattle.split_core.specs.Parts.{cut_up, parts, unless_empty, settled_rest}
 use Rattle.split_core.specs.laws.CutLaws.{settled_then_waiting, settled_some}
 use Rattle.split_core.specs.Split.{Share, share, is_some, is_named, are_named, settled_parts}
 use Rattle.split_core.proofs.ShareLaws.{shut_map, last_grows}
@@ -123,18 +123,13 @@ module _ (told : Bool) (state : PartsState) (old : List Slot) (ready : IsReady s
   finishes_none none x stands at_end =
       let rest = no_rest x stands none in
       move.moves_same_by told state.names _ _ old old
-      (ap (λ those. full_shares x ++ begun_share those) (no_begun x rest) ∙ ap (λ those. full_shares x ++ map (share file_state.Closed) (unless_empty those)) (sym rest) ∙ sym (whole_is x)) refl where
-        no_begun : (x : List ℕ) → rest_bytes x ≡ [] → begun_bytes x ≡ []
-        no_begun x is = by (begun_bytes x) (ap length (settled_then_waiting state.limit (rest_bytes x)) ∙ ap length is) where
-          by : (those : List ℕ) → length (those ++ waiting_rest state.limit (rest_bytes x)) ≡ 0 → those ≡ []
-          by [] e = refl
-          by (byte ∷ those) e = absurd (omega (arith, e))
+      (ap (λ those. full_shares x ++ begun_share those) (none_begun (begun_bytes x) (sym stands.opened ∙ ap is_given none)) ∙ ap (λ those. full_shares x ++ map (share file_state.Closed) (unless_empty those)) (sym rest) ∙ sym (whole_is x)) refl
 
   begun_some : (x : List ℕ) (slot : ℕ) → Stands state x → state.current ≡ Some slot → is_some (begun_bytes x) ≡ true
   begun_some x slot stands is = sym stands.opened ∙ ap is_given is
 
   low_is : (x : List ℕ) (slot : ℕ) → Stands state x → state.current ≡ Some slot → settled_parts state.limit x ≡ full_shares x ++ share file_state.Open (begun_bytes x) ∷ []
-  low_is x slot stands is = ap (λ more. full_shares x ++ more) (some_share (begun_bytes x) (begun_some x slot stands is))
+  low_is x slot stands is = ap (λ more. full_shares x ++ more) (some_share file_state.Open (begun_bytes x) (begun_some x slot stands is))
 
   named_here : (x : List ℕ) (slot : ℕ) → Stands state x → state.current ≡ Some slot → is_named state.names (length (full_shares x)) ≡ true
   named_here x slot stands is = sym (ap (are_named state.names) (ap length (low_is x slot stands is) ∙ count_one (full_shares x) (share file_state.Open (begun_bytes x)))) ∙ stands.enough
@@ -143,11 +138,7 @@ module _ (told : Bool) (state : PartsState) (old : List Slot) (ready : IsReady s
   rest_is x stands = ap (λ waits. begun_bytes x ++ waits) stands.waits ∙ settled_then_waiting state.limit (rest_bytes x)
 
   high_is : (x : List ℕ) (slot : ℕ) → Stands state x → state.current ≡ Some slot → whole_parts state.limit x ≡ full_shares x ++ share file_state.Closed (rest_bytes x) ∷ []
-  high_is x slot stands is = whole_is x ∙ ap (λ more. full_shares x ++ more) (one_part (rest_bytes x) (some_rest (begun_bytes x) state.waiting (rest_bytes x) (begun_some x slot stands is) (rest_is x stands))) where
-    one_part : (bytes : List ℕ) → is_some bytes ≡ true → map (share file_state.Closed) (unless_empty bytes) ≡ share file_state.Closed bytes ∷ []
-    one_part [] some = absurd (false≢true some)
-    one_part (byte ∷ bytes) some = refl
-
+  high_is x slot stands is = whole_is x ∙ ap (λ more. full_shares x ++ more) (some_share file_state.Closed (rest_bytes x) (some_rest (begun_bytes x) state.waiting (rest_bytes x) (begun_some x slot stands is) (rest_is x stands))) where
     some_rest : (begun waits rest : List ℕ) → is_some begun ≡ true → begun ++ waits ≡ rest → is_some rest ≡ true
     some_rest [] waits rest some same = absurd (false≢true some)
     some_rest (byte ∷ begun) waits rest some same = sym (ap is_some same)

@@ -68,7 +68,7 @@ module _ (parts : PartsState) (x taken : List ℕ) where
   shares_go : (left : ℕ) (has_line : Bool) → 0 < length taken → IsSettled parts.limit (rest_of parts x ++ taken) left has_line → settled_parts parts.limit (x ++ taken) ≡ full_of parts x ++ share file_state.Open (rest_of parts x ++ taken) ∷ []
   shares_go left has_line some leads =
       shares_by [] (rest_of parts x ++ taken) (cut_none parts.limit (rest_of parts x ++ taken) leads.short)
-      ∙ ap (λ begun. full_of parts x ++ begun_share begun) leads.settled ∙ ap (λ more. full_of parts x ++ more) (some_share (rest_of parts x ++ taken) (some_bytes (rest_of parts x) taken some))
+      ∙ ap (λ begun. full_of parts x ++ begun_share begun) leads.settled ∙ ap (λ more. full_of parts x ++ more) (some_share file_state.Open (rest_of parts x ++ taken) (some_bytes (rest_of parts x) taken some))
 
   -- the part is full, and the next has begun
   shares_turn : (first next : List ℕ) → IsTurned parts.limit (rest_of parts x ++ taken) first next → settled_parts parts.limit (x ++ taken) ≡ full_of parts x ++ share file_state.Closed first ∷ begun_share next
@@ -191,7 +191,7 @@ is_named_drawn names next place is = ap (λ (those : Naming). is_named those pla
 -- a part that was begun is the last
 
 low_is : (parts : PartsState) (x : List ℕ) → is_some (begun_of parts x) ≡ true → settled_parts parts.limit x ≡ full_of parts x ++ share file_state.Open (begun_of parts x) ∷ []
-low_is parts x some = ap (λ more. full_of parts x ++ more) (some_share (begun_of parts x) some)
+low_is parts x some = ap (λ more. full_of parts x ++ more) (some_share file_state.Open (begun_of parts x) some)
 
 last_of : (parts : PartsState) (x : List ℕ) → Stands parts x → is_some (begun_of parts x) ≡ true → IsLast parts (full_of parts x)
 last_of parts x stands some =

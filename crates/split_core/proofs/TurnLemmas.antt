@@ -1,7 +1,7 @@
 -- The end of a part, and the beginning of the next.
 use Rattle.std.proofs.Common.{◌≡◌, ℕ, ◌+◌, ◌-◌, ◌<◌, ◌≤◌, suc, List, [], ◌∷◌, ◌++◌, length, Bool, true, false, eqb, Some, None, Ok, Err, inl, refl, sym, ◌∙◌, ap, subst, arith, append_assoc, length-append}
 use Rattle.std.proofs.lemmas.List.{append-nil}
-use Rattle.std.proofs.lemmas.Bool.{false≢true, eqb-true, eq-eqb}
+use Rattle.std.proofs.lemmas.Bool.{false≢true, eqb-false, eqb-true}
 use Rattle.ports_core.specs.Name.{Naming}
 use Rattle.ports_core.specs.Slot.{Slot, closes, is_closable}
 use Rattle.ports_core.specs.inner.Slot.{KeepsBroken}
@@ -104,7 +104,7 @@ pub some_bytes : (waiting bytes : List ℕ) → 0 < length bytes → is_some (wa
 some_bytes waiting bytes some = is_some_of (waiting ++ bytes) (omega (arith, some, length-append waiting bytes))
 
 two_shares : (shares : List Share) (begun next : List ℕ) → is_some next ≡ true → (shares ++ share state.Closed begun ∷ []) ++ share state.Open next ∷ [] ≡ shares ++ share state.Closed begun ∷ begun_share next
-two_shares shares begun next some = append_assoc shares (share state.Closed begun ∷ []) (share state.Open next ∷ []) ∙ ap (λ more. shares ++ share state.Closed begun ∷ more) (sym (some_share next some))
+two_shares shares begun next some = append_assoc shares (share state.Closed begun ∷ []) (share state.Open next ∷ []) ∙ ap (λ more. shares ++ share state.Closed begun ∷ more) (sym (some_share state.Open next some))
 
 module _ (told : Bool) (parts : PartsState) (bytes : List ℕ) (old wet : List Slot) (shut mid : PartsState) (left : ℕ) (facts : ClosedFacts told parts old wet shut) (some : 0 < length bytes) (is : mid ≡ record shut { left = left; has_line = false }) where
   whole : mid ≡ record parts { left = left; has_line = false; current = None }
@@ -211,5 +211,4 @@ pub no_bytes : (bytes : List ℕ) → true ≡ eqb (length bytes) 0 → length b
 no_bytes bytes is = eqb-true (length bytes) 0 (sym is)
 
 pub some_of : (bytes : List ℕ) → false ≡ eqb (length bytes) 0 → 0 < length bytes
-some_of [] is = absurd (false≢true (is ∙ eq-eqb 0 0 refl))
-some_of (byte ∷ bytes) is = omega arith
+some_of bytes is = omega (arith, eqb-false (length bytes) 0 (sym is))
