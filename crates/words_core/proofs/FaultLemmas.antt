@@ -1,5 +1,5 @@
 -- Lemmas on the word at which a fault stands.
-use Rattle.std.proofs.Common.{◌≡◌, ◌≤◌, ℕ, ◌+◌, ◌==◌, ◌&&◌, arith, List, [], ◌∷◌, ◌++◌, length, Option, Some, None, Result, Ok, Err, refl, ap}
+use Rattle.std.proofs.Common.{◌≡◌, ◌≤◌, ℕ, ◌+◌, ◌==◌, ◌&&◌, arith, List, [], ◌∷◌, ◌++◌, length, Option, Some, None, Result, Ok, Err, refl}
 use Rattle.seg_core.specs.Count.{is_number}
 use Rattle.ports_core.specs.declared.fault.Fault.{Fault}
 use Rattle.ports_core.specs.declared.fault.Fault.TheVariants.{Usage}
@@ -85,12 +85,8 @@ well_more : (given whole : Given) (meant : Result Given Fault) → given_before 
 well_more given whole (Ok more) is = (more, refl)
 well_more given whole (Err fault) is = absurd (cc)
 
-abbrev word_of : ℕ → Result Given Fault → ℕ
-word_of default (Err (Usage kind word)) = word
-word_of default meant = default
-
 ends_after : (least : ℕ) (state : State) (kind : UsageKind) (word : ℕ) → Awaits least state → ended state ≡ Err (Usage kind word) → least ≤ word
-ends_after least (Awaiting choice awaited option) kind word awaits is = let same : option ≡ word = ap (word_of 0) is in omega (arith, awaits, same)
+ends_after least (Awaiting choice awaited option) kind word awaits is = let same : option ≡ word = cc in omega (arith, awaits, same)
 ends_after least state kind word awaits is = absurd (cc)
 
 awaits_later : (least place : ℕ) (state : State) → least ≤ place → Awaits place state → Awaits least state
@@ -101,7 +97,7 @@ module _ (rows : List OptionRow) (kind : UsageKind) (word : ℕ) where
   goes_after : (least place : ℕ) (rest : State → Result Given Fault) (meant : Result Meaning Fault) → least ≤ place → Stands place meant → ((state : State) → Awaits least state → rest state ≡ Err (Usage kind word) → least ≤ word)
       → onward rest meant ≡ Err (Usage kind word) → least ≤ word
   goes_after least place rest (Ok meaning) within stands later is = later meaning.next (awaits_later least place meaning.next within stands) (of_more meaning.given (rest meaning.next) (Usage kind word) is)
-  goes_after least place rest (Err (Usage other at)) within stands later is = let same : at ≡ word = ap (word_of 0) is in omega (arith, within, stands, same)
+  goes_after least place rest (Err (Usage other at)) within stands later is = let same : at ≡ word = cc in omega (arith, within, stands, same)
   goes_after least place rest (Err fault) within stands later is = absurd (cc)
 
   fault_after : (words : List (List ℕ)) (least place : ℕ) (state : State) → least ≤ place → Awaits least state → spelled rows words place state ≡ Err (Usage kind word) → least ≤ word

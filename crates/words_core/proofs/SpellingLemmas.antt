@@ -84,10 +84,7 @@ of_more given (Ok more) fault is = absurd (cc)
 of_more given (Err other) fault is = is
 
 at_the_end : (state : State) (more : List (List ℕ)) (rows : List OptionRow) (place : ℕ) (kind : UsageKind) (word : ℕ) → ended state ≡ Err (Usage kind word) → (kind ≡ MissingValue → ⊥) → spelled rows more place state ≡ Err (Usage kind word)
-at_the_end (Awaiting choice awaited option) more rows place kind word is other = absurd (other (sym (ap kind_of is))) where
-  kind_of : Result Given Fault → UsageKind
-  kind_of (Err (Usage kind word)) = kind
-  kind_of meant = MissingValue
+at_the_end (Awaiting choice awaited option) more rows place kind word is other = absurd (other (cc))
 at_the_end state more rows place kind word is other = absurd (cc)
 
 still_told : (first more : List (List ℕ)) (rows : List OptionRow) (place : ℕ) (meant : Result Meaning Fault) (kind : UsageKind) (word : ℕ)
