@@ -1,10 +1,11 @@
 -- Lemmas on gathering the lines of a piece.
-use Rattle.std.proofs.Common.{◌≡◌, ◌≢◌, ℕ, ◌+◌, ◌%◌, ◌<◌, ◌≤◌, zero, suc, min, max, Bool, true, false, cond, eqb, List, [], ◌∷◌, ◌++◌, length, get_or, set, take, drop, Ok, Err, Result, OnOk, inl, inr, refl, sym, ◌∙◌, ap, subst, arith, append_assoc, length-append}
+use Rattle.std.proofs.Common.{◌≡◌, ◌≢◌, ℕ, ◌+◌, ◌%◌, ◌<◌, ◌≤◌, zero, suc, min, max, Bool, true, false, cond, eqb, List, [], ◌∷◌, ◌++◌, length, get_or, set, take, drop, Result, OnOk, inl, inr, refl, sym, ◌∙◌, ap, subst, arith, append_assoc, length-append}
 use Rattle.std.proofs.Math.Nat.{mod-add-mod, mod-eq_of_lt, mod-mod, mod_self, mod-le}
 use Rattle.std.proofs.Math.Dec.{eqb-suc-suc}
 use Rattle.std.proofs.lemmas.Bool.{cases_eq, eq-eqb, ne_eqb, eqb-true, eqb-false, false≢true}
 use Rattle.std.proofs.lemmas.List.{append-nil, ext_get_or, take_at, take-append-le, take-take, length-take-le}
 use Rattle.std.proofs.Math.Seq.{take-append-add}
+use Rattle.std.proofs.lemmas.Result.{on_ok_weaker}
 use Rattle.std.proofs.lemmas.List.FromFn.{length-map-range_with_len, get_or-map-range_with_len}
 use Rattle.seg_core.specs.Line.{lines_of, delimiters, line_count, HasNone}
 use Rattle.seg_core.proofs.LinesOf.{lines_of-open}
@@ -124,31 +125,11 @@ open_line delim n start piece gathered now next reached reached_now line so_far 
   one_line : lines_of delim line ≡ line ∷ []
   one_line = lines_of-open delim line some (has_none delim line none)
 
--- all is gathered
-
-gathered_all : (delim n start : ℕ) (piece : List ℕ) (gathered : List (List ℕ)) (next reached : ℕ) (left : List ℕ) → Dealing delim n start piece gathered next reached left → left ≡ [] → gathered ≡ dealt_piece delim n start piece
-gathered_all delim n start piece gathered next reached left so_far none =
-    ext_get_or [] gathered (dealt_piece delim n start piece) (so_far.count ∙ sym (length-map-range_with_len (λ file. dealt n file start (lines_of delim piece)) 0 n))
-    (λ file inside. each file (let count : length gathered ≡ n = so_far.count in omega arith)) where
-      each : (file : ℕ) → file < n → get_or gathered file [] ≡ get_or (dealt_piece delim n start piece) file []
-      each file inside =
-          sym (append-nil (get_or gathered file [])) ∙ sym (ap (λ those. get_or gathered file [] ++ dealt n file next (lines_of delim those)) none) ∙ so_far.shares file inside
-          ∙ sym (get_or-map-range_with_len (λ at. dealt n at start (lines_of delim piece)) 0 n file file [] inside (omega arith))
-
-ends_at : (delim n start : ℕ) (piece : List ℕ) (gathered : List (List ℕ)) (next reached : ℕ) (left : List ℕ) → Dealing delim n start piece gathered next reached left → left ≡ [] → next ≡ (start + delimiters delim piece) % n
-ends_at delim n start piece gathered next reached left so_far none =
-    let here : next + delimiters delim left ≡ next = (let zero : delimiters delim left ≡ 0 = ap (delimiters delim) none in omega arith) in
-    sym (ap (λ place. place % n) here ∙ mod-eq_of_lt so_far.within) ∙ so_far.ends
-
-reached_all : (delim n start : ℕ) (piece : List ℕ) (gathered : List (List ℕ)) (next reached : ℕ) (left : List ℕ) → Dealing delim n start piece gathered next reached left → left ≡ [] → reached ≡ reached_by delim n start piece
-reached_all delim n start piece gathered next reached left so_far none =
-    let over : next ≤ reached = so_far.over in let no_more : line_count delim left ≡ 0 = ap (line_count delim) none in let all = so_far.reaches in let few : reached ≤ n = so_far.few in let inside : next < n = so_far.within in omega arith
-
 -- one member was put in its place
 pub appended : (gathered : List (List ℕ)) (place : ℕ) (had now line : List ℕ) {E : Type 0} (result : Result (Unit {0}) E) → place < length gathered → had ≡ get_or gathered place had → OnOk result (now ≡ had ++ line)
     → OnOk result (set gathered place now ≡ changed_at place (λ those. those ++ line) gathered)
-appended gathered place had now line (Ok u) within at is = ap (set gathered place) is ∙ set-changed gathered place (λ those. those ++ line) had within at
-appended gathered place had now line (Err fault) within at is = tt
+appended gathered place had now line result within at is =
+    on_ok_weaker result (λ (same : now ≡ had ++ line). ap (set gathered place) same ∙ set-changed gathered place (λ those. those ++ line) had within at) is
 
 -- what `gather` owes where nothing is left
 pub record Gathers (delim n start : ℕ) (piece : List ℕ) (gathered : List (List ℕ)) (next reached : ℕ) : Type 0 where
@@ -156,12 +137,20 @@ pub record Gathers (delim n start : ℕ) (piece : List ℕ) (gathered : List (Li
   pub next_is : next ≡ (start + delimiters delim piece) % n
   pub reached_is : reached ≡ reached_by delim n start piece
 
-ended : (delim n start : ℕ) (piece : List ℕ) (gathered : List (List ℕ)) (next reached : ℕ) → Dealing delim n start piece gathered next reached [] → Gathers delim n start piece gathered next reached
+-- all is gathered
+ended : (delim n start : ℕ) (piece : List ℕ) (gathered : List (List ℕ)) (next reached : ℕ) → Dealing delim n start piece gathered next reached []
+    → Gathers delim n start piece gathered next reached
 ended delim n start piece gathered next reached so_far = record {
-  gathered_is = gathered_all delim n start piece gathered next reached [] so_far refl;
-  next_is = ends_at delim n start piece gathered next reached [] so_far refl;
-  reached_is = reached_all delim n start piece gathered next reached [] so_far refl;
-}
+  gathered_is = ext_get_or [] gathered (dealt_piece delim n start piece) (so_far.count ∙ sym (length-map-range_with_len (λ file. dealt n file start (lines_of delim piece)) 0 n))
+      (λ file inside. each file (let count : length gathered ≡ n = so_far.count in omega arith));
+  next_is = let here : next + 0 ≡ next = omega arith in sym (ap (λ place. place % n) here ∙ mod-eq_of_lt so_far.within) ∙ so_far.ends;
+  reached_is = let over : next ≤ reached = so_far.over in let all = so_far.reaches in let few : reached ≤ n = so_far.few in
+      let inside : next < n = so_far.within in omega arith;
+} where
+  each : (file : ℕ) → file < n → get_or gathered file [] ≡ get_or (dealt_piece delim n start piece) file []
+  each file inside =
+      sym (append-nil (get_or gathered file [])) ∙ so_far.shares file inside
+      ∙ sym (get_or-map-range_with_len (λ at. dealt n at start (lines_of delim piece)) 0 n file file [] inside (omega arith))
 
 pub ends_here : (delim n start : ℕ) (piece : List ℕ) (gathered : List (List ℕ)) (next reached : ℕ) (left line : List ℕ) → Dealing delim n start piece gathered next reached left → line ≡ left → eqb (length line) 0 ≡ true
     → Gathers delim n start piece gathered next reached

@@ -30,7 +30,7 @@ after : (x front rest : List ℕ) → front ++ rest ≡ x → drop (length front
 after x front rest is = ap (drop (length front)) (sym is) ∙ drop-append_seam front rest
 
 -- what waits in a stage that cuts off parts
-pub parts_wait : (parts : PartsState) (held : List ℕ) (size : ℕ) → held ≡ parts.waiting → size ≡ length held → (x : List ℕ) → Stands parts x → size ≡ length ((part.work parts).waiting x)
-parts_wait parts held size is count x stands =
-    count ∙ ap length (is ∙ stands.waits ∙ sym (after x (joined (shared (settled_parts parts.limit x))) (waiting_rest parts.limit (cut_up parts.limit x).rest) (settled_all parts.limit x)))
+pub parts_wait : (parts : PartsState) (x : List ℕ) → Stands parts x → length parts.waiting ≡ length ((part.work parts).waiting x)
+parts_wait parts x stands =
+    ap length (stands.waits ∙ sym (after x (joined (shared (settled_parts parts.limit x))) (waiting_rest parts.limit (cut_up parts.limit x).rest) (settled_all parts.limit x)))
     ∙ ap (λ those. length (drop (length (joined those)) x)) (sym (all_bytes parts.names (settled_parts parts.limit x) stands.enough))

@@ -23,7 +23,7 @@ pub never_short : (engine : GuardState Splitter) (x : List ℕ) → HoldsIn Hold
 never_short engine x holds = all_named engine.stage x holds.within
 
 pub held_is : (way : Splitter) (x : List ℕ) → Holds way x → held way ≡ length ((work way).waiting x)
-held_is (Parts parts) x holds = parts_wait parts parts.waiting (length parts.waiting) refl refl x holds
+held_is (Parts parts) x holds = parts_wait parts x holds
 held_is (Round round) x holds = dealing.none_waits round x holds
 
 -- it writes to files alone
