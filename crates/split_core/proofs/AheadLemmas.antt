@@ -115,7 +115,8 @@ first_of_text delim x k n at inside none first = record {
   within = let before : at < length (take n (drop k x)) = first.within in let wide = length-window k n x inside in omega arith;
   none = subst (HasNone delim) (ap (λ rest. take k x ++ rest) (take-take at n (drop k x) (let before : at < length (take n (drop k x)) = first.within in let wide = length-window k n x inside in omega arith)) ∙ sym (take-add k at x))
       (none_append delim (take k x) (take at (take n (drop k x))) none first.none);
-  here = sym (get_or-take n (drop k x) at 0 (let before : at < length (take n (drop k x)) = first.within in let wide = length-window k n x inside in omega arith)
+  here = sym (get_or-take n (drop k x) at 0
+      (let before : at < length (take n (drop k x)) = first.within in let wide = length-window k n x inside in omega arith)
       ∙ get_or-drop k x at 0) ∙ first.here;
 }
 

@@ -266,7 +266,8 @@ owned_opened slot one old new at is first owns =
 pub owned_unopened : (names : Naming) (old new : List Slot) (fault : Fault) → OpensNone names old new fault → KeepsFile None old None new
 owned_unopened names old new Memory none first owns = owned_same None old new (ap length none.1) first owns
 owned_unopened names old new (Open slot) none first owns =
-    let above : first ≤ length old = owns in let size : length new ≡ length old + 1 = ap length none.2.2 ∙ length-append old (unopened none.2.0 ∷ []) in omega arith
+    let above : first ≤ length old = owns in
+    let size : length new ≡ length old + 1 = ap length none.2.2 ∙ length-append old (unopened none.2.0 ∷ []) in omega arith
 owned_unopened names old new Suffixes none first owns = owned_same None old new (ap length none.1) first owns
 owned_unopened names old new fault none first owns = absurd none
 

@@ -352,7 +352,8 @@ begins_stopped told parts next piece bytes old new f leads cut = record {
 -- these bytes are the last of the part
 
 module _ (told : Bool) (parts mid : PartsState) (piece past : List ℕ) (end bytes slot : ℕ) (old wet : List Slot)
-    (leads : LeadsOn parts piece (Ends end bytes)) (is : past ≡ drop end (take bytes piece)) (extends : Extended told parts (take end piece) old wet mid slot) where
+    (leads : LeadsOn parts piece (Ends end bytes)) (is : past ≡ drop end (take bytes piece))
+    (extends : Extended told parts (take end piece) old wet mid slot) where
   given : is_given mid.current ≡ true
   given = ap (λ (those : PartsState). is_given those.current) extends.same
 

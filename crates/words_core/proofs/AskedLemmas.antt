@@ -44,9 +44,10 @@ one_number which rows choice kind digits meant is reads =
 
 -- both ask for the same
 pub same_number : (which : Tool) (rows : List OptionRow) (letter : ℕ) (choice : Choice) (kind : Kind) (digits : List ℕ) (meant : Meant)
-    → option_named rows (codes "-" ++ letter ∷ []) ≡ Some (choice, takes.Value kind) → nat_lt letter 128 ≡ true → (letter == 45) ≡ false → is_number (letter ∷ []) ≡ false
-    → is_number digits ≡ true → value_in kind digits ≡ Ok meant
+    → option_named rows (codes "-" ++ letter ∷ []) ≡ Some (choice, takes.Value kind) → nat_lt letter 128 ≡ true → (letter == 45) ≡ false
+    → is_number (letter ∷ []) ≡ false → is_number digits ≡ true → value_in kind digits ≡ Ok meant
     → then_check (spelled rows ((45 ∷ digits) ∷ []) 1 (First choice kind)) (settings_for which)
     ≡ then_check (spelled rows ((45 ∷ letter ∷ []) ∷ digits ∷ []) 1 (First choice kind)) (settings_for which)
 same_number which rows letter choice kind digits meant named low other no_digit is reads =
-    one_number which rows choice kind digits meant is reads ∙ sym (one_given which rows letter choice choice kind kind digits meant named low other no_digit reads)
+    one_number which rows choice kind digits meant is reads
+    ∙ sym (one_given which rows letter choice choice kind kind digits meant named low other no_digit reads)

@@ -201,7 +201,8 @@ pub gives : (rows : List OptionRow) (words : List (List ℕ)) (place : ℕ) (sta
 gives rows words place state given is = subst (GivesAmong place words) is (spelled-gives rows words place state)
 
 -- what each option keeps, all keep
-asked-keeps : {A : Type 0} (by : A → Choice → Meant → A) (P : A → Type 0) → ((asked : A) (choice : Choice) (value : Meant) → P asked → IsSound value → P (by asked choice value))
+asked-keeps : {A : Type 0} (by : A → Choice → Meant → A) (P : A → Type 0)
+    → ((asked : A) (choice : Choice) (value : Meant) → P asked → IsSound value → P (by asked choice value))
     → (options : List GivenOption) (asked : A) → P asked → AreSound options → P (asked_by by asked options)
 asked-keeps by P keeps [] asked holds are = holds
 asked-keeps by P keeps (option ∷ options) asked holds are =
@@ -276,7 +277,8 @@ asked-can given sound =
     let asked = asked_by split_by no_options given.options in
     then_check-kept IsInLimits CanSplit (way_of given.options) _ (only_way-limits (filter is_way given.options) (ways-sound given.options sound)) (λ cut is.
     then_check-kept (λ suffix. AreNamed cut asked.alphabet suffix.width × IsWidth suffix.width) CanSplit (suffix_for cut asked.alphabet asked.width) _
-    (suffix-can cut asked.alphabet asked.width is (asked-keeps split_by (λ asked. asked.width ≤ 255) split_by-few given.options no_options (omega arith) sound)) (λ suffix those.
+    (suffix-can cut asked.alphabet asked.width is
+    (asked-keeps split_by (λ asked. asked.width ≤ 255) split_by-few given.options no_options (omega arith) sound)) (λ suffix those.
     then_check-kept (λ _. ⊤) CanSplit (files_in given.operands) _ (anything (files_in given.operands)) (λ files _.
     record { cut = is; width = those.1; named = those.0 })))
 
@@ -293,7 +295,8 @@ asked_of-few style (file ∷ []) few = tt
 asked_of-few style (file ∷ operand ∷ operands) few = few
 
 csplit-can : (given : Given) → AreSound given.options → IfOk (csplit_asked given) (λ asked. asked.style.digits ≤ 255)
-csplit-can given sound = asked_of-few (style_of given.options) given.operands (asked-keeps csplit_by (λ asked. asked.digits ≤ 255) csplit_by-few given.options plain (omega arith) sound)
+csplit-can given sound =
+    asked_of-few (style_of given.options) given.operands (asked-keeps csplit_by (λ asked. asked.digits ≤ 255) csplit_by-few given.options plain (omega arith) sound)
 
 settled-can : (which : Tool) (given : Given) → AreSound given.options → IfOk (settings_for which given) CanRun
 settled-can tool.Tail given sound = then_check-kept (λ asked. ⊤) CanRun (tail_asked given) _ (anything (tail_asked given)) (λ asked is. tt)

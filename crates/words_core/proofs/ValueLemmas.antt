@@ -74,7 +74,8 @@ value_after_letter rows letter choice kind value meant words place is reads =
 
 -- a long name
 
-place_of_equals : (front rest : List ℕ) → list_any is_equals front ≡ false → position_or_len is_equals rest ≡ 0 → position_or_len is_equals (front ++ rest) ≡ length front
+place_of_equals : (front rest : List ℕ) → list_any is_equals front ≡ false → position_or_len is_equals rest ≡ 0
+    → position_or_len is_equals (front ++ rest) ≡ length front
 place_of_equals [] rest none here = here
 place_of_equals (byte ∷ front) rest none here =
     let both = or_parts (byte == 61) (list_any is_equals front) none in

@@ -11,7 +11,8 @@ pub returns-clause-became : goal.returns-clause-became
 returns-clause-became g c = reached _ _ _ _ _ _ c.open_next.result c.requires.ready (let count : length c.self.inside.outputs.items ≡ length c.args.self.now.outputs = ap (λ (files : FilesState). length files.outputs) c.self.view_is in omega arith) c.open_next.ensures.files c.open_next.ensures.slots
 
 pub returns-clause-cut : goal.returns-clause-cut
-returns-clause-cut g c = let count : length c.self.inside.outputs.items ≡ length c.args.self.now.outputs = ap (λ (files : FilesState). length files.outputs) c.self.view_is in
+returns-clause-cut g c =
+    let count : length c.self.inside.outputs.items ≡ length c.args.self.now.outputs = ap (λ (files : FilesState). length files.outputs) c.self.view_is in
     IfErr-weaker c.open_next.result _ _ (stops_unopened g.O.Outs.told c.args.self.now _ _ _ _ c.requires.ready.drawn (omega arith)) c.open_next.ensures.fails
 
 pub returns-clause-caused : goal.returns-clause-caused
