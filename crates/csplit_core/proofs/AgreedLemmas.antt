@@ -3,7 +3,7 @@ use Rattle.std.proofs.Common.{◌≡◌, inl, inr, ℕ, zero, suc, ◌+◌, ◌-
 use Rattle.std.proofs.lemmas.Bool.{cases_lt}
 use Rattle.std.proofs.lemmas.List.{append-nil, map-append}
 use Rattle.csplit_core.specs.Operand.{Plus, Minus, Target, Number, Search, Operand, Line, most_held, is_kept}
-use Rattle.csplit_core.specs.Plan.{State, start, Step, Ending, used_up, missed, above, below, search_line, Misses, step_of, Runs}
+use Rattle.csplit_core.specs.Plan.{State, start, Step, Ending, missed, search_line, Misses, step_of, Runs}
 use Rattle.csplit_core.specs.Planned.{plan}
 use Rattle.csplit_core.specs.Section.{Section, section, section_of, lines_between, is_last_kept, whole_end, settled_end, sections_by, whole_sections}
 use Rattle.csplit_core.specs.Agreed.{CanCome, kept_lines, whole_outputs, settled_outputs, IsFront, AreFronts, output_at, IsAgreed}
@@ -174,10 +174,8 @@ decides_missed suppress operands x operand repetition left ending is some within
 
 decides_at : (suppress : Bool) (operands : List Operand) (x : List Line) (ending : Ending) → (plan suppress operands x).ending ≡ ending → EndsAs suppress x (plan suppress operands x).last ending
     → 1 ≤ (plan suppress operands x).last.current → search_line suppress (plan suppress operands x).last ≤ suc (length x) → Decides suppress operands x
-decides_at suppress operands x used_up is ends some within = decides_now suppress operands x (ap (whole_end (length x)) is ∙ sym (ap (settled_end (length x)) is))
 decides_at suppress operands x (missed operand repetition) is (left, are, none) some within = decides_missed suppress operands x operand repetition left is are some within operand.target refl none
-decides_at suppress operands x (above operand repetition matched cut) is ends some within = decides_now suppress operands x (ap (whole_end (length x)) is ∙ sym (ap (settled_end (length x)) is))
-decides_at suppress operands x (below operand repetition) is ends some within = decides_now suppress operands x (ap (whole_end (length x)) is ∙ sym (ap (settled_end (length x)) is))
+decides_at suppress operands x _ is ends some within = decides_now suppress operands x (ap (whole_end (length x)) is ∙ sym (ap (settled_end (length x)) is))
 
 decides : (suppress : Bool) (operands : List Operand) (x : List Line) → Decides suppress operands x
 decides suppress operands x =

@@ -17,7 +17,7 @@ use Rattle.csplit_core.specs.Writer.{WriterState, Writes, OwnsFiles, IsLast, IsR
 use Rattle.csplit_core.specs.inner.Writer.{KeepsFiles, Pauses, Went, Stopped, Goes, Ended, EndedNot, Ends}
 use Rattle.csplit_core.specs.inner.WriterSteps.{Started, StartedNot, Starts}
 use Rattle.csplit_core.specs.declared.section_writer.Current.{Current}
-use Rattle.csplit_core.specs.declared.section_writer.Current.TheVariants.{Skipped, Unmade, File as Filed, Unopened}
+use Rattle.csplit_core.specs.declared.section_writer.Current.TheVariants.{Skipped, Unmade, File as Filed}
 use Rattle.csplit_core.proofs.WriterLemmas.{moves_again, moves_as, moves_same, halts_after, halts_as, halts_wider, goes_by, stops_by, end_begins, breaks_later, owns_again, owns_still}
 use Rattle.csplit_core.proofs.OutputSteps.{becomes_again, falls_after, falls_wider, file_of, with_last, line_begins, close_begins, close_moves, line_moves, close_halts, line_halts}
 use Rattle.ports_core.proofs.SlotSteps.{KeepsMade, made_again, made_write, made_close, made_break, keeps_same, keeps_write, keeps_close, written_writable, writable_elsewhere, made_short, keeps_again}
@@ -218,10 +218,8 @@ files_left writer next old new same removes = record {
   there = left_there writer.files next.files old new removes;
 } where
   last_still : (current : Current) (old new : List Slot) → length new ≡ length old → IsLast current old → IsLast current new
-  last_still Skipped old new size last = tt
-  last_still Unmade old new size last = tt
   last_still (Filed slot size) old new same last = last ∙ sym same
-  last_still Unopened old new size last = tt
+  last_still _ old new size last = tt
 
   left_among : (files left : List ℕ) (old new : List Slot) (place : ℕ) → Removes files old left new → is_among place left ≡ true → is_among place files ≡ true
   left_among files left old new place removes among = by (is_among place files) refl where

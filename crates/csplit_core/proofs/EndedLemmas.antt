@@ -15,7 +15,7 @@ use Rattle.csplit_core.specs.inner.Draft.{ended_part, with_bytes}
 use Rattle.csplit_core.specs.Input.{newline, all_lines}
 use Rattle.csplit_core.specs.Operand.{Operand, Line}
 use Rattle.csplit_core.specs.Output.{Style, contents_of, part_by}
-use Rattle.csplit_core.specs.Plan.{State, start, Step, Ending, used_up, missed, above, below, Runs}
+use Rattle.csplit_core.specs.Plan.{State, start, Step, Ending, below, Runs}
 use Rattle.csplit_core.specs.Planned.{Plan, plan}
 use Rattle.csplit_core.specs.laws.PlanLaws.{plan_once}
 use Rattle.csplit_core.specs.Progress.{AimsAt}
@@ -57,10 +57,8 @@ whole_part_is style operands lines =
 -- The last section has all lines that are left, and none where the cut is below the current line.
 
 whole_past : (total : ℕ) (ending : Ending) → is_final ending ≡ true → settled_end total ending ≡ whole_end total ending
-whole_past total used_up past = absurd (false≢true past)
-whole_past total (missed operand repetition) past = absurd (false≢true past)
-whole_past total (above operand repetition matched cut) past = absurd (false≢true past)
 whole_past total (below operand repetition) past = refl
+whole_past total _ past = absurd (false≢true past)
 
 all_first : (n : ℕ) (y : List ℕ) → line_count newline y ≤ n → first_lines newline n y ≡ y
 all_first n y few = ap joined (take_all n (lines_of newline y) few) ∙ joined-lines_of newline y
@@ -117,10 +115,8 @@ last_draft cutter x fit (inr past) = past_draft cutter x past
 -- how the plan ends
 
 final_aims : (ending : Ending) → is_final ending ≡ true → AimsAt Below ending
-final_aims used_up past = absurd (false≢true past)
-final_aims (missed operand repetition) past = absurd (false≢true past)
-final_aims (above operand repetition matched cut) past = absurd (false≢true past)
 final_aims (below operand repetition) past = tt
+final_aims ending past = absurd (false≢true past)
 
 judged_now : (cutter : CutterState) (x : List ℕ) → Stands cutter x → IsJudged cutter x
 judged_now cutter x (inl live) =

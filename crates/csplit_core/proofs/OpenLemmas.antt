@@ -15,7 +15,7 @@ use Rattle.csplit_core.specs.inner.Draft.{first_draft}
 use Rattle.csplit_core.specs.Input.{newline}
 use Rattle.csplit_core.specs.Operand.{Operand, Line}
 use Rattle.csplit_core.specs.Output.{Style}
-use Rattle.csplit_core.specs.Plan.{State, start, Step, Ending, used_up, missed, above, below, Runs, is_used_up, misses, is_above, is_below, cuts}
+use Rattle.csplit_core.specs.Plan.{State, start, Step, Ending, used_up, below, Runs, is_used_up, misses, is_above, is_below, cuts}
 use Rattle.csplit_core.specs.Planned.{Plan, plan}
 use Rattle.csplit_core.specs.laws.PlanLaws.{plan_runs, plan_once}
 use Rattle.csplit_core.specs.Progress.{state_of, AimsAt, EndsHere}
@@ -23,7 +23,7 @@ use Rattle.csplit_core.specs.inner.Progress.{AreSeen, Turns, MovesOn}
 use Rattle.csplit_core.specs.Section.{settled_end, is_final, most_waiting}
 use Rattle.csplit_core.specs.declared.progress.Progress.{Progress}
 use Rattle.csplit_core.specs.declared.progress.Turn.{Turn}
-use Rattle.csplit_core.specs.declared.progress.Turn.TheVariants.{UsedUp, Missed, Above, Below, Cuts}
+use Rattle.csplit_core.specs.declared.progress.Turn.TheVariants.{Below, Cuts}
 use Rattle.csplit_core.specs.Writer.{WriterState, Writes, size_of}
 use Rattle.csplit_core.specs.inner.Writer.{Begun, BegunNot}
 use Rattle.csplit_core.specs.Cutter.{CutterState, most_next, pattern_next, kept_next, next_of, most_by, pattern_by, kept_by, settled_draft, IsFit, Stands}
@@ -49,9 +49,7 @@ first_runs suppress operands = first_only suppress (start operands) (plan suppre
 
 none_settled : (ending : Ending) → 0 ≡ settled_end 0 ending - 1
 none_settled used_up = omega arith
-none_settled (missed operand repetition) = omega arith
-none_settled (above operand repetition matched cut) = omega arith
-none_settled (below operand repetition) = omega arith
+none_settled ending = omega arith
 
 -- the first section, without a byte, is what is settled
 first_settled : (suppress : Bool) (operands : List Operand) → first_draft (kept_by operands) ≡ settled_draft suppress operands []
@@ -74,11 +72,8 @@ seen_none suppress operands = record {
 }
 
 first_no_cut : (operands : List Operand) (turn : Turn) → MovesOn operands 0 first_progress turn → IsNoCut turn
-first_no_cut operands UsedUp moves = tt
-first_no_cut operands Missed moves = tt
-first_no_cut operands (Above matched line) moves = tt
-first_no_cut operands Below moves = tt
 first_no_cut operands (Cuts matched line) moves = absurd (omega (arith, moves.6, moves.7))
+first_no_cut operands _ moves = tt
 
 abbrev SaysFirst : Bool → List Operand → Turn → Type 0
 SaysFirst suppress operands turn = (lines : List Line) → AreSeen suppress lines 0 (start operands) false → Turns suppress lines 0 (start operands) turn
@@ -88,14 +83,9 @@ first_ends suppress operands turn says moves =
     advance_ends suppress [] (start operands) turn (first_no_cut operands turn moves) (advances suppress [] 0 (start operands) turn refl (says [] (seen_none suppress operands)))
 
 final_below : (turn : Turn) (ending : Ending) → AimsAt turn ending → is_final ending ≡ true → turn ≡ Below
-final_below turn used_up aims past = absurd (false≢true past)
-final_below turn (missed operand repetition) aims past = absurd (false≢true past)
-final_below turn (above operand repetition matched cut) aims past = absurd (false≢true past)
-final_below UsedUp (below operand repetition) aims past = absurd aims
-final_below Missed (below operand repetition) aims past = absurd aims
-final_below (Above matched line) (below operand repetition) aims past = absurd aims
 final_below Below (below operand repetition) aims past = refl
-final_below (Cuts matched line) (below operand repetition) aims past = absurd aims
+final_below turn (below operand repetition) aims past = absurd aims
+final_below turn ending aims past = absurd (false≢true past)
 
 -- The cutter that was opened
 

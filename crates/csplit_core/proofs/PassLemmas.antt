@@ -63,8 +63,6 @@ StaysOver cutter text lines Below = Unit {0}
 StaysOver cutter text lines (Cuts matched line) = Unit {0}
 
 aim_more : (cutter : CutterState) (text : List ℕ) (lines : ℕ) (aim : Turn) → cutter.lines ≤ lines → AimHolds cutter.operands cutter.lines cutter.progress aim → StaysOver cutter text lines aim → AimHolds cutter.operands lines cutter.progress aim
-aim_more cutter text lines UsedUp less holds stays = tt
-aim_more cutter text lines Missed less holds stays = tt
 aim_more cutter text lines (Above matched line) less will stays = record {
   operand = will.operand;
   rest = will.rest;
@@ -76,8 +74,8 @@ aim_more cutter text lines (Above matched line) less will stays = record {
   matched_within = let e : matched ≤ cutter.lines = will.matched_within in omega (arith, e, less);
   above = stays;
 }
-aim_more cutter text lines Below less holds stays = tt
 aim_more cutter text lines (Cuts matched line) less holds stays = holds
+aim_more cutter text lines _ less holds stays = tt
 
 -- a search that matched nothing goes on over more lines
 none_from : (operand : Operand) (a b : List Line) (from : ℕ) → 1 ≤ from → MatchesNone operand a from → NoneFrom operand (length a) b from → MatchesNone operand (a ++ b) from
@@ -116,18 +114,11 @@ still_by : (cutter : CutterState) (x text : List ℕ) (lines : ℕ) (aim : Turn)
     → StaysOver cutter text lines aim → EndsStill (suppress_in cutter) (length (all_lines x)) (all_lines text) (length (all_lines x ++ all_lines text)) (state_in cutter) ending
 still_by cutter x text lines aim used_up fit count all aims stays = tt
 still_by cutter x text lines aim (below operand repetition) fit count all aims stays = tt
-still_by cutter x text lines UsedUp (missed operand repetition) fit count all aims stays = absurd aims
 still_by cutter x text lines Missed (missed operand repetition) fit count all aims stays = λ next rest are.
     subst (λ n. NoneFrom next n (all_lines text) (search_line (suppress_in cutter) (state_in cutter))) count (stays next (fit.sought ∙ ap pattern_by are))
-still_by cutter x text lines (Above last line) (missed operand repetition) fit count all aims stays = absurd aims
-still_by cutter x text lines Below (missed operand repetition) fit count all aims stays = absurd aims
-still_by cutter x text lines (Cuts last line) (missed operand repetition) fit count all aims stays = absurd aims
-still_by cutter x text lines UsedUp (above operand repetition matched cut) fit count all aims stays = absurd aims
-still_by cutter x text lines Missed (above operand repetition matched cut) fit count all aims stays = absurd aims
 still_by cutter x text lines (Above last line) (above operand repetition matched cut) fit count all aims stays =
     let least : min cut (2 ^ 64 - 1) ≤ cut = min-le_left cut (2 ^ 64 - 1) in omega (arith, least, aims.1, stays, all)
-still_by cutter x text lines Below (above operand repetition matched cut) fit count all aims stays = absurd aims
-still_by cutter x text lines (Cuts last line) (above operand repetition matched cut) fit count all aims stays = absurd aims
+still_by cutter x text lines _ _ fit count all aims stays = absurd aims
 
 pub passes : (cutter : CutterState) (text : List ℕ) (lines n : ℕ) → IsSound cutter → n ≤ length text → IsWhole (take n text) → lines ≡ cutter.lines + line_count newline (take n text) → StaysOver cutter (take n text) lines cutter.aim
     → PassesOver cutter text (record cutter { lines = lines }) n

@@ -39,30 +39,20 @@ same_by false false index one other same = same refl refl
 place_front : (suppress : Bool) (lines : List Line) (first : State) (steps : List Step) (last : State) (ending : Ending) → Runs suppress lines first steps last ending
     → (total total' index line : ℕ) (more more' : List Step) (how how' : Ending) → first.current ≤ line → line < last.current
     → place_from suppress total index (steps ++ more) how line ≡ place_from suppress total' index (steps ++ more') how' line
-place_front suppress lines first steps last ending (is_used_up state none) total total' index line more more' how how' from before = absurd (omega (arith, from, before))
-place_front suppress lines first steps last ending (misses state operand operands is none) total total' index line more more' how how' from before = absurd (omega (arith, from, before))
-place_front suppress lines first steps last ending (is_above state operand operands matched cut is at far) total total' index line more more' how how' from before = absurd (omega (arith, from, before))
-place_front suppress lines first steps last ending (is_below state operand operands matched cut is at within low) total total' index line more more' how how' from before = absurd (omega (arith, from, before))
 place_front suppress lines first steps last ending (cuts state operand operands matched cut steps' last' ending' is at least within rest) total total' index line more more' how how' from before =
     same_by (nat_lt line cut) (suppress && nat_le line cut) index _ _
     (λ lt le. place_front suppress lines (state_after suppress operand operands state.repetition matched cut) steps' last' ending' rest total total' (index + 1) line more more' how how' (left_by suppress line cut lt le) before)
+place_front suppress lines first steps last ending run total total' index line more more' how how' from before = absurd (omega (arith, from, before))
 
 current_grows : (suppress : Bool) (lines : List Line) (first : State) (steps : List Step) (last : State) (ending : Ending) → Runs suppress lines first steps last ending → first.current ≤ last.current
-current_grows suppress lines first steps last ending (is_used_up state none) = omega arith
-current_grows suppress lines first steps last ending (misses state operand operands is none) = omega arith
-current_grows suppress lines first steps last ending (is_above state operand operands matched cut is at far) = omega arith
-current_grows suppress lines first steps last ending (is_below state operand operands matched cut is at within low) = omega arith
 current_grows suppress lines first steps last ending (cuts state operand operands matched cut steps' last' ending' is at least within rest) =
     let on = current_grows suppress lines (state_after suppress operand operands state.repetition matched cut) steps' last' ending' rest in
     let more : cut ≤ line_after suppress cut = line_some suppress cut in omega (arith, on, more, least)
+current_grows suppress lines first steps last ending run = omega arith
 
 -- from the current line on, what follows decides
 place_after : (suppress : Bool) (lines : List Line) (first : State) (steps : List Step) (last : State) (ending : Ending) → Runs suppress lines first steps last ending
     → (total index line : ℕ) (more : List Step) (how : Ending) → last.current ≤ line → place_from suppress total index (steps ++ more) how line ≡ place_from suppress total (index + length steps) more how line
-place_after suppress lines first steps last ending (is_used_up state none) total index line more how from = ap (λ i. place_from suppress total i more how line) (let e : index ≡ index + 0 = omega arith in e)
-place_after suppress lines first steps last ending (misses state operand operands is none) total index line more how from = ap (λ i. place_from suppress total i more how line) (let e : index ≡ index + 0 = omega arith in e)
-place_after suppress lines first steps last ending (is_above state operand operands matched cut is at far) total index line more how from = ap (λ i. place_from suppress total i more how line) (let e : index ≡ index + 0 = omega arith in e)
-place_after suppress lines first steps last ending (is_below state operand operands matched cut is at within low) total index line more how from = ap (λ i. place_from suppress total i more how line) (let e : index ≡ index + 0 = omega arith in e)
 place_after suppress lines first steps last ending (cuts state operand operands matched cut steps' last' ending' is at least within rest) total index line more how from =
     let on : line_after suppress cut ≤ last'.current = current_grows suppress lines (state_after suppress operand operands state.repetition matched cut) steps' last' ending' rest in
     let more_cut : cut ≤ line_after suppress cut = line_some suppress cut in
@@ -70,6 +60,7 @@ place_after suppress lines first steps last ending (cuts state operand operands 
     ∙ ap (λ b. cond b (left_out index) (place_from suppress total (index + 1) (steps' ++ more) how line)) (not_left suppress line cut (omega (arith, on, from)))
     ∙ place_after suppress lines (state_after suppress operand operands state.repetition matched cut) steps' last' ending' rest total (index + 1) line more how from
     ∙ ap (λ i. place_from suppress total i more how line) (let e : index + 1 + length steps' ≡ index + suc (length steps') = omega arith in e)
+place_after suppress lines first steps last ending run total index line more how from = ap (λ i. place_from suppress total i more how line) (let e : index ≡ index + 0 = omega arith in e)
 
 -- What is settled of the open section is in it whatever comes
 

@@ -13,7 +13,7 @@ use Rattle.csplit_core.specs.Planned.{Plan, plan}
 use Rattle.csplit_core.specs.Section.{section, section_of, lines_between, is_last_kept, settled_end, is_final, most_waiting, bytes_of}
 use Rattle.csplit_core.specs.Progress.{AimsAt}
 use Rattle.csplit_core.specs.declared.progress.Turn.{Turn}
-use Rattle.csplit_core.specs.declared.progress.Turn.TheVariants.{UsedUp, Missed, Above, Below, Cuts}
+use Rattle.csplit_core.specs.declared.progress.Turn.TheVariants.{Below}
 use Rattle.csplit_core.specs.laws.PlanLaws.{plan_once}
 use Rattle.csplit_core.specs.inner.SectionLaws.{EndsAs}
 use Rattle.csplit_core.specs.laws.SectionLaws.{ends_as, closed_still, are_within}
@@ -48,16 +48,12 @@ settled_part_is style operands lines =
 
 -- where the plan isn't final, all lines of the last section are settled but the last ones
 pub settled_count : (total current : ℕ) (ending : Ending) → is_final ending ≡ false → total + 1 - current - most_waiting ending ≡ settled_end total ending - current
-settled_count total current used_up live = omega arith
-settled_count total current (missed operand repetition) live = omega arith
-settled_count total current (above operand repetition matched cut) live = omega arith
 settled_count total current (below operand repetition) live = absurd (false≢true (sym live))
+settled_count total current _ live = omega arith
 
 pub final_count : (total current : ℕ) (ending : Ending) → is_final ending ≡ true → 0 ≡ settled_end total ending - current
-final_count total current used_up past = absurd (false≢true past)
-final_count total current (missed operand repetition) past = absurd (false≢true past)
-final_count total current (above operand repetition matched cut) past = absurd (false≢true past)
 final_count total current (below operand repetition) past = omega arith
+final_count total current _ past = absurd (false≢true past)
 
 -- the sections that ended stay, whatever comes
 pub ended_still : (style : Style) (operands : List Operand) (x t : List ℕ) (steps : List Step) (state : State) (ending : Ending) (kept : Bool) (written : List ℕ) → IsWhole x → Runs style.suppress (all_lines x) (start operands) steps state ending
@@ -80,17 +76,10 @@ most_is suppress lines state (below operand repetition) those live = absurd (fal
 
 -- an aim that isn't below a cut doesn't end for good
 pub aims_live : (aim : Turn) (ending : Ending) → AimsAt aim ending → (aim ≡ Below → ⊥) → is_final ending ≡ false
-aims_live aim used_up aims differs = refl
-aims_live aim (missed operand repetition) aims differs = refl
-aims_live aim (above operand repetition matched cut) aims differs = refl
-aims_live UsedUp (below operand repetition) aims differs = absurd aims
-aims_live Missed (below operand repetition) aims differs = absurd aims
-aims_live (Above matched line) (below operand repetition) aims differs = absurd aims
 aims_live Below (below operand repetition) aims differs = absurd (differs refl)
-aims_live (Cuts matched line) (below operand repetition) aims differs = absurd aims
+aims_live aim (below operand repetition) aims differs = absurd aims
+aims_live aim ending aims differs = refl
 
 pub aims_past : (ending : Ending) → AimsAt Below ending → is_final ending ≡ true
-aims_past used_up aims = absurd aims
-aims_past (missed operand repetition) aims = absurd aims
-aims_past (above operand repetition matched cut) aims = absurd aims
 aims_past (below operand repetition) aims = refl
+aims_past ending aims = absurd aims

@@ -7,7 +7,7 @@ use Rattle.ports_core.specs.Part.{OutputsAt, StoppedBetween, nothing}
 use Rattle.ports_core.specs.Engine.{TakesIn, PutsOut, CutsOff, EndsShort, EndsWith, EndsThere, Finishes, StandsAt, IsMet, KeepsOwn, is_verdict}
 use Rattle.ports_core.specs.Engine as engine
 use Rattle.ports_core.specs.declared.fault.Fault.{Fault}
-use Rattle.ports_core.specs.declared.fault.Fault.TheVariants.{Memory, Write, Read, Open, Suffixes, NoMatch, Range, Usage, Failed, TooLong}
+use Rattle.ports_core.specs.declared.fault.Fault.TheVariants.{Memory, Write, Open, Suffixes, NoMatch, Range}
 use Rattle.ports_core.proofs.PartLemmas.{outputs_count, stopped_in_turn}
 use Rattle.csplit_core.specs.Csplit.{csplit_means, csplit_work, settled_of, settled_by, verdict_of, verdict_by}
 use Rattle.csplit_core.specs.Input.{open_line, all_lines}
@@ -55,13 +55,7 @@ not_verdict : (style : Style) (old new : List Slot) (fault : Fault) → Breaks s
 not_verdict style old new Memory breaks = refl
 not_verdict style old new (Write slot) breaks = refl
 not_verdict style old new (Open slot) breaks = refl
-not_verdict style old new Suffixes breaks = absurd breaks
-not_verdict style old new (Read slot) breaks = absurd breaks
-not_verdict style old new (NoMatch operand repetition) breaks = absurd breaks
-not_verdict style old new (Range operand repetition) breaks = absurd breaks
-not_verdict style old new (Usage kind word) breaks = absurd breaks
-not_verdict style old new Failed breaks = absurd breaks
-not_verdict style old new TooLong breaks = absurd breaks
+not_verdict style old new fault breaks = absurd breaks
 
 -- a piece
 
@@ -101,13 +95,7 @@ met_by : (style : Style) (Lacks : Type 0) (Ends : Fault → Type 0) (old new : L
 met_by style Lacks Ends old new Memory lacks breaks = (refl, lacks)
 met_by style Lacks Ends old new (Write slot) lacks breaks = (λ none. ap not (breaks.0 none), λ none. absurd (false≢true (sym none)), breaks.1)
 met_by style Lacks Ends old new (Open slot) lacks breaks = (refl, refl, breaks)
-met_by style Lacks Ends old new Suffixes lacks breaks = absurd breaks
-met_by style Lacks Ends old new (Read slot) lacks breaks = absurd breaks
-met_by style Lacks Ends old new (NoMatch operand repetition) lacks breaks = absurd breaks
-met_by style Lacks Ends old new (Range operand repetition) lacks breaks = absurd breaks
-met_by style Lacks Ends old new (Usage kind word) lacks breaks = absurd breaks
-met_by style Lacks Ends old new Failed lacks breaks = absurd breaks
-met_by style Lacks Ends old new TooLong lacks breaks = absurd breaks
+met_by style _ _ old new _ lacks breaks = absurd breaks
 
 same_work : (stage next : CsplitState) → IsSame stage.cutter next.cutter → work next ≡ work stage
 same_work stage next same = ap (λ (style : Style). csplit_work style next.cutter.operands) same.style ∙ ap (csplit_work stage.cutter.writer.style) same.operands
@@ -194,16 +182,10 @@ module _ (told : Bool) (stage next : CsplitState) (old new : List Slot) where
       (subst (λ (style : Style). Swept (not style.keep) (length before) new cleared) closed.same.style (swept (length before) (closed.owns.owns (length before) at.owns)))
 
   met_there : (fault : Fault) → is_verdict fault ≡ true → (slots : List Slot) → EndsThere Holds work stage fault → IsMet (work stage).means (work stage).means.closing (Unit {0}) (EndsThere Holds work stage) old slots fault
-  met_there Memory kind slots ends = absurd (false≢true kind)
-  met_there (Write slot) kind slots ends = absurd (false≢true kind)
-  met_there (Read slot) kind slots ends = absurd (false≢true kind)
-  met_there (Open slot) kind slots ends = absurd (false≢true kind)
   met_there Suffixes kind slots ends = ends
   met_there (NoMatch operand repetition) kind slots ends = ends
   met_there (Range operand repetition) kind slots ends = ends
-  met_there (Usage what word) kind slots ends = absurd (false≢true kind)
-  met_there Failed kind slots ends = absurd (false≢true kind)
-  met_there TooLong kind slots ends = absurd (false≢true kind)
+  met_there fault kind slots ends = absurd (false≢true kind)
 
   pub judged_met : Closed told stage old new next → (verdict : Option Fault) → Judges next.cutter verdict → (fault : Fault) → verdict ≡ Some fault → is_verdict fault ≡ true → (slots : List Slot)
       → IsMet (work stage).means (work stage).means.closing (Unit {0}) (EndsThere Holds work stage) old slots fault
@@ -218,13 +200,11 @@ module _ (told : Bool) (stage next : CsplitState) (old new : List Slot) where
 
   pub end_outputs : (result : Result (Unit {0}) Fault) → Closes told stage old new next result → OnOk result (Finishes Holds Owns work stage told old new)
   end_outputs _ (ended_well closed none) = finishes told stage next old new closed None none refl
-  end_outputs _ (ended_short fault stopped) = tt
-  end_outputs _ (ended_so fault mid reached closed some kind swept) = tt
+  end_outputs _ closes = tt
 
   pub end_writable : (result : Result (Unit {0}) Fault) → Closes told stage old new next result → OnOk result ((work stage).means.output ≡ true → IsTrue (is_writable new 0))
   end_writable _ (ended_well closed none) = λ output. closed.ready.output
-  end_writable _ (ended_short fault stopped) = tt
-  end_writable _ (ended_so fault mid reached closed some kind swept) = tt
+  end_writable _ closes = tt
 
   pub end_own : (result : Result (Unit {0}) Fault) → Closes told stage old new next result → KeepsOwn Owns stage next old new
   end_own _ (ended_well closed none) first own = closed.owns.owns first own

@@ -13,7 +13,7 @@ use Rattle.csplit_core.specs.Draft.{draft_part, AreClosed}
 use Rattle.csplit_core.specs.Input.{newline, all_lines}
 use Rattle.csplit_core.specs.Operand.{Operand, Line}
 use Rattle.csplit_core.specs.Output.{Style, contents_of, part_of}
-use Rattle.csplit_core.specs.Plan.{start, Step, Ending, used_up, missed, above, below}
+use Rattle.csplit_core.specs.Plan.{start, Step, Ending, below}
 use Rattle.csplit_core.specs.Planned.{Plan, plan}
 use Rattle.csplit_core.specs.laws.PlanLaws.{plan_runs}
 use Rattle.csplit_core.specs.Section.{section, section_of, lines_between, is_last_kept, whole_end, is_final, whole_sections}
@@ -179,10 +179,8 @@ closed_short told stage next old new fault stopped = record {
 -- Where later input goes nowhere, it changes nothing of the end either.
 
 no_lines : (current total : ℕ) (ending : Ending) (lines : List Line) → is_final ending ≡ true → lines_between current (whole_end total ending) lines ≡ []
-no_lines current total used_up lines final = absurd (false≢true final)
-no_lines current total (missed operand repetition) lines final = absurd (false≢true final)
-no_lines current total (above operand repetition matched cut) lines final = absurd (false≢true final)
 no_lines current total (below operand repetition) lines final = ap (λ n. Rattle.std.proofs.Common.take n (Rattle.std.proofs.Common.drop (current - 1) lines)) (let none : 0 - current ≡ 0 = omega arith in none)
+no_lines current total _ lines final = absurd (false≢true final)
 
 final_sections : (a b : List Line) (p : Plan) → AreWithin (length a) p.steps → is_final p.ending ≡ true → whole_sections (a ++ b) p ≡ whole_sections a p
 final_sections a b p within final =

@@ -14,7 +14,7 @@ use Rattle.csplit_core.specs.inner.CsplitState.{Closed, ClosedNot, Closes, ended
 use Rattle.ports_core.specs.Engine.{is_verdict}
 use Rattle.csplit_core.specs.Writer.{IsReady}
 use Rattle.csplit_core.specs.declared.progress.Turn.{Turn}
-use Rattle.csplit_core.specs.declared.progress.Turn.TheVariants.{UsedUp, Missed, Above, Below, Cuts}
+use Rattle.csplit_core.specs.declared.progress.Turn.TheVariants.{Below}
 use Rattle.csplit_core.proofs.ByteLemmas.{joined_line, open_is_line, open_complete, first_complete, none_lines, none_open, no_newline, piece_lines, piece_open}
 use Rattle.csplit_core.proofs.StageLemmas.{closed_by, closed_not, lacks_first, lacks_then, took_none, took_past}
 use Rattle.csplit_core.proofs.StretchLemmas.{took_again, took_then_not, not_wider}
@@ -79,22 +79,9 @@ past_passes told view stage taken piece slots is aim ready sound unbroken =
     subst (λ (s : CsplitState). Passed told stage piece slots slots (record s { taken = taken })) (sym is)
     (past_here told stage taken piece slots (ap (λ (s : CsplitState). s.cutter.aim) (sym is) ∙ aim) ready sound unbroken)
 
-abbrev is_below : Turn → Bool
-is_below UsedUp = false
-is_below Missed = false
-is_below (Above matched line) = false
-is_below Below = true
-is_below (Cuts matched line) = false
-
-other_aim : (turn : Turn) → is_below turn ≡ false → turn ≡ Below → ⊥
-other_aim turn other is = false≢true (sym other ∙ ap is_below is)
-
 pub below_or_not : (turn : Turn) → (turn ≡ Below) ⊎ (turn ≡ Below → ⊥)
-below_or_not UsedUp = inr (other_aim UsedUp refl)
-below_or_not Missed = inr (other_aim Missed refl)
-below_or_not (Above matched line) = inr (other_aim (Above matched line) refl)
 below_or_not Below = inl refl
-below_or_not (Cuts matched line) = inr (other_aim (Cuts matched line) refl)
+below_or_not turn = inr (λ is. cc)
 
 -- no newline came: the piece is more of the open line
 

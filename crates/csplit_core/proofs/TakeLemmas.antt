@@ -49,9 +49,7 @@ settled_before suppress a b state (below operand' repetition) operand operands m
 
 settled_most : (total : ℕ) (ending : Ending) → is_final ending ≡ false → settled_end total ending ≤ suc total
 settled_most total used_up live = omega arith
-settled_most total (missed operand repetition) live = omega arith
-settled_most total (above operand repetition matched cut) live = omega arith
-settled_most total (below operand repetition) live = omega arith
+settled_most total _ live = omega arith
 
 -- a step of the plan is a cut
 
@@ -84,9 +82,6 @@ place_before cutter x t matched cut live whole goes fit from =
 -- What arrives where more lines came.
 
 low_none : (cutter : CutterState) (x t : List ℕ) (live : IsLive cutter x) → IsWhole x → IsFit cutter → (ending : Ending) → Runs (suppress_in cutter) (all_lines (x ++ t)) (state_in cutter) [] (state_in cutter) ending → is_final ending ≡ true → live.at.taken ≡ 0
-low_none cutter x t live whole fit used_up run past = absurd (false≢true past)
-low_none cutter x t live whole fit (missed operand repetition) run past = absurd (false≢true past)
-low_none cutter x t live whole fit (above operand repetition matched cut) run past = absurd (false≢true past)
 low_none cutter x t live whole fit (below operand repetition) run past =
     let here = ends_as (suppress_in cutter) (all_lines (x ++ t)) (state_in cutter) [] (state_in cutter) (below operand repetition) run in
     by here.0 here.1 here.2 here.3 here.4 here.6 where
@@ -100,6 +95,7 @@ low_none cutter x t live whole fit (below operand repetition) run past =
           let e : settled_end cutter.lines live.ends.ending ≤ cut = subst (λ n. settled_end n live.ends.ending ≤ cut) count before in
           let s = settled_count cutter.lines cutter.progress.current live.ends.ending live.live in
           let t' : live.at.taken ≡ cutter.lines + 1 - cutter.progress.current - most_waiting live.ends.ending = live.settled in omega (arith, e, s, t', low)
+low_none cutter x t live whole fit _ run past = absurd (false≢true past)
 
 enough_left : (lines current taken most left : ℕ) → 1 ≤ current → current + taken ≤ lines + 1 → taken ≡ lines + 1 - current - most → left ≡ lines - (current + taken - 1) → (taken ≡ 0) ⊎ (most ≤ left)
 enough_left lines current taken most left some few is left_is = elim (cases_lt most (lines + 1 - current)) [
@@ -273,10 +269,8 @@ pub past_not_live : (cutter : CutterState) (x : List ℕ) → cutter.aim ≡ Bel
 past_not_live cutter x aim live = false≢true (sym live.live ∙ aims_past live.ends.ending (subst (λ a. AimsAt a live.ends.ending) aim live.ends.aims))
 
 pub final_stays : (b : List Line) (total : ℕ) (ending : Ending) → is_final ending ≡ true → StaysFor b total ending
-final_stays b total used_up past = absurd (false≢true past)
-final_stays b total (missed operand repetition) past = absurd (false≢true past)
-final_stays b total (above operand repetition matched cut) past = absurd (false≢true past)
 final_stays b total (below operand repetition) past = tt
+final_stays b total _ past = absurd (false≢true past)
 
 plan_past : (cutter : CutterState) (x t : List ℕ) → IsWhole x → IsPast cutter x → plan (suppress_in cutter) cutter.operands (all_lines (x ++ t)) ≡ plan (suppress_in cutter) cutter.operands (all_lines x)
 plan_past cutter x t whole past =
@@ -287,10 +281,8 @@ none_taken [] = refl
 none_taken (line ∷ lines) = refl
 
 none_between : (current total : ℕ) (ending : Ending) (lines : List Line) → is_final ending ≡ true → lines_between current (settled_end total ending) lines ≡ []
-none_between current total used_up lines past = absurd (false≢true past)
-none_between current total (missed operand repetition) lines past = absurd (false≢true past)
-none_between current total (above operand repetition matched cut) lines past = absurd (false≢true past)
 none_between current total (below operand repetition) lines past = ap (λ n. take n (drop (current - 1) lines)) (let e : 0 - current ≡ 0 = omega arith in e) ∙ none_taken (drop (current - 1) lines)
+none_between current total _ lines past = absurd (false≢true past)
 
 past_draft_still : (cutter : CutterState) (x t : List ℕ) → IsWhole x → IsPast cutter x → settled_draft (suppress_in cutter) cutter.operands (all_lines (x ++ t)) ≡ settled_draft (suppress_in cutter) cutter.operands (all_lines x)
 past_draft_still cutter x t whole past =

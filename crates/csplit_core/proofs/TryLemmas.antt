@@ -8,7 +8,7 @@ use Rattle.bre_core.specs.Search.{contains}
 use Rattle.csplit_core.specs.Input.{without_newline, marked, all_lines, is_match_of}
 use Rattle.csplit_core.specs.laws.MatchLaws.{search_past, search_some, match_still}
 use Rattle.csplit_core.specs.Operand.{Target, Number, Search, Operand, Line, unmarked, is_match}
-use Rattle.csplit_core.specs.Plan.{State, start, Ending, used_up, missed, above, below, search_line, line_after, CutsAt, Misses, Runs, cuts}
+use Rattle.csplit_core.specs.Plan.{State, start, Ending, used_up, missed, above, search_line, line_after, CutsAt, Misses, Runs, cuts}
 use Rattle.csplit_core.specs.laws.PlanLaws.{cuts_still}
 use Rattle.csplit_core.specs.inner.Progress.{AreSeen, Turns, MovesOn, GoesPast, Advances}
 use Rattle.csplit_core.specs.Progress.{AimsAt, EndsHere}
@@ -17,7 +17,7 @@ use Rattle.csplit_core.specs.laws.SectionLaws.{ends_as, front_of}
 use Rattle.csplit_core.specs.declared.line_cutter.Cut.{Cut}
 use Rattle.csplit_core.specs.declared.progress.Progress.{Progress}
 use Rattle.csplit_core.specs.declared.progress.Turn.{Turn}
-use Rattle.csplit_core.specs.declared.progress.Turn.TheVariants.{UsedUp, Missed, Above, Below, Cuts}
+use Rattle.csplit_core.specs.declared.progress.Turn.TheVariants.{UsedUp, Missed, Above, Cuts}
 use Rattle.csplit_core.specs.Cutter.{CutterState, suppress_in, state_in, pattern_in, pattern_by, AimHolds, IsFit, IsLive, EndsNow}
 use Rattle.csplit_core.specs.inner.Cutter.{IsWhole, IsLine, Looked, IsFound, IsNoCut, search_after, StaysNear, Tries, TriesNext}
 use Rattle.csplit_core.proofs.AdvanceLemmas.{advances}
@@ -57,18 +57,13 @@ looked_turns cutter mid x line text number found turn same number_is is fit says
     (all_lines x) (seen_all cutter x line text number found number_is is fit says looked)
 
 pub advance_ends : (suppress : Bool) (lines : List Line) (state : State) (turn : Turn) → IsNoCut turn → Advances suppress lines state turn → EndsHere suppress lines state turn
-advance_ends suppress lines state UsedUp no_cut ends = ends
-advance_ends suppress lines state Missed no_cut ends = ends
-advance_ends suppress lines state (Above matched line) no_cut ends = ends
-advance_ends suppress lines state Below no_cut ends = ends
 advance_ends suppress lines state (Cuts matched line) no_cut ends = absurd no_cut
+advance_ends suppress lines state _ no_cut ends = ends
 
 pub no_cut_aims : (operands : List Operand) (total : ℕ) (progress : Progress) (turn : Turn) → IsNoCut turn → MovesOn operands total progress turn → AimHolds operands total progress turn
-no_cut_aims operands total progress UsedUp no_cut moves = tt
-no_cut_aims operands total progress Missed no_cut moves = tt
 no_cut_aims operands total progress (Above matched line) no_cut moves = moves
-no_cut_aims operands total progress Below no_cut moves = tt
 no_cut_aims operands total progress (Cuts matched line) no_cut moves = absurd no_cut
+no_cut_aims operands total progress _ no_cut moves = tt
 
 -- a search after a cut begins at the cut or after it, and after the line that was matched last
 pub after_cut : (suppress : Bool) (cut : Cut) → cut.line ≤ search_after suppress cut
@@ -138,19 +133,15 @@ lines_are : (cutter : CutterState) (x : List ℕ) (live : IsLive cutter x) → l
 lines_are cutter x live = length-all_lines x ∙ sym live.at.counted
 
 above_stays : (x line : List ℕ) (total matched at : ℕ) (ending : Ending) → AimsAt (Above matched at) ending → suc total < at → StaysFor (marked line ∷ []) (suc total) ending
-above_stays x line total matched at used_up aims far = absurd aims
-above_stays x line total matched at (missed operand repetition) aims far = absurd aims
 above_stays x line total matched at (above operand repetition matched' cut) aims far = elim (cases_lt cut (2 ^ 64 - 1)) [
   | inl less ↦ let e : min cut (2 ^ 64 - 1) ≡ cut = Rattle.std.proofs.Math.Nat.min-eq_left (omega (arith, less)) in omega (arith, e, aims.1, far)
   | inr more ↦ let e : min cut (2 ^ 64 - 1) ≡ 2 ^ 64 - 1 = Rattle.std.proofs.Math.Nat.min-eq_right more in omega (arith, e, aims.1, far, more)
 ]
-above_stays x line total matched at (below operand repetition) aims far = absurd aims
+above_stays x line total matched at _ aims far = absurd aims
 
 used_up_stays : (b : List Line) (total : ℕ) (ending : Ending) → AimsAt UsedUp ending → StaysFor b total ending
 used_up_stays b total used_up aims = tt
-used_up_stays b total (missed operand repetition) aims = absurd aims
-used_up_stays b total (above operand repetition matched' cut) aims = absurd aims
-used_up_stays b total (below operand repetition) aims = absurd aims
+used_up_stays b total _ aims = absurd aims
 
 pub next_above : (cutter before now : CutterState) (x line : List ℕ) (matched at : ℕ) → before ≡ cutter → now ≡ record cutter { lines = cutter.lines + 1 } → IsLive cutter x → IsWhole x → IsLine line → before.aim ≡ Above matched at → before.lines + 1 < at → EndsNow now (x ++ line)
 next_above cutter before now x line matched at same now_is live whole one aim far =
@@ -168,8 +159,6 @@ next_used_up cutter before now x line same now_is live whole one aim =
 -- the line of a cut that was above the last one came in
 above_cuts : (suppress : Bool) (lines : List Line) (line : Line) (state : State) (total matched at : ℕ) (ending : Ending) → length lines ≡ total → state.current ≤ total + 1 → EndsAs suppress lines state ending → AimsAt (Above matched at) ending → at ≤ total + 1 → total + 1 < 2 ^ 64 - 1
     → GoesPast suppress (lines ++ line ∷ []) state matched at × (at ≡ total + 1)
-above_cuts suppress lines line state total matched at used_up count within ends aims near few = absurd aims
-above_cuts suppress lines line state total matched at (missed operand repetition) count within ends aims near few = absurd aims
 above_cuts suppress lines line state total matched at (above operand repetition matched' cut) count within (operands, are, at_cut, far) aims near few =
     let same : at ≡ cut = capped cut (2 ^ 64 - 1) at (total + 1) aims.1 near few in
     let here : cut ≡ total + 1 = omega (arith, same, near, far, count) in
@@ -183,7 +172,7 @@ above_cuts suppress lines line state total matched at (above operand repetition 
           })),
       same ∙ here,
     )
-above_cuts suppress lines line state total matched at (below operand repetition) count within ends aims near few = absurd aims
+above_cuts suppress lines line state total matched at _ count within ends aims near few = absurd aims
 
 pub next_cut : (cutter before : CutterState) (x line : List ℕ) (matched at total : ℕ) → before ≡ cutter → total ≡ before.lines + 1 → IsFit cutter → IsLive cutter x → IsWhole x → IsLine line → before.aim ≡ Above matched at → at ≤ before.lines + 1 → cutter.lines < 2 ^ 63
     → GoesPast (suppress_in cutter) (all_lines (x ++ line)) (state_in cutter) matched at × (total ≤ search_after (suppress_in cutter) (record { matched = matched; line = at }))
@@ -202,7 +191,6 @@ next_cut cutter before x line matched at total same total_is fit live whole one 
 
 missed_looked : (suppress : Bool) (a : List Line) (line : Line) (state : State) (ending : Ending) → EndsAs suppress a state ending → AimsAt Missed ending → (operand : Operand) (operands : List Operand) → state.operands ≡ operand ∷ operands
     → (other : ℕ) → search_line suppress state ≤ other → other ≤ length a → is_match operand (a ++ line ∷ []) other ≡ false
-missed_looked suppress a line state used_up ends aims operand operands are other from within = absurd aims
 missed_looked suppress a line state (missed operand' repetition) (operands', is, none) aims operand operands are other from within =
     let some : 1 ≤ search_line suppress state = search_some suppress state in
     match_still operand a (line ∷ []) other (omega (arith, some, from)) within
@@ -210,20 +198,17 @@ missed_looked suppress a line state (missed operand' repetition) (operands', is,
       by : (target : Target) → Misses suppress a state operand target → is_match operand a other ≡ false
       by (Number n) none = absurd none
       by (Search pattern kept offset) none = none other from within
-missed_looked suppress a line state (above operand' repetition matched' cut) ends aims operand operands are other from within = absurd aims
-missed_looked suppress a line state (below operand' repetition) ends aims operand operands are other from within = absurd aims
+missed_looked suppress a line state _ ends aims operand operands are other from within = absurd aims
 
 some_there : {X : Type 0} {x : X} → Some x ≡ None → ⊥
 some_there is = false≢true (ap (λ o. elim o [ Some y ↦ false | None ↦ true ]) is)
 
 missed_sought : (suppress : Bool) (a : List Line) (state : State) (ending : Ending) → EndsAs suppress a state ending → AimsAt Missed ending → pattern_by state.operands ≡ None → ⊥
-missed_sought suppress a state used_up ends aims none = absurd aims
 missed_sought suppress a state (missed operand repetition) (operands, is, misses) aims none = by operand.target misses (sym (ap pattern_by is) ∙ none) where
   by : (target : Target) → Misses suppress a state operand target → pattern_in target ≡ None → ⊥
   by (Number n) misses none = misses
   by (Search pattern kept offset) misses none = some_there none
-missed_sought suppress a state (above operand repetition matched' cut) ends aims none = absurd aims
-missed_sought suppress a state (below operand repetition) ends aims none = absurd aims
+missed_sought suppress a state _ ends aims none = absurd aims
 
 pub next_looked : (cutter : CutterState) (x line : List ℕ) (live : IsLive cutter x) → IsWhole x → IsLine line → cutter.aim ≡ Missed → Looked (record cutter { lines = cutter.lines + 1 }) (x ++ line) line
 next_looked cutter x line live whole one aim =

@@ -9,7 +9,7 @@ use Rattle.std.proofs.Math.Nat.{max-le}
 use Rattle.std.proofs.Math.Seq.{get_or-append_seam}
 use Rattle.bre_core.specs.Pattern.{Pattern}
 use Rattle.csplit_core.specs.Operand.{Minus, Target, Number, Search, Operand, Line, unmarked}
-use Rattle.csplit_core.specs.Plan.{State, start, Step, Ending, below, search_line, IsFirst, MatchesNone, CutsAt, line_after, state_after, step_of, Runs, is_used_up, misses, is_above, is_below, cuts}
+use Rattle.csplit_core.specs.Plan.{State, start, Step, Ending, below, search_line, IsFirst, MatchesNone, CutsAt, line_after, state_after, step_of, Runs, is_below, cuts}
 use Rattle.csplit_core.specs.laws.MatchLaws.{search_some, match_still}
 use Rattle.csplit_core.specs.laws.PlanLaws.{line_some, runs}
 use Rattle.csplit_core.specs.inner.PlanLaws.{needed}
@@ -29,14 +29,11 @@ matched_within suppress lines state operand (Search pattern kept offset) matched
 
 pub search_within : (suppress : Bool) (lines : List Line) (first : State) (steps : List Step) (last : State) (ending : Ending) → Runs suppress lines first steps last ending → first.matched ≤ length lines → search_line suppress first ≤ suc (length lines)
     → search_line suppress last ≤ suc (length lines)
-search_within suppress lines first steps last ending (is_used_up state none) matched within = within
-search_within suppress lines first steps last ending (misses state operand operands is none) matched within = within
-search_within suppress lines first steps last ending (is_above state operand operands matched' cut is at far) matched within = within
-search_within suppress lines first steps last ending (is_below state operand operands matched' cut is at in_lines low) matched within = within
 search_within suppress lines first steps last ending (cuts state operand operands matched' cut steps' last' ending' is at from in_lines rest) matched within =
     let few = matched_within suppress lines state operand operand.target matched' cut at matched in
     search_within suppress lines (state_after suppress operand operands state.repetition matched' cut) steps' last' ending' rest few
     (search_past_cut suppress (length lines) (state_after suppress operand operands state.repetition matched' cut) cut refl in_lines few)
+search_within suppress lines first steps last ending run matched within = within
 
 pub search_at_start : (suppress : Bool) (operands : List Operand) (total : ℕ) → search_line suppress (start operands) ≤ suc total
 search_at_start true operands total = omega arith

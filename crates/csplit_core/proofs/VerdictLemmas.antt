@@ -61,26 +61,20 @@ is_next : (state : State) (other operand : Operand) (operands : List Operand) (r
 is_next state other operand operands repetition of are = sym (front_of other operand of.0.0 operands (sym of.0.1 ∙ are))
 
 missed_of : (state : State) (operand : Operand) (operands : List Operand) (ending : Ending) → IsOf state ending → state.operands ≡ operand ∷ operands → AimsAt Missed ending → verdict_of (missed operand state.repetition) ≡ verdict_of ending
-missed_of state operand operands used_up of are aims = absurd aims
 missed_of state operand operands (missed other repetition) of are aims =
     ap (λ o. verdict_of (missed o state.repetition)) (is_next state other operand operands repetition of are) ∙ ap (λ n. verdict_of (missed other n)) (sym of.1)
-missed_of state operand operands (above other repetition matched cut) of are aims = absurd aims
-missed_of state operand operands (below other repetition) of are aims = absurd aims
+missed_of state operand operands _ of are aims = absurd aims
 
 above_of : (state : State) (operand : Operand) (operands : List Operand) (matched line : ℕ) (ending : Ending) → IsOf state ending → state.operands ≡ operand ∷ operands → AimsAt (Above matched line) ending
     → verdict_of (above operand state.repetition 0 0) ≡ verdict_of ending
-above_of state operand operands matched line used_up of are aims = absurd aims
-above_of state operand operands matched line (missed other repetition) of are aims = absurd aims
 above_of state operand operands matched line (above other repetition matched' cut) of are aims =
     ap (λ o. verdict_of (above o state.repetition 0 0)) (is_next state other operand operands repetition of are) ∙ ap (λ n. verdict_of (above other n 0 0)) (sym of.1)
-above_of state operand operands matched line (below other repetition) of are aims = absurd aims
+above_of state operand operands matched line _ of are aims = absurd aims
 
 below_of : (state : State) (operand : Operand) (operands : List Operand) (ending : Ending) → IsOf state ending → state.operands ≡ operand ∷ operands → AimsAt Below ending → verdict_of (below operand state.repetition) ≡ verdict_of ending
-below_of state operand operands used_up of are aims = absurd aims
-below_of state operand operands (missed other repetition) of are aims = absurd aims
-below_of state operand operands (above other repetition matched cut) of are aims = absurd aims
 below_of state operand operands (below other repetition) of are aims =
     ap (λ o. verdict_of (below o state.repetition)) (is_next state other operand operands repetition of are) ∙ ap (λ n. verdict_of (below other n)) (sym of.1)
+below_of state operand operands _ of are aims = absurd aims
 
 -- What `verdict` returns: the cutter is known by its fields.
 

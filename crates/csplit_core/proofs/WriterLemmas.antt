@@ -6,7 +6,7 @@ use Rattle.ports_core.specs.inner.Slot.{KeepsBroken}
 use Rattle.ports_core.specs.Part.{Part, Begins}
 use Rattle.ports_core.specs.inner.Part.{StoppedInTurn}
 use Rattle.ports_core.specs.declared.fault.Fault.{Fault}
-use Rattle.ports_core.specs.declared.fault.Fault.TheVariants.{Memory, Write, Read, Open, Suffixes, NoMatch, Range, Usage, Failed, TooLong}
+use Rattle.ports_core.specs.declared.fault.Fault.TheVariants.{Memory, Write, Open}
 use Rattle.ports_core.proofs.PartLemmas.{part_begins_itself, turn_between}
 use Rattle.ports_core.proofs.SlotSteps.{rose_later}
 use Rattle.csplit_core.specs.Output.{Style, part_by}
@@ -56,13 +56,7 @@ pub breaks_later : (style : Style) (old mid new : List Slot) (fault : Fault) →
 breaks_later style old mid new Memory keeps breaks = tt
 breaks_later style old mid new (Write slot) keeps breaks = (breaks.0, rose_later slot old mid new keeps breaks.1)
 breaks_later style old mid new (Open slot) keeps breaks = rose_later slot old mid new keeps breaks
-breaks_later style old mid new Suffixes keeps breaks = absurd breaks
-breaks_later style old mid new (Read slot) keeps breaks = absurd breaks
-breaks_later style old mid new (NoMatch operand repetition) keeps breaks = absurd breaks
-breaks_later style old mid new (Range operand repetition) keeps breaks = absurd breaks
-breaks_later style old mid new (Usage kind word) keeps breaks = absurd breaks
-breaks_later style old mid new Failed keeps breaks = absurd breaks
-breaks_later style old mid new TooLong keeps breaks = absurd breaks
+breaks_later style old mid new _ keeps breaks = absurd breaks
 
 pub owns_again : (one two three : WriterState) (old mid new : List Slot) → KeepsFiles one two old mid → KeepsFiles two three mid new → KeepsFiles one three old new
 owns_again one two three old mid new before after = record { owns = λ first own. after.owns first (before.owns first own); there = λ are. after.there (before.there are) }
