@@ -1,6 +1,6 @@
 -- A line is cut, or isn't, and what is left of it is held together with the lines after it that aren't cut.
 use Rattle.std.proofs.Common.{◌≡◌, inl, ℕ, ◌+◌, ◌-◌, ◌<◌, ◌≤◌, Bool, true, Option, Some, None, IfSome, Result, Ok, Err, List, [], ◌++◌, length, take, drop, refl, sym, ◌∙◌, ap, subst, arith, append_assoc, length-append}
-use Rattle.std.proofs.lemmas.List.{append-nil, take-append-drop, length-take-le, length-drop, take_all, take_at, drop_at, drop-drop}
+use Rattle.std.proofs.lemmas.List.{append-nil, take-append-drop, length-take-le, length-drop, take_at, drop_at, drop-drop}
 use Rattle.std.proofs.Math.Seq.{take-add}
 use Rattle.seg_core.specs.Line.{line_count, ends_with, delimiters}
 use Rattle.seg_core.specs.Window.{Window}
@@ -19,7 +19,7 @@ use Rattle.csplit_core.specs.declared.progress.Turn.TheVariants.{Below}
 use Rattle.csplit_core.specs.Cutter.{CutterState, state_in, IsFit, IsSound, IsAt, IsLive, EndsNow}
 use Rattle.csplit_core.specs.inner.Cutter.{settled_part, part_at, Arrives, Held, HeldNot, IsEnd, IsLine, IsWhole, IsNextFound, PassesOver, Tries, TriesNext, IsAfter, CutAll, CutAllNot, CutOn, CutsOn, Spread, Spreading, GoneOn, NotGoneOn, GoesOn, Stretched, Stretches, Took, TookNot, WillCut}
 use Rattle.csplit_core.proofs.CutterLemmas.{at_more, part_more}
-use Rattle.csplit_core.proofs.LineLemmas.{count-line, whole-append}
+use Rattle.csplit_core.proofs.LineLemmas.{count-line, whole-append, rest_all}
 use Rattle.csplit_core.proofs.SpreadLemmas.{alike, at_alike, settled_same, same_again}
 use Rattle.csplit_core.proofs.StretchLemmas.{more_settled, not_wider}
 use Rattle.csplit_core.proofs.TakeLemmas.{more_lines, took_cut, took_held, took_not_cut, took_not_held}
@@ -117,17 +117,13 @@ not_cut_with told cutter now mid next aim cut place line left rest n old between
 
 -- The text from what is left of its first line on.
 
-pub tail_all : (text : List ℕ) (from : ℕ) → take (length text - from) (drop from text) ≡ drop from text
-tail_all text from =
-    take_all (length text - from) (drop from text) (let long : length (drop from text) ≡ length text - from = length-drop from text in omega (arith, long))
-
 pub from_left : (text left : List ℕ) (size : ℕ) → size ≤ length text → IsEnd left (take size text)
     → take (length text - (size - length left)) (drop (size - length left) text) ≡ left ++ drop size text
 from_left text left size within (front, is) =
     let long : length (take size text) ≡ length front + length left = ap length is ∙ length-append front left in
     let all : length (take size text) ≡ size = length-take-le size text within in
     let parts : text ≡ front ++ (left ++ drop size text) = sym (take-append-drop size text) ∙ ap (λ those. those ++ drop size text) is ∙ append_assoc front left (drop size text) in
-    tail_all text (size - length left) ∙ ap (drop (size - length left)) parts
+    rest_all (size - length left) text ∙ ap (drop (size - length left)) parts
     ∙ drop_at front (left ++ drop size text) (size - length left) (omega (arith, long, all))
 
 taken_on : (tail left rest : List ℕ) (kept n : ℕ) → tail ≡ left ++ rest → kept ≡ length left → take (kept + n) tail ≡ left ++ take n rest

@@ -1,7 +1,7 @@
 -- Lines of a text as operands see them, and their bytes.
 use Rattle.std.proofs.Common.{◌≡◌, ◌⊎◌, inl, inr, ℕ, suc, ◌+◌, ◌-◌, ◌<◌, ◌≤◌, List, [], ◌∷◌, ◌++◌, length, map, take, drop, refl, sym, ◌∙◌, ap, subst, arith, length-append}
 use Rattle.std.proofs.lemmas.Bool.{cases_lt}
-use Rattle.std.proofs.lemmas.List.{take-append-drop, map-append, take-map, drop-map, length-map, length-drop, drop_at, drop_all, drop-append-le, take-append-le, drop-drop}
+use Rattle.std.proofs.lemmas.List.{take-append-drop, take_all, map-append, take-map, drop-map, length-map, length-drop, drop_at, drop_all, drop-append-le, take-append-le, drop-drop}
 use Rattle.std.proofs.Math.Seq.{take-add}
 use Rattle.seg_core.specs.Line.{lines_of, line_count, delimiters, joined, first_lines, after_lines, ends_with, EndsAt, FallsShort}
 use Rattle.seg_core.proofs.LinesOf.{lines_of-append, joined-lines_of}
@@ -136,3 +136,7 @@ after_first [] line rest is first = by line rest is where
   by line [] is = refl
   by line (byte ∷ rest) is = let e : 0 ≡ length line + suc (length rest) = ap length is ∙ length-append line (byte ∷ rest) in absurd (omega (arith, e))
 after_first (byte ∷ text) line rest is first = sym (joined-lines_of newline rest) ∙ sym (ap (λ those. joined (drop 1 those)) (first (omega arith)))
+
+-- what is left of a slice
+pub rest_all : (n : ℕ) (left : List ℕ) → take (length left - n) (drop n left) ≡ drop n left
+rest_all n left = take_all (length left - n) (drop n left) (let e : length (drop n left) ≡ length left - n = length-drop n left in omega (arith, e))

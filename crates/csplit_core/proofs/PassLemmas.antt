@@ -19,14 +19,13 @@ use Rattle.csplit_core.specs.inner.Cutter.{AreClear, IsWhole, IsLine, IsFound, I
 use Rattle.csplit_core.specs.Input.{newline, without_newline, is_match_of, marked, all_lines}
 use Rattle.csplit_core.specs.Measure.{Moves, IsRepeatedBy, IsRepeated, Fits}
 use Rattle.csplit_core.specs.Operand.{Target, Number, Search, Operand, Line, unmarked}
-use Rattle.csplit_core.specs.Plan.{State, Step, Ending, used_up, missed, above, below, search_line, MatchesNone, Misses, state_after, Runs, is_used_up, misses, is_above, is_below, cuts}
+use Rattle.csplit_core.specs.Plan.{State, Ending, used_up, missed, above, below, search_line, Runs}
 use Rattle.csplit_core.specs.Progress.{AimsAt, WillMove}
 use Rattle.csplit_core.specs.declared.line_cutter.Passed.{Passed}
 use Rattle.csplit_core.specs.declared.progress.Turn.{Turn}
 use Rattle.csplit_core.specs.declared.progress.Turn.TheVariants.{UsedUp, Missed, Above, Below, Cuts}
-use Rattle.csplit_core.specs.laws.MatchLaws.{search_some, match_still}
-use Rattle.csplit_core.specs.laws.PlanLaws.{cuts_still}
 use Rattle.csplit_core.proofs.LineLemmas.{whole_drop, all_lines-append, all_lines-line, count-append, count-line, length-all_lines, whole_count, whole-append}
+use Rattle.csplit_core.proofs.StayLemmas.{NoneFrom, EndsStill, ends_still}
 
 -- What stays so of a state when more lines come
 
@@ -50,10 +49,6 @@ moves_more : (total more : ℕ) (state : State) (target : Target) (matched cut :
 moves_more total more state (Number n) matched cut less at = at
 moves_more total more state (Search pattern kept offset) matched cut less at = (at.0, omega (arith, at.1, less))
 
--- `count` lines come before these, and none of these has the operand's pattern, from the line on of number `from`
-abbrev pub NoneFrom : Operand → (count : ℕ) → List Line → (from : ℕ) → Type 0
-NoneFrom operand count lines from = (k : ℕ) → k < length lines → from ≤ count + suc k → (get_or lines k unmarked).marks operand ≡ false
-
 -- With the lines of this text too there are `lines`, and the next operand stands as it did.
 abbrev pub StaysOver : CutterState → (text : List ℕ) (lines : ℕ) → Turn → Type 0
 StaysOver cutter text lines UsedUp = Unit {0}
@@ -76,38 +71,6 @@ aim_more cutter text lines (Above matched line) less will stays = record {
 }
 aim_more cutter text lines (Cuts matched line) less holds stays = holds
 aim_more cutter text lines _ less holds stays = tt
-
--- a search that matched nothing goes on over more lines
-none_from : (operand : Operand) (a b : List Line) (from : ℕ) → 1 ≤ from → MatchesNone operand a from → NoneFrom operand (length a) b from → MatchesNone operand (a ++ b) from
-none_from operand a b from some none those line from_on within = elim (cases_lt (length a) line) [
-  | inl beyond ↦
-      let e : length (a ++ b) ≡ length a + length b = length-append a b in
-      ap (λ (l : Line). l.marks operand) (get_or-append_right a b (line - 1) unmarked (omega (arith, beyond)))
-      ∙ those (line - 1 - length a) (omega (arith, e, beyond, within)) (omega (arith, beyond, from_on))
-  | inr here ↦ match_still operand a b line (omega (arith, some, from_on)) here ∙ none line from_on here
-]
-
-misses_from : (suppress : Bool) (a b : List Line) (state : State) (operand : Operand) (target : Target) → Misses suppress a state operand target → NoneFrom operand (length a) b (search_line suppress state) → Misses suppress (a ++ b) state operand target
-misses_from suppress a b state operand (Number n) none those = none
-misses_from suppress a b state operand (Search pattern kept offset) none those = none_from operand a b (search_line suppress state) (search_some suppress state) none those
-
--- what more lines have to be, so that the plan still ends there
-abbrev pub EndsStill : Bool → (count : ℕ) → List Line → (total : ℕ) → State → Ending → Type 0
-EndsStill suppress count b total last used_up = Unit {0}
-EndsStill suppress count b total last (missed operand repetition) = (operand : Operand) (operands : List Operand) → last.operands ≡ operand ∷ operands → NoneFrom operand count b (search_line suppress last)
-EndsStill suppress count b total last (above operand repetition matched cut) = total < cut
-EndsStill suppress count b total last (below operand repetition) = Unit {0}
-
-ends_still : (suppress : Bool) (a b : List Line) (first : State) (steps : List Step) (last : State) (ending : Ending) → Runs suppress a first steps last ending → EndsStill suppress (length a) b (length (a ++ b)) last ending
-    → Runs suppress (a ++ b) last [] last ending
-ends_still suppress a b first steps last ending (is_used_up state none) still = is_used_up state none
-ends_still suppress a b first steps last ending (misses state operand operands is none) still =
-    misses state operand operands is (misses_from suppress a b state operand operand.target none (still operand operands is))
-ends_still suppress a b first steps last ending (is_above state operand operands matched cut is at far) still = is_above state operand operands matched cut is (cuts_still suppress a b state operand operand.target matched cut at) still
-ends_still suppress a b first steps last ending (is_below state operand operands matched cut is at within low) still =
-    is_below state operand operands matched cut is (cuts_still suppress a b state operand operand.target matched cut at) (let e : length (a ++ b) ≡ length a + length b = length-append a b in omega (arith, e, within)) low
-ends_still suppress a b first steps last ending (cuts state operand operands matched cut steps' last' ending' is at from within rest) still =
-    ends_still suppress a b (state_after suppress operand operands state.repetition matched cut) steps' last' ending' rest still
 
 -- that is so where the next operand stands as it did
 still_by : (cutter : CutterState) (x text : List ℕ) (lines : ℕ) (aim : Turn) (ending : Ending) → IsFit cutter → cutter.lines ≡ length (all_lines x) → lines ≡ length (all_lines x ++ all_lines text) → AimsAt aim ending
@@ -410,10 +373,6 @@ few_left cutter text left next so fits =
     let long : length text ≡ length so.front + length left = ap length so.all ∙ length-append so.front left in
     let less : line_count newline so.front ≤ length so.front = line_count-le-length newline so.front in
     let c : next.lines ≡ cutter.lines + line_count newline so.front = so.count in omega (arith, long, less, c, fits)
-
--- what is left of a slice
-pub all_after : (left : List ℕ) (n : ℕ) → take (length left - n) (drop n left) ≡ drop n left
-all_after left n = take_all (length left - n) (drop n left) (let e : length (drop n left) ≡ length left - n = length-drop n left in omega (arith, e))
 
 pub stops_unfound : (cutter : CutterState) (text : List ℕ) (next : CutterState) (n : ℕ) (passed : Passed) → PassesOver cutter text next n → passed.size ≡ n → passed.found ≡ None → StopsAt cutter text next passed
 stops_unfound cutter text next n passed over size_is found_is = record {

@@ -160,24 +160,13 @@ place_here suppress operands x y line some within not =
 
 -- Two places for each that does
 
-abbrev kind_of : Place → ℕ
-kind_of (in_section index) = suc index
-kind_of (left_out index) = 0
-kind_of nowhere = 0
-
-no_kind : (index : ℕ) → 0 ≡ suc index → ⊥
-no_kind index e = omega (arith, e)
-
-apart : (other index : ℕ) → suc other ≡ suc index → index < other → ⊥
-apart other index e less = omega (arith, e, less)
-
 rest_later : (index other : ℕ) → index < other → (has : Bool) → cond has (in_section other) nowhere ≡ in_section index → ⊥
-rest_later index other less true same = apart other index (ap kind_of same) less
-rest_later index other less false same = no_kind index (ap kind_of same)
+rest_later index other less true same = let e : other ≡ index = cc in omega (arith, e, less)
+rest_later index other less false same = cc
 
 step_later : (index other : ℕ) (rest' : Place) → index < other → (rest' ≡ in_section index → ⊥) → (lt le : Bool) → cond lt (in_section other) (cond le (left_out other) rest') ≡ in_section index → ⊥
-step_later index other rest' less later true le same = apart other index (ap kind_of same) less
-step_later index other rest' less later false true same = no_kind index (ap kind_of same)
+step_later index other rest' less later true le same = let e : other ≡ index = cc in omega (arith, e, less)
+step_later index other rest' less later false true same = cc
 step_later index other rest' less later false false same = later same
 
 -- what comes after a section isn't in it
@@ -192,7 +181,7 @@ cut_before suppress total index line step steps how before is =
     left_later (suppress && nat_le line step.cut) (sym (ap (λ has. cond has (in_section index) (cond (suppress && nat_le line step.cut) (left_out index) (place_from suppress total (index + 1) steps how line))) (not_less_test line step.cut before)) ∙ is)
   where
     left_later : (le : Bool) → cond le (left_out index) (place_from suppress total (index + 1) steps how line) ≡ in_section index → ⊥
-    left_later true same = no_kind index (ap kind_of same)
+    left_later true same = cc
     left_later false same = in_later suppress total index (index + 1) line steps how (omega arith) same
 
 turned_away : (suppress : Bool) (x : List Line) (state : State) (operand : Operand) (k line : ℕ) → Turned suppress x state operand (suc (length x) - k) → suc (length x) - k ≤ line
@@ -202,7 +191,7 @@ turned_away suppress x state operand k line (too_low low rest) from = (
   state,
   below operand state.repetition,
   rest,
-  λ index is. no_kind index (ap kind_of (sym (ap (λ has. cond has (in_section index) nowhere) (not_less_test line 0 (omega arith))) ∙ is)),
+  λ index is. let none : nowhere ≡ in_section index = sym (ap (λ has. cond has (in_section index) nowhere) (not_less_test line 0 (omega arith))) ∙ is in cc,
 )
 turned_away suppress x state operand k line (turns least steps end how rest) from = (
   step_of state operand (suc (length x)) (suc (length x) - k) ∷ steps,

@@ -9,6 +9,7 @@ use Rattle.csplit_core.specs.Place.{Place, in_section, left_out, nowhere, place_
 use Rattle.csplit_core.specs.laws.PlanLaws.{line_some, plan_runs, from_not_less, less_test, not_less_test}
 use Rattle.csplit_core.proofs.PlaceLemmas.{left_by, not_left, in_later}
 use Rattle.csplit_core.proofs.WholeLemmas.{between_rest}
+use Rattle.std.proofs.lemmas.Bool.{and_parts}
 
 -- Which lines go into a section
 
@@ -146,23 +147,6 @@ placed_from suppress lines first steps last ending (cuts state operand operands 
 
 -- Lines in no section
 
-abbrev sort_of : Place → ℕ
-sort_of (in_section n) = 0
-sort_of (left_out n) = 1
-sort_of nowhere = 2
-
-abbrev number_of : Place → ℕ
-number_of (in_section n) = n
-number_of (left_out n) = n
-number_of nowhere = 0
-
-sorts_differ : (a b : Place) → a ≡ b → (sort_of a ≡ sort_of b → ⊥) → ⊥
-sorts_differ a b same differ = differ (ap sort_of same)
-
-both_true : (a b : Bool) → (a && b) ≡ true → (a ≡ true) × (b ≡ true)
-both_true true b is = (refl, is)
-both_true false b is = absurd (Rattle.std.proofs.lemmas.Bool.false≢true is)
-
 from_le : (a b : ℕ) → nat_le a b ≡ true → a ≤ b
 from_le a b is = grind (arith, nat_tests, is)
 
@@ -173,17 +157,17 @@ record LeftAt (suppress : Bool) (index cut line : ℕ) (steps : List Step) : Typ
   is : get_or (map (λ (step : Step). step.cut) steps) k 0 ≡ line
 
 rest_not_left : (has : Bool) (index cut : ℕ) → cond has (in_section index) nowhere ≡ left_out cut → ⊥
-rest_not_left true index cut same = sorts_differ (in_section index) (left_out cut) same (λ e. omega (arith, e))
-rest_not_left false index cut same = sorts_differ nowhere (left_out cut) same (λ e. omega (arith, e))
+rest_not_left true index cut same = cc
+rest_not_left false index cut same = cc
 
 left_by_step : (suppress : Bool) (index cut line : ℕ) (step : Step) (steps : List Step) (later : Place) (lt le : Bool) → nat_lt line step.cut ≡ lt → (suppress && nat_le line step.cut) ≡ le → (later ≡ left_out cut → LeftAt suppress (index + 1) cut line steps)
     → cond lt (in_section index) (cond le (left_out index) later) ≡ left_out cut → LeftAt suppress index cut line (step ∷ steps)
-left_by_step suppress index cut line step steps later true le lt_is le_is rest same = absurd (sorts_differ (in_section index) (left_out cut) same (λ e. omega (arith, e)))
+left_by_step suppress index cut line step steps later true le lt_is le_is rest same = absurd (cc)
 left_by_step suppress index cut line step steps later false true lt_is le_is rest same =
-    let both = both_true suppress (nat_le line step.cut) le_is in
+    let both = and_parts suppress (nat_le line step.cut) le_is in
     let low : line ≤ step.cut = from_le line step.cut both.1 in
     let high : step.cut ≤ line = from_not_less line step.cut lt_is in
-    let number : index ≡ cut = ap number_of same in record { so = both.0; k = 0; at = omega (arith, number); is = omega (arith, low, high) }
+    let number : index ≡ cut = cc in record { so = both.0; k = 0; at = omega (arith, number); is = omega (arith, low, high) }
 left_by_step suppress index cut line step steps later false false lt_is le_is rest same =
     let there = rest same in let at : cut ≡ index + 1 + there.k = there.at in record { so = there.so; k = suc there.k; at = omega (arith, at); is = there.is }
 
@@ -193,12 +177,11 @@ left_at suppress total index cut line (step ∷ steps) ending same =
     left_by_step suppress index cut line step steps (place_from suppress total (index + 1) steps ending line) (nat_lt line step.cut) (suppress && nat_le line step.cut) refl refl (left_at suppress total (index + 1) cut line steps ending) same
 
 rest_not_nowhere : (index line end : ℕ) → line < end → cond (nat_lt line end) (in_section index) nowhere ≡ nowhere → ⊥
-rest_not_nowhere index line end less same = sorts_differ (in_section index) nowhere (sym (ap (λ has. cond has (in_section index) nowhere) (less_test line end less)) ∙ same) (λ e. omega (arith, e))
+rest_not_nowhere index line end less same = let there : in_section index ≡ nowhere = sym (ap (λ has. cond has (in_section index) nowhere) (less_test line end less)) ∙ same in cc
 
 nowhere_by_step : (lt le : Bool) (index : ℕ) (later : Place) (A : Type 0) → (lt ≡ false → le ≡ false → later ≡ nowhere → A) → cond lt (in_section index) (cond le (left_out index) later) ≡ nowhere → A
-nowhere_by_step true le index later A rest same = absurd (sorts_differ (in_section index) nowhere same (λ e. omega (arith, e)))
-nowhere_by_step false true index later A rest same = absurd (sorts_differ (left_out index) nowhere same (λ e. omega (arith, e)))
 nowhere_by_step false false index later A rest same = rest refl refl same
+nowhere_by_step lt le index later A rest same = absurd (cc)
 
 nowhere_at : (suppress : Bool) (lines : List Line) (first : State) (steps : List Step) (last : State) (ending : Ending) → Runs suppress lines first steps last ending → (index line : ℕ) → first.current ≤ line → line ≤ length lines
     → place_from suppress (length lines) index steps ending line ≡ nowhere → (is_final ending ≡ true) × (last.current ≤ line)

@@ -24,7 +24,8 @@ use Rattle.csplit_core.proofs.BeginLemmas.{new_owns}
 use Rattle.csplit_core.proofs.EndLemmas.{files_cleared, files_left}
 use Rattle.csplit_core.specs.CsplitState.{CsplitState, Holds, IsReady, Owns, files, whole_lines, work}
 use Rattle.csplit_core.proofs.ByteLemmas.{all_complete, lines_whole, lines_more, lines_then_open, open_more}
-use Rattle.csplit_core.proofs.StageLemmas.{is_past, past_end, past_settled, past_verdict, past_whole}
+use Rattle.csplit_core.proofs.TakeLemmas.{is_past}
+use Rattle.csplit_core.proofs.StageLemmas.{past_end, past_settled, past_verdict, past_whole}
 use Rattle.csplit_core.proofs.StageSteps.{below_or_not}
 
 -- what is settled of the bytes

@@ -2,16 +2,15 @@
 use Rattle.std.proofs.Common.{◌≡◌, ◌⊎◌, inl, inr, ℕ, ◌+◌, ◌-◌, ◌<◌, ◌≤◌, ◌^◌, Bool, true, false, List, [], ◌∷◌, ◌++◌, length, map, Result, Ok, Err, refl, sym, ◌∙◌, ap, subst, arith, append_assoc, length-append}
 use Rattle.std.proofs.lemmas.Bool.{false≢true}
 use Rattle.std.proofs.lemmas.List.{append-nil}
-use Rattle.seg_core.specs.Line.{line_count}
 use Rattle.ports_core.specs.Part.{Begins}
 use Rattle.ports_core.specs.Slot.{Slot}
 use Rattle.ports_core.specs.declared.fault.Fault.{Fault}
 use Rattle.ports_core.specs.declared.fault.Fault.TheVariants.{Memory}
 use Rattle.ports_core.proofs.SlotSteps.{keeps_again}
 use Rattle.csplit_core.specs.Csplit.{whole_of, verdict_of}
-use Rattle.csplit_core.specs.Draft.{draft_part, AreClosed}
-use Rattle.csplit_core.specs.Input.{newline, all_lines}
-use Rattle.csplit_core.specs.Operand.{Operand, Line}
+use Rattle.csplit_core.specs.Draft.{AreClosed}
+use Rattle.csplit_core.specs.Input.{all_lines}
+use Rattle.csplit_core.specs.Operand.{Line}
 use Rattle.csplit_core.specs.Output.{Style, contents_of, part_of}
 use Rattle.csplit_core.specs.Plan.{start, Step, Ending, below}
 use Rattle.csplit_core.specs.Planned.{Plan, plan}
@@ -22,59 +21,19 @@ use Rattle.csplit_core.specs.laws.SectionLaws.{are_within, closed_still, ends_wi
 use Rattle.csplit_core.specs.Writer.{IsReady, WriterState}
 use Rattle.csplit_core.specs.inner.Writer.{Moves, Halts}
 use Rattle.csplit_core.specs.declared.progress.Turn.TheVariants.{Below}
-use Rattle.csplit_core.specs.Cutter.{CutterState, IsPast, IsSound, Stands, kept_by, settled_draft, suppress_in, draft_by}
+use Rattle.csplit_core.specs.Cutter.{CutterState, IsPast, Stands, settled_draft, suppress_in}
 use Rattle.csplit_core.specs.inner.Cutter.{EndedAll, EndedNone, IsSame, IsWhole, Took, TookNot, settled_part, whole_part}
 use Rattle.csplit_core.specs.CsplitState.{CsplitState}
 use Rattle.csplit_core.specs.inner.CsplitState.{Closed, ClosedNot}
 use Rattle.csplit_core.proofs.HoldLemmas.{memory_halts}
 use Rattle.csplit_core.proofs.LineLemmas.{all_lines-append}
-use Rattle.csplit_core.proofs.SettledLemmas.{settled_draft_is, settled_part_is, final_count, ended_still, aims_past}
-use Rattle.csplit_core.proofs.StayLemmas.{stays}
-use Rattle.csplit_core.proofs.WriterLemmas.{moves_again, moves_same, moves_as, halts_after, halts_as, halts_wider, breaks_later, owns_again, owns_still}
+use Rattle.csplit_core.proofs.SettledLemmas.{settled_part_is}
+use Rattle.csplit_core.proofs.WriterLemmas.{moves_again, moves_as, halts_after, halts_as, halts_wider, breaks_later, owns_again, owns_still}
 use Rattle.csplit_core.proofs.SpreadLemmas.{settled_same, same_again}
-use Rattle.csplit_core.proofs.TakeLemmas.{final_stays, still_past}
+use Rattle.csplit_core.proofs.TakeLemmas.{past_plan, past_part, is_past, still_past}
 use Rattle.csplit_core.proofs.StretchLemmas.{more_settled}
 
 -- once lines go nowhere, more of them change nothing
-
-past_plan : (suppress : Bool) (operands : List Operand) (x t : List ℕ) → IsWhole x → is_final (plan suppress operands (all_lines x)).ending ≡ true → plan suppress operands (all_lines (x ++ t)) ≡ plan suppress operands (all_lines x)
-past_plan suppress operands x t whole final = ap (plan suppress operands) (all_lines-append x t whole) ∙ stays suppress operands (all_lines x) (all_lines t) (final_stays (all_lines t) (length (all_lines x ++ all_lines t)) (plan suppress operands (all_lines x)).ending final)
-
-final_draft : (suppress : Bool) (operands : List Operand) (x : List ℕ) → is_final (plan suppress operands (all_lines x)).ending ≡ true
-    → draft_by (all_lines x) (plan suppress operands (all_lines x)).steps (kept_by (plan suppress operands (all_lines x)).last.operands) [] ≡ settled_draft suppress operands (all_lines x)
-final_draft suppress operands x final =
-    settled_draft_is suppress operands x _ _ _ 0 [] (plan_runs suppress operands (all_lines x)) (final_count (line_count newline x) _ (plan suppress operands (all_lines x)).ending final) refl
-
-past_draft : (style : Style) (operands : List Operand) (x t : List ℕ) → IsWhole x → is_final (plan style.suppress operands (all_lines x)).ending ≡ true
-    → settled_draft style.suppress operands (all_lines x) ≡ settled_draft style.suppress operands (all_lines (x ++ t))
-past_draft style operands x t whole final =
-    let same = past_plan style.suppress operands x t whole final in
-    sym (final_draft style.suppress operands x final)
-    ∙ ended_still style operands x t _ _ _ (kept_by (plan style.suppress operands (all_lines x)).last.operands) [] whole (plan_runs style.suppress operands (all_lines x))
-    ∙ ap (λ (p : Plan). draft_by (all_lines (x ++ t)) p.steps (kept_by p.last.operands) []) (sym same)
-    ∙ final_draft style.suppress operands (x ++ t) (ap (λ (p : Plan). is_final p.ending) same ∙ final)
-
-past_part : (cutter : CutterState) (x t : List ℕ) → IsWhole x → IsPast cutter x → settled_part cutter x ≡ settled_part cutter (x ++ t)
-past_part cutter x t whole past =
-    sym (settled_part_is cutter.writer.style cutter.operands (all_lines x))
-    ∙ ap (draft_part cutter.writer.style) (past_draft cutter.writer.style cutter.operands x t whole past.past)
-    ∙ settled_part_is cutter.writer.style cutter.operands (all_lines (x ++ t))
-
-pub is_past : (cutter : CutterState) (x : List ℕ) → cutter.aim ≡ Below → Stands cutter x → IsPast cutter x
-is_past cutter x aim (inl live) = absurd (false≢true (sym live.live ∙ aims_past live.ends.ending (subst (λ turn. Rattle.csplit_core.specs.Progress.AimsAt turn live.ends.ending) aim live.ends.aims)))
-is_past cutter x aim (inr past) = past
-
-pub took_past : (told : Bool) (cutter : CutterState) (t : List ℕ) (slots : List Slot) → cutter.aim ≡ Below → IsReady cutter.writer slots → IsSound cutter → Took told cutter t slots slots cutter
-took_past told cutter t slots aim ready sound = record {
-  same = record { operands = refl; style = refl };
-  stands = λ x whole stands. inr (still_past cutter x t whole (is_past cutter x aim stands));
-  moves = λ x whole stands. moves_same told _ _ slots (past_part cutter x t whole (is_past cutter x aim stands));
-  keeps = λ place sound. sound;
-  owns = owns_still _ _;
-  ready = ready;
-  sound = sound;
-  size = omega arith;
-}
 
 -- the same lines, once more than where they go nowhere
 pub past_whole : (cutter : CutterState) (x t : List ℕ) → IsWhole x → cutter.aim ≡ Below → Stands cutter x → Stands cutter (x ++ t)
@@ -82,24 +41,6 @@ past_whole cutter x t whole aim stands = inr (still_past cutter x t whole (is_pa
 
 pub past_settled : (cutter : CutterState) (x t : List ℕ) → IsWhole x → cutter.aim ≡ Below → Stands cutter x → settled_part cutter x ≡ settled_part cutter (x ++ t)
 past_settled cutter x t whole aim stands = past_part cutter x t whole (is_past cutter x aim stands)
-
--- nothing came in
-
-pub took_none : (told : Bool) (cutter : CutterState) (slots : List Slot) → IsReady cutter.writer slots → IsSound cutter → Took told cutter [] slots slots cutter
-took_none told cutter slots ready sound = record {
-  same = record { operands = refl; style = refl };
-  stands = λ x whole stands. subst (Stands cutter) (sym (append-nil x)) stands;
-  moves = λ x whole stands. moves_same told _ _ slots (ap (settled_part cutter) (sym (append-nil x)));
-  keeps = λ place sound. sound;
-  owns = owns_still _ _;
-  ready = ready;
-  sound = sound;
-  size = omega arith;
-}
-
--- what is settled grows
-
--- One text after another
 
 -- Want of memory
 

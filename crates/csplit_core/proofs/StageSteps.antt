@@ -16,8 +16,9 @@ use Rattle.csplit_core.specs.Writer.{IsReady}
 use Rattle.csplit_core.specs.declared.progress.Turn.{Turn}
 use Rattle.csplit_core.specs.declared.progress.Turn.TheVariants.{Below}
 use Rattle.csplit_core.proofs.ByteLemmas.{joined_line, open_is_line, open_complete, first_complete, none_lines, none_open, no_newline, piece_lines, piece_open}
-use Rattle.csplit_core.proofs.StageLemmas.{closed_by, closed_not, lacks_first, lacks_then, took_none, took_past}
-use Rattle.csplit_core.proofs.StretchLemmas.{took_again, took_then_not, not_wider}
+use Rattle.csplit_core.proofs.StageLemmas.{closed_by, closed_not, lacks_first, lacks_then}
+use Rattle.csplit_core.proofs.StretchLemmas.{took_again, took_then_not, not_wider, took_nothing}
+use Rattle.csplit_core.proofs.TakeLemmas.{took_past}
 
 -- the open line and its end
 
@@ -65,7 +66,7 @@ passes_at told view stage taken piece old new next (Err fault) is stopped = subs
 
 past_here : (told : Bool) (stage : CsplitState) (taken : ℕ) (piece : List ℕ) (slots : List Slot) → stage.cutter.aim ≡ Below → IsReady stage.cutter.writer slots → IsSound stage.cutter → delimiters newline stage.rest ≡ 0 → Passed told stage piece slots slots (record stage { taken = taken })
 past_here told stage taken piece slots aimed ready sound unbroken = record {
-  took = took_past told stage.cutter (whole_lines (stage.rest ++ piece)) slots aimed ready sound;
+  took = took_past told stage.cutter (whole_lines (stage.rest ++ piece)) slots aimed sound ready;
   live = λ differs. absurd (differs aimed);
   past = λ below was. was below;
   still = λ below. refl;
@@ -88,7 +89,7 @@ below_or_not turn = inr (λ is. cc)
 none_passes : (told : Bool) (stage next : CsplitState) (piece : List ℕ) (slots : List Slot) (result : Result (Unit {0}) Fault) → (stage.cutter.aim ≡ Below → ⊥) → delimiters newline piece ≡ 0 → IsReady stage.cutter.writer slots → IsSound stage.cutter → delimiters newline stage.rest ≡ 0
     → next.cutter ≡ stage.cutter → OnOk result ((stage.cutter.aim ≡ Below → ⊥) → next.rest ≡ stage.rest ++ piece) → IfErr result (λ fault. fault ≡ Memory) → Passes told stage piece slots slots next result
 none_passes told stage next piece slots (Ok done) differs none ready sound unbroken cutter rest lacks = record {
-  took = subst (λ (c : CutterState). Took told stage.cutter (whole_lines (stage.rest ++ piece)) slots slots c) (sym cutter) (subst (λ text. Took told stage.cutter text slots slots stage.cutter) (sym (none_lines stage.rest piece unbroken none)) (took_none told stage.cutter slots ready sound));
+  took = subst (λ (c : CutterState). Took told stage.cutter (whole_lines (stage.rest ++ piece)) slots slots c) (sym cutter) (subst (λ text. Took told stage.cutter text slots slots stage.cutter) (sym (none_lines stage.rest piece unbroken none)) (took_nothing told stage.cutter slots sound ready));
   live = λ also. rest differs ∙ sym (none_open stage.rest piece unbroken none);
   past = λ below was. absurd (differs (ap (λ (c : CutterState). c.aim) (sym cutter) ∙ below));
   still = λ below. absurd (differs below);
@@ -170,7 +171,7 @@ some_by (byte ∷ items) is = omega arith
 
 pub last_none : (told : Bool) (before stage : CsplitState) (n : ℕ) (slots : List Slot) → before ≡ stage → n ≡ length before.rest → eqb n 0 ≡ true → IsReady stage.cutter.writer slots → IsSound stage.cutter → Took told stage.cutter stage.rest slots slots stage.cutter
 last_none told before stage n slots is size empty ready sound =
-    subst (λ text. Took told stage.cutter text slots slots stage.cutter) (sym (ap (λ (s : CsplitState). s.rest) (sym is) ∙ empty_by before.rest (ap (λ k. eqb k 0) (sym size) ∙ empty))) (took_none told stage.cutter slots ready sound)
+    subst (λ text. Took told stage.cutter text slots slots stage.cutter) (sym (ap (λ (s : CsplitState). s.rest) (sym is) ∙ empty_by before.rest (ap (λ k. eqb k 0) (sym size) ∙ empty))) (took_nothing told stage.cutter slots sound ready)
 
 pub last_line : (before stage : CsplitState) (n : ℕ) (text : List ℕ) → before ≡ stage → text ≡ before.rest → n ≡ length before.rest → eqb n 0 ≡ false → delimiters newline stage.rest ≡ 0 → IsLine text
 last_line before stage n text is text_is size some unbroken = subst IsLine (sym text_is) (open_is_line before.rest (some_by before.rest (ap (λ k. eqb k 0) (sym size) ∙ some)) (ap (λ (s : CsplitState). delimiters newline s.rest) is ∙ unbroken))

@@ -1,6 +1,6 @@
 -- Taking a text of complete lines in, stretch by stretch.
 use Rattle.std.proofs.Common.{◌≡◌, inl, ℕ, ◌+◌, ◌-◌, ◌<◌, ◌≤◌, Bool, IfSome, List, [], ◌++◌, length, take, drop, refl, sym, ◌∙◌, ap, subst, arith, append_assoc, length-append}
-use Rattle.std.proofs.lemmas.List.{append-nil, take-append-drop, drop_all, drop_at, drop-drop, length-drop, length-take-le}
+use Rattle.std.proofs.lemmas.List.{append-nil, take-append-drop, length-drop}
 use Rattle.ports_core.specs.Part.{Begins}
 use Rattle.ports_core.specs.Slot.{Slot}
 use Rattle.ports_core.specs.declared.fault.Fault.{Fault}
@@ -12,7 +12,7 @@ use Rattle.csplit_core.specs.Writer.{IsReady}
 use Rattle.csplit_core.specs.Cutter.{CutterState, load, state_in, IsFit, IsSound, IsLive, EndsNow}
 use Rattle.csplit_core.specs.declared.line_cutter.Passed.{Passed}
 use Rattle.csplit_core.specs.inner.Cutter.{settled_part, IsNextFound, IsWhole, Stretched, Took, TookNot}
-use Rattle.csplit_core.proofs.LineLemmas.{all_lines-append, whole-append, whole_drop}
+use Rattle.csplit_core.proofs.LineLemmas.{all_lines-append, whole-append, whole_drop, rest_all}
 use Rattle.csplit_core.proofs.WriterLemmas.{moves_again, moves_as, moves_same, halts_after, halts_wider, halts_as, breaks_later, owns_again, owns_still}
 use Rattle.csplit_core.proofs.SpreadLemmas.{settled_same}
 
@@ -57,11 +57,6 @@ not_wider told cutter next a b old new fault whole not_taken = record {
   owns = not_taken.owns;
 }
 
--- parts of a text of complete lines
-
-pub take_whole : (text : List ℕ) → take (length text) text ≡ text
-take_whole text = Rattle.std.proofs.lemmas.List.take_all (length text) text (omega arith)
-
 -- Stretch after stretch: of a text this is left.
 pub record Taking (told : Bool) (cutter now : CutterState) (text left : List ℕ) (old new : List Slot) : Type 0 where
   pub front : List ℕ
@@ -70,7 +65,7 @@ pub record Taking (told : Bool) (cutter now : CutterState) (text left : List ℕ
   pub rest : IsWhole left
   pub took : Took told cutter front old new now
 
-took_nothing : (told : Bool) (cutter : CutterState) (slots : List Slot) → IsSound cutter → IsReady cutter.writer slots → Took told cutter [] slots slots cutter
+pub took_nothing : (told : Bool) (cutter : CutterState) (slots : List Slot) → IsSound cutter → IsReady cutter.writer slots → Took told cutter [] slots slots cutter
 took_nothing told cutter slots sound ready = record {
   same = record { operands = refl; style = refl };
   stands = λ x whole stands. subst (Rattle.csplit_core.specs.Cutter.Stands cutter) (sym (append-nil x)) stands;
@@ -84,9 +79,6 @@ took_nothing told cutter slots sound ready = record {
 
 pub takes_all : (told : Bool) (cutter : CutterState) (text : List ℕ) (slots : List Slot) → IsWhole text → IsSound cutter → IsReady cutter.writer slots → Taking told cutter cutter text text slots slots
 takes_all told cutter text slots whole sound ready = record { front = []; whole = refl; complete = inl refl; rest = whole; took = took_nothing told cutter slots sound ready }
-
-pub rest_all : (n : ℕ) (left : List ℕ) → take (length left - n) (drop n left) ≡ drop n left
-rest_all n left = Rattle.std.proofs.lemmas.List.take_all (length left - n) (drop n left) (let e : length (drop n left) ≡ length left - n = length-drop n left in omega (arith, e))
 
 pub takes_more : (told : Bool) (cutter now next : CutterState) (text left : List ℕ) (passed : Passed) (old mid new : List Slot) → Taking told cutter now text left old mid → Stretched told now left mid new next passed
     → Taking told cutter next text (take (length left - passed.size) (drop passed.size left)) old new

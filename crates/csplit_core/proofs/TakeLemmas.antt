@@ -1,5 +1,5 @@
 -- Taking lines in.
-use Rattle.std.proofs.Common.{◌≡◌, ◌⊎◌, inl, inr, ℕ, suc, ◌+◌, ◌-◌, ◌<◌, ◌≤◌, max, Bool, true, false, Result, Ok, Err, Some, None, List, [], ◌∷◌, ◌++◌, length, map, take, drop, refl, sym, ◌∙◌, ap, subst, arith, append_assoc, length-append}
+use Rattle.std.proofs.Common.{◌≡◌, ◌⊎◌, inl, inr, ℕ, suc, ◌+◌, ◌-◌, ◌<◌, ◌≤◌, max, Bool, true, false, Result, Ok, Err, Some, None, List, [], ◌∷◌, ◌++◌, length, refl, sym, ◌∙◌, ap, subst, arith, append_assoc, length-append}
 use Rattle.std.proofs.lemmas.List.{append-nil}
 use Rattle.std.proofs.lemmas.Bool.{false≢true, cases_lt}
 use Rattle.seg_core.specs.Line.{line_count, delimiters}
@@ -12,27 +12,27 @@ use Rattle.csplit_core.specs.Input.{newline, all_lines}
 use Rattle.csplit_core.specs.Operand.{Operand, Line}
 use Rattle.csplit_core.specs.Plan.{State, start, Step, Ending, used_up, missed, above, below, CutsAt, state_after, step_of, Runs, cuts}
 use Rattle.csplit_core.specs.Draft.{draft_part}
-use Rattle.csplit_core.specs.Output.{contents_of}
+use Rattle.csplit_core.specs.Output.{Style}
 use Rattle.csplit_core.specs.Planned.{Plan, plan, plan_within}
 use Rattle.csplit_core.specs.laws.PlanLaws.{cuts_still, runs, line_some, plan_runs}
 use Rattle.csplit_core.specs.inner.PlanLaws.{needed}
 use Rattle.seg_core.proofs.EndLines.{line_count-grows}
 use Rattle.csplit_core.specs.inner.Progress.{GoesPast}
 use Rattle.csplit_core.specs.Progress.{AimsAt}
-use Rattle.csplit_core.specs.Section.{section_of, lines_between, bytes_of, is_last_kept, is_final, most_waiting, settled_end}
+use Rattle.csplit_core.specs.Section.{is_final, most_waiting, settled_end}
 use Rattle.csplit_core.specs.inner.SectionLaws.{EndsAs}
-use Rattle.csplit_core.specs.laws.SectionLaws.{ends_as, front_of, none_there, missed_cut, cut_once, are_within, closed_still}
+use Rattle.csplit_core.specs.laws.SectionLaws.{ends_as, front_of, none_there, missed_cut, cut_once}
 use Rattle.csplit_core.specs.Writer.{Writes, IsReady, size_of}
 use Rattle.csplit_core.specs.declared.line_cutter.Cut.{Cut}
 use Rattle.csplit_core.specs.declared.progress.Turn.{Turn}
 use Rattle.csplit_core.specs.declared.progress.Turn.TheVariants.{Below}
-use Rattle.csplit_core.specs.Cutter.{CutterState, suppress_in, state_in, settled_draft, draft_by, AimHolds, IsFit, IsSound, IsLive, IsPast, Stands, EndsNow}
+use Rattle.csplit_core.specs.Cutter.{CutterState, suppress_in, state_in, settled_draft, draft_by, AimHolds, IsFit, IsSound, IsLive, IsPast, Stands, EndsNow, kept_by}
 use Rattle.csplit_core.specs.inner.Cutter.{settled_part, IsWhole, IsLine, Arrives, Held, HeldNot, Holds, CutsNow, CutAll, CutAllNot, CutsAll, WillCut, TriesNext, search_after, Took, TookNot, Takes}
 use Rattle.csplit_core.proofs.CutterLemmas.{runs_to, at_more, part_more, live_part}
 use Rattle.csplit_core.proofs.LineLemmas.{all_lines-append, all_lines-line, length-all_lines, count-line, count_from, whole_count, whole_from, whole-append}
-use Rattle.csplit_core.proofs.SettledLemmas.{settled_count, settled_part_is, most_is, aims_past}
+use Rattle.csplit_core.proofs.SettledLemmas.{settled_count, settled_part_is, most_is, aims_past, settled_draft_is, final_count, ended_still}
 use Rattle.csplit_core.proofs.WriterLemmas.{moves_as, moves_same, halts_as, owns_still}
-use Rattle.csplit_core.proofs.StayLemmas.{StaysFor, stays}
+use Rattle.csplit_core.proofs.StayLemmas.{EndsStill, stays}
 
 -- What is settled stands before each cut of the next operand.
 settled_before : (suppress : Bool) (a b : List Line) (state : State) (ending : Ending) (operand : Operand) (operands : List Operand) (matched cut : ℕ) → EndsAs suppress a state ending → is_final ending ≡ false → state.operands ≡ operand ∷ operands → CutsAt suppress (a ++ b) state operand operand.target matched cut
@@ -268,51 +268,52 @@ take_some told cutter mid next line cut old new (Err fault) fit differs one is w
 pub past_not_live : (cutter : CutterState) (x : List ℕ) → cutter.aim ≡ Below → IsLive cutter x → ⊥
 past_not_live cutter x aim live = false≢true (sym live.live ∙ aims_past live.ends.ending (subst (λ a. AimsAt a live.ends.ending) aim live.ends.aims))
 
-pub final_stays : (b : List Line) (total : ℕ) (ending : Ending) → is_final ending ≡ true → StaysFor b total ending
-final_stays b total (below operand repetition) past = tt
-final_stays b total _ past = absurd (false≢true past)
+final_stays : (suppress : Bool) (count : ℕ) (b : List Line) (total : ℕ) (last : State) (ending : Ending) → is_final ending ≡ true → EndsStill suppress count b total last ending
+final_stays suppress count b total last (below operand repetition) past = tt
+final_stays suppress count b total last _ past = absurd (false≢true past)
 
-plan_past : (cutter : CutterState) (x t : List ℕ) → IsWhole x → IsPast cutter x → plan (suppress_in cutter) cutter.operands (all_lines (x ++ t)) ≡ plan (suppress_in cutter) cutter.operands (all_lines x)
-plan_past cutter x t whole past =
-    ap (plan (suppress_in cutter) cutter.operands) (all_lines-append x t whole) ∙ stays (suppress_in cutter) cutter.operands (all_lines x) (all_lines t) (final_stays (all_lines t) _ (plan (suppress_in cutter) cutter.operands (all_lines x)).ending past.past)
+pub past_plan : (suppress : Bool) (operands : List Operand) (x t : List ℕ) → IsWhole x → is_final (plan suppress operands (all_lines x)).ending ≡ true → plan suppress operands (all_lines (x ++ t)) ≡ plan suppress operands (all_lines x)
+past_plan suppress operands x t whole final = ap (plan suppress operands) (all_lines-append x t whole) ∙ stays suppress operands (all_lines x) (all_lines t) (final_stays suppress (length (all_lines x)) (all_lines t) (length (all_lines x ++ all_lines t)) _ (plan suppress operands (all_lines x)).ending final)
 
-none_taken : (lines : List Line) → take 0 lines ≡ []
-none_taken [] = refl
-none_taken (line ∷ lines) = refl
+final_draft : (suppress : Bool) (operands : List Operand) (x : List ℕ) → is_final (plan suppress operands (all_lines x)).ending ≡ true
+    → draft_by (all_lines x) (plan suppress operands (all_lines x)).steps (kept_by (plan suppress operands (all_lines x)).last.operands) [] ≡ settled_draft suppress operands (all_lines x)
+final_draft suppress operands x final =
+    settled_draft_is suppress operands x _ _ _ 0 [] (plan_runs suppress operands (all_lines x)) (final_count (line_count newline x) _ (plan suppress operands (all_lines x)).ending final) refl
 
-none_between : (current total : ℕ) (ending : Ending) (lines : List Line) → is_final ending ≡ true → lines_between current (settled_end total ending) lines ≡ []
-none_between current total (below operand repetition) lines past = ap (λ n. take n (drop (current - 1) lines)) (let e : 0 - current ≡ 0 = omega arith in e) ∙ none_taken (drop (current - 1) lines)
-none_between current total _ lines past = absurd (false≢true past)
+past_draft : (style : Style) (operands : List Operand) (x t : List ℕ) → IsWhole x → is_final (plan style.suppress operands (all_lines x)).ending ≡ true
+    → settled_draft style.suppress operands (all_lines x) ≡ settled_draft style.suppress operands (all_lines (x ++ t))
+past_draft style operands x t whole final =
+    let same = past_plan style.suppress operands x t whole final in
+    sym (final_draft style.suppress operands x final)
+    ∙ ended_still style operands x t _ _ _ (kept_by (plan style.suppress operands (all_lines x)).last.operands) [] whole (plan_runs style.suppress operands (all_lines x))
+    ∙ ap (λ (p : Plan). draft_by (all_lines (x ++ t)) p.steps (kept_by p.last.operands) []) (sym same)
+    ∙ final_draft style.suppress operands (x ++ t) (ap (λ (p : Plan). is_final p.ending) same ∙ final)
 
-past_draft_still : (cutter : CutterState) (x t : List ℕ) → IsWhole x → IsPast cutter x → settled_draft (suppress_in cutter) cutter.operands (all_lines (x ++ t)) ≡ settled_draft (suppress_in cutter) cutter.operands (all_lines x)
-past_draft_still cutter x t whole past =
-    let p = plan (suppress_in cutter) cutter.operands (all_lines x) in
-    let is = plan_past cutter x t whole past in
-    let within = (are_within (suppress_in cutter) (all_lines x) (start cutter.operands) p.steps p.last p.ending (plan_runs (suppress_in cutter) cutter.operands (all_lines x)) (omega arith)).0 in
-    ap (λ (q : Plan). draft_by (all_lines (x ++ t)) q.steps (is_last_kept q.ending) (bytes_of (lines_between q.last.current (settled_end (length (all_lines (x ++ t))) q.ending) (all_lines (x ++ t))))) is
-    ∙ ap (λ lines. draft_by (all_lines (x ++ t)) p.steps (is_last_kept p.ending) (bytes_of lines)) (none_between p.last.current (length (all_lines (x ++ t))) p.ending (all_lines (x ++ t)) past.past ∙ sym (none_between p.last.current (length (all_lines x)) p.ending (all_lines x) past.past))
-    ∙ ap (λ ended. record { ended = map contents_of ended; is_kept = is_last_kept p.ending; bytes = bytes_of (lines_between p.last.current (settled_end (length (all_lines x)) p.ending) (all_lines x)) })
-    (ap (λ lines. map (section_of lines) p.steps) (all_lines-append x t whole) ∙ closed_still (all_lines x) (all_lines t) p.steps within)
+pub past_part : (cutter : CutterState) (x t : List ℕ) → IsWhole x → IsPast cutter x → settled_part cutter x ≡ settled_part cutter (x ++ t)
+past_part cutter x t whole past =
+    sym (settled_part_is cutter.writer.style cutter.operands (all_lines x))
+    ∙ ap (draft_part cutter.writer.style) (past_draft cutter.writer.style cutter.operands x t whole past.past)
+    ∙ settled_part_is cutter.writer.style cutter.operands (all_lines (x ++ t))
+
+pub is_past : (cutter : CutterState) (x : List ℕ) → cutter.aim ≡ Below → Stands cutter x → IsPast cutter x
+is_past cutter x aim (inl live) = absurd (past_not_live cutter x aim live)
+is_past cutter x aim (inr past) = past
 
 pub still_past : (cutter : CutterState) (x t : List ℕ) → IsWhole x → IsPast cutter x → IsPast cutter (x ++ t)
 still_past cutter x t whole past =
-    let is = plan_past cutter x t whole past in record {
+    let is = past_plan (suppress_in cutter) cutter.operands x t whole past.past in record {
       aim = past.aim;
       past = ap (λ (q : Plan). is_final q.ending) is ∙ past.past;
       last = past.last ∙ sym (ap (λ (q : Plan). q.last) is);
       none = past.none;
-      writes = subst (Writes cutter.writer) (sym (past_draft_still cutter x t whole past)) past.writes;
+      writes = subst (Writes cutter.writer) (past_draft cutter.writer.style cutter.operands x t whole past.past) past.writes;
     }
 
 pub took_past : (told : Bool) (cutter : CutterState) (t : List ℕ) (slots : List Slot) → cutter.aim ≡ Below → IsSound cutter → IsReady cutter.writer slots → Took told cutter t slots slots cutter
 took_past told cutter t slots aim sound ready = record {
   same = record { operands = refl; style = refl };
-  stands = λ x whole stands. elim stands [ inl live ↦ absurd (past_not_live cutter x aim live) | inr past ↦ inr (still_past cutter x t whole past) ];
-  moves = λ x whole stands. elim stands [
-    | inl live ↦ absurd (past_not_live cutter x aim live)
-    | inr past ↦ moves_same told (settled_part cutter x) (settled_part cutter (x ++ t)) slots
-        (sym (settled_part_is cutter.writer.style cutter.operands (all_lines x)) ∙ ap (draft_part cutter.writer.style) (sym (past_draft_still cutter x t whole past)) ∙ settled_part_is cutter.writer.style cutter.operands (all_lines (x ++ t)))
-  ];
+  stands = λ x whole stands. inr (still_past cutter x t whole (is_past cutter x aim stands));
+  moves = λ x whole stands. moves_same told _ _ slots (past_part cutter x t whole (is_past cutter x aim stands));
   keeps = λ place sound. sound;
   owns = owns_still _ _;
   ready = ready;

@@ -23,7 +23,7 @@ use Rattle.csplit_core.specs.inner.Cutter.{IsWhole, IsLine, Looked, IsFound, IsN
 use Rattle.csplit_core.proofs.AdvanceLemmas.{advances}
 use Rattle.csplit_core.proofs.CutterLemmas.{runs_to}
 use Rattle.csplit_core.proofs.LineLemmas.{all_lines-line, length-all_lines, count-line, whole-append}
-use Rattle.csplit_core.proofs.StayLemmas.{search_grows, stays_by, StaysFor}
+use Rattle.csplit_core.proofs.StayLemmas.{search_grows, ends_still, EndsStill}
 use Rattle.csplit_core.proofs.TurnLemmas.{capped}
 
 -- the mark of the last line
@@ -118,13 +118,13 @@ tries_none cutter mid before line text number found turn first same number_is is
 
 -- One more line comes.
 
-line_stays : (cutter : CutterState) (x line : List ℕ) (live : IsLive cutter x) → IsWhole x → IsLine line → StaysFor (marked line ∷ []) (suc (length (all_lines x))) live.ends.ending → EndsNow cutter (x ++ line)
+line_stays : (cutter : CutterState) (x line : List ℕ) (live : IsLive cutter x) → IsWhole x → IsLine line → EndsStill (suppress_in cutter) (length (all_lines x)) (marked line ∷ []) (suc (length (all_lines x))) (state_in cutter) live.ends.ending → EndsNow cutter (x ++ line)
 line_stays cutter x line live whole one stays =
     let runs = runs_to cutter x cutter.window.held live.at live.ends in
     let more : length (all_lines x ++ marked line ∷ []) ≡ suc (length (all_lines x)) = (let e : length (all_lines x ++ marked line ∷ []) ≡ length (all_lines x) + 1 = length-append (all_lines x) (marked line ∷ []) in omega (arith, e)) in record {
       ending = live.ends.ending;
       runs = subst (λ lines. Runs (suppress_in cutter) lines (state_in cutter) [] (state_in cutter) live.ends.ending) (sym (all_lines-line x line whole one))
-          (stays_by (suppress_in cutter) (all_lines x) (marked line ∷ []) (start cutter.operands) live.at.steps (state_in cutter) live.ends.ending runs (subst (λ n. StaysFor (marked line ∷ []) n live.ends.ending) (sym more) stays));
+          (ends_still (suppress_in cutter) (all_lines x) (marked line ∷ []) (start cutter.operands) live.at.steps (state_in cutter) live.ends.ending runs (subst (λ n. EndsStill (suppress_in cutter) (length (all_lines x)) (marked line ∷ []) n (state_in cutter) live.ends.ending) (sym more) stays));
       aims = live.ends.aims;
     }
 
@@ -132,29 +132,29 @@ line_stays cutter x line live whole one stays =
 lines_are : (cutter : CutterState) (x : List ℕ) (live : IsLive cutter x) → length (all_lines x) ≡ cutter.lines
 lines_are cutter x live = length-all_lines x ∙ sym live.at.counted
 
-above_stays : (x line : List ℕ) (total matched at : ℕ) (ending : Ending) → AimsAt (Above matched at) ending → suc total < at → StaysFor (marked line ∷ []) (suc total) ending
-above_stays x line total matched at (above operand repetition matched' cut) aims far = elim (cases_lt cut (2 ^ 64 - 1)) [
+above_stays : (suppress : Bool) (count : ℕ) (last : State) (b : List Line) (total matched at : ℕ) (ending : Ending) → AimsAt (Above matched at) ending → suc total < at → EndsStill suppress count b (suc total) last ending
+above_stays suppress count last b total matched at (above operand repetition matched' cut) aims far = elim (cases_lt cut (2 ^ 64 - 1)) [
   | inl less ↦ let e : min cut (2 ^ 64 - 1) ≡ cut = Rattle.std.proofs.Math.Nat.min-eq_left (omega (arith, less)) in omega (arith, e, aims.1, far)
   | inr more ↦ let e : min cut (2 ^ 64 - 1) ≡ 2 ^ 64 - 1 = Rattle.std.proofs.Math.Nat.min-eq_right more in omega (arith, e, aims.1, far, more)
 ]
-above_stays x line total matched at _ aims far = absurd aims
+above_stays suppress count last b total matched at _ aims far = absurd aims
 
-used_up_stays : (b : List Line) (total : ℕ) (ending : Ending) → AimsAt UsedUp ending → StaysFor b total ending
-used_up_stays b total used_up aims = tt
-used_up_stays b total _ aims = absurd aims
+used_up_stays : (suppress : Bool) (count : ℕ) (last : State) (b : List Line) (total : ℕ) (ending : Ending) → AimsAt UsedUp ending → EndsStill suppress count b total last ending
+used_up_stays suppress count last b total used_up aims = tt
+used_up_stays suppress count last b total _ aims = absurd aims
 
 pub next_above : (cutter before now : CutterState) (x line : List ℕ) (matched at : ℕ) → before ≡ cutter → now ≡ record cutter { lines = cutter.lines + 1 } → IsLive cutter x → IsWhole x → IsLine line → before.aim ≡ Above matched at → before.lines + 1 < at → EndsNow now (x ++ line)
 next_above cutter before now x line matched at same now_is live whole one aim far =
     let aim' : cutter.aim ≡ Above matched at = ap (λ (c : CutterState). c.aim) (sym same) ∙ aim in
     let count = lines_are cutter x live in
     let lines' : before.lines ≡ cutter.lines = ap (λ (c : CutterState). c.lines) same in
-    let ends = line_stays cutter x line live whole one (above_stays x line (length (all_lines x)) matched at live.ends.ending (subst (λ a. AimsAt a live.ends.ending) aim' live.ends.aims) (omega (arith, count, lines', far))) in
+    let ends = line_stays cutter x line live whole one (above_stays (suppress_in cutter) (length (all_lines x)) (state_in cutter) (marked line ∷ []) (length (all_lines x)) matched at live.ends.ending (subst (λ a. AimsAt a live.ends.ending) aim' live.ends.aims) (omega (arith, count, lines', far))) in
     subst (λ (c : CutterState). EndsNow c (x ++ line)) (sym now_is) ends
 
 pub next_used_up : (cutter before now : CutterState) (x line : List ℕ) → before ≡ cutter → now ≡ record cutter { lines = cutter.lines + 1 } → IsLive cutter x → IsWhole x → IsLine line → before.aim ≡ UsedUp → EndsNow now (x ++ line)
 next_used_up cutter before now x line same now_is live whole one aim =
     let aim' : cutter.aim ≡ UsedUp = ap (λ (c : CutterState). c.aim) (sym same) ∙ aim in
-    subst (λ (c : CutterState). EndsNow c (x ++ line)) (sym now_is) (line_stays cutter x line live whole one (used_up_stays (marked line ∷ []) (suc (length (all_lines x))) live.ends.ending (subst (λ a. AimsAt a live.ends.ending) aim' live.ends.aims)))
+    subst (λ (c : CutterState). EndsNow c (x ++ line)) (sym now_is) (line_stays cutter x line live whole one (used_up_stays (suppress_in cutter) (length (all_lines x)) (state_in cutter) (marked line ∷ []) (suc (length (all_lines x))) live.ends.ending (subst (λ a. AimsAt a live.ends.ending) aim' live.ends.aims)))
 
 -- the line of a cut that was above the last one came in
 above_cuts : (suppress : Bool) (lines : List Line) (line : Line) (state : State) (total matched at : ℕ) (ending : Ending) → length lines ≡ total → state.current ≤ total + 1 → EndsAs suppress lines state ending → AimsAt (Above matched at) ending → at ≤ total + 1 → total + 1 < 2 ^ 64 - 1
@@ -200,14 +200,11 @@ missed_looked suppress a line state (missed operand' repetition) (operands', is,
       by (Search pattern kept offset) none = none other from within
 missed_looked suppress a line state _ ends aims operand operands are other from within = absurd aims
 
-some_there : {X : Type 0} {x : X} → Some x ≡ None → ⊥
-some_there is = false≢true (ap (λ o. elim o [ Some y ↦ false | None ↦ true ]) is)
-
 missed_sought : (suppress : Bool) (a : List Line) (state : State) (ending : Ending) → EndsAs suppress a state ending → AimsAt Missed ending → pattern_by state.operands ≡ None → ⊥
 missed_sought suppress a state (missed operand repetition) (operands, is, misses) aims none = by operand.target misses (sym (ap pattern_by is) ∙ none) where
   by : (target : Target) → Misses suppress a state operand target → pattern_in target ≡ None → ⊥
   by (Number n) misses none = misses
-  by (Search pattern kept offset) misses none = some_there none
+  by (Search pattern kept offset) misses none = cc
 missed_sought suppress a state _ ends aims none = absurd aims
 
 pub next_looked : (cutter : CutterState) (x line : List ℕ) (live : IsLive cutter x) → IsWhole x → IsLine line → cutter.aim ≡ Missed → Looked (record cutter { lines = cutter.lines + 1 }) (x ++ line) line

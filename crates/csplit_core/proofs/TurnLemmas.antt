@@ -86,16 +86,9 @@ misses_search suppress all total state found operand operands pattern kept offse
 pub left_is : (operands : List Operand) (at : ℕ) (operand : Operand) → at < length operands → operand ≡ get_or operands at operand → drop at operands ≡ operand ∷ drop (at + 1) operands
 left_is operands at operand within is = drop_more operands at operand within ∙ ap (λ o. o ∷ drop (at + 1) operands) (sym is)
 
-nothing_left : (k : ℕ) (operand : Operand) (rest : List Operand) → drop k [] ≡ operand ∷ rest → ⊥
-nothing_left zero operand rest is = no_length (length rest) (ap length is) where
-  no_length : (n : ℕ) → 0 ≡ suc n → ⊥
-  no_length n e = omega (arith, e)
-nothing_left (suc k) operand rest is = no_length (length rest) (ap length is) where
-  no_length : (n : ℕ) → 0 ≡ suc n → ⊥
-  no_length n e = omega (arith, e)
-
 drop_next : (operands rest : List Operand) (operand : Operand) (at : ℕ) → drop at operands ≡ operand ∷ rest → drop (suc at) operands ≡ rest
-drop_next [] rest operand at are = absurd (nothing_left at operand rest are)
+drop_next [] rest operand zero are = absurd (cc)
+drop_next [] rest operand at are = absurd (cc)
 drop_next (one ∷ operands) rest operand zero are = ap (drop 1) are
 drop_next (one ∷ operands) rest operand (suc at) are = drop_next operands rest operand at are
 

@@ -1,5 +1,5 @@
 -- The fault with which the work ends, from where the cutter stands.
-use Rattle.std.proofs.Common.{◌≡◌, ℕ, suc, ◌+◌, ◌<◌, ◌≤◌, Bool, false, nat_lt, List, [], ◌∷◌, length, drop, get_or, Option, None, refl, sym, ◌∙◌, ap, subst, arith}
+use Rattle.std.proofs.Common.{◌≡◌, ℕ, ◌+◌, ◌<◌, ◌≤◌, Bool, false, nat_lt, List, [], ◌∷◌, length, drop, get_or, Option, None, refl, sym, ◌∙◌, ap, subst, arith}
 use Rattle.std.proofs.lemmas.Bool.Decides.{nat_tests}
 use Rattle.std.proofs.lemmas.List.{drop_all}
 use Rattle.ports_core.specs.declared.fault.Fault.{Fault}
@@ -10,7 +10,6 @@ use Rattle.csplit_core.specs.Plan.{State, start, Step, Ending, used_up, missed, 
 use Rattle.csplit_core.specs.Planned.{plan}
 use Rattle.csplit_core.specs.laws.PlanLaws.{plan_runs}
 use Rattle.csplit_core.specs.Progress.{AimsAt}
-use Rattle.csplit_core.specs.laws.SectionLaws.{front_of}
 use Rattle.csplit_core.specs.declared.progress.Turn.TheVariants.{Missed, Above, Below}
 use Rattle.csplit_core.specs.Cutter.{CutterState, suppress_in, state_in}
 use Rattle.csplit_core.specs.inner.Cutter.{IsJudged}
@@ -44,21 +43,14 @@ of_it cutter x judged =
     (ends_of (suppress_in cutter) (all_lines x) (start cutter.operands) (plan (suppress_in cutter) cutter.operands (all_lines x)).steps (plan (suppress_in cutter) cutter.operands (all_lines x)).last (ending_in cutter x)
     (plan_runs (suppress_in cutter) cutter.operands (all_lines x)))
 
-no_front : (operand : Operand) (operands those : List Operand) → those ≡ [] → those ≡ operand ∷ operands → ⊥
-no_front operand operands those none is = no_length (length operands) (ap length (sym none ∙ is)) where
-  no_length : (n : ℕ) → 0 ≡ suc n → ⊥
-  no_length n e = omega (arith, e)
-
 -- where no operand is left
 none_of : (state : State) (ending : Ending) → IsOf state ending → state.operands ≡ [] → None ≡ verdict_of ending
 none_of state used_up of none = refl
-none_of state (missed operand repetition) of none = absurd (no_front operand of.0.0 state.operands none of.0.1)
-none_of state (above operand repetition matched cut) of none = absurd (no_front operand of.0.0 state.operands none of.0.1)
-none_of state (below operand repetition) of none = absurd (no_front operand of.0.0 state.operands none of.0.1)
+none_of state ending of none = absurd (cc of.0.1)
 
 -- the operand of an ending is the next one
 is_next : (state : State) (other operand : Operand) (operands : List Operand) (repetition : ℕ) → IsNext state other repetition → state.operands ≡ operand ∷ operands → operand ≡ other
-is_next state other operand operands repetition of are = sym (front_of other operand of.0.0 operands (sym of.0.1 ∙ are))
+is_next state other operand operands repetition of are = cc of.0.1
 
 missed_of : (state : State) (operand : Operand) (operands : List Operand) (ending : Ending) → IsOf state ending → state.operands ≡ operand ∷ operands → AimsAt Missed ending → verdict_of (missed operand state.repetition) ≡ verdict_of ending
 missed_of state operand operands (missed other repetition) of are aims =

@@ -9,7 +9,7 @@ use Rattle.csplit_core.specs.Writer.{IsReady}
 use Rattle.csplit_core.specs.inner.CsplitState.{Passes}
 use Rattle.csplit_core.proofs.ByteLemmas.{piece_ends}
 use Rattle.csplit_core.proofs.StageSteps.{none_counted, past_passes, some_counted, stop_counted}
-use Rattle.csplit_core.proofs.StretchLemmas.{rest_all}
+use Rattle.csplit_core.proofs.LineLemmas.{rest_all}
 use Rattle.csplit_core.proofs.csplitter.CsplitterStage.pass.Goals as goal
 
 pub returns-then-is_past-clause-passes : goal.returns-then-is_past-clause-passes

@@ -1,10 +1,11 @@
 use Rattle.std.proofs.Common.{refl, ◌∙◌, arith}
 use Rattle.std.proofs.lemmas.Grind.{common_steps}
-use Rattle.csplit_core.proofs.PassLemmas.{none_yet, few_counted_at, all_left, all_after, one_more_at, more_clear, few_left, left_whole, all_passed_at, next_found, stops_unfound}
+use Rattle.csplit_core.proofs.PassLemmas.{none_yet, few_counted_at, all_left, one_more_at, more_clear, few_left, left_whole, all_passed_at, next_found, stops_unfound}
 use Rattle.csplit_core.proofs.line_cutter.LineCutter.pass_unmatched.Goals as goal
+use Rattle.csplit_core.proofs.LineLemmas.{rest_all}
 
 pub loop-end-init : goal.loop-end-init
-loop-end-init c = more_clear c.args.self.now c.args.text.now c.args.text.now _ c.args.self.now _ _ c.pass_clear-clear.result (none_yet c.args.self.now c.args.text.now) refl c.pass_clear-clear.ensures (all_after c.args.text.now c.pass_clear-clear.result)
+loop-end-init c = more_clear c.args.self.now c.args.text.now c.args.text.now _ c.args.self.now _ _ c.pass_clear-clear.result (none_yet c.args.self.now c.args.text.now) refl c.pass_clear-clear.ensures (rest_all c.pass_clear-clear.result c.args.text.now)
 
 pub overflow_sub-result : goal.overflow_sub-result
 overflow_sub-result c = grind (arith, common_steps)
@@ -43,4 +44,4 @@ overflow_add-left c = grind (arith, common_steps)
 pub loop-end-preserved : goal.loop-end-preserved
 loop-end-preserved c =
     let place = c.in-Some.ensures in
-    more_clear _ _ _ _ _ _ _ c.pass_clear-clear-in-Some.result (one_more_at _ _ c.loop-end.left.now _ _ _ _ _ c.in-Some.end _ c.loop-end.invariant c.is_match.view_is c.is_match-in-Some.ensures.same c.self.view_is place.0.high place.1 place.0.before c.is_match-in-Some.ensures.found c.if-is_match.false (all_left c.loop-end.left.now _ c.in-Some.end refl)) refl c.pass_clear-clear-in-Some.ensures (all_after _ c.pass_clear-clear-in-Some.result)
+    more_clear _ _ _ _ _ _ _ c.pass_clear-clear-in-Some.result (one_more_at _ _ c.loop-end.left.now _ _ _ _ _ c.in-Some.end _ c.loop-end.invariant c.is_match.view_is c.is_match-in-Some.ensures.same c.self.view_is place.0.high place.1 place.0.before c.is_match-in-Some.ensures.found c.if-is_match.false (all_left c.loop-end.left.now _ c.in-Some.end refl)) refl c.pass_clear-clear-in-Some.ensures (rest_all c.pass_clear-clear-in-Some.result _)

@@ -7,13 +7,13 @@ use Rattle.csplit_core.specs.inner.Cutter.{IsWhole, Stretches}
 use Rattle.csplit_core.proofs.CutLineLemmas.{none_there}
 use Rattle.csplit_core.proofs.GoLemmas.{first_stopped, stretch_cut, stretch_first, stretch_on}
 use Rattle.csplit_core.proofs.LineLemmas.{whole_drop}
-use Rattle.csplit_core.proofs.StretchLemmas.{take_whole}
+use Rattle.std.proofs.Math.Seq.{take-length}
 use Rattle.csplit_core.proofs.TakeLemmas.{take_some, took_past}
 use Rattle.csplit_core.proofs.line_cutter.LineCutter.stretch.Goals as goal
 
 pub returns-then-is_past : goal.returns-then-is_past
 returns-then-is_past g c = stretch_first _ c.args.self.now c.args.self.now c.args.text.now (length c.args.text.now) c.unfound.result _ _ c.requires.some (omega arith)
-    (subst IsWhole (sym (take_whole c.args.text.now)) c.requires.whole) c.unfound.ensures.size c.unfound.ensures.found
+    (subst IsWhole (sym (take-length c.args.text.now)) c.requires.whole) c.unfound.ensures.size c.unfound.ensures.found
     (took_past _ c.args.self.now (take (length c.args.text.now) c.args.text.now) _ (c.is_past.ensures.past c.if-is_past.true) c.requires.sound c.requires.ready)
 
 pub go_on-requires : goal.go_on-requires
