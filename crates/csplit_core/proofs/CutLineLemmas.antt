@@ -1,7 +1,7 @@
 -- Cutting the lines that wait and one more.
-use Rattle.std.proofs.Common.{◌≡◌, ℕ, suc, ◌+◌, ◌-◌, Bool, true, eqb, Result, Ok, Err, List, [], ◌∷◌, ◌++◌, length, take, refl, sym, ◌∙◌, ap, subst, arith, length-append}
+use Rattle.std.proofs.Common.{◌≡◌, ℕ, ◌+◌, ◌-◌, Bool, true, eqb, Result, Ok, Err, List, [], ◌++◌, length, take, refl, sym, ◌∙◌, ap, subst, arith, length-append}
 use Rattle.std.proofs.lemmas.Bool.{eqb-true}
-use Rattle.std.proofs.lemmas.List.{append-nil, take_at}
+use Rattle.std.proofs.lemmas.List.{append-nil, take_at, nil_from_length}
 use Rattle.seg_core.specs.Line.{delimiters, first_lines}
 use Rattle.seg_core.specs.Window.{Window}
 use Rattle.ports_core.specs.Slot.{Slot}
@@ -23,15 +23,17 @@ use Rattle.csplit_core.proofs.WriterLemmas.{halts_wider, bytes_begin, owns_still
 -- where none waits
 
 pub none_there : (held : List ℕ) (empty : Bool) → empty ≡ eqb (length held) 0 → empty ≡ true → held ≡ []
-none_there [] empty is true_is = refl
-none_there (byte ∷ held) empty is true_is = let e : suc (length held) ≡ 0 = eqb-true (suc (length held)) 0 (sym is ∙ true_is) in absurd (omega (arith, e))
+none_there held empty is true_is = nil_from_length held (eqb-true (length held) 0 (sym is ∙ true_is))
+
+pub alone : (P : ℕ → List ℕ → Type 0) (cutter : CutterState) (line : List ℕ) → cutter.window.held ≡ [] → P cutter.lines line → P (cutter.lines - delimiters newline cutter.window.held) (cutter.window.held ++ line)
+alone P cutter line none holds =
+    subst (λ those. P (cutter.lines - delimiters newline those) (those ++ line)) (sym none) (subst (λ n. P n line) (let e : cutter.lines ≡ cutter.lines - 0 = omega arith in e) holds)
 
 pub cut_alone : (told : Bool) (cutter start place_of next : CutterState) (cut : Cut) (line : List ℕ) (old new : List Slot) (result : Result (Unit {0}) Fault) → start ≡ cutter → place_of ≡ cutter → start.window.held ≡ []
     → CutsAll told cutter cut place_of.lines line line old new next result → CutsAll told cutter cut (cutter.lines - delimiters newline cutter.window.held) (cutter.window.held ++ line) line old new next result
 cut_alone told cutter start place_of next cut line old new result same same_place none cuts =
-    let empty : cutter.window.held ≡ [] = sym (ap (λ (c : CutterState). c.window.held) same) ∙ none in
-    subst (λ those. CutsAll told cutter cut (cutter.lines - delimiters newline those) (those ++ line) line old new next result) (sym empty)
-    (subst (λ n. CutsAll told cutter cut n line line old new next result) (ap (λ (c : CutterState). c.lines) same_place ∙ (let e : cutter.lines ≡ cutter.lines - 0 = omega arith in e)) cuts)
+    alone (λ place those. CutsAll told cutter cut place those line old new next result) cutter line (sym (ap (λ (c : CutterState). c.window.held) same) ∙ none)
+    (subst (λ (c : CutterState). CutsAll told cutter cut c.lines line line old new next result) same_place cuts)
 
 -- and where some do
 

@@ -8,13 +8,13 @@ use Rattle.csplit_core.specs.Input.{newline, all_lines}
 use Rattle.csplit_core.specs.Output.{Style}
 use Rattle.csplit_core.specs.Plan.{start, Runs}
 use Rattle.csplit_core.specs.laws.PlanLaws.{goes_on}
-use Rattle.csplit_core.specs.Section.{most_waiting}
+use Rattle.csplit_core.specs.Section.{most_waiting, settled_end}
 use Rattle.csplit_core.specs.declared.progress.Turn.{Turn}
 use Rattle.csplit_core.specs.Writer.{WriterState, Writes}
 use Rattle.csplit_core.specs.Cutter.{CutterState, suppress_in, state_in, kept_by, text_from, draft_by, IsAt, EndsNow, IsLive}
 use Rattle.csplit_core.specs.inner.Cutter.{settled_part, IsWhole, part_at}
 use Rattle.csplit_core.proofs.LineLemmas.{all_lines-append, count-append, count_from, first_still, rest_more, from_further, first_further}
-use Rattle.csplit_core.proofs.SettledLemmas.{settled_draft_is, settled_part_is, settled_count, ended_still}
+use Rattle.csplit_core.proofs.SettledLemmas.{draft_is, settled_part_is, settled_count, ended_still}
 
 -- the plan up to where the cutter stands
 pub runs_to : (cutter : CutterState) (x left : List ℕ) (at : IsAt cutter x left) (ends : EndsNow cutter x) → Runs (suppress_in cutter) (all_lines x) (start cutter.operands) at.steps (state_in cutter) ends.ending
@@ -50,9 +50,16 @@ live_part cutter x live =
     let runs = runs_to cutter x cutter.window.held live.at live.ends in
     let count : line_count newline x + 1 - cutter.progress.current - most_waiting live.ends.ending ≡ cutter.lines + 1 - cutter.progress.current - most_waiting live.ends.ending =
     ap (λ n. n + 1 - cutter.progress.current - most_waiting live.ends.ending) (sym live.at.counted) in
-    ap (draft_part cutter.writer.style) (settled_draft_is (suppress_in cutter) cutter.operands x live.at.steps (state_in cutter) live.ends.ending live.at.taken live.at.written runs
+    ap (draft_part cutter.writer.style) (draft_is settled_end (suppress_in cutter) cutter.operands x live.at.steps (state_in cutter) live.ends.ending live.at.taken live.at.written runs
     (live.settled ∙ sym count ∙ settled_count (line_count newline x) cutter.progress.current live.ends.ending live.live) live.at.written_is)
     ∙ settled_part_is cutter.writer.style cutter.operands (all_lines x)
+
+-- how many lines are left
+pub left_count : (cutter : CutterState) (x left : List ℕ) (at : IsAt cutter x left) → line_count newline left ≡ cutter.lines - (cutter.progress.current + at.taken - 1)
+left_count cutter x left at = ap (line_count newline) at.left_is ∙ count_from (cutter.progress.current + at.taken) x ∙ ap (λ n. n - (cutter.progress.current + at.taken - 1)) (sym at.counted)
+
+pub few_taken : (cutter : CutterState) (x left : List ℕ) (at : IsAt cutter x left) → cutter.progress.current + at.taken ≤ cutter.lines + 1
+few_taken cutter x left at = let f : cutter.progress.current + at.taken ≤ line_count newline x + 1 = at.few in let e : cutter.lines ≡ line_count newline x = at.counted in omega (arith, f, e)
 
 -- some lines of those that were left are written, and the others wait
 unfoldable pub at_held : (cutter : CutterState) (writer : WriterState) (x left bytes held : List ℕ) (n : ℕ) → 1 ≤ cutter.progress.current → (at : IsAt cutter x left) → writer.style ≡ cutter.writer.style → n ≤ line_count newline left

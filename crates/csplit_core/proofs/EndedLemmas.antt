@@ -15,41 +15,24 @@ use Rattle.csplit_core.specs.inner.Draft.{ended_part, with_bytes}
 use Rattle.csplit_core.specs.Input.{newline, all_lines}
 use Rattle.csplit_core.specs.Operand.{Operand, Line}
 use Rattle.csplit_core.specs.Output.{Style, contents_of, part_by}
-use Rattle.csplit_core.specs.Plan.{State, start, Step, Ending, below, Runs}
+use Rattle.csplit_core.specs.Plan.{Ending, below}
 use Rattle.csplit_core.specs.Planned.{Plan, plan}
 use Rattle.csplit_core.specs.laws.PlanLaws.{plan_once}
 use Rattle.csplit_core.specs.Progress.{AimsAt}
 use Rattle.csplit_core.specs.Section.{section, section_of, lines_between, is_last_kept, settled_end, whole_end, is_final, bytes_of}
-use Rattle.csplit_core.specs.laws.SectionLaws.{ends_as}
 use Rattle.csplit_core.specs.declared.progress.Turn.TheVariants.{Below}
 use Rattle.csplit_core.specs.Writer.{WriterState, Writes, Breaks}
 use Rattle.csplit_core.specs.inner.Writer.{Moves, Halts, Went, Stopped, Ended, EndedNot, Ends}
 use Rattle.csplit_core.specs.Cutter.{CutterState, suppress_in, state_in, kept_by, text_from, draft_by, settled_draft, IsFit, IsLive, IsPast, Stands}
 use Rattle.csplit_core.specs.inner.Cutter.{settled_part, whole_part, IsJudged, EndedAll, EndedNone, EndsAll}
-use Rattle.csplit_core.proofs.LineLemmas.{length-all_lines, bytes_between, count_from, from_further}
-use Rattle.csplit_core.proofs.SettledLemmas.{last_kept, settled_part_is}
+use Rattle.csplit_core.proofs.LineLemmas.{count_from, from_further}
+use Rattle.csplit_core.proofs.SettledLemmas.{settled_part_is, draft_is, draft_to}
 use Rattle.csplit_core.proofs.CutterLemmas.{runs_to, live_part}
 use Rattle.csplit_core.proofs.HoldLemmas.{went_as, stopped_as}
 use Rattle.csplit_core.proofs.WriterLemmas.{moves_again, moves_as, halts_after, halts_as, halts_wider, bytes_begin, end_begins, breaks_later, owns_again}
 use Rattle.csplit_core.proofs.WholeLemmas.{ends_after_all}
 
--- the whole of lines, where they end
-abbrev pub whole_draft : Bool → List Operand → List Line → Draft
-whole_draft suppress operands lines = draft_by lines (plan suppress operands lines).steps (is_last_kept (plan suppress operands lines).ending)
-    (bytes_of (lines_between (plan suppress operands lines).last.current (whole_end (length lines) (plan suppress operands lines).ending) lines))
-
-whole_draft_is : (suppress : Bool) (operands : List Operand) (x : List ℕ) (steps : List Step) (state : State) (ending : Ending) (written : List ℕ) → Runs suppress (all_lines x) (start operands) steps state ending
-    → written ≡ first_lines newline (whole_end (line_count newline x) ending - state.current) (text_from state.current x)
-    → draft_by (all_lines x) steps (kept_by state.operands) written ≡ whole_draft suppress operands (all_lines x)
-whole_draft_is suppress operands x steps state ending written runs written_is =
-    let kept = last_kept suppress (all_lines x) state ending (ends_as suppress (all_lines x) (start operands) steps state ending runs) in
-    let count : whole_end (length (all_lines x)) ending - state.current ≡ whole_end (line_count newline x) ending - state.current = ap (λ n. whole_end n ending - state.current) (length-all_lines x) in
-    let bytes = bytes_between state.current (whole_end (length (all_lines x)) ending) x ∙ ap (λ n. first_lines newline n (text_from state.current x)) count ∙ sym written_is in
-    ap (λ k. draft_by (all_lines x) steps k written) kept
-    ∙ ap (λ bytes. draft_by (all_lines x) steps (is_last_kept ending) bytes) (sym bytes)
-    ∙ ap (λ (p : Plan). draft_by (all_lines x) p.steps (is_last_kept p.ending) (bytes_of (lines_between p.last.current (whole_end (length (all_lines x)) p.ending) (all_lines x)))) (sym (plan_once suppress operands (all_lines x) steps state ending runs))
-
-whole_part_is : (style : Style) (operands : List Operand) (lines : List Line) → ended_part style (whole_draft style.suppress operands lines) ≡ whole_of style operands lines
+whole_part_is : (style : Style) (operands : List Operand) (lines : List Line) → ended_part style (draft_to whole_end style.suppress operands lines) ≡ whole_of style operands lines
 whole_part_is style operands lines =
     let p = plan style.suppress operands lines in
     ap (part_by style) (sym (map-append contents_of (map (section_of lines) p.steps) (section (is_last_kept p.ending) true (lines_between p.last.current (whole_end (length lines) p.ending) lines) ∷ [])))
@@ -85,13 +68,13 @@ live_draft cutter x fit live = record {
   draft = draft_by (all_lines x) live.at.steps (kept_by (state_in cutter).operands) live.at.written;
   writes = live.at.writes;
   settled = live_part cutter x live;
-  whole = ap (ended_part cutter.writer.style) (whole_draft_is (suppress_in cutter) cutter.operands x live.at.steps (state_in cutter) live.ends.ending (live.at.written ++ cutter.window.held)
-      (runs_to cutter x cutter.window.held live.at live.ends)
+  whole = ap (ended_part cutter.writer.style) (draft_is whole_end (suppress_in cutter) cutter.operands x live.at.steps (state_in cutter) live.ends.ending _ (live.at.written ++ cutter.window.held)
+      (runs_to cutter x cutter.window.held live.at live.ends) refl
       (all_written x live.at.written cutter.window.held cutter.progress.current live.at.taken live.ends.ending fit.fits.some live.live live.at.written_is live.at.left_is))
       ∙ whole_part_is cutter.writer.style cutter.operands (all_lines x);
 }
 
-past_whole : (cutter : CutterState) (x : List ℕ) → IsPast cutter x → with_bytes cutter.window.held (settled_draft (suppress_in cutter) cutter.operands (all_lines x)) ≡ whole_draft (suppress_in cutter) cutter.operands (all_lines x)
+past_whole : (cutter : CutterState) (x : List ℕ) → IsPast cutter x → with_bytes cutter.window.held (settled_draft (suppress_in cutter) cutter.operands (all_lines x)) ≡ draft_to whole_end (suppress_in cutter) cutter.operands (all_lines x)
 past_whole cutter x past =
     let lines = all_lines x in
     let p = plan (suppress_in cutter) cutter.operands (all_lines x) in

@@ -24,6 +24,7 @@ use Rattle.csplit_core.proofs.SpreadLemmas.{alike, at_alike, settled_same, same_
 use Rattle.csplit_core.proofs.StretchLemmas.{more_settled, not_wider}
 use Rattle.csplit_core.proofs.TakeLemmas.{more_lines, took_cut, took_held, took_not_cut, took_not_held}
 use Rattle.csplit_core.proofs.WriterLemmas.{moves_again, moves_as, halts_after, halts_wider, halts_as, breaks_later, owns_again}
+use Rattle.csplit_core.proofs.CutLineLemmas.{alone}
 
 -- What was found of the next line stays where lines are held.
 
@@ -241,25 +242,13 @@ stretch_on told cutter mid next text size old new (Err fault) fit differs some w
 
 -- The first line is cut, and none waits.
 
-alone : (told : Bool) (cutter next : CutterState) (cut : Cut) (line more : List ℕ) (old new : List Slot) → cutter.window.held ≡ [] → CutAll told cutter cut cutter.lines line line more old new next
-    → CutAll told cutter cut (cutter.lines - delimiters newline cutter.window.held) (cutter.window.held ++ line) line more old new next
-alone told cutter next cut line more old new none all =
-    subst (λ those. CutAll told cutter cut (cutter.lines - delimiters newline those) (those ++ line) line more old new next) (sym none)
-    (subst (λ n. CutAll told cutter cut n line line more old new next) (let e : cutter.lines ≡ cutter.lines - 0 = omega arith in e) all)
-
-not_alone : (told : Bool) (cutter next : CutterState) (cut : Cut) (line more : List ℕ) (old new : List Slot) (fault : Fault) → cutter.window.held ≡ [] → CutAllNot told cutter cut cutter.lines line line more old new next fault
-    → CutAllNot told cutter cut (cutter.lines - delimiters newline cutter.window.held) (cutter.window.held ++ line) line more old new next fault
-not_alone told cutter next cut line more old new fault none all =
-    subst (λ those. CutAllNot told cutter cut (cutter.lines - delimiters newline those) (those ++ line) line more old new next fault) (sym none)
-    (subst (λ n. CutAllNot told cutter cut n line line more old new next fault) (let e : cutter.lines ≡ cutter.lines - 0 = omega arith in e) all)
-
 pub stretch_cut : (told : Bool) (cutter mid next : CutterState) (text : List ℕ) (size : ℕ) (cut : Cut) (old new : List Slot) (result : Result Passed Fault) → IsFit cutter → (cutter.aim ≡ Below → ⊥) → 0 < size → size ≤ length text → IsLine (take size text) → IsWhole (take size text)
     → mid ≡ record cutter { lines = cutter.lines + 1; aim = mid.aim } → mid.window.held ≡ [] → WillCut mid cut → TriesNext cutter (take size text) mid (Some cut) → CutsOn told mid cut text size old new next result → Stretches told cutter text old new next result
 stretch_cut told cutter mid next text size cut old new (Ok passed) fit differs some within one complete mid_is none will tries on =
     let line = take size text in
     let more = take on.n (drop size text) in
     let took = took_cut told cutter next (cutter.lines + 1) mid.aim line more cut old new fit differs one refl (subst (λ (m : CutterState). WillCut m cut) mid_is will) (subst (λ (m : CutterState). TriesNext cutter line m (Some cut)) mid_is tries)
-    (subst (λ (m : CutterState). CutAll told m cut (m.lines - delimiters newline m.window.held) (m.window.held ++ line) line more old new next) mid_is (alone told mid next cut line more old new none on.all)) in
+    (subst (λ (m : CutterState). CutAll told m cut (m.lines - delimiters newline m.window.held) (m.window.held ++ line) line more old new next) mid_is (alone (λ place those. CutAll told mid cut place those line more old new next) mid line none on.all)) in
     stretched_at told cutter next text passed (size + on.n) old new on.size_is (omega (arith, some)) (within_on text size on.n within on.within) (whole_on text size on.n complete on.whole)
     (subst (λ those. Took told cutter those old new next) (sym (take-add size on.n text)) took)
     (subst (λ those. IfSome passed.found (IsNextFound next those)) (drop-drop on.n size text) on.found)
@@ -267,7 +256,7 @@ stretch_cut told cutter mid next text size cut old new (Err fault) fit differs s
     let line = take size text in
     subst (λ those. TookNot told cutter those old new next fault) (take-append-drop size text)
     (took_not_cut told cutter next (cutter.lines + 1) mid.aim line (drop size text) cut old new fault fit differs one refl (subst (λ (m : CutterState). WillCut m cut) mid_is will) (subst (λ (m : CutterState). TriesNext cutter line m (Some cut)) mid_is tries)
-    (subst (λ (m : CutterState). CutAllNot told m cut (m.lines - delimiters newline m.window.held) (m.window.held ++ line) line (drop size text) old new next fault) mid_is (not_alone told mid next cut line (drop size text) old new fault none not_on)))
+    (subst (λ (m : CutterState). CutAllNot told m cut (m.lines - delimiters newline m.window.held) (m.window.held ++ line) line (drop size text) old new next fault) mid_is (alone (λ place those. CutAllNot told mid cut place those line (drop size text) old new next fault) mid line none not_on)))
 
 -- The first line is taken in by itself.
 

@@ -37,9 +37,6 @@ past_waiting stage x past =
     ap (λ lines. waiting_of lines (plan (suppress_in stage.cutter) stage.cutter.operands lines) (open_line x)) (sym (all_complete x))
     ∙ ap (λ final. cond final [] (bytes_of (waiting_lines (all_lines (whole_lines x)) (plan (suppress_in stage.cutter) stage.cutter.operands (all_lines (whole_lines x)))) ++ open_line x)) past.past
 
-few_held : (total most : ℕ) → total ≤ most → min total most ≡ total
-few_held total most few = min-eq_left few
-
 pub held_is : (stage : CsplitState) (x : List ℕ) (result : ℕ) → Holds stage x → length x < 2 ^ 63 → result ≡ min (length stage.cutter.window.held + length stage.rest) (2 ^ 64 - 1) → result ≡ length (waiting stage.cutter.writer.style stage.cutter.operands x)
 held_is stage x result holds few is = by holds.stands where
   by : Stands stage.cutter (whole_lines x) → result ≡ length (waiting stage.cutter.writer.style stage.cutter.operands x)
@@ -48,8 +45,8 @@ held_is stage x result holds few is = by holds.stands where
       let within = held_within stage.cutter (whole_lines x) live in
       let all : length (whole_lines x) + length (open_line x) ≡ length x = sym (length-append (whole_lines x) (open_line x)) ∙ ap length (lines_then_open x) in
       let rest_long : length stage.rest ≡ length (open_line x) = ap length rest_is in
-      is ∙ few_held (length stage.cutter.window.held + length stage.rest) (2 ^ 64 - 1) (omega (arith, within, all, rest_long, few)) ∙ sym (length-append stage.cutter.window.held stage.rest) ∙ sym (ap length (live_waiting stage x live rest_is))
+      is ∙ min-eq_left (omega (arith, within, all, rest_long, few)) ∙ sym (length-append stage.cutter.window.held stage.rest) ∙ sym (ap length (live_waiting stage x live rest_is))
   by (inr past) =
       let none : length stage.cutter.window.held ≡ 0 = ap length past.none in
       let rest_none : length stage.rest ≡ 0 = ap length (holds.past past.aim) in
-      is ∙ few_held (length stage.cutter.window.held + length stage.rest) (2 ^ 64 - 1) (omega (arith, none, rest_none)) ∙ (let e : length stage.cutter.window.held + length stage.rest ≡ 0 = omega (arith, none, rest_none) in e) ∙ sym (ap length (past_waiting stage x past))
+      is ∙ min-eq_left (omega (arith, none, rest_none)) ∙ (let e : length stage.cutter.window.held + length stage.rest ≡ 0 = omega (arith, none, rest_none) in e) ∙ sym (ap length (past_waiting stage x past))

@@ -13,16 +13,16 @@ use Rattle.csplit_core.specs.Plan.{Runs}
 use Rattle.csplit_core.specs.Planned.{Plan}
 use Rattle.csplit_core.specs.laws.PlanLaws.{plan_once}
 use Rattle.csplit_core.specs.Progress.{AimsAt}
-use Rattle.csplit_core.specs.Section.{is_final, most_waiting}
+use Rattle.csplit_core.specs.Section.{is_final, most_waiting, settled_end}
 use Rattle.csplit_core.specs.laws.SectionLaws.{ends_as}
 use Rattle.csplit_core.specs.declared.progress.Turn.TheVariants.{Below}
 use Rattle.csplit_core.specs.Writer.{WriterState, Writes, IsReady, size_of}
 use Rattle.csplit_core.specs.inner.Writer.{Went, Stopped, Goes}
 use Rattle.csplit_core.specs.Cutter.{CutterState, suppress_in, state_in, kept_by, text_from, draft_by, settled_draft, IsFit, IsAt, EndsNow, IsLive, IsPast}
 use Rattle.csplit_core.specs.inner.Cutter.{settled_part, Arrives, Held, HeldNot, Holds}
-use Rattle.csplit_core.proofs.LineLemmas.{count_from, first_further}
-use Rattle.csplit_core.proofs.SettledLemmas.{settled_draft_is, settled_part_is, settled_count, final_count, most_is, aims_live, aims_past}
-use Rattle.csplit_core.proofs.CutterLemmas.{runs_to, at_held, taken_all}
+use Rattle.csplit_core.proofs.LineLemmas.{first_further}
+use Rattle.csplit_core.proofs.SettledLemmas.{draft_is, settled_part_is, settled_count, final_count, most_is, aims_live, aims_past}
+use Rattle.csplit_core.proofs.CutterLemmas.{runs_to, at_held, taken_all, left_count, few_taken}
 use Rattle.csplit_core.proofs.WriterLemmas.{moves_as, moves_same, halts_as, owns_still}
 
 -- the cutter once `hold` has written and kept what it was to
@@ -32,12 +32,6 @@ holding cutter writer held = record cutter { writer = writer; window = record cu
 -- how many lines of those that are left no longer wait
 abbrev pub over_of : CutterState → List ℕ → ℕ
 over_of cutter left = line_count newline left - cutter.window.most
-
-left_count : (cutter : CutterState) (x left : List ℕ) (at : IsAt cutter x left) → line_count newline left ≡ cutter.lines - (cutter.progress.current + at.taken - 1)
-left_count cutter x left at = ap (line_count newline) at.left_is ∙ count_from (cutter.progress.current + at.taken) x ∙ ap (λ n. n - (cutter.progress.current + at.taken - 1)) (sym at.counted)
-
-few_taken : (cutter : CutterState) (x left : List ℕ) (at : IsAt cutter x left) → cutter.progress.current + at.taken ≤ cutter.lines + 1
-few_taken cutter x left at = let f : cutter.progress.current + at.taken ≤ line_count newline x + 1 = at.few in let e : cutter.lines ≡ line_count newline x = at.counted in omega (arith, f, e)
 
 -- then all lines but those that may wait are taken
 taken_is : (cutter : CutterState) (x left : List ℕ) (at : IsAt cutter x left) (arrives : Arrives cutter x left at) → IsFit cutter → is_final arrives.ends.ending ≡ false
@@ -60,7 +54,7 @@ held_part cutter x left bytes at arrives fit live bytes_is =
     ap (λ those. those ++ bytes) at.written_is
     ∙ ap (λ those. first_lines newline at.taken (text_from cutter.progress.current x) ++ those) (bytes_is ∙ ap (first_lines newline (over_of cutter left)) at.left_is)
     ∙ sym (first_further cutter.progress.current at.taken (over_of cutter left) x fit.fits.some) in
-    ap (draft_part cutter.writer.style) (settled_draft_is (suppress_in cutter) cutter.operands x at.steps (state_in cutter) arrives.ends.ending (at.taken + over_of cutter left) (at.written ++ bytes) runs
+    ap (draft_part cutter.writer.style) (draft_is settled_end (suppress_in cutter) cutter.operands x at.steps (state_in cutter) arrives.ends.ending (at.taken + over_of cutter left) (at.written ++ bytes) runs
     (taken ∙ counted ∙ settled_count (line_count newline x) cutter.progress.current arrives.ends.ending live) written)
     ∙ settled_part_is cutter.writer.style cutter.operands (all_lines x)
 
@@ -122,7 +116,7 @@ hold_goes told cutter writer window left old new (Err fault) fit differs stopped
 past_draft : (cutter : CutterState) (x left : List ℕ) (at : IsAt cutter x left) (arrives : Arrives cutter x left at) → is_final arrives.ends.ending ≡ true
     → draft_by (all_lines x) at.steps (kept_by (state_in cutter).operands) at.written ≡ settled_draft (suppress_in cutter) cutter.operands (all_lines x)
 past_draft cutter x left at arrives past =
-    settled_draft_is (suppress_in cutter) cutter.operands x at.steps (state_in cutter) arrives.ends.ending at.taken at.written (runs_to cutter x left at arrives.ends)
+    draft_is settled_end (suppress_in cutter) cutter.operands x at.steps (state_in cutter) arrives.ends.ending at.taken at.written (runs_to cutter x left at arrives.ends)
     (arrives.low past ∙ final_count (line_count newline x) cutter.progress.current arrives.ends.ending past) at.written_is
 
 pub hold_past : (told : Bool) (cutter : CutterState) (window : Window) (left : List ℕ) (slots : List Slot) (n : ℕ) → cutter.aim ≡ Below → IsReady cutter.writer slots → n ≡ length cutter.window.held → length cutter.window.held ≤ length left

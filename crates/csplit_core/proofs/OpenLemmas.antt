@@ -30,7 +30,7 @@ use Rattle.csplit_core.specs.Cutter.{CutterState, most_next, pattern_next, kept_
 use Rattle.csplit_core.specs.inner.Cutter.{IsNoCut, Opened}
 use Rattle.csplit_core.proofs.AdvanceLemmas.{advances}
 use Rattle.csplit_core.proofs.MoveLemmas.{repeated_anew}
-use Rattle.csplit_core.proofs.SettledLemmas.{settled_draft_is, settled_part_is}
+use Rattle.csplit_core.proofs.SettledLemmas.{draft_is, settled_part_is}
 use Rattle.ports_core.proofs.SlotSteps.{none_past}
 use Rattle.csplit_core.proofs.TryLemmas.{advance_ends, no_cut_aims}
 use Rattle.csplit_core.proofs.WriterLemmas.{moves_as, halts_wider}
@@ -54,7 +54,7 @@ none_settled ending = omega arith
 -- the first section, without a byte, is what is settled
 first_settled : (suppress : Bool) (operands : List Operand) → first_draft (kept_by operands) ≡ settled_draft suppress operands []
 first_settled suppress operands =
-    settled_draft_is suppress operands [] [] (start operands) (plan suppress operands []).ending 0 [] (first_runs suppress operands) (none_settled (plan suppress operands []).ending) refl
+    draft_is settled_end suppress operands [] [] (start operands) (plan suppress operands []).ending 0 [] (first_runs suppress operands) (none_settled (plan suppress operands []).ending) refl
 
 first_part : (style : Style) (operands : List Operand) → draft_part style (first_draft (kept_by operands)) ≡ settled_of style operands []
 first_part style operands = ap (draft_part style) (first_settled style.suppress operands) ∙ settled_part_is style operands []

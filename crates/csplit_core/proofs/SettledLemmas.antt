@@ -4,7 +4,7 @@ use Rattle.std.proofs.lemmas.Bool.{false≢true}
 use Rattle.std.proofs.lemmas.List.{map-append}
 use Rattle.seg_core.specs.Line.{line_count, first_lines}
 use Rattle.csplit_core.specs.Csplit.{settled_of}
-use Rattle.csplit_core.specs.Draft.{draft_part}
+use Rattle.csplit_core.specs.Draft.{draft_part, Draft}
 use Rattle.csplit_core.specs.Input.{newline, all_lines}
 use Rattle.csplit_core.specs.Operand.{Plus, Minus, Target, Number, Search, Operand, Line, most_held}
 use Rattle.csplit_core.specs.Output.{Style, contents_of, part_by}
@@ -28,17 +28,22 @@ last_kept suppress lines state (missed operand repetition) (operands, is, none) 
 last_kept suppress lines state (above operand repetition matched cut) (operands, is, at, far) = ap kept_by is
 last_kept suppress lines state (below operand repetition) (operands, matched, cut, is, at, within, low) = ap kept_by is
 
--- the draft of these steps is what is settled, where the plan ends after them
-pub settled_draft_is : (suppress : Bool) (operands : List Operand) (x : List ℕ) (steps : List Step) (state : State) (ending : Ending) (taken : ℕ) (written : List ℕ) → Runs suppress (all_lines x) (start operands) steps state ending
-    → taken ≡ settled_end (line_count newline x) ending - state.current → written ≡ first_lines newline taken (text_from state.current x)
-    → draft_by (all_lines x) steps (kept_by state.operands) written ≡ settled_draft suppress operands (all_lines x)
-settled_draft_is suppress operands x steps state ending taken written runs taken_is written_is =
+-- the sections of the plan, and of the last one what stands before the line that this says
+abbrev pub draft_to : (ℕ → Ending → ℕ) → Bool → List Operand → List Line → Draft
+draft_to past suppress operands lines =
+    let p = plan suppress operands lines in draft_by lines p.steps (is_last_kept p.ending) (bytes_of (lines_between p.last.current (past (length lines) p.ending) lines))
+
+-- it is the draft of these steps, where the plan ends after them
+pub draft_is : (past : ℕ → Ending → ℕ) (suppress : Bool) (operands : List Operand) (x : List ℕ) (steps : List Step) (state : State) (ending : Ending) (taken : ℕ) (written : List ℕ) → Runs suppress (all_lines x) (start operands) steps state ending
+    → taken ≡ past (line_count newline x) ending - state.current → written ≡ first_lines newline taken (text_from state.current x)
+    → draft_by (all_lines x) steps (kept_by state.operands) written ≡ draft_to past suppress operands (all_lines x)
+draft_is past suppress operands x steps state ending taken written runs taken_is written_is =
     let kept = last_kept suppress (all_lines x) state ending (ends_as suppress (all_lines x) (start operands) steps state ending runs) in
-    let count : settled_end (length (all_lines x)) ending - state.current ≡ taken = ap (λ n. settled_end n ending - state.current) (length-all_lines x) ∙ sym taken_is in
-    let bytes = bytes_between state.current (settled_end (length (all_lines x)) ending) x ∙ ap (λ n. first_lines newline n (text_from state.current x)) count ∙ sym written_is in
+    let count : past (length (all_lines x)) ending - state.current ≡ taken = ap (λ n. past n ending - state.current) (length-all_lines x) ∙ sym taken_is in
+    let bytes = bytes_between state.current (past (length (all_lines x)) ending) x ∙ ap (λ n. first_lines newline n (text_from state.current x)) count ∙ sym written_is in
     ap (λ k. draft_by (all_lines x) steps k written) kept
     ∙ ap (λ bytes. draft_by (all_lines x) steps (is_last_kept ending) bytes) (sym bytes)
-    ∙ ap (λ (p : Plan). draft_by (all_lines x) p.steps (is_last_kept p.ending) (bytes_of (lines_between p.last.current (settled_end (length (all_lines x)) p.ending) (all_lines x)))) (sym (plan_once suppress operands (all_lines x) steps state ending runs))
+    ∙ ap (λ (p : Plan). draft_by (all_lines x) p.steps (is_last_kept p.ending) (bytes_of (lines_between p.last.current (past (length (all_lines x)) p.ending) (all_lines x)))) (sym (plan_once suppress operands (all_lines x) steps state ending runs))
 
 -- and what is written of it is what is settled
 pub settled_part_is : (style : Style) (operands : List Operand) (lines : List Line) → draft_part style (settled_draft style.suppress operands lines) ≡ settled_of style operands lines

@@ -1,5 +1,5 @@
 -- Cutting as often as operands cut the lines that are left.
-use Rattle.std.proofs.Common.{◌≡◌, inl, ℕ, ◌+◌, ◌<◌, ◌≤◌, Bool, Result, Ok, Err, Some, None, List, [], ◌++◌, length, refl, sym, ◌∙◌, ap, subst, arith, append_assoc}
+use Rattle.std.proofs.Common.{◌≡◌, inl, ℕ, ◌<◌, Bool, Result, Ok, Err, Some, None, List, [], ◌++◌, refl, sym, ◌∙◌, ap, subst, arith, append_assoc}
 use Rattle.std.proofs.lemmas.List.{append-nil}
 use Rattle.seg_core.specs.Window.{Window}
 use Rattle.ports_core.specs.Part.{Part}
@@ -25,9 +25,6 @@ alike cutter aim window = record cutter { aim = aim; window = window }
 
 unfoldable pub at_alike : (cutter : CutterState) (aim : Turn) (window : Window) (x left : List ℕ) → IsAt cutter x left → IsAt (alike cutter aim window) x left
 at_alike cutter aim window x left at = record { steps = at.steps; leads = at.leads; counted = at.counted; taken = at.taken; written = at.written; few = at.few; written_is = at.written_is; left_is = at.left_is; writes = at.writes }
-
-pub fit_alike : (cutter : CutterState) (aim : Turn) → IsFit cutter → IsFit (record cutter { aim = aim })
-fit_alike cutter aim fit = record { fits = fit.fits; most = fit.most; delim = fit.delim; sought = fit.sought }
 
 pub spread_once : (told : Bool) (cutter next : CutterState) (cut : Cut) (place : ℕ) (waiting line left : List ℕ) (old new : List Slot) → CutAt told cutter cut place waiting old new next left → Spreading told cutter cut place waiting line old new next left
 spread_once told cutter next cut place waiting line left old new at_cut = record {
@@ -91,11 +88,12 @@ more_with told cutter now next aim cut cut' place waiting line left rest old bet
   end = end_again left rest waiting so_far.end at_cut.end;
 }
 
-pub spread_more : (told : Bool) (cutter now mid next : CutterState) (cut cut' : Cut) (place : ℕ) (waiting line left rest : List ℕ) (old between new : List Slot) → Spreading told cutter cut place waiting line old between now left → mid ≡ record now { aim = mid.aim }
-    → Tries now line mid (Some cut') → WillCut now cut' → CutAt told mid cut' mid.progress.current left between new next rest → Spreading told cutter cut place waiting line old new next rest
-spread_more told cutter now mid next cut cut' place waiting line left rest old between new so_far is tries will at_cut =
+-- the place is as it is computed
+pub spread_more : (told : Bool) (cutter now mid next : CutterState) (cut cut' : Cut) (place at : ℕ) (waiting line left rest : List ℕ) (old between new : List Slot) → at ≡ mid.progress.current → Spreading told cutter cut place waiting line old between now left
+    → mid ≡ record now { aim = mid.aim } → Tries now line mid (Some cut') → WillCut now cut' → CutAt told mid cut' at left between new next rest → Spreading told cutter cut place waiting line old new next rest
+spread_more told cutter now mid next cut cut' place at waiting line left rest old between new at_is so_far is tries will at_cut =
     more_with told cutter now next mid.aim cut cut' place waiting line left rest old between new so_far (subst (λ (m : CutterState). Tries now line m (Some cut')) is tries) will
-    (subst (λ (m : CutterState). CutAt told m cut' m.progress.current left between new next rest) is at_cut)
+    (subst (λ (m : CutterState). CutAt told m cut' m.progress.current left between new next rest) is (subst (λ n. CutAt told mid cut' n left between new next rest) at_is at_cut))
 
 stopped_with : (told : Bool) (cutter now next : CutterState) (aim : Turn) (cut cut' : Cut) (place : ℕ) (waiting line left : List ℕ) (old between new : List Slot) (fault : Fault) → Spreading told cutter cut place waiting line old between now left
     → Tries now line (record now { aim = aim }) (Some cut') → WillCut now cut' → CutNot told (record now { aim = aim }) cut' now.progress.current left between new next fault → CutAllNot told cutter cut place waiting line [] old new next fault
@@ -111,11 +109,11 @@ stopped_with told cutter now next aim cut cut' place waiting line left old betwe
   owns = owns_again cutter.writer now.writer next.writer old between new so_far.owns not_cut.owns;
 }
 
-pub spread_stopped : (told : Bool) (cutter now mid next : CutterState) (cut cut' : Cut) (place : ℕ) (waiting line left : List ℕ) (old between new : List Slot) (fault : Fault) → Spreading told cutter cut place waiting line old between now left → mid ≡ record now { aim = mid.aim }
-    → Tries now line mid (Some cut') → WillCut now cut' → CutNot told mid cut' mid.progress.current left between new next fault → CutAllNot told cutter cut place waiting line [] old new next fault
-spread_stopped told cutter now mid next cut cut' place waiting line left old between new fault so_far is tries will not_cut =
+pub spread_stopped : (told : Bool) (cutter now mid next : CutterState) (cut cut' : Cut) (place at : ℕ) (waiting line left : List ℕ) (old between new : List Slot) (fault : Fault) → at ≡ mid.progress.current → Spreading told cutter cut place waiting line old between now left
+    → mid ≡ record now { aim = mid.aim } → Tries now line mid (Some cut') → WillCut now cut' → CutNot told mid cut' at left between new next fault → CutAllNot told cutter cut place waiting line [] old new next fault
+spread_stopped told cutter now mid next cut cut' place at waiting line left old between new fault at_is so_far is tries will not_cut =
     stopped_with told cutter now next mid.aim cut cut' place waiting line left old between new fault so_far (subst (λ (m : CutterState). Tries now line m (Some cut')) is tries) will
-    (subst (λ (m : CutterState). CutNot told m cut' m.progress.current left between new next fault) is not_cut)
+    (subst (λ (m : CutterState). CutNot told m cut' m.progress.current left between new next fault) is (subst (λ n. CutNot told mid cut' n left between new next fault) at_is not_cut))
 
 -- a fault at the first cut
 pub first_stopped : (told : Bool) (cutter next : CutterState) (cut : Cut) (place : ℕ) (waiting line : List ℕ) (old new : List Slot) (fault : Fault) → CutNot told cutter cut place waiting old new next fault → CutAllNot told cutter cut place waiting line [] old new next fault
@@ -194,50 +192,13 @@ spread_held told cutter mid next cut place waiting line left old between new (Er
     not_held_with told cutter now next mid.aim cut place waiting line left old between new fault spread.so_far (subst (λ (m : CutterState). Tries now line m None) is spread.tries)
     (subst (λ (m : CutterState). HeldNot told m left between new next fault) is (subst (λ those. HeldNot told mid those between new next fault) (none_held mid left none) held))
 
--- What the calls in the loop need: trying the next operand changes the aim alone.
+-- Trying the next operand changes the aim alone.
 
 pub spread_fit : (now mid : CutterState) → mid ≡ record now { aim = mid.aim } → IsFit now → IsFit mid
-spread_fit now mid is fit = subst IsFit (sym is) (fit_alike now mid.aim fit)
-
-pub spread_lines : (now mid : CutterState) (most : ℕ) → mid ≡ record now { aim = mid.aim } → now.lines ≤ most → mid.lines ≤ most
-spread_lines now mid most is few = subst (λ (c : CutterState). c.lines ≤ most) (sym is) few
-
-pub spread_size : (now mid : CutterState) (size most : ℕ) → mid ≡ record now { aim = mid.aim } → size_of now.writer.current + size < most → size_of mid.writer.current + size < most
-spread_size now mid size most is few = subst (λ (c : CutterState). size_of c.writer.current + size < most) (sym is) few
-
-pub spread_held_size : (now mid : CutterState) (size most : ℕ) → mid ≡ record now { aim = mid.aim } → now.window.held ≡ [] → size_of now.writer.current + size < most → size_of mid.writer.current + length mid.window.held + size < most
-spread_held_size now mid size most is none few =
-    subst (λ (c : CutterState). size_of c.writer.current + length c.window.held + size < most) (sym is) (let e : length now.window.held ≡ 0 = ap length none in omega (arith, e, few))
-
-pub spread_none : (now mid : CutterState) → mid ≡ record now { aim = mid.aim } → now.window.held ≡ [] → mid.window.held ≡ []
-spread_none now mid is none = ap (λ (c : CutterState). c.window.held) is ∙ none
+spread_fit now mid is fit = subst IsFit (sym is) (record { fits = fit.fits; most = fit.most; delim = fit.delim; sought = fit.sought })
 
 pub spread_ready : (now mid : CutterState) (slots : List Slot) → mid ≡ record now { aim = mid.aim } → IsReady now.writer slots → IsReady mid.writer slots
 spread_ready now mid slots is ready = subst (λ (c : CutterState). IsReady c.writer slots) (sym is) ready
 
 pub spread_fewer : (now mid : CutterState) (less : ℕ) → mid ≡ record now { aim = mid.aim } → less < needed mid.lines (state_in mid) → less < needed now.lines (state_in now)
 spread_fewer now mid less is fewer = subst (λ (c : CutterState). less < needed c.lines (state_in c)) is fewer
-
--- What holding what is left needs, once no operand cuts any more.
-
-pub spread_ends_fit : (told : Bool) (cutter mid : CutterState) (cut : Cut) (place : ℕ) (waiting line left : List ℕ) (old new : List Slot) → Spread told cutter cut place waiting line old new mid left → IsFit mid
-spread_ends_fit told cutter mid cut place waiting line left old new spread = spread_fit spread.now mid spread.is spread.so_far.fit
-
-pub spread_ends_size : (told : Bool) (cutter mid : CutterState) (cut : Cut) (place : ℕ) (waiting line left : List ℕ) (old new : List Slot) (most : ℕ) → Spread told cutter cut place waiting line old new mid left → size_of cutter.writer.current + length waiting < most
-    → size_of mid.writer.current + length mid.window.held + length left < most
-spread_ends_size told cutter mid cut place waiting line left old new most spread few = spread_held_size spread.now mid (length left) most spread.is spread.so_far.held (let s = spread.so_far.size in omega (arith, s, few))
-
-pub spread_ends_ready : (told : Bool) (cutter mid : CutterState) (cut : Cut) (place : ℕ) (waiting line left : List ℕ) (old new : List Slot) → Spread told cutter cut place waiting line old new mid left → IsReady mid.writer new
-spread_ends_ready told cutter mid cut place waiting line left old new spread = spread_ready spread.now mid new spread.is spread.so_far.ready
-
--- The same with the place as it is computed.
-
-pub spread_more_at : (told : Bool) (cutter now mid next : CutterState) (cut cut' : Cut) (place at : ℕ) (waiting line left rest : List ℕ) (old between new : List Slot) → at ≡ mid.progress.current → Spreading told cutter cut place waiting line old between now left → mid ≡ record now { aim = mid.aim }
-    → Tries now line mid (Some cut') → WillCut now cut' → CutAt told mid cut' at left between new next rest → Spreading told cutter cut place waiting line old new next rest
-spread_more_at told cutter now mid next cut cut' place at waiting line left rest old between new at_is so_far is tries will at_cut =
-    spread_more told cutter now mid next cut cut' place waiting line left rest old between new so_far is tries will (subst (λ n. CutAt told mid cut' n left between new next rest) at_is at_cut)
-
-pub spread_stopped_at : (told : Bool) (cutter now mid next : CutterState) (cut cut' : Cut) (place at : ℕ) (waiting line left : List ℕ) (old between new : List Slot) (fault : Fault) → at ≡ mid.progress.current → Spreading told cutter cut place waiting line old between now left → mid ≡ record now { aim = mid.aim }
-    → Tries now line mid (Some cut') → WillCut now cut' → CutNot told mid cut' at left between new next fault → CutAllNot told cutter cut place waiting line [] old new next fault
-spread_stopped_at told cutter now mid next cut cut' place at waiting line left old between new fault at_is so_far is tries will not_cut =
-    spread_stopped told cutter now mid next cut cut' place waiting line left old between new fault so_far is tries will (subst (λ n. CutNot told mid cut' n left between new next fault) at_is not_cut)

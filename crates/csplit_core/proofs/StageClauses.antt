@@ -14,7 +14,7 @@ use Rattle.csplit_core.specs.Input.{open_line, all_lines}
 use Rattle.csplit_core.specs.Output.{Style}
 use Rattle.csplit_core.specs.Operand.{Operand}
 use Rattle.csplit_core.specs.Planned.{plan}
-use Rattle.csplit_core.specs.Cutter.{CutterState, Stands, suppress_in}
+use Rattle.csplit_core.specs.Cutter.{CutterState, Stands, suppress_in, IsPast}
 use Rattle.csplit_core.specs.inner.Cutter.{Clears, IsSame, settled_part, whole_part}
 use Rattle.csplit_core.specs.Writer.{Breaks, OwnsFiles, WriterState}
 use Rattle.csplit_core.specs.declared.progress.Turn.TheVariants.{Below}
@@ -132,28 +132,20 @@ module _ (told : Bool) (stage next : CsplitState) (piece : List ℕ) (old new : 
 -- the end
 
 module _ (stage : CsplitState) (x : List ℕ) (holds : Holds stage x) where
-  whole_by_cases : (stage.cutter.aim ≡ Below) ⊎ (stage.cutter.aim ≡ Below → ⊥) → whole_part stage.cutter (whole_lines x ++ stage.rest) ≡ (work stage).whole x
-  whole_by_cases (inl below) =
-      past_end stage.cutter (whole_lines x) stage.rest (lines_whole x) (is_past stage.cutter (whole_lines x) below holds.stands)
-      ∙ sym (past_end stage.cutter (whole_lines x) (open_line x) (lines_whole x) (is_past stage.cutter (whole_lines x) below holds.stands))
-      ∙ ap (whole_part stage.cutter) (lines_then_open x)
-  whole_by_cases (inr differs) = ap (λ those. whole_part stage.cutter (whole_lines x ++ those)) (holds.live differs) ∙ ap (whole_part stage.cutter) (lines_then_open x)
+  -- what is said of all lines, where those beyond some change nothing
+  all_then : {A : Type 0} (f : List ℕ → A) → ((t : List ℕ) → IsPast stage.cutter (whole_lines x) → f (whole_lines x ++ t) ≡ f (whole_lines x)) → (stage.cutter.aim ≡ Below) ⊎ (stage.cutter.aim ≡ Below → ⊥) → f (whole_lines x ++ stage.rest) ≡ f x
+  all_then f past (inl below) =
+      let is = is_past stage.cutter (whole_lines x) below holds.stands in past stage.rest is ∙ sym (past (open_line x) is) ∙ ap f (lines_then_open x)
+  all_then f past (inr differs) = ap (λ those. f (whole_lines x ++ those)) (holds.live differs) ∙ ap f (lines_then_open x)
 
   pub whole_then : whole_part stage.cutter (whole_lines x ++ stage.rest) ≡ (work stage).whole x
-  whole_then = whole_by_cases (below_or_not stage.cutter.aim)
-
-  verdict_by_cases : (stage.cutter.aim ≡ Below) ⊎ (stage.cutter.aim ≡ Below → ⊥) → verdict_of (plan (suppress_in stage.cutter) stage.cutter.operands (all_lines (whole_lines x ++ stage.rest))).ending ≡ (work stage).verdict x
-  verdict_by_cases (inl below) =
-      past_verdict stage.cutter (whole_lines x) stage.rest (lines_whole x) (is_past stage.cutter (whole_lines x) below holds.stands)
-      ∙ sym (past_verdict stage.cutter (whole_lines x) (open_line x) (lines_whole x) (is_past stage.cutter (whole_lines x) below holds.stands))
-      ∙ ap (verdict_by (suppress_in stage.cutter) stage.cutter.operands) (lines_then_open x)
-  verdict_by_cases (inr differs) = ap (λ those. verdict_by (suppress_in stage.cutter) stage.cutter.operands (whole_lines x ++ those)) (holds.live differs) ∙ ap (verdict_by (suppress_in stage.cutter) stage.cutter.operands) (lines_then_open x)
+  whole_then = all_then (whole_part stage.cutter) (λ t. past_end stage.cutter (whole_lines x) t (lines_whole x)) (below_or_not stage.cutter.aim)
 
   pub verdict_then : (next : CutterState) → IsSame stage.cutter next → verdict_of (plan (suppress_in next) next.operands (all_lines (whole_lines x ++ stage.rest))).ending ≡ (work stage).verdict x
   verdict_then next same =
       ap (λ (style : Style). verdict_by style.suppress next.operands (whole_lines x ++ stage.rest)) same.style
       ∙ ap (λ (operands : List Operand). verdict_by (suppress_in stage.cutter) operands (whole_lines x ++ stage.rest)) same.operands
-      ∙ verdict_by_cases (below_or_not stage.cutter.aim)
+      ∙ all_then (verdict_by (suppress_in stage.cutter) stage.cutter.operands) (λ t. past_verdict stage.cutter (whole_lines x) t (lines_whole x)) (below_or_not stage.cutter.aim)
 
 module _ (told : Bool) (stage next : CsplitState) (old new : List Slot) where
   pub judged_then : Closed told stage old new next → (verdict : Option Fault) → Judges next.cutter verdict → (x : List ℕ) → Holds stage x → verdict ≡ (work stage).verdict x

@@ -19,7 +19,7 @@ use Rattle.csplit_core.specs.Section.{section, section_of, lines_between, is_las
 use Rattle.csplit_core.specs.inner.SectionLaws.{AreWithin}
 use Rattle.csplit_core.specs.laws.SectionLaws.{are_within, closed_still, ends_with}
 use Rattle.csplit_core.specs.Writer.{IsReady, WriterState}
-use Rattle.csplit_core.specs.inner.Writer.{Moves, Halts}
+use Rattle.csplit_core.specs.inner.Writer.{Halts}
 use Rattle.csplit_core.specs.declared.progress.Turn.TheVariants.{Below}
 use Rattle.csplit_core.specs.Cutter.{CutterState, IsPast, Stands, settled_draft, suppress_in}
 use Rattle.csplit_core.specs.inner.Cutter.{EndedAll, EndedNone, IsSame, IsWhole, Took, TookNot, settled_part, whole_part}
@@ -78,22 +78,11 @@ whole_begins cutter x = subst (λ lines. Begins (settled_part cutter x) (whole_o
 same_whole : (cutter next : CutterState) (x : List ℕ) → IsSame cutter next → whole_part next x ≡ whole_part cutter x
 same_whole cutter next x same = ap (λ (style : Style). whole_of style next.operands (all_lines x)) same.style ∙ ap (λ operands. whole_of cutter.writer.style operands (all_lines x)) same.operands
 
-pub closes_after : (told : Bool) (one two three : CutterState) (t : List ℕ) (old mid new : List Slot) → Took told one t old mid two → EndedAll told two mid new three
-    → ((x : List ℕ) → IsWhole x → Stands one x → Moves told one.writer three.writer (settled_part one x) (whole_part one (x ++ t)) old new)
-closes_after told one two three t old mid new first second x front stands =
-    moves_again told _ _ _ old mid new (first.moves x front stands)
-    (moves_as told _ _ _ _ mid new (sym (settled_same one two (x ++ t) first.same)) (sym (same_whole one two (x ++ t) first.same)) (second.moves (x ++ t) (first.stands x front stands)))
-
-pub ends_later : (told : Bool) (one two three : CutterState) (t : List ℕ) (old mid new : List Slot) (fault : Fault) → Took told one t old mid two → EndedNone told two mid new three fault
-    → ((x : List ℕ) → IsWhole x → Stands one x → Halts told one.writer (settled_part one x) (whole_part one (x ++ t)) old new fault)
-ends_later told one two three t old mid new fault first second x front stands =
-    halts_after told _ _ _ old mid new fault (more_settled one x t front) (first.moves x front stands)
-    (halts_as told _ _ _ _ mid new fault (sym (settled_same one two (x ++ t) first.same)) (sym (same_whole one two (x ++ t) first.same)) (second.halts (x ++ t) (first.stands x front stands)))
-
 pub closed_by : (told : Bool) (stage next : CsplitState) (two : CutterState) (old mid new : List Slot) → Took told stage.cutter stage.rest old mid two → EndedAll told two mid new next.cutter → Closed told stage old new next
 closed_by told stage next two old mid new first second = record {
   same = same_again stage.cutter two next.cutter first.same second.same;
-  moves = closes_after told stage.cutter two next.cutter stage.rest old mid new first second;
+  moves = λ x front stands. moves_again told _ _ _ old mid new (first.moves x front stands)
+      (moves_as told _ _ _ _ mid new (sym (settled_same stage.cutter two (x ++ stage.rest) first.same)) (sym (same_whole stage.cutter two (x ++ stage.rest) first.same)) (second.moves (x ++ stage.rest) (first.stands x front stands)));
   judged = λ x front stands. second.judged (x ++ stage.rest) (first.stands x front stands);
   keeps = keeps_again old mid new first.keeps second.keeps;
   owns = owns_again stage.cutter.writer two.writer next.cutter.writer old mid new first.owns second.owns;
@@ -103,7 +92,8 @@ closed_by told stage next two old mid new first second = record {
 pub closed_not : (told : Bool) (stage next : CsplitState) (two : CutterState) (old mid new : List Slot) (fault : Fault) → Took told stage.cutter stage.rest old mid two → EndedNone told two mid new next.cutter fault → ClosedNot told stage old new next fault
 closed_not told stage next two old mid new fault first second = record {
   same = same_again stage.cutter two next.cutter first.same second.same;
-  halts = ends_later told stage.cutter two next.cutter stage.rest old mid new fault first second;
+  halts = λ x front stands. halts_after told _ _ _ old mid new fault (more_settled stage.cutter x stage.rest front) (first.moves x front stands)
+      (halts_as told _ _ _ _ mid new fault (sym (settled_same stage.cutter two (x ++ stage.rest) first.same)) (sym (same_whole stage.cutter two (x ++ stage.rest) first.same)) (second.halts (x ++ stage.rest) (first.stands x front stands)));
   breaks = breaks_later stage.cutter.writer.style old mid new fault first.keeps (subst (λ (style : Style). Rattle.csplit_core.specs.Writer.Breaks style mid new fault) first.same.style second.breaks);
   owns = owns_again stage.cutter.writer two.writer next.cutter.writer old mid new first.owns second.owns;
 }

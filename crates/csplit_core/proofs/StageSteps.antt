@@ -1,6 +1,6 @@
 -- The steps of the stage that takes in bytes. A stage is known by its fields and by its value.
-use Rattle.std.proofs.Common.{◌≡◌, ◌⊎◌, inl, inr, ℕ, suc, eqb, ◌+◌, ◌<◌, ◌≤◌, Bool, true, false, List, [], ◌∷◌, ◌++◌, length, Option, Some, Result, Ok, Err, OnOk, IfErr, take, drop, append_assoc, refl, sym, ◌∙◌, ap, subst, arith, length-append}
-use Rattle.std.proofs.lemmas.Bool.{false≢true, eqb-true}
+use Rattle.std.proofs.Common.{◌≡◌, ◌⊎◌, inl, inr, ℕ, eqb, ◌+◌, ◌<◌, ◌≤◌, Bool, true, false, List, [], ◌∷◌, ◌++◌, length, Option, Some, Result, Ok, Err, OnOk, IfErr, take, drop, append_assoc, refl, sym, ◌∙◌, ap, subst, arith, length-append}
+use Rattle.std.proofs.lemmas.Bool.{false≢true}
 use Rattle.std.proofs.lemmas.List.{take-append-drop}
 use Rattle.seg_core.specs.Line.{delimiters, ends_with, LastEndsAt}
 use Rattle.ports_core.specs.Slot.{Slot}
@@ -19,6 +19,7 @@ use Rattle.csplit_core.proofs.ByteLemmas.{joined_line, open_is_line, open_comple
 use Rattle.csplit_core.proofs.StageLemmas.{closed_by, closed_not, lacks_first, lacks_then}
 use Rattle.csplit_core.proofs.StretchLemmas.{took_again, took_then_not, not_wider, took_nothing}
 use Rattle.csplit_core.proofs.TakeLemmas.{took_past}
+use Rattle.csplit_core.proofs.CutLineLemmas.{none_there}
 
 -- the open line and its end
 
@@ -161,17 +162,13 @@ stop_counted told view stage two piece lines end old new fault is last lines_is 
 
 -- The last line
 
-empty_by : (items : List ℕ) → eqb (length items) 0 ≡ true → items ≡ []
-empty_by [] is = refl
-empty_by (byte ∷ items) is = absurd (let e : suc (length items) ≡ 0 = eqb-true (suc (length items)) 0 is in omega (arith, e))
-
 some_by : (items : List ℕ) → eqb (length items) 0 ≡ false → 0 < length items
 some_by [] is = absurd (false≢true (sym is))
 some_by (byte ∷ items) is = omega arith
 
 pub last_none : (told : Bool) (before stage : CsplitState) (n : ℕ) (slots : List Slot) → before ≡ stage → n ≡ length before.rest → eqb n 0 ≡ true → IsReady stage.cutter.writer slots → IsSound stage.cutter → Took told stage.cutter stage.rest slots slots stage.cutter
 last_none told before stage n slots is size empty ready sound =
-    subst (λ text. Took told stage.cutter text slots slots stage.cutter) (sym (ap (λ (s : CsplitState). s.rest) (sym is) ∙ empty_by before.rest (ap (λ k. eqb k 0) (sym size) ∙ empty))) (took_nothing told stage.cutter slots sound ready)
+    subst (λ text. Took told stage.cutter text slots slots stage.cutter) (sym (ap (λ (s : CsplitState). s.rest) (sym is) ∙ none_there before.rest (eqb n 0) (ap (λ k. eqb k 0) size) empty)) (took_nothing told stage.cutter slots sound ready)
 
 pub last_line : (before stage : CsplitState) (n : ℕ) (text : List ℕ) → before ≡ stage → text ≡ before.rest → n ≡ length before.rest → eqb n 0 ≡ false → delimiters newline stage.rest ≡ 0 → IsLine text
 last_line before stage n text is text_is size some unbroken = subst IsLine (sym text_is) (open_is_line before.rest (some_by before.rest (ap (λ k. eqb k 0) (sym size) ∙ some)) (ap (λ (s : CsplitState). delimiters newline s.rest) is ∙ unbroken))

@@ -28,9 +28,9 @@ use Rattle.csplit_core.specs.declared.progress.Turn.{Turn}
 use Rattle.csplit_core.specs.declared.progress.Turn.TheVariants.{Below}
 use Rattle.csplit_core.specs.Cutter.{CutterState, suppress_in, state_in, settled_draft, draft_by, AimHolds, IsFit, IsSound, IsLive, IsPast, Stands, EndsNow, kept_by}
 use Rattle.csplit_core.specs.inner.Cutter.{settled_part, IsWhole, IsLine, Arrives, Held, HeldNot, Holds, CutsNow, CutAll, CutAllNot, CutsAll, WillCut, TriesNext, search_after, Took, TookNot, Takes}
-use Rattle.csplit_core.proofs.CutterLemmas.{runs_to, at_more, part_more, live_part}
-use Rattle.csplit_core.proofs.LineLemmas.{all_lines-append, all_lines-line, length-all_lines, count-line, count_from, whole_count, whole_from, whole-append}
-use Rattle.csplit_core.proofs.SettledLemmas.{settled_count, settled_part_is, most_is, aims_past, settled_draft_is, final_count, ended_still}
+use Rattle.csplit_core.proofs.CutterLemmas.{runs_to, at_more, part_more, live_part, left_count, few_taken}
+use Rattle.csplit_core.proofs.LineLemmas.{all_lines-append, all_lines-line, length-all_lines, count-line, whole_count, whole_from, whole-append}
+use Rattle.csplit_core.proofs.SettledLemmas.{settled_count, settled_part_is, most_is, aims_past, draft_is, final_count, ended_still}
 use Rattle.csplit_core.proofs.WriterLemmas.{moves_as, moves_same, halts_as, owns_still}
 use Rattle.csplit_core.proofs.StayLemmas.{EndsStill, stays}
 
@@ -103,17 +103,14 @@ enough_left lines current taken most left some few is left_is = elim (cases_lt m
   | inr none ↦ inl (omega (arith, is, none))
 ]
 
-held_count : (cutter : CutterState) (x : List ℕ) (live : IsLive cutter x) → line_count newline cutter.window.held ≡ cutter.lines - (cutter.progress.current + live.at.taken - 1)
-held_count cutter x live = ap (line_count newline) live.at.left_is ∙ count_from (cutter.progress.current + live.at.taken) x ∙ ap (λ n. n - (cutter.progress.current + live.at.taken - 1)) (sym live.at.counted)
-
 pub arrives_more : (cutter : CutterState) (lines : ℕ) (aim : Turn) (x t : List ℕ) (live : IsLive cutter x) (whole : IsWhole x) (fit : IsFit cutter) (count : lines ≡ line_count newline (x ++ t)) → EndsNow (record cutter { lines = lines; aim = aim }) (x ++ t)
     → Arrives (record cutter { lines = lines; aim = aim }) (x ++ t) (cutter.window.held ++ t) (at_more cutter lines aim x t cutter.window.held whole fit.fits.some live.at live.ends count)
 unfolding at_more
 arrives_more cutter lines aim x t live whole fit count ends =
-    let few : cutter.progress.current + live.at.taken ≤ cutter.lines + 1 = (let f = live.at.few in let c = live.at.counted in omega (arith, f, c)) in
+    let few = few_taken cutter x cutter.window.held live.at in
     let runs_here = runs_to cutter x cutter.window.held live.at live.ends in
     let most : cutter.window.most ≡ most_waiting live.ends.ending = fit.most ∙ most_is (suppress_in cutter) (all_lines x) (state_in cutter) live.ends.ending (ends_as (suppress_in cutter) (all_lines x) (start cutter.operands) live.at.steps (state_in cutter) live.ends.ending runs_here) live.live in
-    let either = enough_left cutter.lines cutter.progress.current live.at.taken (most_waiting live.ends.ending) (line_count newline cutter.window.held) fit.fits.some few live.settled (held_count cutter x live) in record {
+    let either = enough_left cutter.lines cutter.progress.current live.at.taken (most_waiting live.ends.ending) (line_count newline cutter.window.held) fit.fits.some few live.settled (left_count cutter x cutter.window.held live.at) in record {
       ends = ends;
       low = λ past. low_none cutter x t live whole fit ends.ending ends.runs past;
       enough = more either most;
@@ -183,11 +180,11 @@ cuts_there : (cutter : CutterState) (lines : ℕ) (aim : Turn) (x line : List �
     → CutsNow (more_lines cutter lines aim) (x ++ line) (cutter.window.held ++ line) line cut (lines - delimiters newline cutter.window.held) (at_more cutter lines aim x line cutter.window.held whole fit.fits.some live.at live.ends count)
 unfolding at_more
 cuts_there cutter lines aim x line cut live whole fit one count from goes near =
-    let held = held_count cutter x live in
+    let held = left_count cutter x cutter.window.held live.at in
     let held_whole : IsWhole cutter.window.held = subst IsWhole (sym live.at.left_is) (whole_from (cutter.progress.current + live.at.taken) x whole) in
     let same : line_count newline cutter.window.held ≡ delimiters newline cutter.window.held = whole_count cutter.window.held held_whole in
     let more : lines ≡ cutter.lines + 1 = (let l = count-line x line whole one in let c = live.at.counted in omega (arith, count, l, c)) in
-    let few : cutter.progress.current + live.at.taken ≤ cutter.lines + 1 = (let f = live.at.few in let c = live.at.counted in omega (arith, f, c)) in
+    let few = few_taken cutter x cutter.window.held live.at in
     let place : lines - delimiters newline cutter.window.held ≡ cutter.progress.current + live.at.taken = (let s = fit.fits.some in omega (arith, held, same, more, few, s)) in record {
       last = (all_lines x, all_lines-line x line whole one, λ ends. whole-append x line whole (inr ends));
       near = near;
@@ -278,7 +275,7 @@ past_plan suppress operands x t whole final = ap (plan suppress operands) (all_l
 final_draft : (suppress : Bool) (operands : List Operand) (x : List ℕ) → is_final (plan suppress operands (all_lines x)).ending ≡ true
     → draft_by (all_lines x) (plan suppress operands (all_lines x)).steps (kept_by (plan suppress operands (all_lines x)).last.operands) [] ≡ settled_draft suppress operands (all_lines x)
 final_draft suppress operands x final =
-    settled_draft_is suppress operands x _ _ _ 0 [] (plan_runs suppress operands (all_lines x)) (final_count (line_count newline x) _ (plan suppress operands (all_lines x)).ending final) refl
+    draft_is settled_end suppress operands x _ _ _ 0 [] (plan_runs suppress operands (all_lines x)) (final_count (line_count newline x) _ (plan suppress operands (all_lines x)).ending final) refl
 
 past_draft : (style : Style) (operands : List Operand) (x t : List ℕ) → IsWhole x → is_final (plan style.suppress operands (all_lines x)).ending ≡ true
     → settled_draft style.suppress operands (all_lines x) ≡ settled_draft style.suppress operands (all_lines (x ++ t))

@@ -10,7 +10,8 @@ use Rattle.csplit_core.specs.Plan.{State, start, Step, Ending, used_up, missed, 
 use Rattle.csplit_core.specs.Planned.{plan}
 use Rattle.csplit_core.specs.laws.PlanLaws.{plan_runs}
 use Rattle.csplit_core.specs.Progress.{AimsAt}
-use Rattle.csplit_core.specs.declared.progress.Turn.TheVariants.{Missed, Above, Below}
+use Rattle.csplit_core.specs.declared.progress.Turn.{Turn}
+use Rattle.csplit_core.specs.declared.progress.Turn.TheVariants.{UsedUp, Missed, Above, Below}
 use Rattle.csplit_core.specs.Cutter.{CutterState, suppress_in, state_in}
 use Rattle.csplit_core.specs.inner.Cutter.{IsJudged}
 use Rattle.csplit_core.proofs.TurnLemmas.{left_is}
@@ -48,25 +49,24 @@ none_of : (state : State) (ending : Ending) → IsOf state ending → state.oper
 none_of state used_up of none = refl
 none_of state ending of none = absurd (cc of.0.1)
 
--- the operand of an ending is the next one
-is_next : (state : State) (other operand : Operand) (operands : List Operand) (repetition : ℕ) → IsNext state other repetition → state.operands ≡ operand ∷ operands → operand ≡ other
-is_next state other operand operands repetition of are = cc of.0.1
+-- what is said of the operand of an ending and of how often it was performed is said of the next one
+next_one : (f : Operand → ℕ → Option Fault) (state : State) (other operand : Operand) (operands : List Operand) (repetition : ℕ) → IsNext state other repetition → state.operands ≡ operand ∷ operands → f operand state.repetition ≡ f other repetition
+next_one f state other operand operands repetition of are =
+    let same : operand ≡ other = cc of.0.1 in ap (λ o. f o state.repetition) same ∙ ap (f other) (sym of.1)
 
-missed_of : (state : State) (operand : Operand) (operands : List Operand) (ending : Ending) → IsOf state ending → state.operands ≡ operand ∷ operands → AimsAt Missed ending → verdict_of (missed operand state.repetition) ≡ verdict_of ending
-missed_of state operand operands (missed other repetition) of are aims =
-    ap (λ o. verdict_of (missed o state.repetition)) (is_next state other operand operands repetition of are) ∙ ap (λ n. verdict_of (missed other n)) (sym of.1)
-missed_of state operand operands _ of are aims = absurd aims
+-- the fault of the next operand, by what it did
+abbrev pub verdict_at : Turn → Operand → ℕ → Option Fault
+verdict_at Missed operand repetition = verdict_of (missed operand repetition)
+verdict_at (Above matched line) operand repetition = verdict_of (above operand repetition 0 0)
+verdict_at Below operand repetition = verdict_of (below operand repetition)
+verdict_at turn operand repetition = None
 
-above_of : (state : State) (operand : Operand) (operands : List Operand) (matched line : ℕ) (ending : Ending) → IsOf state ending → state.operands ≡ operand ∷ operands → AimsAt (Above matched line) ending
-    → verdict_of (above operand state.repetition 0 0) ≡ verdict_of ending
-above_of state operand operands matched line (above other repetition matched' cut) of are aims =
-    ap (λ o. verdict_of (above o state.repetition 0 0)) (is_next state other operand operands repetition of are) ∙ ap (λ n. verdict_of (above other n 0 0)) (sym of.1)
-above_of state operand operands matched line _ of are aims = absurd aims
-
-below_of : (state : State) (operand : Operand) (operands : List Operand) (ending : Ending) → IsOf state ending → state.operands ≡ operand ∷ operands → AimsAt Below ending → verdict_of (below operand state.repetition) ≡ verdict_of ending
-below_of state operand operands (below other repetition) of are aims =
-    ap (λ o. verdict_of (below o state.repetition)) (is_next state other operand operands repetition of are) ∙ ap (λ n. verdict_of (below other n)) (sym of.1)
-below_of state operand operands _ of are aims = absurd aims
+verdict_is : (state : State) (operand : Operand) (operands : List Operand) (aim : Turn) (ending : Ending) → IsOf state ending → state.operands ≡ operand ∷ operands → AimsAt aim ending → verdict_at aim operand state.repetition ≡ verdict_of ending
+verdict_is state operand operands UsedUp used_up of are aims = refl
+verdict_is state operand operands Missed (missed other repetition) of are aims = next_one (λ o n. verdict_of (missed o n)) state other operand operands repetition of are
+verdict_is state operand operands (Above matched line) (above other repetition matched' cut) of are aims = next_one (λ o n. verdict_of (above o n 0 0)) state other operand operands repetition of are
+verdict_is state operand operands Below (below other repetition) of are aims = next_one (λ o n. verdict_of (below o n)) state other operand operands repetition of are
+verdict_is state operand operands aim ending of are aims = absurd aims
 
 -- What `verdict` returns: the cutter is known by its fields.
 
@@ -83,23 +83,9 @@ next_is : (cutter now : CutterState) (operand : Operand) → cutter ≡ now → 
 next_is cutter now operand is within here =
     subst (λ (those : CutterState). (state_in those).operands ≡ operand ∷ drop (those.progress.done + 1) those.operands) is (left_is cutter.operands cutter.progress.done operand within here)
 
-pub judged_missed : (cutter now : CutterState) (operand : Operand) (result : Option Fault) (x : List ℕ) → cutter ≡ now → cutter.progress.done < length cutter.operands → operand ≡ get_or cutter.operands cutter.progress.done operand
-    → cutter.aim ≡ Missed → result ≡ verdict_of (missed operand cutter.progress.repetition) → IsJudged now x → result ≡ verdict_of (plan (suppress_in now) now.operands (all_lines x)).ending
-judged_missed cutter now operand result x is within here aim made judged =
-    let aims : AimsAt Missed (ending_in now x) = subst (λ a. AimsAt a (ending_in now x)) (sym (ap (λ (those : CutterState). those.aim) is) ∙ aim) judged.aims in
-    made ∙ ap (λ (those : CutterState). verdict_of (missed operand those.progress.repetition)) is
-    ∙ missed_of (state_in now) operand (drop (now.progress.done + 1) now.operands) (ending_in now x) (of_it now x judged) (next_is cutter now operand is within here) aims
-
-pub judged_above : (cutter now : CutterState) (operand : Operand) (matched line : ℕ) (result : Option Fault) (x : List ℕ) → cutter ≡ now → cutter.progress.done < length cutter.operands → operand ≡ get_or cutter.operands cutter.progress.done operand
-    → cutter.aim ≡ Above matched line → result ≡ verdict_of (above operand cutter.progress.repetition 0 0) → IsJudged now x → result ≡ verdict_of (plan (suppress_in now) now.operands (all_lines x)).ending
-judged_above cutter now operand matched line result x is within here aim made judged =
-    let aims : AimsAt (Above matched line) (ending_in now x) = subst (λ a. AimsAt a (ending_in now x)) (sym (ap (λ (those : CutterState). those.aim) is) ∙ aim) judged.aims in
-    made ∙ ap (λ (those : CutterState). verdict_of (above operand those.progress.repetition 0 0)) is
-    ∙ above_of (state_in now) operand (drop (now.progress.done + 1) now.operands) matched line (ending_in now x) (of_it now x judged) (next_is cutter now operand is within here) aims
-
-pub judged_below : (cutter now : CutterState) (operand : Operand) (result : Option Fault) (x : List ℕ) → cutter ≡ now → cutter.progress.done < length cutter.operands → operand ≡ get_or cutter.operands cutter.progress.done operand
-    → cutter.aim ≡ Below → result ≡ verdict_of (below operand cutter.progress.repetition) → IsJudged now x → result ≡ verdict_of (plan (suppress_in now) now.operands (all_lines x)).ending
-judged_below cutter now operand result x is within here aim made judged =
-    let aims : AimsAt Below (ending_in now x) = subst (λ a. AimsAt a (ending_in now x)) (sym (ap (λ (those : CutterState). those.aim) is) ∙ aim) judged.aims in
-    made ∙ ap (λ (those : CutterState). verdict_of (below operand those.progress.repetition)) is
-    ∙ below_of (state_in now) operand (drop (now.progress.done + 1) now.operands) (ending_in now x) (of_it now x judged) (next_is cutter now operand is within here) aims
+pub judged_next : (cutter now : CutterState) (operand : Operand) (aim : Turn) (result : Option Fault) (x : List ℕ) → cutter ≡ now → cutter.progress.done < length cutter.operands → operand ≡ get_or cutter.operands cutter.progress.done operand
+    → cutter.aim ≡ aim → result ≡ verdict_at aim operand cutter.progress.repetition → IsJudged now x → result ≡ verdict_of (plan (suppress_in now) now.operands (all_lines x)).ending
+judged_next cutter now operand aim result x is within here aimed made judged =
+    let aims : AimsAt aim (ending_in now x) = subst (λ a. AimsAt a (ending_in now x)) (sym (ap (λ (those : CutterState). those.aim) is) ∙ aimed) judged.aims in
+    made ∙ ap (λ (those : CutterState). verdict_at aim operand those.progress.repetition) is
+    ∙ verdict_is (state_in now) operand (drop (now.progress.done + 1) now.operands) aim (ending_in now x) (of_it now x judged) (next_is cutter now operand is within here) aims
