@@ -123,39 +123,33 @@ pub before_begins : (cutter : CutterState) (x left line before : List ℕ) (at :
 before_begins cutter x left line before at cut place now fit will before_is =
     part_trans (draft_part cutter.writer.style (with_bytes before (draft_at cutter x left at))) _ (settled_part cutter x) (section_begins cutter.writer.style _ (with_bytes before (draft_at cutter x left at))) (cut_begins cutter x left line before at cut place now fit will before_is)
 
-put_stopped : (told : Bool) (cutter : CutterState) (writer : WriterState) (cut : Cut) (place : ℕ) (left before : List ℕ) (old new : List Slot) (fault : Fault) → IsFit cutter → WillCut cutter cut → before ≡ first_lines newline (cut.line - place) left
-    → Stopped told cutter.writer (with_bytes before) old new writer fault → CutNot told cutter cut place left old new (record cutter { writer = writer }) fault
-put_stopped told cutter writer cut place left before old new fault fit will before_is stopped = record {
-  same = record { operands = refl; style = stopped.style };
-  halts = λ x line at now. halts_wider told (part_at cutter x left at) (draft_part cutter.writer.style (with_bytes before (draft_at cutter x left at))) (settled_part cutter x) old new fault (stopped.halts (draft_at cutter x left at) at.writes)
-      (before_begins cutter x left line before at cut place now fit will before_is);
-  breaks = stopped.breaks;
-  owns = stopped.owns;
-}
-
-pub cut_put_stopped : (told : Bool) (cutter before_put : CutterState) (writer : WriterState) (cut : Cut) (place : ℕ) (left before : List ℕ) (old new : List Slot) (fault : Fault) → before_put ≡ cutter → IsFit cutter → WillCut cutter cut
-    → before ≡ first_lines newline (cut.line - place) left → Stopped told before_put.writer (with_bytes before) old new writer fault → CutNot told cutter cut place left old new (record before_put { writer = writer }) fault
-cut_put_stopped told cutter before_put writer cut place left before old new fault same fit will before_is stopped =
-    subst (λ (c : CutterState). CutNot told c cut place left old new (record before_put { writer = writer }) fault) same
-    (put_stopped told before_put writer cut place left before old new fault (subst IsFit (sym same) fit) (subst (λ (c : CutterState). WillCut c cut) (sym same) will) before_is stopped)
-
-pass_stopped : (told : Bool) (cutter mid : CutterState) (writer : WriterState) (cut : Cut) (place : ℕ) (left before : List ℕ) (old new : List Slot) (fault : Fault) → IsFit cutter → WillCut cutter cut → before ≡ first_lines newline (cut.line - place) left
-    → Went told cutter.writer (with_bytes before) old new writer → fault ≡ Memory → mid.writer ≡ writer → mid.operands ≡ cutter.operands → CutNot told cutter cut place left old new mid fault
-pass_stopped told cutter mid writer cut place left before old new fault fit will before_is went is_memory same_writer same_operands =
-    subst (λ why. CutNot told cutter cut place left old new mid why) (sym is_memory) (record {
-      same = record { operands = same_operands; style = ap (λ (w : WriterState). w.style) same_writer ∙ went.style };
-      halts = λ x line at now.
-          halts_after told (part_at cutter x left at) (draft_part cutter.writer.style (with_bytes before (draft_at cutter x left at))) (settled_part cutter x) old new new Memory (bytes_begin cutter.writer.style before (draft_at cutter x left at)) (went.moves (draft_at cutter x left at) at.writes)
-          (halts_wider told _ _ (settled_part cutter x) new new Memory (memory_halts told cutter.writer.style (with_bytes before (draft_at cutter x left at)) new at.writes.closed) (before_begins cutter x left line before at cut place now fit will before_is));
-      breaks = tt;
-      owns = subst (λ w. KeepsFiles cutter.writer w old new) (sym same_writer) went.owns;
+pub cut_put_stopped : (told : Bool) (cutter start : CutterState) (writer : WriterState) (cut : Cut) (place : ℕ) (left before : List ℕ) (old new : List Slot) (fault : Fault) → start ≡ cutter → IsFit cutter → WillCut cutter cut
+    → before ≡ first_lines newline (cut.line - place) left → Stopped told start.writer (with_bytes before) old new writer fault → CutNot told cutter cut place left old new (record start { writer = writer }) fault
+cut_put_stopped told cutter start writer cut place left before old new fault is fit will before_is stopped =
+    subst (λ (c : CutterState). CutNot told c cut place left old new (record start { writer = writer }) fault) is (record {
+      same = record { operands = refl; style = stopped.style };
+      halts = λ x line at now. halts_wider told (part_at start x left at) (draft_part start.writer.style (with_bytes before (draft_at start x left at))) (settled_part start x) old new fault (stopped.halts (draft_at start x left at) at.writes)
+          (before_begins start x left line before at cut place now (subst IsFit (sym is) fit)
+          (subst (λ (c : CutterState). WillCut c cut) (sym is) will) before_is);
+      breaks = stopped.breaks;
+      owns = stopped.owns;
     })
 
-pub cut_pass_stopped : (told : Bool) (cutter before_put mid : CutterState) (writer : WriterState) (cut : Cut) (place : ℕ) (left before : List ℕ) (old new : List Slot) (fault : Fault) → before_put ≡ cutter → IsFit cutter → WillCut cutter cut → before ≡ first_lines newline (cut.line - place) left
-    → Went told before_put.writer (with_bytes before) old new writer → (fault ≡ Memory) × (mid.writer ≡ writer) × (mid.operands ≡ before_put.operands) → CutNot told cutter cut place left old new mid fault
-cut_pass_stopped told cutter before_put mid writer cut place left before old new fault same fit will before_is went lacks =
-    subst (λ (c : CutterState). CutNot told c cut place left old new mid fault) same
-    (pass_stopped told before_put mid writer cut place left before old new fault (subst IsFit (sym same) fit) (subst (λ (c : CutterState). WillCut c cut) (sym same) will) before_is went lacks.0 lacks.1 lacks.2)
+pub cut_pass_stopped : (told : Bool) (cutter start mid : CutterState) (writer : WriterState) (cut : Cut) (place : ℕ) (left before : List ℕ) (old new : List Slot) (fault : Fault) → start ≡ cutter → IsFit cutter → WillCut cutter cut → before ≡ first_lines newline (cut.line - place) left
+    → Went told start.writer (with_bytes before) old new writer → (fault ≡ Memory) × (mid.writer ≡ writer) × (mid.operands ≡ start.operands) → CutNot told cutter cut place left old new mid fault
+cut_pass_stopped told cutter start mid writer cut place left before old new fault is fit will before_is went (is_memory, same_writer, same_operands) =
+    subst (λ (c : CutterState). CutNot told c cut place left old new mid fault) is
+    (subst (λ why. CutNot told start cut place left old new mid why) (sym is_memory) (record {
+      same = record { operands = same_operands; style = ap (λ (w : WriterState). w.style) same_writer ∙ went.style };
+      halts = λ x line at now.
+          halts_after told (part_at start x left at) (draft_part start.writer.style (with_bytes before (draft_at start x left at))) (settled_part start x) old new new Memory (bytes_begin start.writer.style before (draft_at start x left at)) (went.moves (draft_at start x left at) at.writes)
+          (halts_wider told _ _ (settled_part start x) new new Memory
+          (memory_halts told start.writer.style (with_bytes before (draft_at start x left at)) new at.writes.closed)
+          (before_begins start x left line before at cut place now (subst IsFit (sym is) fit)
+          (subst (λ (c : CutterState). WillCut c cut) (sym is) will) before_is));
+      breaks = tt;
+      owns = subst (λ w. KeepsFiles start.writer w old new) (sym same_writer) went.owns;
+    }))
 
 -- the run went on after the cut
 pub record Passed (cutter mid : CutterState) (writer : WriterState) (cut : Cut) : Type 0 where

@@ -25,9 +25,11 @@ use Rattle.csplit_core.proofs.WriterLemmas.{halts_wider, bytes_begin, owns_still
 pub none_there : (held : List ℕ) (empty : Bool) → empty ≡ eqb (length held) 0 → empty ≡ true → held ≡ []
 none_there held empty is true_is = nil_from_length held (eqb-true (length held) 0 (sym is ∙ true_is))
 
-pub alone : (P : ℕ → List ℕ → Type 0) (cutter : CutterState) (line : List ℕ) → cutter.window.held ≡ [] → P cutter.lines line → P (cutter.lines - delimiters newline cutter.window.held) (cutter.window.held ++ line)
+pub alone : (P : ℕ → List ℕ → Type 0) (cutter : CutterState) (line : List ℕ) → cutter.window.held ≡ [] → P cutter.lines line
+    → P (cutter.lines - delimiters newline cutter.window.held) (cutter.window.held ++ line)
 alone P cutter line none holds =
-    subst (λ those. P (cutter.lines - delimiters newline those) (those ++ line)) (sym none) (subst (λ n. P n line) (let e : cutter.lines ≡ cutter.lines - 0 = omega arith in e) holds)
+    subst (λ those. P (cutter.lines - delimiters newline those) (those ++ line)) (sym none)
+    (subst (λ n. P n line) (let e : cutter.lines ≡ cutter.lines - 0 = omega arith in e) holds)
 
 pub cut_alone : (told : Bool) (cutter start place_of next : CutterState) (cut : Cut) (line : List ℕ) (old new : List Slot) (result : Result (Unit {0}) Fault) → start ≡ cutter → place_of ≡ cutter → start.window.held ≡ []
     → CutsAll told cutter cut place_of.lines line line old new next result → CutsAll told cutter cut (cutter.lines - delimiters newline cutter.window.held) (cutter.window.held ++ line) line old new next result

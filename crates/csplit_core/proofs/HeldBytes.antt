@@ -45,8 +45,10 @@ held_is stage x result holds few is = by holds.stands where
       let within = held_within stage.cutter (whole_lines x) live in
       let all : length (whole_lines x) + length (open_line x) ≡ length x = sym (length-append (whole_lines x) (open_line x)) ∙ ap length (lines_then_open x) in
       let rest_long : length stage.rest ≡ length (open_line x) = ap length rest_is in
-      is ∙ min-eq_left (omega (arith, within, all, rest_long, few)) ∙ sym (length-append stage.cutter.window.held stage.rest) ∙ sym (ap length (live_waiting stage x live rest_is))
+      is ∙ min-eq_left (omega (arith, within, all, rest_long, few)) ∙ sym (length-append stage.cutter.window.held stage.rest)
+      ∙ sym (ap length (live_waiting stage x live rest_is))
   by (inr past) =
       let none : length stage.cutter.window.held ≡ 0 = ap length past.none in
       let rest_none : length stage.rest ≡ 0 = ap length (holds.past past.aim) in
-      is ∙ min-eq_left (omega (arith, none, rest_none)) ∙ (let e : length stage.cutter.window.held + length stage.rest ≡ 0 = omega (arith, none, rest_none) in e) ∙ sym (ap length (past_waiting stage x past))
+      is ∙ min-eq_left (omega (arith, none, rest_none))
+      ∙ (let e : length stage.cutter.window.held + length stage.rest ≡ 0 = omega (arith, none, rest_none) in e) ∙ sym (ap length (past_waiting stage x past))

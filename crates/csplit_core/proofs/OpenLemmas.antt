@@ -1,5 +1,5 @@
 -- What opening the cutter leaves: the first section, with no line yet.
-use Rattle.std.proofs.Common.{◌≡◌, inl, inr, ℕ, ◌+◌, ◌-◌, ◌≤◌, max, Bool, true, false, List, [], ◌∷◌, Option, slice_get, refl, sym, ◌∙◌, ap, subst, arith}
+use Rattle.std.proofs.Common.{◌≡◌, inl, inr, ◌+◌, ◌-◌, ◌≤◌, max, Bool, true, false, List, [], ◌∷◌, Option, slice_get, refl, sym, ◌∙◌, ap, subst, arith}
 use Rattle.std.proofs.lemmas.Bool.{false≢true}
 use Rattle.bre_core.specs.Pattern.{Pattern}
 use Rattle.seg_core.specs.Window.{Window}
@@ -15,12 +15,12 @@ use Rattle.csplit_core.specs.inner.Draft.{first_draft}
 use Rattle.csplit_core.specs.Input.{newline}
 use Rattle.csplit_core.specs.Operand.{Operand, Line}
 use Rattle.csplit_core.specs.Output.{Style}
-use Rattle.csplit_core.specs.Plan.{State, start, Step, Ending, used_up, below, Runs, is_used_up, misses, is_above, is_below, cuts}
+use Rattle.csplit_core.specs.Plan.{State, start, Step, Ending, used_up, below, Runs, cuts}
 use Rattle.csplit_core.specs.Planned.{Plan, plan}
 use Rattle.csplit_core.specs.laws.PlanLaws.{plan_runs, plan_once}
 use Rattle.csplit_core.specs.Progress.{state_of, AimsAt, EndsHere}
 use Rattle.csplit_core.specs.inner.Progress.{AreSeen, Turns, MovesOn}
-use Rattle.csplit_core.specs.Section.{settled_end, is_final, most_waiting}
+use Rattle.csplit_core.specs.Section.{settled_end, is_final}
 use Rattle.csplit_core.specs.declared.progress.Progress.{Progress}
 use Rattle.csplit_core.specs.declared.progress.Turn.{Turn}
 use Rattle.csplit_core.specs.declared.progress.Turn.TheVariants.{Below, Cuts}
@@ -38,11 +38,8 @@ use Rattle.csplit_core.proofs.WriterLemmas.{moves_as, halts_wider}
 -- Over no line a plan has no step.
 
 first_only : (suppress : Bool) (first : State) (steps : List Step) (last : State) (ending : Ending) → Runs suppress [] first steps last ending → 1 ≤ first.current → Runs suppress [] first [] first ending
-first_only suppress first steps last ending (is_used_up state none) some = is_used_up state none
-first_only suppress first steps last ending (misses state operand operands is none) some = misses state operand operands is none
-first_only suppress first steps last ending (is_above state operand operands matched cut is at far) some = is_above state operand operands matched cut is at far
-first_only suppress first steps last ending (is_below state operand operands matched cut is at within low) some = is_below state operand operands matched cut is at within low
 first_only suppress first steps last ending (cuts state operand operands matched cut steps' last' ending' is at from within rest) some = absurd (omega (arith, some, from, within))
+first_only suppress first steps last ending run some = run
 
 first_runs : (suppress : Bool) (operands : List Operand) → Runs suppress [] (start operands) [] (start operands) (plan suppress operands []).ending
 first_runs suppress operands = first_only suppress (start operands) (plan suppress operands []).steps (plan suppress operands []).last (plan suppress operands []).ending (plan_runs suppress operands []) (omega arith)
@@ -98,9 +95,6 @@ first_window operands = record { most = most_by operands; delim = newline; held 
 abbrev first_cutter : List Operand → WriterState → Turn → CutterState
 first_cutter operands writer aim = opened operands writer first_progress aim (first_window operands) (pattern_by operands)
 
-none_over : (n : ℕ) → 0 ≡ 0 + 1 - 1 - n
-none_over n = omega arith
-
 first_stands : (operands : List Operand) (writer : WriterState) (aim : Turn) → Writes writer (first_draft (kept_by operands)) → (ends : EndsHere writer.style.suppress [] (start operands) aim) → (final : Bool) → is_final ends.ending ≡ final → Stands (first_cutter operands writer aim) []
 first_stands operands writer aim writes ends false live = inl (record {
   at = record {
@@ -116,7 +110,7 @@ first_stands operands writer aim writes ends false live = inl (record {
   };
   ends = ends;
   live = live;
-  settled = none_over (most_waiting ends.ending);
+  settled = omega arith;
 })
 first_stands operands writer aim writes ends true past =
     let is = plan_once writer.style.suppress operands [] [] (start operands) ends.ending ends.runs in inr (record {

@@ -5,7 +5,7 @@ use Rattle.std.specs.List.{onto_first}
 use Rattle.std.proofs.lemmas.Bool.{cases_lt, eq-eqb, ne_eqb}
 use Rattle.std.proofs.lemmas.List.{get_or-map, drop_at, take_all, take_at, length-drop, take-append-drop, append_assoc, length-take-le, get_or_append_left}
 use Rattle.std.proofs.Math.Nat.{min-le_left}
-use Rattle.std.proofs.Math.Seq.{get_or-append_right, get_or-append_seam}
+use Rattle.std.proofs.Math.Seq.{get_or-append_right}
 use Rattle.memchr.specs.Find.{Nowhere, Passes, is_byte}
 use Rattle.bre_core.specs.Pattern.{Pattern}
 use Rattle.bre_core.specs.Search.{contains}
@@ -23,9 +23,10 @@ use Rattle.csplit_core.specs.Plan.{State, Ending, used_up, missed, above, below,
 use Rattle.csplit_core.specs.Progress.{AimsAt, WillMove}
 use Rattle.csplit_core.specs.declared.line_cutter.Passed.{Passed}
 use Rattle.csplit_core.specs.declared.progress.Turn.{Turn}
-use Rattle.csplit_core.specs.declared.progress.Turn.TheVariants.{UsedUp, Missed, Above, Below, Cuts}
+use Rattle.csplit_core.specs.declared.progress.Turn.TheVariants.{UsedUp, Missed, Above, Cuts}
 use Rattle.csplit_core.proofs.LineLemmas.{whole_drop, all_lines-append, all_lines-line, count-append, count-line, length-all_lines, whole_count, whole-append}
 use Rattle.csplit_core.proofs.StayLemmas.{NoneFrom, EndsStill, ends_still}
+use Rattle.csplit_core.proofs.TryLemmas.{found_is}
 
 -- What stays so of a state when more lines come
 
@@ -51,11 +52,9 @@ moves_more total more state (Search pattern kept offset) matched cut less at = (
 
 -- With the lines of this text too there are `lines`, and the next operand stands as it did.
 abbrev pub StaysOver : CutterState → (text : List ℕ) (lines : ℕ) → Turn → Type 0
-StaysOver cutter text lines UsedUp = Unit {0}
 StaysOver cutter text lines Missed = (operand : Operand) → cutter.sought ≡ pattern_in operand.target → NoneFrom operand cutter.lines (all_lines text) (search_line (suppress_in cutter) (state_in cutter))
 StaysOver cutter text lines (Above matched line) = lines < line
-StaysOver cutter text lines Below = Unit {0}
-StaysOver cutter text lines (Cuts matched line) = Unit {0}
+StaysOver cutter text lines turn = Unit {0}
 
 aim_more : (cutter : CutterState) (text : List ℕ) (lines : ℕ) (aim : Turn) → cutter.lines ≤ lines → AimHolds cutter.operands cutter.lines cutter.progress aim → StaysOver cutter text lines aim → AimHolds cutter.operands lines cutter.progress aim
 aim_more cutter text lines (Above matched line) less will stays = record {
@@ -122,20 +121,20 @@ fits_count cutter now text n is few counted =
     let same : cutter.lines ≡ now.lines = ap (λ (those : CutterState). those.lines) is in
     let less : delimiters newline text ≤ length text = delimiters-le-length newline text in omega (arith, same, less, few, counted)
 
-pub passes_all : (cutter : CutterState) (text : List ℕ) (lines : ℕ) → IsSound cutter → IsWhole text → lines ≡ cutter.lines + delimiters newline text → StaysOver cutter text lines cutter.aim
-    → PassesOver cutter text (record cutter { lines = lines }) (length text)
-passes_all cutter text lines sound whole count stays =
+passes_all : (cutter now : CutterState) (text : List ℕ) (n : ℕ) → cutter ≡ now → IsSound now → IsWhole text → n ≡ delimiters newline text
+    → StaysOver cutter text (cutter.lines + n) cutter.aim → PassesOver now text (record cutter { lines = cutter.lines + n }) (length text)
+passes_all cutter now text n is sound whole count stays =
     let all : text ≡ take (length text) text = sym (take_all (length text) text (omega arith)) in
     let same : line_count newline text ≡ delimiters newline text = whole_count text whole in
     let taken : line_count newline text ≡ line_count newline (take (length text) text) = ap (line_count newline) all in
-    passes cutter text lines (length text) sound (omega arith) (subst IsWhole all whole) (omega (arith, count, same, taken)) (subst (λ those. StaysOver cutter those lines cutter.aim) all stays)
+    subst (λ (those : CutterState). PassesOver those text (record cutter { lines = cutter.lines + n }) (length text)) is
+    (passes cutter text (cutter.lines + n) (length text) (subst IsSound (sym is) sound) (omega arith) (subst IsWhole all whole) (omega (arith, count, same, taken)) (subst (λ those. StaysOver cutter those (cutter.lines + n) cutter.aim) all stays))
 
 pub passes_all_at : (cutter now : CutterState) (text : List ℕ) (n : ℕ) → cutter ≡ now → IsSound now → IsWhole text → n ≡ delimiters newline text → now.aim ≡ UsedUp
     → PassesOver now text (record cutter { lines = cutter.lines + n }) (length text)
 passes_all_at cutter now text n is sound whole counted aim =
-    subst (λ (those : CutterState). PassesOver those text (record cutter { lines = cutter.lines + n }) (length text)) is
-    (passes_all cutter text (cutter.lines + n) (subst IsSound (sym is) sound) whole (ap (λ k. cutter.lines + k) counted)
-    (subst (StaysOver cutter text (cutter.lines + n)) (sym (ap (λ (those : CutterState). those.aim) is ∙ aim)) tt))
+    passes_all cutter now text n is sound whole counted
+    (subst (StaysOver cutter text (cutter.lines + n)) (sym (ap (λ (those : CutterState). those.aim) is ∙ aim)) tt)
 
 -- Lines before the line of a cut
 
@@ -153,33 +152,26 @@ count_ends n x end ends =
     let near : delimiters newline x ≤ line_count newline x = (line_count_near newline x).0 in
     ap (line_count newline) ends.lines ∙ ap length (lines_of-first_lines newline n x) ∙ length-take-le n (lines_of newline x) (omega (arith, enough, near))
 
-still_above : (cutter : CutterState) (matched line : ℕ) → IsSound cutter → cutter.aim ≡ Above matched line → cutter.lines < line
-still_above cutter matched line sound aim = let will : WillMove cutter.operands cutter.lines cutter.progress matched line = subst (AimHolds cutter.operands cutter.lines cutter.progress) aim sound.aim in will.above
-
-passes_below : (cutter : CutterState) (text : List ℕ) (matched line end : ℕ) → IsSound cutter → cutter.aim ≡ Above matched line → EndsAt newline (line - 1 - cutter.lines) text end → PassesOver cutter text (record cutter { lines = line - 1 }) end
-passes_below cutter text matched line end sound aim ends =
-    let less : cutter.lines < line = still_above cutter matched line sound aim in
-    let count : line_count newline (take end text) ≡ line - 1 - cutter.lines = count_ends (line - 1 - cutter.lines) text end ends in
-    passes cutter text (line - 1) end sound ends.within (whole_by_count (take end text) (count ∙ sym ends.complete)) (omega (arith, less, count))
-    (subst (StaysOver cutter (take end text) (line - 1)) (sym aim) (let e : line - 1 < line = omega (arith, less) in e))
-
-passes_short : (cutter : CutterState) (text : List ℕ) (matched line count : ℕ) → IsSound cutter → IsWhole text → cutter.aim ≡ Above matched line → FallsShort newline (line - 1 - cutter.lines) text count
-    → PassesOver cutter text (record cutter { lines = cutter.lines + count }) (length text)
-passes_short cutter text matched line count sound whole aim short =
-    passes_all cutter text (cutter.lines + count) sound whole (ap (λ k. cutter.lines + k) short.counted)
-    (subst (StaysOver cutter text (cutter.lines + count)) (sym aim) (let e : count < line - 1 - cutter.lines = short.fewer in let less : cutter.lines + count < line = omega (arith, e) in less))
-
 pub passes_below_at : (cutter now : CutterState) (text : List ℕ) (line end : ℕ) → cutter ≡ now → IsSound now → (matched : ℕ) × (now.aim ≡ Above matched line) → EndsAt newline (line - 1 - cutter.lines) text end
     → PassesOver now text (record cutter { lines = line - 1 }) end
-passes_below_at cutter now text line end is sound (matched, aim) ends =
+passes_below_at cutter now text line end is sound (matched, aimed) ends =
+    let here : IsSound cutter = subst IsSound (sym is) sound in
+    let aim : cutter.aim ≡ Above matched line = ap (λ (those : CutterState). those.aim) is ∙ aimed in
+    let will : WillMove cutter.operands cutter.lines cutter.progress matched line =
+    subst (AimHolds cutter.operands cutter.lines cutter.progress) aim here.aim in
+    let less : cutter.lines < line = will.above in
+    let count : line_count newline (take end text) ≡ line - 1 - cutter.lines = count_ends (line - 1 - cutter.lines) text end ends in
     subst (λ (those : CutterState). PassesOver those text (record cutter { lines = line - 1 }) end) is
-    (passes_below cutter text matched line end (subst IsSound (sym is) sound) (ap (λ (those : CutterState). those.aim) is ∙ aim) ends)
+    (passes cutter text (line - 1) end here ends.within (whole_by_count (take end text) (count ∙ sym ends.complete)) (omega (arith, less, count))
+    (subst (StaysOver cutter (take end text) (line - 1)) (sym aim) (let e : line - 1 < line = omega (arith, less) in e)))
 
 pub passes_short_at : (cutter now : CutterState) (text : List ℕ) (line count : ℕ) → cutter ≡ now → IsSound now → IsWhole text → (matched : ℕ) × (now.aim ≡ Above matched line) → FallsShort newline (line - 1 - cutter.lines) text count
     → PassesOver now text (record cutter { lines = cutter.lines + count }) (length text)
 passes_short_at cutter now text line count is sound whole (matched, aim) short =
-    subst (λ (those : CutterState). PassesOver those text (record cutter { lines = cutter.lines + count }) (length text)) is
-    (passes_short cutter text matched line count (subst IsSound (sym is) sound) whole (ap (λ (those : CutterState). those.aim) is ∙ aim) short)
+    let fewer : count < line - 1 - cutter.lines = short.fewer in
+    let less : cutter.lines + count < line = omega (arith, fewer) in
+    passes_all cutter now text count is sound whole short.counted
+    (subst (StaysOver cutter text (cutter.lines + count)) (sym (ap (λ (those : CutterState). those.aim) is ∙ aim)) less)
 
 -- Lines without the pattern that is searched for
 
@@ -236,21 +228,19 @@ first_text (byte ∷ x) (suc end) within here none =
 
 -- one more line
 
-mark_none : (next : CutterState) (text line : List ℕ) (number : ℕ) (target : Target) → IsFound next text number false → without_newline line ≡ text → next.sought ≡ pattern_in target → search_line (suppress_in next) (state_in next) ≤ number
-    → is_match_of line target ≡ false
-mark_none next text line number (Number n) found is same near = refl
-mark_none next text line number (Search pattern kept offset) found is same near = ap (contains pattern) is ∙ sym (found.some pattern same near)
-
-none_line : (operand : Operand) (count : ℕ) (a : List Line) (line : Line) (from : ℕ) → NoneFrom operand count a from → (from ≤ count + suc (length a) → line.marks operand ≡ false) → NoneFrom operand count (a ++ line ∷ []) from
-none_line operand count a line from those here k less near = elim (cases_lt k (length a)) [
-  | inl before ↦ ap (λ (l : Line). l.marks operand) (get_or_append_left a (line ∷ []) unmarked k before) ∙ those k before near
+none_more : (operand : Operand) (count : ℕ) (a b : List Line) (from : ℕ) → NoneFrom operand count a from → NoneFrom operand (count + length a) b from
+    → NoneFrom operand count (a ++ b) from
+none_more operand count a b from those others k less near = elim (cases_lt k (length a)) [
+  | inl before ↦ ap (λ (l : Line). l.marks operand) (get_or_append_left a b unmarked k before) ∙ those k before near
   | inr past ↦
-      let e : length (a ++ line ∷ []) ≡ length a + 1 = length-append a (line ∷ []) in
-      let last : k ≡ length a = omega (arith, e, past, less) in
-      ap (λ j. (get_or (a ++ line ∷ []) j unmarked).marks operand) last
-      ∙ ap (λ (l : Line). l.marks operand) (get_or-append_seam a line [] unmarked)
-      ∙ here (omega (arith, last, near))
+      let e : length (a ++ b) ≡ length a + length b = length-append a b in
+      ap (λ (l : Line). l.marks operand) (get_or-append_right a b k unmarked past)
+      ∙ others (k - length a) (omega (arith, e, past, less)) (omega (arith, past, near))
 ]
+
+none_one : (operand : Operand) (count : ℕ) (line : Line) (from : ℕ) → (from ≤ count + 1 → line.marks operand ≡ false) → NoneFrom operand count (line ∷ []) from
+none_one operand count line from here zero less near = here near
+none_one operand count line from here (suc k) less near = absurd (omega (arith, less))
 
 one_more : (cutter : CutterState) (text left rest : List ℕ) (next : CutterState) (number end : ℕ) → Unmatched cutter text left next → number ≡ next.lines + 1 → end < length left → Passes (is_byte newline) left end
     → Nowhere (Passes (is_byte newline) left) 0 end → IsFound next (take end left) number false → rest ≡ drop (suc end) left → Unmatched cutter text rest (record next { lines = number })
@@ -265,24 +255,16 @@ one_more cutter text left rest next number end so is within here none found rest
       same = ap (λ (those : CutterState). record those { lines = number }) so.same;
       count = is ∙ (let more : line_count newline (so.front ++ line) ≡ line_count newline so.front + 1 = count-line so.front line so.whole one in let c : next.lines ≡ cutter.lines + line_count newline so.front = so.count in omega (arith, more, c));
       none = λ operand same. subst (λ those. NoneFrom operand cutter.lines those (search_line (suppress_in cutter) (state_in cutter))) (sym (all_lines-line so.front line so.whole one))
-          (none_line operand cutter.lines (all_lines so.front) (marked line) (search_line (suppress_in cutter) (state_in cutter)) (so.none operand same)
-          (λ near. mark_none (record cutter { lines = next.lines }) (take end left) line number operand.target found_at (first_text left end within here none) same
-          (let c : next.lines ≡ cutter.lines + line_count newline so.front = so.count in omega (arith, near, is, c, before))));
+          (none_more operand cutter.lines (all_lines so.front) (marked line ∷ []) (search_line (suppress_in cutter) (state_in cutter)) (so.none operand same)
+          (none_one operand _ (marked line) _
+          (λ near. found_is (record cutter { lines = next.lines }) line (take end left) number false operand.target
+          (sym (first_text left end within here none)) same found_at
+          (let c : next.lines ≡ cutter.lines + line_count newline so.front = so.count in omega (arith, near, is, c, before)))));
     }
-
--- all that were looked at are passed over
-all_passed : (cutter : CutterState) (text left : List ℕ) (next : CutterState) → IsSound cutter → cutter.aim ≡ Missed → Unmatched cutter text left next → PassesOver cutter text next (length text - length left)
-all_passed cutter text left next sound aim so =
-    let long : length text ≡ length so.front + length left = ap length so.all ∙ length-append so.front left in
-    let count : length so.front ≡ length text - length left = omega (arith, long) in
-    let front_is : so.front ≡ take (length text - length left) text = sym (ap (take (length text - length left)) so.all ∙ take_at so.front left (length text - length left) count) in
-    subst (λ (those : CutterState). PassesOver cutter text those (length text - length left)) (sym so.same)
-    (passes cutter text next.lines (length text - length left) sound (omega arith) (subst IsWhole front_is so.whole) (so.count ∙ ap (λ those. cutter.lines + line_count newline those) front_is)
-    (subst (StaysOver cutter (take (length text - length left) text) next.lines) (sym aim) (subst (λ those. StaysOver cutter those next.lines Missed) front_is so.none)))
 
 -- the numbers are small
 
-few_counted : (cutter : CutterState) (text left : List ℕ) (next : CutterState) → Unmatched cutter text left next → next.lines ≤ cutter.lines + length text
+few_counted : (cutter : CutterState) (text left : List ℕ) (next : CutterState) → Unmatched cutter text left next → next.lines + length left ≤ cutter.lines + length text
 few_counted cutter text left next so =
     let long : length text ≡ length so.front + length left = ap length so.all ∙ length-append so.front left in
     let less : line_count newline so.front ≤ length so.front = line_count-le-length newline so.front in
@@ -291,7 +273,7 @@ few_counted cutter text left next so =
 pub few_counted_at : (cutter : CutterState) (text left : List ℕ) (next now : CutterState) → Unmatched cutter text left next → now ≡ next → cutter.lines + length text < 2 ^ 63 → now.lines + 1 < 2 ^ 64
 few_counted_at cutter text left next now so is few =
     let e : now.lines ≡ next.lines = ap (λ (those : CutterState). those.lines) is in
-    let less : next.lines ≤ cutter.lines + length text = few_counted cutter text left next so in omega (arith, e, less, few)
+    let less = few_counted cutter text left next so in omega (arith, e, less, few)
 
 -- what is left of a slice
 pub all_left : (left : List ℕ) (n end : ℕ) → n ≡ length left → take (n - (end + 1)) (drop (end + 1) left) ≡ drop (suc end) left
@@ -311,8 +293,15 @@ one_more_at cutter text left rest next before same now end found so before_is sa
     (one_more cutter text left rest next (now.lines + 1) end so (ap (λ (those : CutterState). those.lines + 1) is) within here none
     (subst (λ k. IsFound next (take end left) k false) number (subst (IsFound next (take end left) (before.lines + 1)) not finds)) rest_is)
 
+-- all that were looked at are passed over
 pub all_passed_at : (cutter : CutterState) (text left : List ℕ) (next now : CutterState) → IsSound cutter → cutter.aim ≡ Missed → Unmatched cutter text left next → now ≡ next → PassesOver cutter text now (length text - length left)
-all_passed_at cutter text left next now sound aim so is = subst (λ (those : CutterState). PassesOver cutter text those (length text - length left)) (sym is) (all_passed cutter text left next sound aim so)
+all_passed_at cutter text left next now sound aim so is =
+    let long : length text ≡ length so.front + length left = ap length so.all ∙ length-append so.front left in
+    let count : length so.front ≡ length text - length left = omega (arith, long) in
+    let front_is : so.front ≡ take (length text - length left) text = sym (ap (take (length text - length left)) so.all ∙ take_at so.front left (length text - length left) count) in
+    subst (λ (those : CutterState). PassesOver cutter text those (length text - length left)) (sym (is ∙ so.same))
+    (passes cutter text next.lines (length text - length left) sound (omega arith) (subst IsWhole front_is so.whole) (so.count ∙ ap (λ those. cutter.lines + line_count newline those) front_is)
+    (subst (StaysOver cutter (take (length text - length left) text) next.lines) (sym aim) (subst (λ those. StaysOver cutter those next.lines Missed) front_is so.none)))
 
 -- Lines that are seen to have no match
 
@@ -326,12 +315,6 @@ marks_clear operand x clear k less =
     ap (λ (l : Line). l.marks operand) (get_or-map marked (lines_of newline x) k [] unmarked few)
     ∙ mark_clear (get_or (lines_of newline x) k []) operand.target (λ pattern is. clear pattern is k few)
 
-none_more : (operand : Operand) (count : ℕ) (a b : List Line) (from : ℕ) → NoneFrom operand count a from → ((k : ℕ) → k < length b → (get_or b k unmarked).marks operand ≡ false) → NoneFrom operand count (a ++ b) from
-none_more operand count a b from those others k less near = elim (cases_lt k (length a)) [
-  | inl before ↦ ap (λ (l : Line). l.marks operand) (get_or_append_left a b unmarked k before) ∙ those k before near
-  | inr past ↦ ap (λ (l : Line). l.marks operand) (get_or-append_right a b k unmarked past) ∙ others (k - length a) (let e : length (a ++ b) ≡ length a + length b = length-append a b in omega (arith, e, past, less))
-]
-
 pub more_clear : (cutter : CutterState) (text left rest : List ℕ) (next now after : CutterState) (n : ℕ) → Unmatched cutter text left next → now ≡ next → PassesClear now left after n → rest ≡ drop n left → Unmatched cutter text rest after
 more_clear cutter text left rest next now after n so now_is passes rest_is =
     let clear : PassesClear next left after n = subst (λ (those : CutterState). PassesClear those left after n) now_is passes in
@@ -343,7 +326,7 @@ more_clear cutter text left rest next now after n so now_is passes rest_is =
       count = clear.count ∙ (let more : line_count newline (so.front ++ t) ≡ line_count newline so.front + line_count newline t = count-append so.front t so.whole in let c : next.lines ≡ cutter.lines + line_count newline so.front = so.count in omega (arith, more, c));
       none = λ operand same. subst (λ those. NoneFrom operand cutter.lines those (search_line (suppress_in cutter) (state_in cutter))) (sym (all_lines-append so.front t so.whole))
           (none_more operand cutter.lines (all_lines so.front) (all_lines t) (search_line (suppress_in cutter) (state_in cutter)) (so.none operand same)
-          (marks_clear operand t (λ pattern is. clear.clear pattern (ap (λ (those : CutterState). those.sought) so.same ∙ same ∙ is))));
+          (λ k less near. marks_clear operand t (λ pattern is. clear.clear pattern (ap (λ (those : CutterState). those.sought) so.same ∙ same ∙ is)) k less));
     }
 
 pub counts_clear : (cutter now : CutterState) (text : List ℕ) (n count : ℕ) → cutter ≡ now → n ≤ length text → IsWhole (take n text) → count ≡ delimiters newline (take n text) → ((pattern : Pattern) → now.sought ≡ Some pattern → AreClear pattern (take n text))
@@ -369,10 +352,7 @@ fits_clear cutter now text n count is fits within counted =
     omega (arith, same, less, long, fits, within, counted)
 
 pub few_left : (cutter : CutterState) (text left : List ℕ) (next : CutterState) → Unmatched cutter text left next → cutter.lines + length text < 2 ^ 63 → next.lines + length left < 2 ^ 64
-few_left cutter text left next so fits =
-    let long : length text ≡ length so.front + length left = ap length so.all ∙ length-append so.front left in
-    let less : line_count newline so.front ≤ length so.front = line_count-le-length newline so.front in
-    let c : next.lines ≡ cutter.lines + line_count newline so.front = so.count in omega (arith, long, less, c, fits)
+few_left cutter text left next so fits = let less = few_counted cutter text left next so in omega (arith, less, fits)
 
 pub stops_unfound : (cutter : CutterState) (text : List ℕ) (next : CutterState) (n : ℕ) (passed : Passed) → PassesOver cutter text next n → passed.size ≡ n → passed.found ≡ None → StopsAt cutter text next passed
 stops_unfound cutter text next n passed over size_is found_is = record {

@@ -31,9 +31,8 @@ not_left true line cut rest' = le_false line cut rest'
 not_left false line cut rest' = refl
 
 same_by : (lt le : Bool) (index : ℕ) (one other : Place) → (lt ≡ false → le ≡ false → one ≡ other) → cond lt (in_section index) (cond le (left_out index) one) ≡ cond lt (in_section index) (cond le (left_out index) other)
-same_by true le index one other same = refl
-same_by false true index one other same = refl
 same_by false false index one other same = same refl refl
+same_by lt le index one other same = refl
 
 -- before the current line all plans that go on agree
 place_front : (suppress : Bool) (lines : List Line) (first : State) (steps : List Step) (last : State) (ending : Ending) → Runs suppress lines first steps last ending
@@ -131,13 +130,12 @@ WaitsAt total plan line = (is_final plan.ending ≡ false) × (plan.last.current
 
 decided_by : (suppress : Bool) (a b : List Line) (last : State) (ending : Ending) → EndsAs suppress a last ending → (line : ℕ) → last.current ≤ line → line ≤ length a → ((is_final ending ≡ false) → settled_end (length a) ending ≤ line → ⊥)
     → (index : ℕ) (more : List Step) (end : State) (how : Ending) → Runs suppress (a ++ b) last more end how → place_from suppress (length (a ++ b)) index more how line ≡ cond (is_final ending) nowhere (in_section index)
-decided_by suppress a b last used_up is line from within not index more end how rest = settled_place suppress a b last used_up is more end how rest index line from within (omega (arith, within))
 decided_by suppress a b last (missed operand repetition) is line from within not index more end how rest =
     settled_place suppress a b last (missed operand repetition) is more end how rest index line from within
     (elim (cases_lt line (suc (length a) - most_held operand.target)) [ inl less ↦ less | inr beyond ↦ absurd (not refl beyond) ])
-decided_by suppress a b last (above operand repetition matched cut) is line from within not index more end how rest = settled_place suppress a b last (above operand repetition matched cut) is more end how rest index line from within (omega (arith, within))
 decided_by suppress a b last (below operand repetition) (operands, matched, cut, is, at, in_lines, low) line from within not index more end how rest =
     nowhere_by suppress (a ++ b) last operand operands matched cut is (cuts_still suppress a b last operand operand.target matched cut at) (let e : length (a ++ b) ≡ length a + length b = length-append a b in omega (arith, e, in_lines)) low more end how rest index line
+decided_by suppress a b last ending is line from within not index more end how rest = settled_place suppress a b last ending is more end how rest index line from within (omega (arith, within))
 
 place_here : (suppress : Bool) (operands : List Operand) (x y : List Line) (line : ℕ) → 1 ≤ line → line ≤ length x → (WaitsAt (length x) (plan suppress operands x) line → ⊥) → place_of suppress operands (x ++ y) line ≡ place_of suppress operands x line
 place_here suppress operands x y line some within not =
@@ -230,11 +228,10 @@ differ_missed suppress operands x operand repetition left ending is some within 
 differ_at : (suppress : Bool) (operands : List Operand) (x : List Line) (ending : Ending) → (plan suppress operands x).ending ≡ ending → EndsAs suppress x (plan suppress operands x).last ending
     → 1 ≤ (plan suppress operands x).last.current → search_line suppress (plan suppress operands x).last ≤ suc (length x) → (line : ℕ) → is_final ending ≡ false → (plan suppress operands x).last.current ≤ line → settled_end (length x) ending ≤ line → line ≤ length x
     → (z : List Line) × CanCome z × (place_of suppress operands (x ++ []) line ≢ place_of suppress operands (x ++ z) line)
-differ_at suppress operands x used_up is ends some within line live from past most = absurd (omega (arith, past, most))
 differ_at suppress operands x (missed operand repetition) is (left, are, none) some within line live from past most =
     differ_missed suppress operands x operand repetition left is are some within operand.target refl none line from past most
-differ_at suppress operands x (above operand repetition matched cut) is ends some within line live from past most = absurd (omega (arith, past, most))
 differ_at suppress operands x (below operand repetition) is ends some within line live from past most = absurd (false≢true (sym live))
+differ_at suppress operands x ending is ends some within line live from past most = absurd (omega (arith, past, most))
 
 differ_line : (suppress : Bool) (operands : List Operand) (x : List Line) (line : ℕ) → WaitsAt (length x) (plan suppress operands x) line
     → (y : List Line) × (z : List Line) × CanCome y × CanCome z × (place_of suppress operands (x ++ y) line ≢ place_of suppress operands (x ++ z) line)

@@ -2,7 +2,7 @@
 use Rattle.std.proofs.Common.{◌≡◌, ◌⊎◌, inl, inr, ℕ, zero, suc, ◌+◌, ◌-◌, ◌<◌, ◌≤◌, eqb, ne_eqb, eq-eqb, Bool, true, false, cond, ◌&&◌, nat_lt, nat_le, List, [], ◌∷◌, ◌++◌, get_or, length, map, take, drop, refl, sym, ◌∙◌, ap, subst, arith, length-drop, length-take-le, take_all}
 use Rattle.std.proofs.lemmas.Bool.Decides.{nat_tests}
 use Rattle.csplit_core.specs.Operand.{Operand, Line}
-use Rattle.csplit_core.specs.Plan.{State, start, Step, Ending, used_up, missed, above, below, line_after, state_after, step_of, Runs, is_used_up, misses, is_above, is_below, cuts}
+use Rattle.csplit_core.specs.Plan.{State, start, Step, Ending, below, line_after, state_after, step_of, Runs, is_below, cuts}
 use Rattle.csplit_core.specs.Planned.{plan}
 use Rattle.csplit_core.specs.Section.{Section, lines_between, whole_end, sections_by, is_final}
 use Rattle.csplit_core.specs.Place.{Place, in_section, left_out, nowhere, place_from, place_of, is_in, lines_into, ArePlaced}
@@ -43,8 +43,7 @@ into_same s places others n (line ∷ a) same =
 
 goes_elsewhere : (s : ℕ) (place : Place) → (place ≡ in_section s → ⊥) → is_in s place ≡ false
 goes_elsewhere s (in_section other) differs = ne_eqb s other (λ same. differs (ap in_section (sym same)))
-goes_elsewhere s (left_out cut) differs = refl
-goes_elsewhere s nowhere differs = refl
+goes_elsewhere s place differs = refl
 
 -- The last section
 
@@ -69,10 +68,8 @@ rest_placed lines current end index some which (suc k) s at =
     sym (into_none s (rest_places end index) current (drop (current - 1) lines) (λ line from within. rest_elsewhere s index (nat_lt line end) (omega (arith, at))))
 
 end_is : (total : ℕ) (ending : Ending) → (whole_end total ending ≡ suc total) ⊎ (whole_end total ending ≡ 0)
-end_is total used_up = inl refl
-end_is total (missed operand repetition) = inl refl
-end_is total (above operand repetition matched cut) = inl refl
 end_is total (below operand repetition) = inr refl
+end_is total ending = inl refl
 
 -- A step, and what comes after it
 
@@ -127,10 +124,6 @@ step_before suppress lines current cut index later line some least within before
 placed_from : (suppress : Bool) (lines : List Line) (first : State) (steps : List Step) (last : State) (ending : Ending) → Runs suppress lines first steps last ending → 1 ≤ first.current → (index k s : ℕ) → s ≡ index + k
     → get_or (map (λ (one : Section). one.lines) (sections_by true whole_end lines (record { steps = steps; last = last; ending = ending }))) k []
     ≡ lines_into s (place_from suppress (length lines) index steps ending) first.current (drop (first.current - 1) lines)
-placed_from suppress lines first steps last ending (is_used_up state none) some index k s at = rest_placed lines state.current (whole_end (length lines) used_up) index some (end_is (length lines) used_up) k s at
-placed_from suppress lines first steps last ending (misses state operand operands is none) some index k s at = rest_placed lines state.current (whole_end (length lines) (missed operand state.repetition)) index some (inl refl) k s at
-placed_from suppress lines first steps last ending (is_above state operand operands matched cut is cuts_at far) some index k s at = rest_placed lines state.current (whole_end (length lines) (above operand state.repetition matched cut)) index some (inl refl) k s at
-placed_from suppress lines first steps last ending (is_below state operand operands matched cut is cuts_at within low) some index k s at = rest_placed lines state.current (whole_end (length lines) (below operand state.repetition)) index some (inr refl) k s at
 placed_from suppress lines first steps last ending (cuts state operand operands matched cut steps' last' ending' is cuts_at least within rest) some index zero s at =
     sym (step_parts suppress lines state.current cut index s (place_from suppress (length lines) (index + 1) steps' ending') some least within
     ∙ append_none (lines_into s (place_from suppress (length lines) index (step_of state operand matched cut ∷ steps') ending') state.current (lines_between state.current cut lines)) _
@@ -144,6 +137,7 @@ placed_from suppress lines first steps last ending (cuts state operand operands 
     ∙ ap (λ those. those ++ lines_into s (place_from suppress (length lines) (index + 1) steps' ending') (line_after suppress cut) (drop (line_after suppress cut - 1) lines))
     (into_none s (place_from suppress (length lines) index (step_of state operand matched cut ∷ steps') ending') state.current (lines_between state.current cut lines)
     (λ line from before. ap (is_in s) (step_before suppress lines state.current cut index (place_from suppress (length lines) (index + 1) steps' ending') line some least within before) ∙ ne_eqb s index (λ same. omega (arith, at, same)))))
+placed_from suppress lines first steps last ending run some index k s at = rest_placed lines first.current (whole_end (length lines) ending) index some (end_is (length lines) ending) k s at
 
 -- Lines in no section
 
@@ -185,13 +179,11 @@ nowhere_by_step lt le index later A rest same = absurd (cc)
 
 nowhere_at : (suppress : Bool) (lines : List Line) (first : State) (steps : List Step) (last : State) (ending : Ending) → Runs suppress lines first steps last ending → (index line : ℕ) → first.current ≤ line → line ≤ length lines
     → place_from suppress (length lines) index steps ending line ≡ nowhere → (is_final ending ≡ true) × (last.current ≤ line)
-nowhere_at suppress lines first steps last ending (is_used_up state none) index line from within same = absurd (rest_not_nowhere index line (suc (length lines)) (omega (arith, within)) same)
-nowhere_at suppress lines first steps last ending (misses state operand operands is none) index line from within same = absurd (rest_not_nowhere index line (suc (length lines)) (omega (arith, within)) same)
-nowhere_at suppress lines first steps last ending (is_above state operand operands matched cut is cuts_at far) index line from within same = absurd (rest_not_nowhere index line (suc (length lines)) (omega (arith, within)) same)
 nowhere_at suppress lines first steps last ending (is_below state operand operands matched cut is cuts_at in_lines low) index line from within same = (refl, from)
 nowhere_at suppress lines first steps last ending (cuts state operand operands matched cut steps' last' ending' is cuts_at least in_lines rest) index line from within same =
     nowhere_by_step (nat_lt line cut) (suppress && nat_le line cut) index (place_from suppress (length lines) (index + 1) steps' ending' line) ((is_final ending' ≡ true) × (last'.current ≤ line))
     (λ lt le later. nowhere_at suppress lines (state_after suppress operand operands state.repetition matched cut) steps' last' ending' rest (index + 1) line (left_by suppress line cut lt le) within later) same
+nowhere_at suppress lines first steps last ending run index line from within same = absurd (rest_not_nowhere index line (suc (length lines)) (omega (arith, within)) same)
 
 pub are_placed : (suppress : Bool) (operands : List Operand) (x : List Line) → ArePlaced (place_of suppress operands x) suppress (plan suppress operands x) x
 are_placed suppress operands x =

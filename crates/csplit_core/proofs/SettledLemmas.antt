@@ -31,7 +31,8 @@ last_kept suppress lines state (below operand repetition) (operands, matched, cu
 -- the sections of the plan, and of the last one what stands before the line that this says
 abbrev pub draft_to : (ℕ → Ending → ℕ) → Bool → List Operand → List Line → Draft
 draft_to past suppress operands lines =
-    let p = plan suppress operands lines in draft_by lines p.steps (is_last_kept p.ending) (bytes_of (lines_between p.last.current (past (length lines) p.ending) lines))
+    let p = plan suppress operands lines in
+    draft_by lines p.steps (is_last_kept p.ending) (bytes_of (lines_between p.last.current (past (length lines) p.ending) lines))
 
 -- it is the draft of these steps, where the plan ends after them
 pub draft_is : (past : ℕ → Ending → ℕ) (suppress : Bool) (operands : List Operand) (x : List ℕ) (steps : List Step) (state : State) (ending : Ending) (taken : ℕ) (written : List ℕ) → Runs suppress (all_lines x) (start operands) steps state ending

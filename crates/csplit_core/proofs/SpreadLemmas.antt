@@ -93,7 +93,8 @@ pub spread_more : (told : Bool) (cutter now mid next : CutterState) (cut cut' : 
     → mid ≡ record now { aim = mid.aim } → Tries now line mid (Some cut') → WillCut now cut' → CutAt told mid cut' at left between new next rest → Spreading told cutter cut place waiting line old new next rest
 spread_more told cutter now mid next cut cut' place at waiting line left rest old between new at_is so_far is tries will at_cut =
     more_with told cutter now next mid.aim cut cut' place waiting line left rest old between new so_far (subst (λ (m : CutterState). Tries now line m (Some cut')) is tries) will
-    (subst (λ (m : CutterState). CutAt told m cut' m.progress.current left between new next rest) is (subst (λ n. CutAt told mid cut' n left between new next rest) at_is at_cut))
+    (subst (λ (m : CutterState). CutAt told m cut' m.progress.current left between new next rest) is
+    (subst (λ n. CutAt told mid cut' n left between new next rest) at_is at_cut))
 
 stopped_with : (told : Bool) (cutter now next : CutterState) (aim : Turn) (cut cut' : Cut) (place : ℕ) (waiting line left : List ℕ) (old between new : List Slot) (fault : Fault) → Spreading told cutter cut place waiting line old between now left
     → Tries now line (record now { aim = aim }) (Some cut') → WillCut now cut' → CutNot told (record now { aim = aim }) cut' now.progress.current left between new next fault → CutAllNot told cutter cut place waiting line [] old new next fault
@@ -113,7 +114,8 @@ pub spread_stopped : (told : Bool) (cutter now mid next : CutterState) (cut cut'
     → mid ≡ record now { aim = mid.aim } → Tries now line mid (Some cut') → WillCut now cut' → CutNot told mid cut' at left between new next fault → CutAllNot told cutter cut place waiting line [] old new next fault
 spread_stopped told cutter now mid next cut cut' place at waiting line left old between new fault at_is so_far is tries will not_cut =
     stopped_with told cutter now next mid.aim cut cut' place waiting line left old between new fault so_far (subst (λ (m : CutterState). Tries now line m (Some cut')) is tries) will
-    (subst (λ (m : CutterState). CutNot told m cut' m.progress.current left between new next fault) is (subst (λ n. CutNot told mid cut' n left between new next fault) at_is not_cut))
+    (subst (λ (m : CutterState). CutNot told m cut' m.progress.current left between new next fault) is
+    (subst (λ n. CutNot told mid cut' n left between new next fault) at_is not_cut))
 
 -- a fault at the first cut
 pub first_stopped : (told : Bool) (cutter next : CutterState) (cut : Cut) (place : ℕ) (waiting line : List ℕ) (old new : List Slot) (fault : Fault) → CutNot told cutter cut place waiting old new next fault → CutAllNot told cutter cut place waiting line [] old new next fault

@@ -133,7 +133,8 @@ module _ (told : Bool) (stage next : CsplitState) (piece : List ℕ) (old new : 
 
 module _ (stage : CsplitState) (x : List ℕ) (holds : Holds stage x) where
   -- what is said of all lines, where those beyond some change nothing
-  all_then : {A : Type 0} (f : List ℕ → A) → ((t : List ℕ) → IsPast stage.cutter (whole_lines x) → f (whole_lines x ++ t) ≡ f (whole_lines x)) → (stage.cutter.aim ≡ Below) ⊎ (stage.cutter.aim ≡ Below → ⊥) → f (whole_lines x ++ stage.rest) ≡ f x
+  all_then : {A : Type 0} (f : List ℕ → A) → ((t : List ℕ) → IsPast stage.cutter (whole_lines x) → f (whole_lines x ++ t) ≡ f (whole_lines x))
+      → (stage.cutter.aim ≡ Below) ⊎ (stage.cutter.aim ≡ Below → ⊥) → f (whole_lines x ++ stage.rest) ≡ f x
   all_then f past (inl below) =
       let is = is_past stage.cutter (whole_lines x) below holds.stands in past stage.rest is ∙ sym (past (open_line x) is) ∙ ap f (lines_then_open x)
   all_then f past (inr differs) = ap (λ those. f (whole_lines x ++ those)) (holds.live differs) ∙ ap f (lines_then_open x)
@@ -145,7 +146,8 @@ module _ (stage : CsplitState) (x : List ℕ) (holds : Holds stage x) where
   verdict_then next same =
       ap (λ (style : Style). verdict_by style.suppress next.operands (whole_lines x ++ stage.rest)) same.style
       ∙ ap (λ (operands : List Operand). verdict_by (suppress_in stage.cutter) operands (whole_lines x ++ stage.rest)) same.operands
-      ∙ all_then (verdict_by (suppress_in stage.cutter) stage.cutter.operands) (λ t. past_verdict stage.cutter (whole_lines x) t (lines_whole x)) (below_or_not stage.cutter.aim)
+      ∙ all_then (verdict_by (suppress_in stage.cutter) stage.cutter.operands) (λ t. past_verdict stage.cutter (whole_lines x) t (lines_whole x))
+      (below_or_not stage.cutter.aim)
 
 module _ (told : Bool) (stage next : CsplitState) (old new : List Slot) where
   pub judged_then : Closed told stage old new next → (verdict : Option Fault) → Judges next.cutter verdict → (x : List ℕ) → Holds stage x → verdict ≡ (work stage).verdict x

@@ -5,7 +5,7 @@ use Rattle.std.proofs.lemmas.List.{append-nil}
 use Rattle.std.proofs.Math.Nat.{max-le, le-max_left, le-max_right}
 use Rattle.std.proofs.Math.Seq.{get_or-append_right}
 use Rattle.csplit_core.specs.Operand.{Target, Number, Search, Operand, Line, unmarked, is_match}
-use Rattle.csplit_core.specs.Plan.{State, start, Step, Ending, used_up, missed, above, below, search_line, IsFirst, MatchesNone, Misses, line_after, state_after, Runs, is_used_up, misses, is_above, is_below, cuts}
+use Rattle.csplit_core.specs.Plan.{State, start, Step, Ending, missed, above, search_line, IsFirst, MatchesNone, Misses, line_after, state_after, Runs, is_used_up, misses, is_above, is_below, cuts}
 use Rattle.csplit_core.specs.Planned.{plan}
 use Rattle.csplit_core.specs.laws.MatchLaws.{search_some, match_still}
 use Rattle.csplit_core.specs.laws.PlanLaws.{cuts_still, goes_on, plan_runs, plan_once}
@@ -84,10 +84,9 @@ looks_past operand lines from looked none line from_on within = elim (cases_eq l
 
 -- what more lines have to be, so that the plan still ends there
 abbrev pub EndsStill : Bool → (count : ℕ) → List Line → (total : ℕ) → State → Ending → Type 0
-EndsStill suppress count b total last used_up = Unit {0}
 EndsStill suppress count b total last (missed operand repetition) = (operand : Operand) (operands : List Operand) → last.operands ≡ operand ∷ operands → NoneFrom operand count b (search_line suppress last)
 EndsStill suppress count b total last (above operand repetition matched cut) = total < cut
-EndsStill suppress count b total last (below operand repetition) = Unit {0}
+EndsStill suppress count b total last ending = Unit {0}
 
 pub ends_still : (suppress : Bool) (a b : List Line) (first : State) (steps : List Step) (last : State) (ending : Ending) → Runs suppress a first steps last ending → EndsStill suppress (length a) b (length (a ++ b)) last ending
     → Runs suppress (a ++ b) last [] last ending

@@ -265,7 +265,8 @@ take_some told cutter mid next line cut old new (Err fault) fit differs one is w
 pub past_not_live : (cutter : CutterState) (x : List ℕ) → cutter.aim ≡ Below → IsLive cutter x → ⊥
 past_not_live cutter x aim live = false≢true (sym live.live ∙ aims_past live.ends.ending (subst (λ a. AimsAt a live.ends.ending) aim live.ends.aims))
 
-final_stays : (suppress : Bool) (count : ℕ) (b : List Line) (total : ℕ) (last : State) (ending : Ending) → is_final ending ≡ true → EndsStill suppress count b total last ending
+final_stays : (suppress : Bool) (count : ℕ) (b : List Line) (total : ℕ) (last : State) (ending : Ending) → is_final ending ≡ true
+    → EndsStill suppress count b total last ending
 final_stays suppress count b total last (below operand repetition) past = tt
 final_stays suppress count b total last _ past = absurd (false≢true past)
 

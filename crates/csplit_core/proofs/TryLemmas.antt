@@ -34,7 +34,7 @@ last_mark operand lines total line front is count =
     ∙ ap (λ n. (get_or (front ++ marked line ∷ []) n unmarked).marks operand) (let e : total - 1 ≡ length front = omega (arith, long, count) in e)
     ∙ ap (λ (l : Line). l.marks operand) (get_or-append_seam front (marked line) [] unmarked)
 
-found_is : (cutter : CutterState) (line text : List ℕ) (number : ℕ) (found : Bool) (target : Target) → text ≡ without_newline line → cutter.sought ≡ pattern_in target → IsFound cutter text number found
+pub found_is : (cutter : CutterState) (line text : List ℕ) (number : ℕ) (found : Bool) (target : Target) → text ≡ without_newline line → cutter.sought ≡ pattern_in target → IsFound cutter text number found
     → search_line (suppress_in cutter) (state_in cutter) ≤ number → is_match_of line target ≡ found
 found_is cutter line text number found (Number n) is sought says near = sym (says.none sought)
 found_is cutter line text number found (Search pattern kept offset) is sought says near = sym (says.some pattern sought near ∙ ap (contains pattern) is)
@@ -118,13 +118,16 @@ tries_none cutter mid before line text number found turn first same number_is is
 
 -- One more line comes.
 
-line_stays : (cutter : CutterState) (x line : List ℕ) (live : IsLive cutter x) → IsWhole x → IsLine line → EndsStill (suppress_in cutter) (length (all_lines x)) (marked line ∷ []) (suc (length (all_lines x))) (state_in cutter) live.ends.ending → EndsNow cutter (x ++ line)
+line_stays : (cutter : CutterState) (x line : List ℕ) (live : IsLive cutter x) → IsWhole x → IsLine line
+    → EndsStill (suppress_in cutter) (length (all_lines x)) (marked line ∷ []) (suc (length (all_lines x))) (state_in cutter) live.ends.ending
+    → EndsNow cutter (x ++ line)
 line_stays cutter x line live whole one stays =
     let runs = runs_to cutter x cutter.window.held live.at live.ends in
     let more : length (all_lines x ++ marked line ∷ []) ≡ suc (length (all_lines x)) = (let e : length (all_lines x ++ marked line ∷ []) ≡ length (all_lines x) + 1 = length-append (all_lines x) (marked line ∷ []) in omega (arith, e)) in record {
       ending = live.ends.ending;
       runs = subst (λ lines. Runs (suppress_in cutter) lines (state_in cutter) [] (state_in cutter) live.ends.ending) (sym (all_lines-line x line whole one))
-          (ends_still (suppress_in cutter) (all_lines x) (marked line ∷ []) (start cutter.operands) live.at.steps (state_in cutter) live.ends.ending runs (subst (λ n. EndsStill (suppress_in cutter) (length (all_lines x)) (marked line ∷ []) n (state_in cutter) live.ends.ending) (sym more) stays));
+          (ends_still (suppress_in cutter) (all_lines x) (marked line ∷ []) (start cutter.operands) live.at.steps (state_in cutter) live.ends.ending runs
+          (subst (λ n. EndsStill (suppress_in cutter) (length (all_lines x)) (marked line ∷ []) n (state_in cutter) live.ends.ending) (sym more) stays));
       aims = live.ends.aims;
     }
 
@@ -132,14 +135,16 @@ line_stays cutter x line live whole one stays =
 lines_are : (cutter : CutterState) (x : List ℕ) (live : IsLive cutter x) → length (all_lines x) ≡ cutter.lines
 lines_are cutter x live = length-all_lines x ∙ sym live.at.counted
 
-above_stays : (suppress : Bool) (count : ℕ) (last : State) (b : List Line) (total matched at : ℕ) (ending : Ending) → AimsAt (Above matched at) ending → suc total < at → EndsStill suppress count b (suc total) last ending
+above_stays : (suppress : Bool) (count : ℕ) (last : State) (b : List Line) (total matched at : ℕ) (ending : Ending) → AimsAt (Above matched at) ending
+    → suc total < at → EndsStill suppress count b (suc total) last ending
 above_stays suppress count last b total matched at (above operand repetition matched' cut) aims far = elim (cases_lt cut (2 ^ 64 - 1)) [
   | inl less ↦ let e : min cut (2 ^ 64 - 1) ≡ cut = Rattle.std.proofs.Math.Nat.min-eq_left (omega (arith, less)) in omega (arith, e, aims.1, far)
   | inr more ↦ let e : min cut (2 ^ 64 - 1) ≡ 2 ^ 64 - 1 = Rattle.std.proofs.Math.Nat.min-eq_right more in omega (arith, e, aims.1, far, more)
 ]
 above_stays suppress count last b total matched at _ aims far = absurd aims
 
-used_up_stays : (suppress : Bool) (count : ℕ) (last : State) (b : List Line) (total : ℕ) (ending : Ending) → AimsAt UsedUp ending → EndsStill suppress count b total last ending
+used_up_stays : (suppress : Bool) (count : ℕ) (last : State) (b : List Line) (total : ℕ) (ending : Ending) → AimsAt UsedUp ending
+    → EndsStill suppress count b total last ending
 used_up_stays suppress count last b total used_up aims = tt
 used_up_stays suppress count last b total _ aims = absurd aims
 
@@ -148,7 +153,9 @@ next_above cutter before now x line matched at same now_is live whole one aim fa
     let aim' : cutter.aim ≡ Above matched at = ap (λ (c : CutterState). c.aim) (sym same) ∙ aim in
     let count = lines_are cutter x live in
     let lines' : before.lines ≡ cutter.lines = ap (λ (c : CutterState). c.lines) same in
-    let ends = line_stays cutter x line live whole one (above_stays (suppress_in cutter) (length (all_lines x)) (state_in cutter) (marked line ∷ []) (length (all_lines x)) matched at live.ends.ending (subst (λ a. AimsAt a live.ends.ending) aim' live.ends.aims) (omega (arith, count, lines', far))) in
+    let ends = line_stays cutter x line live whole one
+    (above_stays (suppress_in cutter) (length (all_lines x)) (state_in cutter) (marked line ∷ []) (length (all_lines x)) matched at live.ends.ending
+    (subst (λ a. AimsAt a live.ends.ending) aim' live.ends.aims) (omega (arith, count, lines', far))) in
     subst (λ (c : CutterState). EndsNow c (x ++ line)) (sym now_is) ends
 
 pub next_used_up : (cutter before now : CutterState) (x line : List ℕ) → before ≡ cutter → now ≡ record cutter { lines = cutter.lines + 1 } → IsLive cutter x → IsWhole x → IsLine line → before.aim ≡ UsedUp → EndsNow now (x ++ line)

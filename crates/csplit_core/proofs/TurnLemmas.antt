@@ -10,7 +10,7 @@ use Rattle.csplit_core.specs.Plan.{State, search_line, CutsAt, Misses, line_afte
 use Rattle.csplit_core.specs.Progress.{state_of}
 use Rattle.csplit_core.specs.inner.Progress.{AreSeen, MissesNow, Turns, FallsAt}
 use Rattle.csplit_core.specs.declared.progress.Turn.{Turn}
-use Rattle.csplit_core.specs.declared.progress.Turn.TheVariants.{UsedUp, Missed, Above, Below, Cuts}
+use Rattle.csplit_core.specs.declared.progress.Turn.TheVariants.{Above, Below, Cuts}
 use Rattle.csplit_core.proofs.StayLemmas.{looks_last, looks_past}
 
 -- a number that was capped, and is below the cap, is the number
@@ -28,8 +28,6 @@ capped_less real cap most is = elim (cases_lt cap real) [
 
 pub falls : (suppress : Bool) (all : List Line) (total : ℕ) (state : State) (operand : Operand) (operands : List Operand) (matched real most : ℕ) → state.operands ≡ operand ∷ operands → CutsAt suppress all state operand operand.target matched real
     → most ≡ min real (2 ^ 64 - 1) → total < 2 ^ 64 - 1 → (turn : Turn) → FallsAt total state.current matched most turn → Turns suppress all total state turn
-falls suppress all total state operand operands matched real most are cuts is few UsedUp at = absurd at
-falls suppress all total state operand operands matched real most are cuts is few Missed at = absurd at
 falls suppress all total state operand operands matched real most are cuts is few (Above line cap) at = record {
   operand = operand;
   operands = operands;
@@ -50,6 +48,7 @@ falls suppress all total state operand operands matched real most are cuts is fe
       cuts = subst (λ f. CutsAt suppress all state operand operand.target f real) (sym at.0) cuts;
       place = (sym (at.1 ∙ same), omega (arith, at.1, at.2), omega (arith, at.1, at.3));
     }
+falls suppress all total state operand operands matched real most are cuts is few turn at = absurd at
 
 pub falls_number : (suppress : Bool) (all : List Line) (total : ℕ) (state : State) (operand : Operand) (operands : List Operand) (number most : ℕ) → state.operands ≡ operand ∷ operands → operand.target ≡ Number number
     → most ≡ min (number * (state.repetition + 1)) (2 ^ 64 - 1) → total < 2 ^ 64 - 1 → (turn : Turn) → FallsAt total state.current state.matched most turn → Turns suppress all total state turn

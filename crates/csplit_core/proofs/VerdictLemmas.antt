@@ -50,7 +50,8 @@ none_of state used_up of none = refl
 none_of state ending of none = absurd (cc of.0.1)
 
 -- what is said of the operand of an ending and of how often it was performed is said of the next one
-next_one : (f : Operand → ℕ → Option Fault) (state : State) (other operand : Operand) (operands : List Operand) (repetition : ℕ) → IsNext state other repetition → state.operands ≡ operand ∷ operands → f operand state.repetition ≡ f other repetition
+next_one : (f : Operand → ℕ → Option Fault) (state : State) (other operand : Operand) (operands : List Operand) (repetition : ℕ) → IsNext state other repetition
+    → state.operands ≡ operand ∷ operands → f operand state.repetition ≡ f other repetition
 next_one f state other operand operands repetition of are =
     let same : operand ≡ other = cc of.0.1 in ap (λ o. f o state.repetition) same ∙ ap (f other) (sym of.1)
 
@@ -63,9 +64,12 @@ verdict_at turn operand repetition = None
 
 verdict_is : (state : State) (operand : Operand) (operands : List Operand) (aim : Turn) (ending : Ending) → IsOf state ending → state.operands ≡ operand ∷ operands → AimsAt aim ending → verdict_at aim operand state.repetition ≡ verdict_of ending
 verdict_is state operand operands UsedUp used_up of are aims = refl
-verdict_is state operand operands Missed (missed other repetition) of are aims = next_one (λ o n. verdict_of (missed o n)) state other operand operands repetition of are
-verdict_is state operand operands (Above matched line) (above other repetition matched' cut) of are aims = next_one (λ o n. verdict_of (above o n 0 0)) state other operand operands repetition of are
-verdict_is state operand operands Below (below other repetition) of are aims = next_one (λ o n. verdict_of (below o n)) state other operand operands repetition of are
+verdict_is state operand operands Missed (missed other repetition) of are aims =
+    next_one (λ o n. verdict_of (missed o n)) state other operand operands repetition of are
+verdict_is state operand operands (Above matched line) (above other repetition matched' cut) of are aims =
+    next_one (λ o n. verdict_of (above o n 0 0)) state other operand operands repetition of are
+verdict_is state operand operands Below (below other repetition) of are aims =
+    next_one (λ o n. verdict_of (below o n)) state other operand operands repetition of are
 verdict_is state operand operands aim ending of are aims = absurd aims
 
 -- What `verdict` returns: the cutter is known by its fields.

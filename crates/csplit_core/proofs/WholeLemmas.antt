@@ -4,7 +4,7 @@ use Rattle.std.proofs.lemmas.Bool.{false≢true}
 use Rattle.std.proofs.lemmas.List.{append-nil, take-append-drop, take_all, drop-drop}
 use Rattle.std.proofs.Common.{length-drop}
 use Rattle.csplit_core.specs.Operand.{Operand, Line}
-use Rattle.csplit_core.specs.Plan.{State, start, Step, Ending, used_up, missed, above, below, state_after, Runs, is_used_up, misses, is_above, is_below, cuts}
+use Rattle.csplit_core.specs.Plan.{State, start, Step, Ending, below, state_after, Runs, cuts}
 use Rattle.csplit_core.specs.Planned.{plan}
 use Rattle.csplit_core.specs.Section.{Section, section, section_of, lines_between, is_last_kept, whole_end, settled_end, whole_sections, settled_sections, is_final, waiting_lines, lines_in}
 use Rattle.csplit_core.specs.laws.PlanLaws.{plan_runs}
@@ -22,14 +22,11 @@ between_rest first cut lines some least =
 
 steps_and_rest : (lines : List Line) (first : State) (steps : List Step) (last : State) (ending : Ending) → Runs false lines first steps last ending → 1 ≤ first.current
     → lines_in (map (section_of lines) steps) ++ drop (last.current - 1) lines ≡ drop (first.current - 1) lines
-steps_and_rest lines first steps last ending (is_used_up state none) some = refl
-steps_and_rest lines first steps last ending (misses state operand operands is none) some = refl
-steps_and_rest lines first steps last ending (is_above state operand operands matched cut is at far) some = refl
-steps_and_rest lines first steps last ending (is_below state operand operands matched cut is at within low) some = refl
 steps_and_rest lines first steps last ending (cuts state operand operands matched cut steps' last' ending' is at from within rest) some =
     append_assoc (lines_between state.current cut lines) (lines_in (map (section_of lines) steps')) (drop (last'.current - 1) lines)
     ∙ ap (λ those. lines_between state.current cut lines ++ those) (steps_and_rest lines (state_after false operand operands state.repetition matched cut) steps' last' ending' rest (omega (arith, some, from)))
     ∙ between_rest state.current cut lines some from
+steps_and_rest lines first steps last ending run some = refl
 
 -- the steps' sections, then these lines, where they are what is left
 all_with : (closed : Bool) (operands : List Operand) (x : List Line) (end rest : List Line) → end ++ rest ≡ drop ((plan false operands x).last.current - 1) x
@@ -50,10 +47,8 @@ none_lost operands x live =
     (take-append-drop (settled_end (length x) plan'.ending - plan'.last.current) (drop (plan'.last.current - 1) x))
 
 pub ends_after_all : (total : ℕ) (ending : Ending) → is_final ending ≡ false → whole_end total ending ≡ suc total
-ends_after_all total used_up live = refl
-ends_after_all total (missed operand repetition) live = refl
-ends_after_all total (above operand repetition matched cut) live = refl
 ends_after_all total (below operand repetition) live = absurd (false≢true (sym live))
+ends_after_all total ending live = refl
 
 rest_is_all : (x : List Line) (current : ℕ) → 1 ≤ current → lines_between current (suc (length x)) x ≡ drop (current - 1) x
 rest_is_all x current some = take_all (suc (length x) - current) (drop (current - 1) x) (let e : length (drop (current - 1) x) ≡ length x - (current - 1) = length-drop (current - 1) x in omega (arith, e, some))

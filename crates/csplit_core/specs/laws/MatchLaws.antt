@@ -104,9 +104,7 @@ search_some false state = search_by state (eqb state.current 1 && eqb state.matc
 past_by : (current matched : ℕ) (one none : Bool) → eqb current 1 ≡ one → eqb matched 0 ≡ none
     → matched < cond (one && none) 1 (suc (max current matched))
 past_by current matched true true is none = grind (arith, none)
-past_by current matched true false is none = let e : matched ≤ max current matched =
-    le-max_right current matched in omega (arith, e)
-past_by current matched false none is are = let e : matched ≤ max current matched =
+past_by current matched one none is are = let e : matched ≤ max current matched =
     le-max_right current matched in omega (arith, e)
 
 pub search_past : (suppress : Bool) (state : State) → state.matched < search_line suppress state

@@ -324,12 +324,6 @@ pub goes_on : (suppress : Bool) (a b : List Line) (first : State) (steps : List 
     (more : List Step) (end : State) (how : Ending)
     → Runs suppress a first steps last ending → Runs suppress (a ++ b) last more end how
     → Runs suppress (a ++ b) first (steps ++ more) end how
-goes_on suppress a b first steps last ending more end how (is_used_up state none) rest = rest
-goes_on suppress a b first steps last ending more end how (misses state operand operands is none) rest = rest
-goes_on suppress a b first steps last ending more end how (is_above state operand operands matched cut is at far) rest =
-    rest
-goes_on suppress a b first steps last ending more end how (is_below state operand operands matched cut is at within low)
-    rest = rest
 goes_on suppress a b first steps last ending more end how
     (cuts state operand operands matched cut steps' last' ending' is at from within rest') rest =
     cuts state operand operands matched cut (steps' ++ more) end how is
@@ -337,3 +331,4 @@ goes_on suppress a b first steps last ending more end how
     (let e : length (a ++ b) ≡ length a + length b = length-append a b in omega (arith, e, within))
     (goes_on suppress a b (state_after suppress operand operands state.repetition matched cut) steps' last' ending' more
     end how rest' rest)
+goes_on suppress a b first steps last ending more end how run rest = rest

@@ -67,18 +67,13 @@ ends_as suppress lines first steps last ending
 pub are_within : (suppress : Bool) (lines : List Line) (first : State) (steps : List Step) (last : State)
     (ending : Ending) → Runs suppress lines first steps last ending → 1 ≤ first.current
     → AreWithin (length lines) steps × (1 ≤ last.current)
-are_within suppress lines first steps last ending (is_used_up state none) some = (tt, some)
-are_within suppress lines first steps last ending (misses state operand operands is none) some = (tt, some)
-are_within suppress lines first steps last ending (is_above state operand operands matched cut is at far) some =
-    (tt, some)
-are_within suppress lines first steps last ending (is_below state operand operands matched cut is at within low) some =
-    (tt, some)
 are_within suppress lines first steps last ending
     (cuts state operand operands matched cut steps' last' ending' is at from within rest) some =
     let least : cut ≤ line_after suppress cut = line_some suppress cut in
     let those = are_within suppress lines (state_after suppress operand operands state.repetition matched cut) steps'
     last' ending' rest (omega (arith, least, some, from)) in
     ((some, from, within, those.0), those.1)
+are_within suppress lines first steps last ending run some = (tt, some)
 
 pub closed_still : (a b : List Line) (steps : List Step) → AreWithin (length a) steps
     → map (section_of (a ++ b)) steps ≡ map (section_of a) steps
@@ -391,9 +386,7 @@ settled_covers total ending = omega arith
 
 pub whole_covers : Covers whole_end
 whole_covers total used_up = omega arith
-whole_covers total (missed operand repetition) = omega arith
-whole_covers total (above operand repetition matched cut) = omega arith
-whole_covers total (below operand repetition) = omega arith
+whole_covers total ending = omega arith
 
 -- The two laws of what is settled: it only grows, and what is put out in the end begins with it.
 pub grows : (style : Style) (operands : List Operand) (a b : List Line)

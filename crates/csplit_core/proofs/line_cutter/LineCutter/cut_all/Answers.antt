@@ -12,7 +12,8 @@ returns-in_err-left g c = result_is (CutsAll _ _ _ _ _ _ _ _ _) _ _ c.from_resid
 pub hold-requires-clause-fits : goal.hold-requires-clause-fits
 hold-requires-clause-fits g c =
     let spread = c.in_ok-left.ensures.ok in
-    omega (arith, ap (λ (cutter : CutterState). size_of cutter.writer.current + length cutter.window.held) spread.is, ap length spread.so_far.held, spread.so_far.size, c.requires.fits)
+    let same = ap (λ (cutter : CutterState). size_of cutter.writer.current + length cutter.window.held) spread.is in
+    omega (arith, same, ap length spread.so_far.held, spread.so_far.size, c.requires.fits)
 
 pub hold-requires-clause-fit : goal.hold-requires-clause-fit
 hold-requires-clause-fit g c = let spread = c.in_ok-left.ensures.ok in spread_fit spread.now _ spread.is spread.so_far.fit

@@ -18,10 +18,12 @@ pub try_last-requires-clause-fit : goal.try_last-requires-clause-fit
 try_last-requires-clause-fit g c = c.loop-cut.invariant.fit
 
 pub cut_at-requires-in-Some-clause-few : goal.cut_at-requires-in-Some-clause-few
-cut_at-requires-in-Some-clause-few g c = omega (arith, ap (λ (cutter : CutterState). cutter.lines) c.try_last.ensures.same, c.loop-cut.invariant.lines, c.requires.few)
+cut_at-requires-in-Some-clause-few g c =
+    omega (arith, ap (λ (cutter : CutterState). cutter.lines) c.try_last.ensures.same, c.loop-cut.invariant.lines, c.requires.few)
 
 pub cut_at-requires-in-Some-clause-fits : goal.cut_at-requires-in-Some-clause-fits
-cut_at-requires-in-Some-clause-fits g c = omega (arith, ap (λ (cutter : CutterState). size_of cutter.writer.current) c.try_last.ensures.same, c.loop-cut.invariant.size, c.requires.fits)
+cut_at-requires-in-Some-clause-fits g c =
+    omega (arith, ap (λ (cutter : CutterState). size_of cutter.writer.current) c.try_last.ensures.same, c.loop-cut.invariant.size, c.requires.fits)
 
 pub cut_at-requires-in-Some-clause-fit : goal.cut_at-requires-in-Some-clause-fit
 cut_at-requires-in-Some-clause-fit g c = spread_fit c.loop-cut.self c.try_last.new.self c.try_last.ensures.same c.loop-cut.invariant.fit
