@@ -86,7 +86,7 @@ unwritten writer bytes draft is some writes = record {
   none = none;
   count = writes.made ∙ count_none writer.style draft.ended (last_contents false draft) none;
   high = open_part writer.style (with_bytes bytes draft) makes ∙ ap (λ those. with_last (size_lines writer.style draft.ended) (files_of writer.style 0 draft.ended) (file_of (name_after writer.style draft.ended) (those ++ bytes) state.Open)) now.2;
-  size = zero_more (length bytes) ∙ sym (ap (λ those. length (those ++ bytes)) now.2);
+  size = (let e : 0 + length bytes ≡ length bytes = omega arith in e) ∙ sym (ap (λ those. length (those ++ bytes)) now.2);
 } where
   now : (draft.is_kept ≡ true) × (writer.style.elide ≡ true) × (draft.bytes ≡ [])
   now = now_unmade writer draft is writes
@@ -96,9 +96,6 @@ unwritten writer bytes draft is some writes = record {
 
   none : makes_file writer.style (last_contents false draft) ≡ false
   none = let now = now_unmade writer draft is writes in elides_file writer.style (last_contents false draft) now.1 now.2
-
-  zero_more : (n : ℕ) → 0 + n ≡ n
-  zero_more n = omega arith
 
 pub put_first : (told : Bool) (writer made next : WriterState) (slot : ℕ) (bytes : List ℕ) (old mid new : List Slot) (result : Result (Unit {0}) Fault) → writer.current ≡ Unmade → is_empty bytes ≡ false → IsReady writer old → Made writer old mid made slot
     → Appends told made slot 0 bytes mid new next result → Goes told writer (with_bytes bytes) old new next result
@@ -212,42 +209,31 @@ new_owns style slots two = record {
   last = tt;
 }
 
-new_ready : (style : Style) (slots : List Slot) → 2 ≤ length slots → IsTrue (is_writable slots 0) → IsReady (new_writer style) slots
-new_ready style slots two can = record { streams = two; output = can; files = tt; current = tt }
-
 new_pauses : (style : Style) → Pauses (new_writer style) []
 new_pauses style = record { closed = tt; made = refl }
-
-first_begun : (told : Bool) (style : Style) (kept : Bool) (old new : List Slot) (next : WriterState) → 2 ≤ length old → Started told style (new_writer style) kept old new next → Begun told style kept old new next
-first_begun told style kept old new next two started = record {
-  asked = started.asked;
-  writes = started.writes [] (new_pauses style);
-  moves = started.moves [] (new_pauses style);
-  size = started.size;
-  owns = started.owns.owns (length old) (new_owns style old two);
-  ready = started.ready;
-}
-
-none_made : (files : List ℕ) (place : ℕ) → files ≡ [] → is_among place files ≡ false
-none_made files place none = ap (is_among place) none
-
-first_not : (told : Bool) (style : Style) (kept : Bool) (old new : List Slot) (next : WriterState) (f : Fault) → 2 ≤ length old → StartedNot told style (new_writer style) kept old new next f → BegunNot told style (draft_part style (first_draft kept)) old new f
-first_not told style kept old new next f two started = record {
-  halts = started.halts [] (new_pauses style);
-  breaks = started.breaks;
-  none = λ place past. own.own place past ∙ none_made next.files place started.none_made;
-} where
-  own : OwnsFiles next (length old) new
-  own = started.owns.owns (length old) (new_owns style old two)
 
 -- The same of a writer whose list of files is empty
 
 pub empty_ready : (style : Style) (files : List ℕ) (slots : List Slot) → files ≡ [] → 2 ≤ length slots → IsTrue (is_writable slots 0) → IsReady (state_of style files Skipped) slots
-empty_ready style files slots none two can = subst (λ those. IsReady (state_of style those Skipped) slots) (sym none) (new_ready style slots two can)
+empty_ready style files slots none two can =
+    subst (λ those. IsReady (state_of style those Skipped) slots) (sym none) (record { streams = two; output = can; files = tt; current = tt })
 
 pub opens_begun : (told : Bool) (style : Style) (files : List ℕ) (kept : Bool) (old new : List Slot) (next : WriterState) → files ≡ [] → 2 ≤ length old → Started told style (state_of style files Skipped) kept old new next → Begun told style kept old new next
-opens_begun told style files kept old new next none two started = first_begun told style kept old new next two (subst (λ those. Started told style (state_of style those Skipped) kept old new next) none started)
+opens_begun told style files kept old new next none two begun =
+    let started = subst (λ those. Started told style (state_of style those Skipped) kept old new next) none begun in record {
+      asked = started.asked;
+      writes = started.writes [] (new_pauses style);
+      moves = started.moves [] (new_pauses style);
+      size = started.size;
+      owns = started.owns.owns (length old) (new_owns style old two);
+      ready = started.ready;
+    }
 
 pub opens_not : (told : Bool) (style : Style) (files : List ℕ) (kept : Bool) (old new : List Slot) (next : WriterState) (f : Fault) → files ≡ [] → 2 ≤ length old → StartedNot told style (state_of style files Skipped) kept old new next f
     → BegunNot told style (draft_part style (first_draft kept)) old new f
-opens_not told style files kept old new next f none two started = first_not told style kept old new next f two (subst (λ those. StartedNot told style (state_of style those Skipped) kept old new next f) none started)
+opens_not told style files kept old new next f none two not_begun =
+    let started = subst (λ those. StartedNot told style (state_of style those Skipped) kept old new next f) none not_begun in record {
+      halts = started.halts [] (new_pauses style);
+      breaks = started.breaks;
+      none = λ place past. (started.owns.owns (length old) (new_owns style old two)).own place past ∙ ap (is_among place) started.none_made;
+    }

@@ -1,7 +1,7 @@
 -- The complete lines of a text and what follows them, where more bytes come.
-use Rattle.std.proofs.Common.{◌≡◌, inl, inr, ℕ, zero, suc, ◌+◌, ◌<◌, ◌≤◌, Bool, true, false, cond, List, [], ◌∷◌, ◌++◌, length, map, take, drop, refl, sym, ◌∙◌, ap, subst, arith, append_assoc, length-append}
+use Rattle.std.proofs.Common.{◌≡◌, inl, inr, ℕ, ◌+◌, ◌<◌, ◌≤◌, Bool, true, false, cond, List, [], ◌∷◌, ◌++◌, length, map, take, drop, refl, sym, ◌∙◌, ap, subst, arith, append_assoc, length-append}
 use Rattle.std.proofs.lemmas.Bool.{false≢true, cases_eq, eq-eqb, ne_eqb}
-use Rattle.std.proofs.lemmas.List.{append-nil, append_cancel_left, take-append-drop}
+use Rattle.std.proofs.lemmas.List.{append-nil, append_cancel_left, take-append-drop, length-take, length-take-le}
 use Rattle.seg_core.specs.Line.{lines_of, line_count, delimiters, ends_with, first_lines, HasNone, AreLines, LastEndsAt}
 use Rattle.seg_core.proofs.Delimiters.{delimiters-append}
 use Rattle.seg_core.proofs.FirstLines.{first_lines-zero, first_lines_then_rest, delimiters-first_lines, lines_of-first_lines}
@@ -12,13 +12,12 @@ use Rattle.csplit_core.specs.Input.{newline, marked, all_lines, complete_lines, 
 use Rattle.csplit_core.specs.inner.Cutter.{IsWhole, IsLine}
 use Rattle.csplit_core.specs.CsplitState.{whole_lines}
 use Rattle.csplit_core.proofs.LineLemmas.{whole-append}
+use Rattle.std.proofs.Math.Nat.{min-le_left}
 
 take_few : {X : Type 0} (n : ℕ) (xs : List X) → length (take n xs) ≤ n
-take_few zero xs = omega arith
-take_few (suc n) [] = omega arith
-take_few (suc n) (x ∷ xs) = let few : length (take n xs) ≤ n = take_few n xs in omega (arith, few)
+take_few n xs = let e = length-take n xs in let least = min-le_left n (length xs) in omega (arith, e, least)
 
-whole_by : (x : List ℕ) (ends : Bool) → ends_with newline x ≡ ends → line_count newline x ≤ delimiters newline x → IsWhole x
+pub whole_by : (x : List ℕ) (ends : Bool) → ends_with newline x ≡ ends → line_count newline x ≤ delimiters newline x → IsWhole x
 whole_by [] ends is few = inl refl
 whole_by (byte ∷ x) true is few = inr is
 whole_by (byte ∷ x) false is few = absurd (let count = line_count-open newline (byte ∷ x) (omega arith) is in omega (arith, count, few))
@@ -83,9 +82,7 @@ none_open rest piece none also = rest_is [] (rest ++ piece) (inl refl) (no_newli
 -- a piece with one
 
 take_some : (n : ℕ) (x : List ℕ) → 0 < n → n ≤ length x → 0 < length (take n x)
-take_some zero x some within = absurd (omega (arith, some))
-take_some (suc n) [] some within = absurd (omega (arith, within))
-take_some (suc n) (byte ∷ x) some within = omega arith
+take_some n x some within = let e = length-take-le n x within in omega (arith, e, some)
 
 ends_by : (x : List ℕ) → IsWhole x → 0 < length x → ends_with newline x ≡ true
 ends_by x (inl empty) some = absurd (let e : length x ≡ 0 = ap length empty in omega (arith, e, some))

@@ -24,16 +24,15 @@ files_by style place one a b true rest other =
 files_by style place one a b false rest other = other
 
 pub files_of-append : (style : Style) (place : ℕ) (a b : List Contents) → files_of style place (a ++ b) ≡ files_of style place a ++ files_of style (place + length (files_of style place a)) b
-files_of-append style place [] b = ap (λ n. files_of style n b) (none place) where
-  none : (n : ℕ) → n ≡ n + 0
-  none n = omega arith
+files_of-append style place [] b = ap (λ n. files_of style n b) (let e : place ≡ place + 0 = omega arith in e)
 files_of-append style place (one ∷ a) b = files_by style place one a b (makes_file style one) (files_of-append style (place + 1) a b) (files_of-append style place a b)
 
 -- the files of one more section
 last_file : (style : Style) (ended : List Contents) (one : Contents) → files_of style 0 (ended ++ one ∷ []) ≡ files_of style 0 ended ++ cond (makes_file style one) (file_at style (length (files_of style 0 ended)) one ∷ []) []
-last_file style ended one = files_of-append style 0 ended (one ∷ []) ∙ ap (λ n. files_of style 0 ended ++ cond (makes_file style one) (file_at style n one ∷ []) []) (none (length (files_of style 0 ended))) where
-  none : (n : ℕ) → 0 + n ≡ n
-  none n = omega arith
+last_file style ended one =
+    files_of-append style 0 ended (one ∷ [])
+    ∙ ap (λ n. files_of style 0 ended ++ cond (makes_file style one) (file_at style n one ∷ []) [])
+    (let e : 0 + length (files_of style 0 ended) ≡ length (files_of style 0 ended) = omega arith in e)
 
 abbrev pub name_after : Style → List Contents → List ℕ
 name_after style ended = numbered_name style.prefix style.digits (length (files_of style 0 ended))
@@ -71,15 +70,11 @@ pub closed_part : (style : Style) (draft : Draft) (line : List ℕ) → makes_fi
 closed_part style draft line makes is = part_made style draft.ended (last_contents true draft) makes
     ∙ ap (λ those. with_last (size_lines style draft.ended ++ those) (files_of style 0 draft.ended) (file_of (name_after style draft.ended) draft.bytes state.Closed)) is
 
-pub line_told : (style : Style) (draft : Draft) → makes_file style (last_contents true draft) ≡ true → style.quiet ≡ false → size_line style (last_contents true draft) ≡ decimal (length draft.bytes) ++ newline ∷ []
-line_told style draft makes quiet =
+pub line_of : (style : Style) (draft : Draft) (quiet : Bool) → makes_file style (last_contents true draft) ≡ true → style.quiet ≡ quiet
+    → size_line style (last_contents true draft) ≡ cond (not quiet) (decimal (length draft.bytes) ++ newline ∷ []) []
+line_of style draft quiet makes is =
     ap (λ made. cond (made && (true && not style.quiet)) (decimal (length draft.bytes) ++ newline ∷ []) []) makes
-    ∙ ap (λ q. cond (true && (true && not q)) (decimal (length draft.bytes) ++ newline ∷ []) []) quiet
-
-pub line_untold : (style : Style) (draft : Draft) → makes_file style (last_contents true draft) ≡ true → style.quiet ≡ true → size_line style (last_contents true draft) ≡ []
-line_untold style draft makes quiet =
-    ap (λ made. cond (made && (true && not style.quiet)) (decimal (length draft.bytes) ++ newline ∷ []) []) makes
-    ∙ ap (λ q. cond (true && (true && not q)) (decimal (length draft.bytes) ++ newline ∷ []) []) quiet
+    ∙ ap (λ q. cond (true && (true && not q)) (decimal (length draft.bytes) ++ newline ∷ []) []) is
 
 -- how many files there are
 

@@ -23,7 +23,7 @@ use Rattle.csplit_core.proofs.OutputSteps.{becomes_again, falls_after, falls_wid
 use Rattle.ports_core.proofs.SlotSteps.{KeepsMade, made_again, made_write, made_close, made_break, keeps_same, keeps_write, keeps_close, written_writable, writable_elsewhere, made_short, keeps_again}
 use Rattle.ports_core.proofs.SweepLemmas.{all_cleared, left_apart, left_has, left_there, same_size}
 use Rattle.ports_core.specs.inner.Write.{WritesShort}
-use Rattle.csplit_core.proofs.DraftLemmas.{name_after, part_none, open_part, closed_part, line_told, line_untold, count_made, count_none, closed_files, all_closed, more_begins}
+use Rattle.csplit_core.proofs.DraftLemmas.{name_after, part_none, open_part, closed_part, line_of, count_made, count_none, closed_files, all_closed, more_begins}
 use Rattle.csplit_core.proofs.OwnLemmas.{at_file, last_file, there_same, owned_same, line_breaks, close_breaks}
 use Rattle.csplit_core.proofs.PutLemmas.{now_file, now_skipped, now_unmade, skips_file, elides_file}
 
@@ -85,12 +85,12 @@ size_part : (writer : WriterState) (draft : Draft) (slot size : ℕ) → writer.
     → ended_part writer.style draft ≡ with_last (size_lines writer.style draft.ended ++ (decimal size ++ newline ∷ [])) (files_of writer.style 0 draft.ended) (file_of (name_after writer.style draft.ended) draft.bytes state.Closed)
 size_part writer draft slot size is said_so writes =
     closed_part writer.style draft (decimal size ++ newline ∷ []) (now_file writer draft slot size is writes).0
-    (line_told writer.style draft (now_file writer draft slot size is writes).0 said_so ∙ ap (λ n. decimal n ++ newline ∷ []) (sym (now_file writer draft slot size is writes).1))
+    (line_of writer.style draft false (now_file writer draft slot size is writes).0 said_so ∙ ap (λ n. decimal n ++ newline ∷ []) (sym (now_file writer draft slot size is writes).1))
 
 quiet_part : (writer : WriterState) (draft : Draft) (slot size : ℕ) → writer.current ≡ Filed slot size → writer.style.quiet ≡ true → Writes writer draft
     → ended_part writer.style draft ≡ with_last (size_lines writer.style draft.ended) (files_of writer.style 0 draft.ended) (file_of (name_after writer.style draft.ended) draft.bytes state.Closed)
 quiet_part writer draft slot size is quiet writes =
-    closed_part writer.style draft [] (now_file writer draft slot size is writes).0 (line_untold writer.style draft (now_file writer draft slot size is writes).0 quiet)
+    closed_part writer.style draft [] (now_file writer draft slot size is writes).0 (line_of writer.style draft true (now_file writer draft slot size is writes).0 quiet)
     ∙ ap (λ out. with_last out (files_of writer.style 0 draft.ended) (file_of (name_after writer.style draft.ended) draft.bytes state.Closed)) (append-nil (size_lines writer.style draft.ended))
 
 pub end_quiet : (told : Bool) (writer : WriterState) (slot size : ℕ) (old new : List Slot) → writer.current ≡ Filed slot size → IsReady writer old → writer.style.quiet ≡ true → new ≡ changed_at slot closes old → Ended told writer old new (ended_writer writer)

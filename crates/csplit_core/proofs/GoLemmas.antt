@@ -173,17 +173,19 @@ cut_not_on told cutter start mid next cut text tail left size kept old between n
 
 -- a fault at the cut
 
-stopped_wider : (told : Bool) (cutter next : CutterState) (cut : Cut) (line rest : List ℕ) (old new : List Slot) (fault : Fault) → ends_with newline line ≡ true → CutAllNot told cutter cut cutter.lines line line [] old new next fault → CutAllNot told cutter cut cutter.lines line line rest old new next fault
-stopped_wider told cutter next cut line rest old new fault complete not_cut = record {
-  same = not_cut.same;
-  halts = λ x at here. halts_wider told (part_at cutter x line at) (settled_part cutter x) (settled_part cutter (x ++ rest)) old new fault
-      (subst (λ those. Halts told cutter.writer (part_at cutter x line at) (settled_part cutter those) old new fault) (append-nil x) (not_cut.halts x at here)) (more_settled cutter x rest (here.last.2 complete));
-  breaks = not_cut.breaks;
-  owns = not_cut.owns;
-}
-
-pub cut_stopped_on : (told : Bool) (cutter start next : CutterState) (cut : Cut) (line rest : List ℕ) (old new : List Slot) (fault : Fault) → start ≡ cutter → ends_with newline line ≡ true → CutAllNot told cutter cut start.lines line line [] old new next fault → CutAllNot told cutter cut cutter.lines line line rest old new next fault
-cut_stopped_on told cutter start next cut line rest old new fault same complete not_cut = stopped_wider told cutter next cut line rest old new fault complete (subst (λ (c : CutterState). CutAllNot told cutter cut c.lines line line [] old new next fault) same not_cut)
+pub cut_stopped_on : (told : Bool) (cutter start next : CutterState) (cut : Cut) (line rest : List ℕ) (old new : List Slot) (fault : Fault) → start ≡ cutter
+    → ends_with newline line ≡ true → CutAllNot told cutter cut start.lines line line [] old new next fault
+    → CutAllNot told cutter cut cutter.lines line line rest old new next fault
+cut_stopped_on told cutter start next cut line rest old new fault same complete stopped =
+    let not_cut = subst (λ (c : CutterState). CutAllNot told cutter cut c.lines line line [] old new next fault) same stopped in record {
+      same = not_cut.same;
+      halts = λ x at here. halts_wider told (part_at cutter x line at) (settled_part cutter x) (settled_part cutter (x ++ rest)) old new fault
+          (subst (λ those. Halts told cutter.writer (part_at cutter x line at) (settled_part cutter those) old new fault) (append-nil x)
+          (not_cut.halts x at here))
+          (more_settled cutter x rest (here.last.2 complete));
+      breaks = not_cut.breaks;
+      owns = not_cut.owns;
+    }
 
 -- What `stretch` owes.
 

@@ -72,7 +72,7 @@ held_live cutter writer x left bytes held at arrives fit live same bytes_is held
   settled = taken_is cutter x left at arrives fit live;
 }
 
-pub hold_live : (told : Bool) (cutter : CutterState) (writer : WriterState) (window : Window) (left : List ℕ) (old new : List Slot) → IsFit cutter → (cutter.aim ≡ Below → ⊥)
+hold_live : (told : Bool) (cutter : CutterState) (writer : WriterState) (window : Window) (left : List ℕ) (old new : List Slot) → IsFit cutter → (cutter.aim ≡ Below → ⊥)
     → Went told cutter.writer (with_bytes (but_last_lines cutter.window.delim cutter.window.most left)) old new writer
     → window ≡ record { most = cutter.window.most; delim = cutter.window.delim; held = last_lines cutter.window.delim cutter.window.most left }
     → size_of writer.current + length window.held ≤ size_of cutter.writer.current + length left → Held told cutter left old new (record cutter { writer = writer; window = window })
@@ -93,7 +93,7 @@ hold_live told cutter writer window left old new fit differs went kept size =
       size = size;
     }
 
-pub hold_stopped : (told : Bool) (cutter : CutterState) (writer : WriterState) (window : Window) (left : List ℕ) (old new : List Slot) (fault : Fault) → IsFit cutter → (cutter.aim ≡ Below → ⊥)
+hold_stopped : (told : Bool) (cutter : CutterState) (writer : WriterState) (window : Window) (left : List ℕ) (old new : List Slot) (fault : Fault) → IsFit cutter → (cutter.aim ≡ Below → ⊥)
     → Stopped told cutter.writer (with_bytes (but_last_lines cutter.window.delim cutter.window.most left)) old new writer fault → HeldNot told cutter left old new (record cutter { writer = writer; window = window }) fault
 hold_stopped told cutter writer window left old new fault fit differs stopped =
     let bytes_is : but_last_lines cutter.window.delim cutter.window.most left ≡ first_lines newline (over_of cutter left) left = ap (λ d. but_last_lines d cutter.window.most left) fit.delim in record {
@@ -104,13 +104,6 @@ hold_stopped told cutter writer window left old new fault fit differs stopped =
       owns = stopped.owns;
     }
 
-pub hold_goes : (told : Bool) (cutter : CutterState) (writer : WriterState) (window : Window) (left : List ℕ) (old new : List Slot) (result : Result (Unit {0}) Fault) → IsFit cutter → (cutter.aim ≡ Below → ⊥)
-    → Goes told cutter.writer (with_bytes (but_last_lines cutter.window.delim cutter.window.most left)) old new writer result
-    → OnOk result (window ≡ record { most = cutter.window.most; delim = cutter.window.delim; held = last_lines cutter.window.delim cutter.window.most left })
-    → OnOk result (size_of writer.current + length window.held ≤ size_of cutter.writer.current + length left) → Holds told cutter left old new (record cutter { writer = writer; window = window }) result
-hold_goes told cutter writer window left old new (Ok done) fit differs went kept size = hold_live told cutter writer window left old new fit differs went kept size
-hold_goes told cutter writer window left old new (Err fault) fit differs stopped kept size = hold_stopped told cutter writer window left old new fault fit differs stopped
-
 -- where the cut is below the current line, none waits
 
 past_draft : (cutter : CutterState) (x left : List ℕ) (at : IsAt cutter x left) (arrives : Arrives cutter x left at) → is_final arrives.ends.ending ≡ true
@@ -119,7 +112,7 @@ past_draft cutter x left at arrives past =
     draft_is settled_end (suppress_in cutter) cutter.operands x at.steps (state_in cutter) arrives.ends.ending at.taken at.written (runs_to cutter x left at arrives.ends)
     (arrives.low past ∙ final_count (line_count newline x) cutter.progress.current arrives.ends.ending past) at.written_is
 
-pub hold_past : (told : Bool) (cutter : CutterState) (window : Window) (left : List ℕ) (slots : List Slot) (n : ℕ) → cutter.aim ≡ Below → IsReady cutter.writer slots → n ≡ length cutter.window.held → length cutter.window.held ≤ length left
+hold_past : (told : Bool) (cutter : CutterState) (window : Window) (left : List ℕ) (slots : List Slot) (n : ℕ) → cutter.aim ≡ Below → IsReady cutter.writer slots → n ≡ length cutter.window.held → length cutter.window.held ≤ length left
     → window ≡ without_first cutter.window n → Held told cutter left slots slots (record cutter { window = window })
 hold_past told cutter window left slots n aim ready all less dropped =
     let none : window.held ≡ [] = ap (λ (w : Window). w.held) dropped ∙ drop_all n cutter.window.held (omega (arith, all)) in
@@ -146,26 +139,25 @@ hold_past told cutter window left slots n aim ready all less dropped =
       size = (let e : length window.held ≡ 0 = ap length none in omega (arith, e));
     }
 
-pub held_less : (held text : List ℕ) → length held ≤ length (held ++ text)
-held_less held text = let e : length (held ++ text) ≡ length held + length text = length-append held text in omega (arith, e)
-
-pub joined_size : (now before : ℕ) (held text : List ℕ) (result : Result (Unit {0}) Fault) → OnOk result (now ≤ before + length held + length text) → OnOk result (now ≤ before + length (held ++ text))
-joined_size now before held text (Ok done) less = let e : length (held ++ text) ≡ length held + length text = length-append held text in omega (arith, e, less)
-joined_size now before held text (Err fault) less = tt
-
 -- The same of a cutter that is known by its fields.
 
 pub hold_goes_at : (told : Bool) (cutter now : CutterState) (writer : WriterState) (window : Window) (text : List ℕ) (old new : List Slot) (result : Result (Unit {0}) Fault) → cutter ≡ now → IsFit now → (now.aim ≡ Below → ⊥)
     → Goes told cutter.writer (with_bytes (but_last_lines cutter.window.delim cutter.window.most (cutter.window.held ++ text))) old new writer result
     → OnOk result (window ≡ record { most = cutter.window.most; delim = cutter.window.delim; held = last_lines cutter.window.delim cutter.window.most (cutter.window.held ++ text) })
     → OnOk result (size_of writer.current + length window.held ≤ size_of cutter.writer.current + length cutter.window.held + length text) → Holds told now (now.window.held ++ text) old new (record cutter { writer = writer; window = window }) result
-hold_goes_at told cutter now writer window text old new result is fit differs goes kept size =
-    subst (λ (those : CutterState). Holds told those (those.window.held ++ text) old new (record cutter { writer = writer; window = window }) result) is
-    (hold_goes told cutter writer window (cutter.window.held ++ text) old new result (subst IsFit (sym is) fit) (λ below. differs (sym (ap (λ (those : CutterState). those.aim) is) ∙ below)) goes kept
-    (joined_size (size_of writer.current + length window.held) (size_of cutter.writer.current) cutter.window.held text result size))
+hold_goes_at told cutter now writer window text old new (Ok done) is fit differs went kept size =
+    subst (λ (those : CutterState). Held told those (those.window.held ++ text) old new (record cutter { writer = writer; window = window })) is
+    (hold_live told cutter writer window (cutter.window.held ++ text) old new (subst IsFit (sym is) fit)
+    (λ below. differs (sym (ap (λ (those : CutterState). those.aim) is) ∙ below)) went kept
+    (let e : length (cutter.window.held ++ text) ≡ length cutter.window.held + length text = length-append cutter.window.held text in omega (arith, e, size)))
+hold_goes_at told cutter now writer window text old new (Err fault) is fit differs stopped kept size =
+    subst (λ (those : CutterState). HeldNot told those (those.window.held ++ text) old new (record cutter { writer = writer; window = window }) fault) is
+    (hold_stopped told cutter writer window (cutter.window.held ++ text) old new fault (subst IsFit (sym is) fit)
+    (λ below. differs (sym (ap (λ (those : CutterState). those.aim) is) ∙ below)) stopped)
 
 pub hold_past_at : (told : Bool) (cutter now : CutterState) (window : Window) (text : List ℕ) (slots : List Slot) (n : ℕ) → cutter ≡ now → now.aim ≡ Below → IsReady now.writer slots → n ≡ length cutter.window.held
     → window ≡ without_first cutter.window n → Held told now (now.window.held ++ text) slots slots (record cutter { window = window })
 hold_past_at told cutter now window text slots n is aim ready all dropped =
     subst (λ (those : CutterState). Held told those (those.window.held ++ text) slots slots (record cutter { window = window })) is
-    (hold_past told cutter window (cutter.window.held ++ text) slots n (ap (λ (those : CutterState). those.aim) is ∙ aim) (subst (λ (those : CutterState). IsReady those.writer slots) (sym is) ready) all (held_less cutter.window.held text) dropped)
+    (hold_past told cutter window (cutter.window.held ++ text) slots n (ap (λ (those : CutterState). those.aim) is ∙ aim) (subst (λ (those : CutterState). IsReady those.writer slots) (sym is) ready) all
+    (let e : length (cutter.window.held ++ text) ≡ length cutter.window.held + length text = length-append cutter.window.held text in omega (arith, e)) dropped)

@@ -238,10 +238,10 @@ pub fits_rest : (delim most over front : ℕ) (held text : List ℕ) → over �
 fits_rest delim most over front held text is at = ap (but_last_lines delim most) (stays_rest delim most over front held text is at) ∙ but_last_lines-last delim most (held ++ text)
 
 pub rest_within : (delim most over front : ℕ) (held text : List ℕ) → over ≡ length (but_last_lines delim most (held ++ text)) → front ≡ min over (length held) → over - front ≤ length text
-rest_within delim most over front held text is at = by (by_front over (length held) front at) where
-  by : ((over ≤ length held) × (front ≡ over)) ⊎ ((length held ≤ over) × (front ≡ length held)) → over - front ≤ length text
-  by (inl (less, same)) = omega (arith, same)
-  by (inr (more, same)) = let most' = over-le-length delim most held text in omega (arith, most', is, same)
+rest_within delim most over front held text is at = elim (by_front over (length held) front at) [
+  | inl low ↦ omega (arith, low.1)
+  | inr high ↦ let most' = over-le-length delim most held text in omega (arith, most', is, high.1)
+]
 
 -- what `hold_last` owes at each of its ends
 

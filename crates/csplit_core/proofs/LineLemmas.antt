@@ -40,12 +40,8 @@ whole_count x (inl none) = subst (λ those. line_count newline those ≡ delimit
 whole_count x (inr whole) = line_count-closed newline x whole
 
 pub whole-append : (x t : List ℕ) → IsWhole x → IsWhole t → IsWhole (x ++ t)
-whole-append x [] whole other = by whole where
-  by : IsWhole x → IsWhole (x ++ [])
-  by whole = subst IsWhole (sym (Rattle.std.proofs.lemmas.List.append-nil x)) whole
-whole-append x (byte ∷ t) whole (inl none) = absurd (some byte t none) where
-  some : (byte : ℕ) (t : List ℕ) → byte ∷ t ≡ [] → ⊥
-  some byte t is = let e : suc (length t) ≡ 0 = ap length is in omega (arith, e)
+whole-append x [] whole other = subst IsWhole (sym (Rattle.std.proofs.lemmas.List.append-nil x)) whole
+whole-append x (byte ∷ t) whole (inl none) = absurd (cc)
 whole-append x (byte ∷ t) whole (inr ends) = inr (ends_with-append newline x (byte ∷ t) (omega arith) ∙ ends)
 
 pub whole_drop : (n : ℕ) (text : List ℕ) → IsWhole text → IsWhole (drop n text)

@@ -41,9 +41,6 @@ first_only : (suppress : Bool) (first : State) (steps : List Step) (last : State
 first_only suppress first steps last ending (cuts state operand operands matched cut steps' last' ending' is at from within rest) some = absurd (omega (arith, some, from, within))
 first_only suppress first steps last ending run some = run
 
-first_runs : (suppress : Bool) (operands : List Operand) → Runs suppress [] (start operands) [] (start operands) (plan suppress operands []).ending
-first_runs suppress operands = first_only suppress (start operands) (plan suppress operands []).steps (plan suppress operands []).last (plan suppress operands []).ending (plan_runs suppress operands []) (omega arith)
-
 none_settled : (ending : Ending) → 0 ≡ settled_end 0 ending - 1
 none_settled used_up = omega arith
 none_settled ending = omega arith
@@ -51,7 +48,8 @@ none_settled ending = omega arith
 -- the first section, without a byte, is what is settled
 first_settled : (suppress : Bool) (operands : List Operand) → first_draft (kept_by operands) ≡ settled_draft suppress operands []
 first_settled suppress operands =
-    draft_is settled_end suppress operands [] [] (start operands) (plan suppress operands []).ending 0 [] (first_runs suppress operands) (none_settled (plan suppress operands []).ending) refl
+    draft_is settled_end suppress operands [] [] (start operands) (plan suppress operands []).ending 0 []
+    (first_only suppress (start operands) _ _ _ (plan_runs suppress operands []) (omega arith)) (none_settled (plan suppress operands []).ending) refl
 
 first_part : (style : Style) (operands : List Operand) → draft_part style (first_draft (kept_by operands)) ≡ settled_of style operands []
 first_part style operands = ap (draft_part style) (first_settled style.suppress operands) ∙ settled_part_is style operands []
@@ -174,12 +172,9 @@ opened_not told style operands next kept old new fault next_is kept_is begun =
     (subst (λ k. BegunNot told style (draft_part style (first_draft k)) old new fault) (kept_is ∙ ap kept_next (next_is ∙ next_seen operands)) begun)
 
 -- where there is no memory, nothing was done
-opened_none : (told : Bool) (style : Style) (operands : List Operand) (slots : List Slot) → BegunNot told style (settled_of style operands []) slots slots Memory
-opened_none told style operands slots = record {
+pub opened_lacks : (told : Bool) (style : Style) (operands : List Operand) (slots : List Slot) (fault : Fault) → fault ≡ Memory → BegunNot told style (settled_of style operands []) slots slots fault
+opened_lacks told style operands slots fault lacks = subst (BegunNot told style (settled_of style operands []) slots slots) (sym lacks) (record {
   halts = halts_wider told nothing nothing (settled_of style operands []) slots slots Memory (in_turn told nothing 0 slots (record { closed = tt; within = omega arith; last = omega arith })) (nothing_begins_part (settled_of style operands []));
   breaks = tt;
   none = none_past slots;
-}
-
-pub opened_lacks : (told : Bool) (style : Style) (operands : List Operand) (slots : List Slot) (fault : Fault) → fault ≡ Memory → BegunNot told style (settled_of style operands []) slots slots fault
-opened_lacks told style operands slots fault lacks = subst (BegunNot told style (settled_of style operands []) slots slots) (sym lacks) (opened_none told style operands slots)
+})

@@ -61,10 +61,8 @@ among_more place slot (one ∷ files) = ap (λ b. eqb place one || b) (among_mor
 
 -- a file that is there stands before the end
 there_within : (place : ℕ) (slots : List Slot) → is_removable slots place → place < length slots
-there_within place slots can = by (cases_lt place (length slots)) where
-  by : (place < length slots) ⊎ (length slots ≤ place) → place < length slots
-  by (inl less) = less
-  by (inr past) = absurd (false≢true (sym (none_past slots place past) ∙ can.1))
+there_within place slots can =
+    elim (cases_lt place (length slots)) [ inl less ↦ less | inr past ↦ absurd (false≢true (sym (none_past slots place past) ∙ can.1)) ]
 
 there_more : (files : List ℕ) (slots : List Slot) (name : List ℕ) (slot : ℕ) → slot ≡ length slots → 2 ≤ length slots → AreThere files slots → AreThere (files ++ slot ∷ []) (slots ++ opened name Fresh ∷ [])
 there_more [] slots name slot at two are =
@@ -122,10 +120,10 @@ owned_opened writer next slot old new two made = record {
   there are = subst (λ those. AreThere those new) (sym files) (subst (AreThere (writer.files ++ slot ∷ [])) (sym made.added) (there_more writer.files old (next_name writer) slot at two are))
 
 unopened_keeps : (kept : List ℕ) (old : List Slot) (place : ℕ) → has_file (slot_at (old ++ unopened kept ∷ []) place).state ≡ has_file (slot_at old place).state
-unopened_keeps kept old place = by (cases_lt place (length old)) where
-  by : (place < length old) ⊎ (length old ≤ place) → has_file (slot_at (old ++ unopened kept ∷ []) place).state ≡ has_file (slot_at old place).state
-  by (inl less) = file_before old (unopened kept) place less
-  by (inr past) = none_opened old kept place past ∙ sym (none_past old place past)
+unopened_keeps kept old place = elim (cases_lt place (length old)) [
+  | inl less ↦ file_before old (unopened kept) place less
+  | inr past ↦ none_opened old kept place past ∙ sym (none_past old place past)
+]
 
 unmade_keeps : (name : List ℕ) (old new : List Slot) (f : Fault) → MakesNone old name new f → (place : ℕ) → has_file (slot_at new place).state ≡ has_file (slot_at old place).state
 unmade_keeps name old new _ (unnamed same) place = ap (λ slots. has_file (slot_at slots place).state) same

@@ -13,7 +13,7 @@ use Rattle.seg_core.specs.Line.{lines_of, line_count, delimiters, ends_with, End
 use Rattle.seg_core.proofs.Delimiters.{delimiters-le-length}
 use Rattle.seg_core.proofs.EndLines.{line_count_near}
 use Rattle.seg_core.proofs.FirstLines.{EndsAt-enough, lines_of-first_lines}
-use Rattle.seg_core.proofs.LineCounts.{line_count-open, line_count-le-length}
+use Rattle.seg_core.proofs.LineCounts.{line_count-le-length}
 use Rattle.csplit_core.specs.Cutter.{CutterState, suppress_in, state_in, pattern_in, pattern_by, AimHolds, IsFit, IsSound}
 use Rattle.csplit_core.specs.inner.Cutter.{AreClear, IsWhole, IsLine, IsFound, IsNextFound, PassesClear, PassesOver, StopsAt}
 use Rattle.csplit_core.specs.Input.{newline, without_newline, is_match_of, marked, all_lines}
@@ -27,6 +27,7 @@ use Rattle.csplit_core.specs.declared.progress.Turn.TheVariants.{UsedUp, Missed,
 use Rattle.csplit_core.proofs.LineLemmas.{whole_drop, all_lines-append, all_lines-line, count-append, count-line, length-all_lines, whole_count, whole-append}
 use Rattle.csplit_core.proofs.StayLemmas.{NoneFrom, EndsStill, ends_still}
 use Rattle.csplit_core.proofs.TryLemmas.{found_is}
+use Rattle.csplit_core.proofs.ByteLemmas.{whole_by}
 
 -- What stays so of a state when more lines come
 
@@ -138,13 +139,6 @@ passes_all_at cutter now text n is sound whole counted aim =
 
 -- Lines before the line of a cut
 
-whole_by_count : (x : List ℕ) → line_count newline x ≡ delimiters newline x → IsWhole x
-whole_by_count [] same = inl refl
-whole_by_count (byte ∷ x) same = by (ends_with newline (byte ∷ x)) refl where
-  by : (ends : Bool) → ends_with newline (byte ∷ x) ≡ ends → IsWhole (byte ∷ x)
-  by true is = inr is
-  by false is = absurd (let e : line_count newline (byte ∷ x) ≡ delimiters newline (byte ∷ x) + 1 = line_count-open newline (byte ∷ x) (omega arith) is in omega (arith, e, same))
-
 -- the lines that end there
 count_ends : (n : ℕ) (x : List ℕ) (end : ℕ) → EndsAt newline n x end → line_count newline (take end x) ≡ n
 count_ends n x end ends =
@@ -162,7 +156,8 @@ passes_below_at cutter now text line end is sound (matched, aimed) ends =
     let less : cutter.lines < line = will.above in
     let count : line_count newline (take end text) ≡ line - 1 - cutter.lines = count_ends (line - 1 - cutter.lines) text end ends in
     subst (λ (those : CutterState). PassesOver those text (record cutter { lines = line - 1 }) end) is
-    (passes cutter text (line - 1) end here ends.within (whole_by_count (take end text) (count ∙ sym ends.complete)) (omega (arith, less, count))
+    (passes cutter text (line - 1) end here ends.within (whole_by (take end text) _ refl (let all = ends.complete in omega (arith, count, all)))
+    (omega (arith, less, count))
     (subst (StaysOver cutter (take end text) (line - 1)) (sym aim) (let e : line - 1 < line = omega (arith, less) in e)))
 
 pub passes_short_at : (cutter now : CutterState) (text : List ℕ) (line count : ℕ) → cutter ≡ now → IsSound now → IsWhole text → (matched : ℕ) × (now.aim ≡ Above matched line) → FallsShort newline (line - 1 - cutter.lines) text count

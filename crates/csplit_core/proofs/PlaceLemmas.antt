@@ -15,19 +15,13 @@ use Rattle.csplit_core.specs.inner.SectionLaws.{EndsAs}
 use Rattle.csplit_core.specs.laws.SectionLaws.{ends_as, are_within, plan_goes_on, missed_cut, front_of, none_there, cut_once, cuts_or_misses}
 use Rattle.csplit_core.proofs.TurnedLemmas.{search_within, search_at_start, matching_line, none_comes, matching_comes, Turned, too_low, turns, turned}
 
-le_false : (a b : ℕ) → b < a → nat_le a b ≡ false
-le_false a b less = grind (arith, nat_tests, less)
-
-pub from_le_false : (a b : ℕ) → nat_le a b ≡ false → b < a
-from_le_false a b is = grind (arith, nat_tests, is)
-
 -- a line after a cut is after the one that is left out there
 pub left_by : (suppress : Bool) (line cut : ℕ) → nat_lt line cut ≡ false → (suppress && nat_le line cut) ≡ false → line_after suppress cut ≤ line
-left_by true line cut is are = omega (arith, from_le_false line cut are)
+left_by true line cut is are = grind (arith, nat_tests, are)
 left_by false line cut is are = from_not_less line cut is
 
 pub not_left : (suppress : Bool) (line cut : ℕ) → line_after suppress cut ≤ line → (suppress && nat_le line cut) ≡ false
-not_left true line cut rest' = le_false line cut rest'
+not_left true line cut rest' = grind (arith, nat_tests, rest')
 not_left false line cut rest' = refl
 
 same_by : (lt le : Bool) (index : ℕ) (one other : Place) → (lt ≡ false → le ≡ false → one ≡ other) → cond lt (in_section index) (cond le (left_out index) one) ≡ cond lt (in_section index) (cond le (left_out index) other)

@@ -80,11 +80,8 @@ line_most : (suppress : Bool) (cut : ℕ) → line_after suppress cut ≤ suc cu
 line_most true cut = omega arith
 line_most false cut = omega arith
 
-le_test : (a b : ℕ) → a ≤ b → nat_le a b ≡ true
-le_test a b less = grind (arith, nat_tests, less)
-
 left_there : (suppress : Bool) (cut line : ℕ) → cut ≤ line → line < line_after suppress cut → (suppress && nat_le line cut) ≡ true
-left_there true cut line from within = le_test line cut (omega (arith, within))
+left_there true cut line from within = let less : line ≤ cut = omega (arith, within) in grind (arith, nat_tests, less)
 left_there false cut line from within = absurd (omega (arith, from, within))
 
 -- the lines before the cut, that at it, and those after it
@@ -141,9 +138,6 @@ placed_from suppress lines first steps last ending run some index k s at = rest_
 
 -- Lines in no section
 
-from_le : (a b : ℕ) → nat_le a b ≡ true → a ≤ b
-from_le a b is = grind (arith, nat_tests, is)
-
 record LeftAt (suppress : Bool) (index cut line : ℕ) (steps : List Step) : Type 0 where
   so : suppress ≡ true
   k : ℕ
@@ -159,7 +153,7 @@ left_by_step : (suppress : Bool) (index cut line : ℕ) (step : Step) (steps : L
 left_by_step suppress index cut line step steps later true le lt_is le_is rest same = absurd (cc)
 left_by_step suppress index cut line step steps later false true lt_is le_is rest same =
     let both = and_parts suppress (nat_le line step.cut) le_is in
-    let low : line ≤ step.cut = from_le line step.cut both.1 in
+    let low : line ≤ step.cut = grind (arith, nat_tests, both.1) in
     let high : step.cut ≤ line = from_not_less line step.cut lt_is in
     let number : index ≡ cut = cc in record { so = both.0; k = 0; at = omega (arith, number); is = omega (arith, low, high) }
 left_by_step suppress index cut line step steps later false false lt_is le_is rest same =

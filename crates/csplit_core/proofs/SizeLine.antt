@@ -4,10 +4,9 @@ use Rattle.std.proofs.Math.Seq.{take-append-add}
 use Rattle.csplit_core.specs.Input.{newline}
 
 one_left : (n all : ℕ) → n < all → take 1 (drop n (replicate all newline)) ≡ newline ∷ []
-one_left zero zero less = absurd (omega arith)
 one_left zero (suc all) less = refl
-one_left (suc n) zero less = absurd (omega arith)
 one_left (suc n) (suc all) less = one_left n all (omega arith)
+one_left n all less = absurd (omega arith)
 
 -- of a row of newlines the front was replaced by the digits, and one more is taken
 pub line_is : (size all : ℕ) (digits copied : List ℕ) → copied ≡ digits → digits ≡ decimal size → length digits < all → take (length digits + 1) (copied ++ drop (length digits) (replicate all newline)) ≡ decimal size ++ newline ∷ []

@@ -65,21 +65,18 @@ passes_at told view stage taken piece old new next (Ok done) is passed = subst (
 })
 passes_at told view stage taken piece old new next (Err fault) is stopped = subst (λ (s : CsplitState). Passes told s piece old new next (Err fault)) is stopped
 
-past_here : (told : Bool) (stage : CsplitState) (taken : ℕ) (piece : List ℕ) (slots : List Slot) → stage.cutter.aim ≡ Below → IsReady stage.cutter.writer slots → IsSound stage.cutter → delimiters newline stage.rest ≡ 0 → Passed told stage piece slots slots (record stage { taken = taken })
-past_here told stage taken piece slots aimed ready sound unbroken = record {
-  took = took_past told stage.cutter (whole_lines (stage.rest ++ piece)) slots aimed sound ready;
-  live = λ differs. absurd (differs aimed);
-  past = λ below was. was below;
-  still = λ below. refl;
-  unbroken = unbroken;
-  size = omega arith;
-}
-
 pub past_passes : (told : Bool) (view stage : CsplitState) (taken : ℕ) (piece : List ℕ) (slots : List Slot) → view ≡ stage → view.cutter.aim ≡ Below → IsReady stage.cutter.writer slots → IsSound stage.cutter → delimiters newline stage.rest ≡ 0
     → Passed told stage piece slots slots (record view { taken = taken })
 past_passes told view stage taken piece slots is aim ready sound unbroken =
-    subst (λ (s : CsplitState). Passed told stage piece slots slots (record s { taken = taken })) (sym is)
-    (past_here told stage taken piece slots (ap (λ (s : CsplitState). s.cutter.aim) (sym is) ∙ aim) ready sound unbroken)
+    let aimed : stage.cutter.aim ≡ Below = ap (λ (s : CsplitState). s.cutter.aim) (sym is) ∙ aim in
+    subst (λ (s : CsplitState). Passed told stage piece slots slots (record s { taken = taken })) (sym is) (record {
+      took = took_past told stage.cutter (whole_lines (stage.rest ++ piece)) slots aimed sound ready;
+      live = λ differs. absurd (differs aimed);
+      past = λ below was. was below;
+      still = λ below. refl;
+      unbroken = unbroken;
+      size = omega arith;
+    })
 
 pub below_or_not : (turn : Turn) → (turn ≡ Below) ⊎ (turn ≡ Below → ⊥)
 below_or_not Below = inl refl
@@ -151,14 +148,12 @@ some_counted told view stage mid next taken piece lines text end old new result 
     passes_at told view stage taken piece old new next result is
     (some_passes told (record view { taken = taken }) mid next piece lines text end old new result differs last lines_is text_is (subst (λ (s : CsplitState). delimiters newline s.rest ≡ 0) (sym is) unbroken) took empty cutter past live lacks)
 
-some_stop : (told : Bool) (stage : CsplitState) (two : CutterState) (piece lines : List ℕ) (end : ℕ) (old new : List Slot) (fault : Fault) → LastEndsAt newline piece end → lines ≡ take end piece → TookNot told stage.cutter (stage.rest ++ lines) old new two fault
-    → TookNot told stage.cutter (whole_lines (stage.rest ++ piece)) old new two fault
-some_stop told stage two piece lines end old new fault last lines_is stopped = subst (λ those. TookNot told stage.cutter those old new two fault) (ap (λ those. stage.rest ++ those) lines_is ∙ sym (piece_lines stage.rest piece end last)) stopped
-
 pub stop_counted : (told : Bool) (view stage : CsplitState) (two : CutterState) (piece lines : List ℕ) (end : ℕ) (old new : List Slot) (fault : Fault) → view ≡ stage → LastEndsAt newline piece end → lines ≡ take end piece → TookNot told view.cutter (view.rest ++ lines) old new two fault
     → TookNot told stage.cutter (whole_lines (stage.rest ++ piece)) old new two fault
 stop_counted told view stage two piece lines end old new fault is last lines_is stopped =
-    subst (λ (s : CsplitState). TookNot told s.cutter (whole_lines (s.rest ++ piece)) old new two fault) is (some_stop told view two piece lines end old new fault last lines_is stopped)
+    subst (λ (s : CsplitState). TookNot told s.cutter (whole_lines (s.rest ++ piece)) old new two fault) is
+    (subst (λ those. TookNot told view.cutter those old new two fault)
+    (ap (λ those. view.rest ++ those) lines_is ∙ sym (piece_lines view.rest piece end last)) stopped)
 
 -- The last line
 

@@ -1,7 +1,7 @@
 -- What trying the next operand with the last line says.
-use Rattle.std.proofs.Common.{◌≡◌, ◌⊎◌, inl, inr, ℕ, suc, ◌+◌, ◌-◌, ◌<◌, ◌≤◌, ◌^◌, Bool, true, false, Option, Some, None, List, [], ◌∷◌, ◌++◌, length, get_or, refl, sym, ◌∙◌, ap, subst, arith, length-append}
+use Rattle.std.proofs.Common.{◌≡◌, inl, inr, ℕ, suc, ◌+◌, ◌-◌, ◌<◌, ◌≤◌, ◌^◌, Bool, true, false, Option, Some, None, List, [], ◌∷◌, ◌++◌, length, get_or, refl, sym, ◌∙◌, ap, subst, arith, length-append, cond}
 use Rattle.std.specs.Prelude.{min, max, eqb, ◌&&◌}
-use Rattle.std.proofs.lemmas.Bool.{false≢true, cases_lt}
+use Rattle.std.proofs.lemmas.Bool.{false≢true, cases_lt, eqb-true, and_parts}
 use Rattle.std.proofs.Math.Nat.{le-max_left}
 use Rattle.std.proofs.Math.Seq.{get_or-append_seam}
 use Rattle.bre_core.specs.Search.{contains}
@@ -69,11 +69,9 @@ no_cut_aims operands total progress _ no_cut moves = tt
 pub after_cut : (suppress : Bool) (cut : Cut) → cut.line ≤ search_after suppress cut
 after_cut true cut = let left : cut.line + 1 - 1 ≤ max (cut.line + 1 - 1) cut.matched = le-max_left (cut.line + 1 - 1) cut.matched in omega (arith, left)
 after_cut false cut = by (eqb cut.line 1 && eqb cut.matched 0) refl where
-  by : (first : Bool) → (eqb cut.line 1 && eqb cut.matched 0) ≡ first → cut.line ≤ search_after false cut
-  by true is = subst (λ (b : Bool). cut.line ≤ Rattle.std.proofs.Common.cond b 1 (suc (max cut.line cut.matched))) (sym is) (let one = one_of cut.line cut.matched is in omega (arith, one)) where
-    one_of : (a b : ℕ) → (eqb a 1 && eqb b 0) ≡ true → a ≡ 1
-    one_of a b is = grind (arith, Rattle.std.proofs.lemmas.Bool.Decides.nat_tests, is)
-  by false is = subst (λ (b : Bool). cut.line ≤ Rattle.std.proofs.Common.cond b 1 (suc (max cut.line cut.matched))) (sym is) (let left = le-max_left cut.line cut.matched in omega (arith, left))
+  by : (first : Bool) → (eqb cut.line 1 && eqb cut.matched 0) ≡ first → cut.line ≤ cond first 1 (suc (max cut.line cut.matched))
+  by true is = let one = eqb-true cut.line 1 (and_parts (eqb cut.line 1) (eqb cut.matched 0) is).0 in omega (arith, one)
+  by false is = let left = le-max_left cut.line cut.matched in omega (arith, left)
 
 pub after_matched : (suppress : Bool) (cut : Cut) → cut.matched < search_after suppress cut
 after_matched suppress cut = search_past suppress (record { operands = []; repetition = 0; current = line_after suppress cut.line; matched = cut.matched })
