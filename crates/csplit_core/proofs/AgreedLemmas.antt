@@ -14,11 +14,8 @@ use Rattle.csplit_core.specs.inner.SectionLaws.{EndsAs, Grow}
 
 -- Outputs
 
-front_itself : (lines : List Line) → IsFront lines lines
-front_itself lines = ([], sym (append-nil lines))
-
 kept_by : (has : Bool) (lines : List Line) (low high : List (List Line)) → AreFronts low high → AreFronts (cond has (lines ∷ low) low) (cond has (lines ∷ high) high)
-kept_by true lines low high fronts = (front_itself lines, fronts)
+kept_by true lines low high fronts = (([], sym (append-nil lines)), fronts)
 kept_by false lines low high fronts = fronts
 
 last_by : (has : Bool) (one other : List Line) (more : List (List Line)) → IsFront one other → AreFronts (cond has (one ∷ []) []) (cond has (other ∷ more) more)
@@ -35,9 +32,6 @@ outputs_grow low high grow =
     (subst (λ those. AreFronts (kept_lines (grow.front ++ grow.begun ∷ [])) (kept_lines those)) (sym (grow.high_is ∙ ap (λ those. grow.front ++ those) grow.next.are))
     (kept_grow grow.front grow.begun grow.next.other grow.next.more grow.next.kept (grow.next.rest, grow.next.lines)))
 
-common : (suppress : Bool) (operands : List Operand) (x y : List Line) → AreFronts (settled_outputs suppress operands x) (whole_outputs suppress operands (x ++ y))
-common suppress operands x y = outputs_grow _ _ (plan_grows suppress true whole_end whole_covers operands x y)
-
 kept-append : (a b : List Section) → kept_lines (a ++ b) ≡ kept_lines a ++ kept_lines b
 kept-append [] b = refl
 kept-append (one ∷ a) b = by one.is_kept (kept-append a b) where
@@ -49,12 +43,9 @@ kept_length : (has : Bool) (one other : List Line) (front : List (List Line)) �
 kept_length true one other front = length-append front (one ∷ []) ∙ sym (length-append front (other ∷ []))
 kept_length false one other front = refl
 
-whole_here : (suppress : Bool) (operands : List Operand) (x : List Line) → whole_outputs suppress operands (x ++ []) ≡ whole_outputs suppress operands x
-whole_here suppress operands x = ap (whole_outputs suppress operands) (append-nil x)
-
 fewest : (suppress : Bool) (operands : List Operand) (x : List Line) → length (whole_outputs suppress operands (x ++ [])) ≡ length (settled_outputs suppress operands x)
 fewest suppress operands x =
-    ap length (whole_here suppress operands x ∙ kept-append (map (section_of x) (plan suppress operands x).steps) _)
+    ap length (ap (whole_outputs suppress operands) (append-nil x) ∙ kept-append (map (section_of x) (plan suppress operands x).steps) _)
     ∙ kept_length (is_last_kept (plan suppress operands x).ending) _ _ (kept_lines (map (section_of x) (plan suppress operands x).steps))
     ∙ sym (ap length (kept-append (map (section_of x) (plan suppress operands x).steps) _))
 
@@ -186,7 +177,7 @@ decides suppress operands x =
 -- What is settled is what all continuations agree on
 pub settled_is_agreed : (suppress : Bool) (operands : List Operand) (x : List Line) → IsAgreed (whole_outputs suppress operands) x (settled_outputs suppress operands x)
 settled_is_agreed suppress operands x = record {
-  common = λ y comes. common suppress operands x y;
+  common = λ y comes. outputs_grow _ _ (plan_grows suppress true whole_end whole_covers operands x y);
   fewest = ([], none_comes, fewest suppress operands x);
   longest = longest suppress operands x (decides suppress operands x);
 }

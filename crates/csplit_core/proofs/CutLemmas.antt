@@ -303,10 +303,3 @@ cut_done told cutter start mid now writer next cut place left before rest all ke
     (subst (λ (m : CutterState). CutAt told start cut place left old new (record m { writer = next }) rest) (sym same_mid)
     (cut_went told start mid writer next cut place left before rest all kept old between new (subst IsFit (sym same) fit) (subst (λ (c : CutterState). WillCut c cut) (sym same) will) before_is all_is skipped whole went passed
     (kept_is ∙ ap (λ (m : CutterState). kept_by (state_in m).operands) same_mid) (subst (λ (m : CutterState). Went told m.writer (with_section kept) between new next) same_mid went') empty shorter))
-
--- a search for the place of the cut
-pub cut_place : (text first : List ℕ) (cut place n : ℕ) → first ≡ first_lines newline n text → n ≡ cut - place → first ≡ first_lines newline (cut - place) text
-cut_place text first cut place n is at = is ∙ ap (λ k. first_lines newline k text) at
-
-pub cut_rest : (text rest : List ℕ) (cut place n : ℕ) → rest ≡ after_lines newline n text → n ≡ cut - place → rest ≡ after_lines newline (cut - place) text
-cut_rest text rest cut place n is at = is ∙ ap (λ k. after_lines newline k text) at

@@ -10,6 +10,7 @@ use Rattle.csplit_core.specs.laws.PlanLaws.{line_some, plan_runs, from_not_less,
 use Rattle.csplit_core.proofs.PlaceLemmas.{left_by, not_left, in_later}
 use Rattle.csplit_core.proofs.WholeLemmas.{between_rest}
 use Rattle.std.proofs.lemmas.Bool.{and_parts}
+use Rattle.csplit_core.proofs.LastSectionLemmas.{after_within}
 
 -- Which lines go into a section
 
@@ -76,10 +77,6 @@ end_is total ending = inl refl
 abbrev places_with : Bool → ℕ → ℕ → (ℕ → Place) → ℕ → Place
 places_with suppress index cut later line = cond (nat_lt line cut) (in_section index) (cond (suppress && nat_le line cut) (left_out index) (later line))
 
-line_most : (suppress : Bool) (cut : ℕ) → line_after suppress cut ≤ suc cut
-line_most true cut = omega arith
-line_most false cut = omega arith
-
 left_there : (suppress : Bool) (cut line : ℕ) → cut ≤ line → line < line_after suppress cut → (suppress && nat_le line cut) ≡ true
 left_there true cut line from within = let less : line ≤ cut = omega (arith, within) in grind (arith, nat_tests, less)
 left_there false cut line from within = absurd (omega (arith, from, within))
@@ -92,7 +89,7 @@ step_parts suppress lines current cut index s later some least within =
     let places = places_with suppress index cut later in
     let next = line_after suppress cut in
     let least_next : cut ≤ next = line_some suppress cut in
-    let most_next : next ≤ suc cut = line_most suppress cut in
+    let most_next : next ≤ suc cut = after_within suppress cut cut (omega arith) in
     let front : length (lines_between current cut lines) ≡ cut - current = length-take-le (cut - current) (drop (current - 1) lines) (let long : length (drop (current - 1) lines) ≡ length lines - (current - 1) = length-drop (current - 1) lines in omega (arith, long, some, least, within)) in
     let middle : length (lines_between cut next lines) ≡ next - cut = length-take-le (next - cut) (drop (cut - 1) lines) (let long : length (drop (cut - 1) lines) ≡ length lines - (cut - 1) = length-drop (cut - 1) lines in omega (arith, long, some, least, within, most_next)) in
     ap (lines_into s places current) (sym (between_rest current cut lines some least))

@@ -78,8 +78,9 @@ whole_begins cutter x = subst (λ lines. Begins (settled_part cutter x) (whole_o
 same_whole : (cutter next : CutterState) (x : List ℕ) → IsSame cutter next → whole_part next x ≡ whole_part cutter x
 same_whole cutter next x same = ap (λ (style : Style). whole_of style next.operands (all_lines x)) same.style ∙ ap (λ operands. whole_of cutter.writer.style operands (all_lines x)) same.operands
 
-pub closed_by : (told : Bool) (stage next : CsplitState) (two : CutterState) (old mid new : List Slot) → Took told stage.cutter stage.rest old mid two → EndedAll told two mid new next.cutter → Closed told stage old new next
-closed_by told stage next two old mid new first second = record {
+pub closed_by : (told : Bool) (stage last next : CsplitState) (two : CutterState) (old mid new : List Slot) → two ≡ last.cutter
+    → Took told stage.cutter stage.rest old mid last.cutter → EndedAll told two mid new next.cutter → Closed told stage old new next
+closed_by told stage last next two old mid new is took second = let first = subst (Took told stage.cutter stage.rest old mid) (sym is) took in record {
   same = same_again stage.cutter two next.cutter first.same second.same;
   moves = λ x front stands. moves_again told _ _ _ old mid new (first.moves x front stands)
       (moves_as told _ _ _ _ mid new (sym (settled_same stage.cutter two (x ++ stage.rest) first.same)) (sym (same_whole stage.cutter two (x ++ stage.rest) first.same)) (second.moves (x ++ stage.rest) (first.stands x front stands)));
@@ -89,8 +90,9 @@ closed_by told stage next two old mid new first second = record {
   ready = second.ready;
 }
 
-pub closed_not : (told : Bool) (stage next : CsplitState) (two : CutterState) (old mid new : List Slot) (fault : Fault) → Took told stage.cutter stage.rest old mid two → EndedNone told two mid new next.cutter fault → ClosedNot told stage old new next fault
-closed_not told stage next two old mid new fault first second = record {
+pub closed_not : (told : Bool) (stage last next : CsplitState) (two : CutterState) (old mid new : List Slot) (fault : Fault) → two ≡ last.cutter
+    → Took told stage.cutter stage.rest old mid last.cutter → EndedNone told two mid new next.cutter fault → ClosedNot told stage old new next fault
+closed_not told stage last next two old mid new fault is took second = let first = subst (Took told stage.cutter stage.rest old mid) (sym is) took in record {
   same = same_again stage.cutter two next.cutter first.same second.same;
   halts = λ x front stands. halts_after told _ _ _ old mid new fault (more_settled stage.cutter x stage.rest front) (first.moves x front stands)
       (halts_as told _ _ _ _ mid new fault (sym (settled_same stage.cutter two (x ++ stage.rest) first.same)) (sym (same_whole stage.cutter two (x ++ stage.rest) first.same)) (second.halts (x ++ stage.rest) (first.stands x front stands)));

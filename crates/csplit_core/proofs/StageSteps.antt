@@ -8,15 +8,15 @@ use Rattle.ports_core.specs.declared.fault.Fault.{Fault}
 use Rattle.ports_core.specs.declared.fault.Fault.TheVariants.{Memory}
 use Rattle.csplit_core.specs.Input.{newline}
 use Rattle.csplit_core.specs.Cutter.{CutterState, IsSound, load}
-use Rattle.csplit_core.specs.inner.Cutter.{EndedAll, EndedNone, IsLine, IsWhole, Took, TookNot, Takes}
+use Rattle.csplit_core.specs.inner.Cutter.{IsLine, IsWhole, Took, TookNot, Takes}
 use Rattle.csplit_core.specs.CsplitState.{CsplitState, whole_lines}
-use Rattle.csplit_core.specs.inner.CsplitState.{Closed, ClosedNot, Closes, ended_so, Judges, Passed, Passes, Sweeps}
+use Rattle.csplit_core.specs.inner.CsplitState.{Closed, Closes, ended_so, Judges, Passed, Passes, Sweeps}
 use Rattle.ports_core.specs.Engine.{is_verdict}
 use Rattle.csplit_core.specs.Writer.{IsReady}
 use Rattle.csplit_core.specs.declared.progress.Turn.{Turn}
 use Rattle.csplit_core.specs.declared.progress.Turn.TheVariants.{Below}
 use Rattle.csplit_core.proofs.ByteLemmas.{joined_line, open_is_line, open_complete, first_complete, none_lines, none_open, no_newline, piece_lines, piece_open}
-use Rattle.csplit_core.proofs.StageLemmas.{closed_by, closed_not, lacks_first, lacks_then}
+use Rattle.csplit_core.proofs.StageLemmas.{lacks_first, lacks_then}
 use Rattle.csplit_core.proofs.StretchLemmas.{took_again, took_then_not, not_wider, took_nothing}
 use Rattle.csplit_core.proofs.TakeLemmas.{took_past}
 use Rattle.csplit_core.proofs.CutLineLemmas.{none_there}
@@ -107,9 +107,6 @@ none_counted told view stage next taken piece slots result is differs none ready
 
 -- the lines of the piece were taken in, and what follows them is the open line
 
-drop_size : (n : ℕ) (x : List ℕ) → n ≤ length x → length (take n x) + length (drop n x) ≡ length x
-drop_size n x within = sym (length-append (take n x) (drop n x)) ∙ ap length (take-append-drop n x)
-
 some_unbroken : (aim : Turn) (mid next : CsplitState) (text : List ℕ) → mid.rest ≡ [] → delimiters newline text ≡ 0 → (mid.cutter.aim ≡ Below) ⊎ (mid.cutter.aim ≡ Below → ⊥) → (mid.cutter.aim ≡ Below → next.rest ≡ mid.rest) → ((mid.cutter.aim ≡ Below → ⊥) → next.rest ≡ mid.rest ++ text)
     → (delimiters newline next.rest ≡ 0) × (length next.rest ≤ length text)
 some_unbroken aim mid next text empty none (inl below) past live = (ap (delimiters newline) (past below ∙ empty), (let e : length next.rest ≡ 0 = ap length (past below ∙ empty) in omega (arith, e)))
@@ -129,7 +126,8 @@ some_passes told stage mid next piece lines text end old new (Ok done) differs l
       unbroken = rest.0;
       size = (let fewer : load mid.cutter ≤ load stage.cutter + length (stage.rest ++ lines) = took.size in
           let all : length (stage.rest ++ lines) ≡ length stage.rest + length lines = length-append stage.rest lines in
-          let parts : length (take end piece) + length (drop end piece) ≡ length piece = drop_size end piece last.within in
+          let parts : length (take end piece) + length (drop end piece) ≡ length piece = sym (length-append (take end piece) (drop end piece))
+          ∙ ap length (take-append-drop end piece) in
           let first : length lines ≡ length (take end piece) = ap length lines_is in
           let last_part : length text ≡ length (drop end piece) = ap length text_is in
           let same : load next.cutter ≡ load mid.cutter = ap load cutter in
@@ -167,13 +165,6 @@ last_none told before stage n slots is size empty ready sound =
 
 pub last_line : (before stage : CsplitState) (n : ℕ) (text : List ℕ) → before ≡ stage → text ≡ before.rest → n ≡ length before.rest → eqb n 0 ≡ false → delimiters newline stage.rest ≡ 0 → IsLine text
 last_line before stage n text is text_is size some unbroken = subst IsLine (sym text_is) (open_is_line before.rest (some_by before.rest (ap (λ k. eqb k 0) (sym size) ∙ some)) (ap (λ (s : CsplitState). delimiters newline s.rest) is ∙ unbroken))
-
--- and the end after it, which came or not
-pub ends_by : (told : Bool) (stage mid next : CsplitState) (view : CutterState) (old between new : List Slot) → view ≡ mid.cutter → Took told stage.cutter stage.rest old between mid.cutter → EndedAll told view between new next.cutter → Closed told stage old new next
-ends_by told stage mid next view old between new is first second = closed_by told stage next view old between new (subst (Took told stage.cutter stage.rest old between) (sym is) first) second
-
-pub ends_not : (told : Bool) (stage mid next : CsplitState) (view : CutterState) (old between new : List Slot) (fault : Fault) → view ≡ mid.cutter → Took told stage.cutter stage.rest old between mid.cutter → EndedNone told view between new next.cutter fault → ClosedNot told stage old new next fault
-ends_not told stage mid next view old between new fault is first second = closed_not told stage next view old between new fault (subst (Took told stage.cutter stage.rest old between) (sym is) first) second
 
 -- the work ends with a fault of its own, and the files are removed then
 pub judged_by : (told : Bool) (stage mid next : CsplitState) (reached new old : List Slot) (verdict : Option Fault) (fault : Fault) → Closed told stage old reached mid → verdict ≡ Some fault → Judges mid.cutter verdict → is_verdict fault ≡ true → Sweeps mid reached new next
