@@ -176,9 +176,6 @@ not_held_with told cutter now next aim cut place waiting line left old between n
   owns = owns_again cutter.writer now.writer next.writer old between new so_far.owns held.owns;
 }
 
-none_held : (mid : CutterState) (left : List ℕ) → mid.window.held ≡ [] → mid.window.held ++ left ≡ left
-none_held mid left none = ap (λ those. those ++ left) none
-
 pub spread_held : (told : Bool) (cutter mid next : CutterState) (cut : Cut) (place : ℕ) (waiting line left : List ℕ) (old between new : List Slot) (result : Result (Unit {0}) Fault) → Spread told cutter cut place waiting line old between mid left
     → Holds told mid (mid.window.held ++ left) between new next result → CutsAll told cutter cut place waiting line old new next result
 spread_held told cutter mid next cut place waiting line left old between new (Ok done) spread held =
@@ -186,13 +183,13 @@ spread_held told cutter mid next cut place waiting line left old between new (Ok
     let is = spread.is in
     let none : mid.window.held ≡ [] = ap (λ (c : CutterState). c.window.held) is ∙ spread.so_far.held in
     held_with told cutter now next mid.aim cut place waiting line left old between new spread.so_far (subst (λ (m : CutterState). Tries now line m None) is spread.tries) (subst (λ (m : CutterState). AimHolds m.operands m.lines m.progress mid.aim) is spread.aim)
-    (subst (λ (m : CutterState). Held told m left between new next) is (subst (λ those. Held told mid those between new next) (none_held mid left none) held))
+    (subst (λ (m : CutterState). Held told m left between new next) is (subst (λ those. Held told mid those between new next) (ap (λ those. those ++ left) none) held))
 spread_held told cutter mid next cut place waiting line left old between new (Err fault) spread held =
     let now = spread.now in
     let is = spread.is in
     let none : mid.window.held ≡ [] = ap (λ (c : CutterState). c.window.held) is ∙ spread.so_far.held in
     not_held_with told cutter now next mid.aim cut place waiting line left old between new fault spread.so_far (subst (λ (m : CutterState). Tries now line m None) is spread.tries)
-    (subst (λ (m : CutterState). HeldNot told m left between new next fault) is (subst (λ those. HeldNot told mid those between new next fault) (none_held mid left none) held))
+    (subst (λ (m : CutterState). HeldNot told m left between new next fault) is (subst (λ those. HeldNot told mid those between new next fault) (ap (λ those. those ++ left) none) held))
 
 -- Trying the next operand changes the aim alone.
 

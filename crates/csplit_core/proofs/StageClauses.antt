@@ -157,9 +157,6 @@ module _ (told : Bool) (stage next : CsplitState) (old new : List Slot) where
   whole_out closed before x at =
       subst (λ part. OutputsAt told before part new) (whole_then stage x at.holds) (closed.moves (whole_lines x) (lines_whole x) at.holds.stands before (stands_so told before stage x old at)).outputs
 
-  pub finishes : Closed told stage old new next → (verdict : Option Fault) → Judges next.cutter verdict → verdict ≡ None → Finishes Holds Owns work stage told old new
-  finishes closed verdict judges none before x at = (sym (judged_then closed verdict judges x at.holds) ∙ none, whole_out closed before x at)
-
   pub ends_there : Closed told stage old new next → (verdict : Option Fault) → Judges next.cutter verdict → (fault : Fault) → verdict ≡ Some fault → EndsThere Holds work stage fault
   ends_there closed verdict judges fault is x holds = sym (judged_then closed verdict judges x holds) ∙ is
 
@@ -182,10 +179,6 @@ module _ (told : Bool) (stage next : CsplitState) (old new : List Slot) where
   met_there (Range operand repetition) kind slots ends = ends
   met_there fault kind slots ends = absurd (false≢true kind)
 
-  pub judged_met : Closed told stage old new next → (verdict : Option Fault) → Judges next.cutter verdict → (fault : Fault) → verdict ≡ Some fault → is_verdict fault ≡ true → (slots : List Slot)
-      → IsMet (work stage).means (work stage).means.closing (Unit {0}) (EndsThere Holds work stage) old slots fault
-  judged_met closed verdict judges fault is kind slots = met_there fault kind slots (ends_there closed verdict judges fault is)
-
 -- what the end owes, however it went
 module _ (told : Bool) (stage next : CsplitState) (old new : List Slot) where
   pub end_same : (result : Result (Unit {0}) Fault) → Closes told stage old new next result → work next ≡ work stage
@@ -194,7 +187,8 @@ module _ (told : Bool) (stage next : CsplitState) (old new : List Slot) where
   end_same _ (ended_so fault mid reached closed some kind swept) = swept.same ∙ same_work stage mid closed.same
 
   pub end_outputs : (result : Result (Unit {0}) Fault) → Closes told stage old new next result → OnOk result (Finishes Holds Owns work stage told old new)
-  end_outputs _ (ended_well closed none) = finishes told stage next old new closed None none refl
+  end_outputs _ (ended_well closed none) = λ before x at.
+      (sym (judged_then told stage next old new closed None none x at.holds), whole_out told stage next old new closed before x at)
   end_outputs _ closes = tt
 
   pub end_writable : (result : Result (Unit {0}) Fault) → Closes told stage old new next result → OnOk result ((work stage).means.output ≡ true → IsTrue (is_writable new 0))
@@ -219,7 +213,8 @@ module _ (told : Bool) (stage next : CsplitState) (old new : List Slot) where
   pub end_met : (result : Result (Unit {0}) Fault) → Closes told stage old new next result → IfErr result (IsMet (work stage).means (work stage).means.closing (Unit {0}) (EndsThere Holds work stage) old new)
   end_met _ (ended_well closed none) = tt
   end_met _ (ended_short fault stopped) = met_by stage.cutter.writer.style (Unit {0}) (EndsThere Holds work stage) old new fault tt stopped.breaks
-  end_met _ (ended_so fault mid reached closed some kind swept) = judged_met told stage mid old reached closed (Some fault) some fault refl kind new
+  end_met _ (ended_so fault mid reached closed some kind swept) =
+      met_there told stage mid old reached fault kind new (ends_there told stage mid old reached closed (Some fault) some fault refl)
 
 -- where nothing was written yet, the outputs are a new writer's
 none_stands : (told : Bool) (style : Style) (before slots : List Slot) → 2 ≤ length slots → OutputsAt told before nothing slots → At told (new_writer style) before nothing slots
