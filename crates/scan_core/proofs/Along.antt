@@ -8,8 +8,9 @@ use Rattle.scan_core.specs.declared.node.Node.TheVariants.{Take, First, Last, Ch
 use Rattle.std.specs.Prelude.{◌==◌}
 use Rattle.std.proofs.Common.{length-append}
 use Rattle.std.proofs.Math.Nat.{mul-le-mul}
+use Rattle.std.proofs.lemmas.List.{get_or_push, get_or_append_left}
 use Rattle.scan_core.specs.Sets.{positions_among}
-use Rattle.scan_core.specs.Counted.{set_at, positions_in_all, AreSteps}
+use Rattle.scan_core.specs.Counted.{positions_in_all, AreSteps}
 use Rattle.scan_core.specs.Code.{At, Leads, Goes, Walks, Entered}
 use Rattle.scan_core.specs.Sets.{IsMarked}
 use Rattle.scan_core.specs.inner.Sets.{LeadsOn, Flows, FlowsOn, Passes, Came}
@@ -106,17 +107,6 @@ inner line place at_first h f = record {
 }
 
 -- one place more is counted
-front_sets : (sets more : List (List Bool)) (place : ℕ) → place < length sets → set_at (sets ++ more) place ≡ set_at sets place
-front_sets [] more place h = absurd (omega (arith, h))
-front_sets (set ∷ sets) more zero h = refl
-front_sets (set ∷ sets) more (suc place) h = front_sets sets more place (omega (arith, h))
-
-last_set : (sets : List (List Bool)) (set : List Bool) (place : ℕ) → place ≡ length sets → set_at (sets ++ set ∷ []) place ≡ set
-last_set [] set zero e = refl
-last_set [] set (suc place) e = absurd (omega (arith, e))
-last_set (other ∷ sets) set zero e = absurd (omega (arith, e))
-last_set (other ∷ sets) set (suc place) e = last_set sets set place (omega (arith, e))
-
 more_positions : (code : List Node) (sets : List (List Bool)) (set : List Bool) → positions_in_all code (sets ++ set ∷ []) ≡ positions_in_all code sets + positions_among code set
 more_positions code [] set = omega arith
 more_positions code (other ∷ sets) set = let r = more_positions code sets set in omega (arith, r)
@@ -130,8 +120,8 @@ one_counted code line place steps steps' set a x e = record {
   sets = a.sets ++ set ∷ [];
   all = let l = length-append a.sets (set ∷ []) in omega (arith, l, a.all);
   exact = λ p number h. elim (cases_eq p place) [
-    | inl same ↦ subst (λ s. IsMarked s number ↔ Entered code line number p) (sym (last_set a.sets set p (omega (arith, same, a.all)))) (subst (λ q. IsMarked set number ↔ Entered code line number q) (sym same) (x number))
-    | inr other ↦ let l : p < place = omega (arith, h, other) in subst (λ s. IsMarked s number ↔ Entered code line number p) (sym (front_sets a.sets (set ∷ []) p (omega (arith, l, a.all)))) (a.exact p number l)
+    | inl same ↦ subst (λ s. IsMarked s number ↔ Entered code line number p) (sym (get_or_push a.sets set [] p (omega (arith, same, a.all)))) (subst (λ q. IsMarked set number ↔ Entered code line number q) (sym same) (x number))
+    | inr other ↦ let l : p < place = omega (arith, h, other) in subst (λ s. IsMarked s number ↔ Entered code line number p) (sym (get_or_append_left a.sets (set ∷ []) [] p (omega (arith, l, a.all)))) (a.exact p number l)
   ];
   total = let m = more_positions code a.sets set in let t = a.total in omega (arith, m, t, e);
 }

@@ -6,6 +6,7 @@ use Rattle.std.proofs.lemmas.Nat.{le_or_l}
 use Rattle.std.proofs.lemmas.Nat.Bits.{bit_at_and, bit_at-zero}
 use Rattle.std.specs.Prelude.{bit_and, bit_or}
 use Rattle.std.specs.Int.{bit_at}
+use Rattle.scan_core.proofs.Enterings.{flow_anywhere, parts_anywhere}
 use Rattle.scan_core.specs.declared.base.Base.{Base}
 use Rattle.scan_core.specs.declared.landing.Landing.{Landing}
 use Rattle.scan_core.specs.declared.node.Node.{Node}
@@ -14,7 +15,7 @@ use Rattle.scan_core.specs.inner.Closures.{Closes}
 use Rattle.scan_core.specs.inner.Landings.{ClosesWords, Ends, HasLanded, Lands, LandsOn}
 use Rattle.scan_core.specs.inner.Sets.{Flows, FlowsOn}
 use Rattle.scan_core.specs.inner.Words.{IsIn, SpreadsOut, width}
-use Rattle.scan_core.proofs.Closings.{Closed, close_word, flow_anywhere, parts_anywhere}
+use Rattle.scan_core.proofs.Closings.{Closed, close_word}
 use Rattle.scan_core.proofs.Insides.{right_bit}
 use Rattle.scan_core.proofs.Visitings.{flows_join, is_in_word, is_within, spreading_ends}
 

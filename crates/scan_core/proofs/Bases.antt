@@ -1,31 +1,11 @@
 -- What is in each set.
-use Rattle.std.proofs.Common.{◌≡◌, ◌⊎◌, ◌↔◌, inl, inr, ℕ, ◌+◌, ◌-◌, ◌*◌, ◌%◌, ◌^◌, ◌<◌, Bool, false, List, refl, sym, ap, ◌∙◌, subst, arith, w64}
-use Rattle.std.proofs.lemmas.Bool.{cases_eq}
-use Rattle.std.proofs.lemmas.Nat.Bits.{bit_at_set_same, bit_at_set_other}
-use Rattle.std.specs.Prelude.{bit_or}
-use Rattle.std.specs.Int.{bit_at}
+use Rattle.std.proofs.Common.{◌≡◌, ◌⊎◌, ◌↔◌, inl, inr, ℕ, ◌+◌, ◌-◌, Bool, false, List, refl, sym, subst, arith}
 use Rattle.scan_core.specs.declared.node.Node.{Node}
 use Rattle.scan_core.specs.declared.node.Node.TheVariants.{First, Last, Choose, Back}
 use Rattle.scan_core.specs.Code.{At}
 use Rattle.scan_core.specs.inner.Sets.{Flows, FlowsOn}
 use Rattle.scan_core.specs.inner.Words.{IsIn, Grows, SpreadsOut}
 use Rattle.scan_core.proofs.Enterings.{flows_of}
-
--- the first bits of a word are looked at
-abbrev pub Leading : List Node → List ℕ → ℕ → ℕ → ℕ → Type 0
-Leading code words at count word = (bit : ℕ) (at_first at_last : Bool) (to : ℕ) → bit < count → Flows code at_first at_last (at * 64 + bit) to → (bit_at word bit ≡ 1) ⊎ IsIn words to
-
-pub leading_more : (code : List Node) (words : List ℕ) (at count word : ℕ) → Leading code words at count word → count < 64 → Leading code words at (count + 1) (bit_or word (1 * 2 ^ count % 2 ^ 64))
-leading_more code words at count word before h bit at_first at_last to l f = elim (cases_eq bit count) [
-  | inl same ↦ inl (ap (bit_at (bit_or word (1 * 2 ^ count % 2 ^ 64))) same ∙ bit_at_set_same w64 word count h)
-  | inr other ↦ elim (before bit at_first at_last to (omega (arith, l, other)) f) [ inl k ↦ inl (bit_at_set_other w64 word count h bit other ∙ k) | inr s ↦ inr s ]
-]
-
-pub leading_skip : (code : List Node) (words : List ℕ) (at count word : ℕ) → Leading code words at count word → ((at_first at_last : Bool) (to : ℕ) → Flows code at_first at_last (at * 64 + count) to → IsIn words to) → Leading code words at (count + 1) word
-leading_skip code words at count word before here bit at_first at_last to l f = elim (cases_eq bit count) [
-  | inl same ↦ inr (here at_first at_last to (subst (λ n. Flows code at_first at_last (at * 64 + n) to) same f))
-  | inr other ↦ before bit at_first at_last to (omega (arith, l, other)) f
-]
 
 pub choose_within : (code : List Node) (words : List ℕ) (number skip : ℕ) (at_first at_last : Bool) (to : ℕ) → At code number (Choose skip) → IsIn words (number + 1) → IsIn words (number + skip) → Flows code at_first at_last number to → IsIn words to
 choose_within code words number skip at_first at_last to here next other f = side (flows_of code number (Choose skip) at_first at_last to here f)

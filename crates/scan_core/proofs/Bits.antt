@@ -1,11 +1,13 @@
 -- Bits of words, and sets that grow by a number.
-use Rattle.std.proofs.Common.{◌≡◌, ◌⊎◌, ◌↔◌, inl, inr, ℕ, zero, suc, ◌*◌, ◌/◌, ◌%◌, ◌^◌, ◌<◌, ◌≤◌, true, List, [], ◌∷◌, length, get_or, set, eqb, refl, sym, ap, ◌∙◌, subst, arith, eq-eqb, eqb-true, w64, min}
+use Rattle.std.proofs.Common.{◌≡◌, ◌⊎◌, ◌↔◌, inl, inr, ℕ, zero, suc, ◌*◌, ◌/◌, ◌%◌, ◌^◌, ◌<◌, ◌≤◌, true, List, [], ◌∷◌, length, get_or, set, eqb, refl, sym, ap, ◌∙◌, subst, arith, eq-eqb, eqb-true, w64, min, ◌+◌, Bool}
 use Rattle.std.proofs.lemmas.Bool.{cases_eq}
 use Rattle.std.proofs.lemmas.List.{get_or-set_same, get_or-set_other, length-set}
 use Rattle.std.proofs.lemmas.Nat.{le_or_l, or_lt}
 use Rattle.std.proofs.lemmas.Nat.Bits.{shr_and_one, bit_at_set_same, bit_at_set_other}
 use Rattle.std.specs.Prelude.{bit_and, bit_or}
 use Rattle.std.specs.Int.{bit_at}
+use Rattle.scan_core.specs.inner.Sets.{Flows}
+use Rattle.scan_core.specs.declared.node.Node.{Node}
 use Rattle.scan_core.specs.inner.Words.{IsIn, unset, Grows}
 
 pub has_tests : (words : List ℕ) (number : ℕ) → (eqb (bit_and (get_or words (number / 64) 0 / 2 ^ (number % 64)) 1) 1 ≡ true) ↔ IsIn words number
@@ -16,6 +18,23 @@ unset-set : (words : List ℕ) (at word : ℕ) → at < length words → get_or 
 unset-set [] at word h l m = absurd (omega (arith, h))
 unset-set (x ∷ words) zero word h l m = omega (arith, l, m)
 unset-set (x ∷ words) (suc at) word h l m = let r = unset-set words at word (omega (arith, h)) l m in omega (arith, r)
+
+-- of the first numbers of a word each has its bit set, or what it leads to is such
+abbrev pub Marking : List Node → (ℕ → ℕ → Type 0) → ℕ → ℕ → ℕ → Type 0
+Marking code So at count word = (bit : ℕ) (at_first at_last : Bool) (to : ℕ) → bit < count → Flows code at_first at_last (at * 64 + bit) to → (bit_at word bit ≡ 1) ⊎ So bit to
+
+pub marking_more : (code : List Node) (So : ℕ → ℕ → Type 0) (at count word : ℕ) → Marking code So at count word → count < 64 → Marking code So at (count + 1) (bit_or word (1 * 2 ^ count % 2 ^ 64))
+marking_more code So at count word before h bit at_first at_last to l f = elim (cases_eq bit count) [
+  | inl same ↦ inl (ap (bit_at (bit_or word (1 * 2 ^ count % 2 ^ 64))) same ∙ bit_at_set_same w64 word count h)
+  | inr other ↦ elim (before bit at_first at_last to (omega (arith, l, other)) f) [ inl k ↦ inl (bit_at_set_other w64 word count h bit other ∙ k) | inr s ↦ inr s ]
+]
+
+pub marking_skip : (code : List Node) (So : ℕ → ℕ → Type 0) (at count word : ℕ) → Marking code So at count word
+    → ((at_first at_last : Bool) (to : ℕ) → Flows code at_first at_last (at * 64 + count) to → So count to) → Marking code So at (count + 1) word
+marking_skip code So at count word before here bit at_first at_last to l f = elim (cases_eq bit count) [
+  | inl same ↦ inr (subst (λ n. So n to) (sym same) (here at_first at_last to (subst (λ n. Flows code at_first at_last (at * 64 + n) to) same f)))
+  | inr other ↦ before bit at_first at_last to (omega (arith, l, other)) f
+]
 
 -- one number more
 pub grows_one : (old new : List ℕ) (number word before on : ℕ) → number < 64 * length old → (IsIn old number → ⊥) → word ≡ get_or old (number / 64) 0 → word < 2 ^ 64 → new ≡ set old (number / 64) (bit_or word (1 * 2 ^ (number % 64) % 2 ^ 64)) → on ≡ min before (number / 64)

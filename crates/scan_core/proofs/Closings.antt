@@ -1,38 +1,23 @@
 -- Entering what the numbers of a word lead to, by closures and then by those that lead out of it.
 use Rattle.std.proofs.Common.{◌≡◌, ◌⊎◌, inl, inr, ℕ, zero, suc, ◌+◌, ◌*◌, ◌/◌, ◌%◌, ◌^◌, ◌<◌, ◌≤◌, Bool, false, List, [], ◌∷◌, length, get_or, set, refl, sym, ap, ◌∙◌, subst, arith, w64}
-use Rattle.std.proofs.lemmas.Bool.{cases_eq, cases_lt, false≢true}
+use Rattle.std.proofs.lemmas.Bool.{cases_eq, cases_lt}
 use Rattle.std.proofs.lemmas.List.{get_or-set_same, length-set}
 use Rattle.std.proofs.lemmas.Nat.{and_le_l, le_or_l}
 use Rattle.std.proofs.lemmas.Nat.Bits.{bit_at_and, bit_at-lt, bit_at-zero}
 use Rattle.std.specs.Prelude.{bit_and, bit_or}
 use Rattle.std.specs.Int.{bit_at, bit_not}
-use Rattle.bre_core.specs.Match.{Parts}
+use Rattle.scan_core.proofs.Enterings.{flow_anywhere, parts_anywhere}
 use Rattle.scan_core.specs.declared.base.Base.{Base}
 use Rattle.scan_core.specs.declared.node.Node.{Node}
-use Rattle.scan_core.specs.declared.node.Node.TheVariants.{Take, First, Last, Choose, Back}
 use Rattle.scan_core.specs.inner.Base.{IsBase}
 use Rattle.scan_core.specs.inner.Closures.{ArePeers, Closes, IsLeaving, Stays}
 use Rattle.scan_core.specs.declared.hops.Hop.{Hop}
 use Rattle.scan_core.specs.inner.Hops.{AreHops, Hopped, HopsTo, no_hop}
-use Rattle.scan_core.specs.inner.Sets.{LeadsOn, Flows, FlowsOn}
+use Rattle.scan_core.specs.inner.Sets.{Flows, FlowsOn}
 use Rattle.scan_core.specs.inner.Words.{IsIn, unset, Grows, Visits, width}
 use Rattle.scan_core.proofs.Insides.{fresh_bit, left_bit, right_bit, either_bit}
 use Rattle.scan_core.proofs.Passings.{set_elsewhere}
 use Rattle.scan_core.proofs.Visitings.{Visiting, is_in_word}
-
-leads_anywhere : (node : Node) (at_first at_last : Bool) (from to : ℕ) → LeadsOn node false false from to → LeadsOn node at_first at_last from to
-leads_anywhere (Take bytes) at_first at_last from to h = h
-leads_anywhere First at_first at_last from to h = absurd (false≢true h.0)
-leads_anywhere Last at_first at_last from to h = absurd (false≢true h.0)
-leads_anywhere (Choose skip) at_first at_last from to h = h
-leads_anywhere (Back by) at_first at_last from to h = h
-
-pub flow_anywhere : (code : List Node) (at_first at_last : Bool) (from to : ℕ) → Flows code false false from to → Flows code at_first at_last from to
-flow_anywhere code at_first at_last from to f = (f.0, f.1, leads_anywhere f.0 at_first at_last from to f.2)
-
-pub parts_anywhere : (code : List Node) (at_first at_last : Bool) (count from to : ℕ) → Parts (Flows code false false) count from to → Parts (Flows code at_first at_last) count from to
-parts_anywhere code at_first at_last zero from to p = p
-parts_anywhere code at_first at_last (suc count) from to p = (p.0, parts_anywhere code at_first at_last count from p.0 p.1, (p.2.0, p.2.1, leads_anywhere p.2.0 at_first at_last p.0 to p.2.2))
 
 unset_fuller : (words : List ℕ) (at word : ℕ) → get_or words at 0 ≤ word → unset (set words at word) ≤ unset words
 unset_fuller [] at word l = omega arith

@@ -1,17 +1,12 @@
 -- An item that stands last, written out as often as a duplication asks for.
-use Rattle.std.proofs.Common.{◌≡◌, ℕ, zero, suc, ◌+◌, ◌-◌, ◌<◌, List, [], ◌∷◌, ◌++◌, length, set, reverse, refl, sym, ap, ◌∙◌, arith, append_assoc, append-nil, add-one, length-append}
+use Rattle.std.proofs.Common.{◌≡◌, ℕ, suc, ◌+◌, ◌-◌, ◌<◌, List, [], ◌∷◌, ◌++◌, length, set, reverse, sym, ap, ◌∙◌, arith, append_assoc, append-nil, add-one, length-append}
 use Rattle.std.proofs.lemmas.List.{reverse-append, length-reverse}
+use Rattle.std.proofs.Math.Seq.{set-append_seam}
 use Rattle.scan_core.specs.declared.node.Node.{Node}
 use Rattle.scan_core.specs.declared.node.Node.TheVariants.{Choose, Back}
 use Rattle.scan_core.specs.Code.{copies, up_to, starred}
 use Rattle.scan_core.specs.inner.Backwards.{stretch}
 use Rattle.scan_core.proofs.Stretches.{stretch_after, reverse-cons, reverse-copies, copies_turn}
-
-set_after : (before rest : List Node) (node new : Node) (n : ℕ) → length before ≡ n → set (before ++ node ∷ rest) n new ≡ before ++ new ∷ rest
-set_after [] rest node new zero e = refl
-set_after [] rest node new (suc n) e = absurd (omega (arith, e))
-set_after (x ∷ before) rest node new zero e = absurd (omega (arith, e))
-set_after (x ∷ before) rest node new (suc n) e = ap (λ l. x ∷ l) (set_after before rest node new n (omega (arith, e)))
 
 reverse-starred : (code : List Node) → reverse (starred code) ≡ (Back (length code + 1) ∷ reverse code) ++ Choose (length code + 2) ∷ []
 reverse-starred code =
@@ -36,7 +31,7 @@ starred_out nodes marked chosen new before code start size low b n s m ch e =
         omega (arith, l, a, r, b, s)
 
     set_now : marked ≡ before ++ Back (length code + 1) ∷ reverse code
-    set_now = m ∙ ap (λ l. set l start (Back (size + 1))) n ∙ set_after before (reverse code) (Back 0) (Back (size + 1)) start b ∙ ap (λ k. before ++ Back (k + 1) ∷ reverse code) counted
+    set_now = m ∙ ap (λ l. set l start (Back (size + 1))) n ∙ ap (λ n. set (before ++ Back 0 ∷ reverse code) n (Back (size + 1))) (sym b) ∙ set-append_seam before (Back 0) (reverse code) (Back (size + 1)) ∙ ap (λ k. before ++ Back (k + 1) ∷ reverse code) counted
 
     skip : length marked - start + 1 ≡ length code + 2
     skip =

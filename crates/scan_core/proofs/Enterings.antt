@@ -1,7 +1,8 @@
 -- Sets of nodes that grow.
-use Rattle.std.proofs.Common.{◌≡◌, ◌⊎◌, inl, inr, ℕ, zero, suc, ◌+◌, ◌<◌, ◌≤◌, Bool, true, false, IsTrue, List, [], ◌∷◌, length, get_or, set, refl, sym, ap, ◌∙◌, subst, arith}
+use Rattle.std.proofs.Common.{◌≡◌, ◌⊎◌, inl, inr, ℕ, zero, suc, ◌+◌, ◌<◌, ◌≤◌, Bool, true, false, IsTrue, List, [], ◌∷◌, length, get_or, set, refl, sym, ap, ◌∙◌, subst, arith, ◌↔◌}
 use Rattle.std.proofs.lemmas.Bool.{cases_eq, false≢true}
 use Rattle.std.proofs.lemmas.List.{get_or-set_same, get_or-set_other, length-set}
+use Rattle.bre_core.specs.Match.{Parts}
 use Rattle.scan_core.specs.declared.reach.Reach.{Reach}
 use Rattle.scan_core.specs.declared.node.Node.{Node}
 use Rattle.scan_core.specs.Code.{At, weight_of, weight}
@@ -132,22 +133,24 @@ gain_nothing {code = code} old new Added r same never = subst (Gains code Added 
   exact = λ number. (λ h. inl h, elim [ inl h ↦ h | inr q ↦ absurd (never number q) ]);
 })
 
+-- what is new, in other words, and after a second time
+pub exact_as : {New Old Added Other : Type 0} → New ↔ (Old ⊎ Added) → (Added → Other) → (Other → Added) → New ↔ (Old ⊎ Other)
+exact_as e there here = (λ h. elim (e.0 h) [ inl was ↦ inl was | inr k ↦ inr (there k) ], λ h. e.1 (elim h [ inl was ↦ inl was | inr k ↦ inr (here k) ]))
+
+pub exact_twice : {New Middle Old Added Other : Type 0} → Middle ↔ (Old ⊎ Added) → New ↔ (Middle ⊎ Other) → New ↔ (Old ⊎ (Added ⊎ Other))
+exact_twice e f = (
+  λ h. elim (f.0 h) [ inl k ↦ elim (e.0 k) [ inl was ↦ inl was | inr one ↦ inr (inl one) ] | inr other ↦ inr (inr other) ],
+  λ h. f.1 (elim h [ inl was ↦ inl (e.1 (inl was)) | inr new ↦ elim new [ inl one ↦ inl (e.1 (inr one)) | inr other ↦ inr other ] ]),
+)
+
 pub gain_by : {code : List Node} (old new : Reach) (Added Other : ℕ → Type 0) → Gains code Added old new → ((n : ℕ) → Added n → Other n) → ((n : ℕ) → Other n → Added n) → Gains code Other old new
 gain_by old new Added Other g there here = record {
   sound = g.sound;
   size = g.size;
   more = g.more;
   front = g.front;
-  exact = λ number. (λ h. more number ((g.exact number).0 h), λ h. (g.exact number).1 (less number h));
+  exact = λ number. exact_as (g.exact number) (there number) (here number);
 }
-  where
-    more : (number : ℕ) → Has old number ⊎ Added number → Has old number ⊎ Other number
-    more number (inl h) = inl h
-    more number (inr h) = inr (there number h)
-
-    less : (number : ℕ) → Has old number ⊎ Other number → Has old number ⊎ Added number
-    less number (inl h) = inl h
-    less number (inr h) = inr (here number h)
 
 pub gain_both : {code : List Node} (old middle new : Reach) (Added Other : ℕ → Type 0) → Gains code Added old middle → Gains code Other middle new → Gains code (λ n. Added n ⊎ Other n) old new
 gain_both old middle new Added Other f g = record {
@@ -155,21 +158,8 @@ gain_both old middle new Added Other f g = record {
   size = g.size ∙ f.size;
   more = omega (arith, f.more, g.more);
   front = λ place h. let m = f.more in g.front place (omega (arith, h, m)) ∙ f.front place h;
-  exact = λ number. (λ h. there number ((g.exact number).0 h), λ h. (g.exact number).1 (here number h));
+  exact = λ number. exact_twice (f.exact number) (g.exact number);
 }
-  where
-    there : (number : ℕ) → Has middle number ⊎ Other number → Has old number ⊎ (Added number ⊎ Other number)
-    there number (inl h) = first ((f.exact number).0 h)
-      where
-        first : Has old number ⊎ Added number → Has old number ⊎ (Added number ⊎ Other number)
-        first (inl k) = inl k
-        first (inr k) = inr (inl k)
-    there number (inr h) = inr (inr h)
-
-    here : (number : ℕ) → Has old number ⊎ (Added number ⊎ Other number) → Has middle number ⊎ Other number
-    here number (inl h) = inl ((f.exact number).1 (inl h))
-    here number (inr (inl h)) = inl ((f.exact number).1 (inr h))
-    here number (inr (inr h)) = inr h
 
 pub at_index : (code : List Node) (n : ℕ) (d : Node) → n < length code → At code n (get_or code n d)
 at_index [] n d h = absurd (omega (arith, h))
@@ -185,6 +175,21 @@ pub at_least : (code : List Node) (n : ℕ) (node : Node) → At code n node →
 at_least [] n node h = absurd h
 at_least (x ∷ code) zero node h = omega arith
 at_least (x ∷ code) (suc n) node h = let l = at_least code n node h in omega (arith, l)
+
+-- what leads on without a place's help leads on anywhere
+leads_anywhere : (node : Node) (at_first at_last : Bool) (from to : ℕ) → LeadsOn node false false from to → LeadsOn node at_first at_last from to
+leads_anywhere (Take bytes) at_first at_last from to h = h
+leads_anywhere First at_first at_last from to h = absurd (false≢true h.0)
+leads_anywhere Last at_first at_last from to h = absurd (false≢true h.0)
+leads_anywhere (Choose skip) at_first at_last from to h = h
+leads_anywhere (Back by) at_first at_last from to h = h
+
+pub flow_anywhere : (code : List Node) (at_first at_last : Bool) (from to : ℕ) → Flows code false false from to → Flows code at_first at_last from to
+flow_anywhere code at_first at_last from to f = (f.0, f.1, leads_anywhere f.0 at_first at_last from to f.2)
+
+pub parts_anywhere : (code : List Node) (at_first at_last : Bool) (count from to : ℕ) → Parts (Flows code false false) count from to → Parts (Flows code at_first at_last) count from to
+parts_anywhere code at_first at_last zero from to p = p
+parts_anywhere code at_first at_last (suc count) from to p = (p.0, parts_anywhere code at_first at_last count from p.0 p.1, (p.2.0, p.2.1, leads_anywhere p.2.0 at_first at_last p.0 to p.2.2))
 
 -- what a known node leads to
 pub flows_of : (code : List Node) (n : ℕ) (node : Node) (at_first at_last : Bool) (to : ℕ) → At code n node → Flows code at_first at_last n to → LeadsOn node at_first at_last n to

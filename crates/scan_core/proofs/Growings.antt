@@ -5,32 +5,24 @@ use Rattle.scan_core.specs.declared.node.Node.{Node}
 use Rattle.scan_core.specs.declared.node.Node.TheVariants.{Choose}
 use Rattle.scan_core.specs.Code.{At}
 use Rattle.scan_core.specs.inner.Sets.{LeadsOn, Flows}
-use Rattle.scan_core.specs.inner.Words.{IsIn, Grows}
-use Rattle.scan_core.proofs.Enterings.{flows_of}
+use Rattle.scan_core.specs.inner.Words.{Grows}
+use Rattle.scan_core.proofs.Enterings.{flows_of, exact_as, exact_twice}
 use Rattle.scan_core.proofs.Bits.{grows_none}
 
 pub grows_by : (Added Other : ℕ → Type 0) (old new : List ℕ) (before on : ℕ) → Grows Added old new before on → ((n : ℕ) → Added n → Other n) → ((n : ℕ) → Other n → Added n) → Grows Other old new before on
 grows_by Added Other old new before on g there here = record {
   size = g.size;
-  exact = λ number. (λ h. more number ((g.exact number).0 h), λ h. (g.exact number).1 (less number h));
+  exact = λ number. exact_as (g.exact number) (there number) (here number);
   low = g.low;
   under = g.under;
   fuller = g.fuller;
   less = g.less;
 }
-  where
-    more : (number : ℕ) → IsIn old number ⊎ Added number → IsIn old number ⊎ Other number
-    more number (inl h) = inl h
-    more number (inr h) = inr (there number h)
-
-    less : (number : ℕ) → IsIn old number ⊎ Other number → IsIn old number ⊎ Added number
-    less number (inl h) = inl h
-    less number (inr h) = inr (here number h)
 
 pub grows_both : (Added Other : ℕ → Type 0) (old middle new : List ℕ) (before between on : ℕ) → Grows Added old middle before between → Grows Other middle new between on → Grows (λ n. Added n ⊎ Other n) old new before on
 grows_both Added Other old middle new before between on f g = record {
   size = g.size ∙ f.size;
-  exact = λ number. (λ h. there number ((g.exact number).0 h), λ h. (g.exact number).1 (here number h));
+  exact = λ number. exact_twice (f.exact number) (g.exact number);
   low = omega (arith, f.low, g.low);
   under = λ number l h. let w = g.low in f.under number (omega (arith, l, w)) (g.under number l h);
   fuller = omega (arith, f.fuller, g.fuller);
@@ -39,19 +31,6 @@ grows_both Added Other old middle new before between on f g = record {
     | inr same ↦ let s = f.less (omega (arith, l, same)) in let r = g.fuller in omega (arith, s, r)
   ];
 }
-  where
-    there : (number : ℕ) → IsIn middle number ⊎ Other number → IsIn old number ⊎ (Added number ⊎ Other number)
-    there number (inl h) = first ((f.exact number).0 h)
-      where
-        first : IsIn old number ⊎ Added number → IsIn old number ⊎ (Added number ⊎ Other number)
-        first (inl k) = inl k
-        first (inr k) = inr (inl k)
-    there number (inr h) = inr (inr h)
-
-    here : (number : ℕ) → IsIn old number ⊎ (Added number ⊎ Other number) → IsIn middle number ⊎ Other number
-    here number (inl h) = inl ((f.exact number).1 (inl h))
-    here number (inr (inl h)) = inl ((f.exact number).1 (inr h))
-    here number (inr (inr h)) = inr h
 
 pub leads_none : (code : List Node) (n : ℕ) (node : Node) (at_first at_last : Bool) (words new : List ℕ) (before on : ℕ) → At code n node → ((to : ℕ) → LeadsOn node at_first at_last n to → ⊥) → new ≡ words → on ≡ before → Grows (Flows code at_first at_last n) words new before on
 leads_none code n node at_first at_last words new before on here never e eo = grows_none (Flows code at_first at_last n) words new before on e eo (λ to f. absurd (never to (flows_of code n node at_first at_last to here f)))

@@ -1,6 +1,6 @@
 -- Hops: numbers of a word that lead to the same one beyond it.
 use Rattle.std.proofs.Common.{◌≡◌, ◌⊎◌, inl, inr, ℕ, ◌+◌, ◌*◌, ◌/◌, ◌%◌, ◌^◌, ◌<◌, false, List, [], ◌∷◌, ◌++◌, length, get_or, set, min, sym, refl, ap, ◌∙◌, subst, arith, length-append, w64}
-use Rattle.std.proofs.lemmas.List.{get_or_append_left}
+use Rattle.std.proofs.lemmas.List.{get_or_append_left, get_or_push}
 use Rattle.std.proofs.lemmas.Bool.{cases_eq}
 use Rattle.std.proofs.lemmas.Nat.{and_le_l}
 use Rattle.std.proofs.lemmas.Nat.Bits.{bit_at-trailing_zeros, bit_at_and, bit_at-lt, bit_at-zero, bit_at_set_other}
@@ -15,7 +15,6 @@ use Rattle.scan_core.proofs.Bits.{grows_one, grows_none}
 use Rattle.scan_core.proofs.Growings.{grows_by, grows_both}
 use Rattle.scan_core.proofs.Insides.{bit_is}
 use Rattle.scan_core.proofs.Visitings.{is_in_word}
-use Rattle.scan_core.proofs.Tables.{get-last}
 
 -- the first numbers of a word that lead to a number
 abbrev pub From : List Node → ℕ → ℕ → ℕ → ℕ → Type 0
@@ -42,7 +41,7 @@ pub hop_pushed : (code : List Node) (hops new : List Hop) (count : ℕ) (hop : H
 hop_pushed code hops new count hop are here e = record {
   size = let l = ap length e in let a = length-append hops (hop ∷ []) in let s = are.size in omega (arith, l, a, s);
   each = λ k h. elim (cases_eq k count) [
-    | inl same ↦ subst (IsHop code (k / 3)) (sym (ap (λ l. get_or l k no_hop) e ∙ get-last hops hop no_hop k (same ∙ sym are.size))) (subst (λ n. IsHop code (n / 3) hop) (sym same) here)
+    | inl same ↦ subst (IsHop code (k / 3)) (sym (ap (λ l. get_or l k no_hop) e ∙ get_or_push hops hop no_hop k (are.size ∙ sym same))) (subst (λ n. IsHop code (n / 3) hop) (sym same) here)
     | inr other ↦ subst (IsHop code (k / 3)) (sym (ap (λ l. get_or l k no_hop) e ∙ get_or_append_left hops (hop ∷ []) no_hop k (let s = are.size in omega (arith, h, other, s)))) (are.each k (omega (arith, h, other)))
   ];
 }

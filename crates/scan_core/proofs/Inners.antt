@@ -1,24 +1,20 @@
 -- The sets of the places along a line, and a table of them.
-use Rattle.std.proofs.Common.{◌≡◌, ◌⊎◌, ◌↔◌, inl, inr, ℕ, zero, suc, ◌+◌, ◌*◌, ◌-◌, ◌<◌, ◌≤◌, Bool, true, false, IsTrue, List, [], ◌∷◌, length, get_or, slice_index, refl, sym, ap, ◌∙◌, subst, arith}
+use Rattle.std.proofs.Common.{◌≡◌, ◌⊎◌, ◌↔◌, inl, inr, ℕ, zero, suc, ◌+◌, ◌*◌, ◌-◌, ◌<◌, ◌≤◌, Bool, true, false, IsTrue, List, length, get_or, slice_index, refl, sym, ap, ◌∙◌, subst, arith}
 use Rattle.std.proofs.lemmas.Bool.{cases_eq, false≢true}
-use Rattle.bre_core.specs.Match.{Parts}
 use Rattle.scan_core.specs.declared.node.Node.{Node}
-use Rattle.scan_core.specs.declared.node.Node.TheVariants.{Take, First, Last, Choose, Back}
 use Rattle.scan_core.specs.declared.table.Table.{Table}
 use Rattle.scan_core.specs.declared.table.State.{State}
-use Rattle.std.proofs.Math.Nat.{mul-le-mul}
+use Rattle.std.proofs.Math.Nat.{mul-le-mul, mul-suc}
+use Rattle.std.proofs.lemmas.List.{get_or_default}
 use Rattle.scan_core.specs.Code.{Entered, weight}
 use Rattle.scan_core.specs.Counted.{AreSteps, EndsIn, HasStepsBefore, IsStepCount, set_at}
 use Rattle.scan_core.specs.Sets.{IsMarked, positions_among}
-use Rattle.scan_core.specs.inner.Sets.{Flows, FlowsOn, LeadsOn, Passes}
+use Rattle.scan_core.specs.inner.Sets.{Flows, FlowsOn, Passes}
 use Rattle.scan_core.specs.inner.Table.{Next, Inner, InSets, entry, IsState, no_state, IsTableOf, Walked}
 use Rattle.scan_core.specs.Table.{IsOutcome}
-use Rattle.scan_core.proofs.Enterings.{positions_most, weight_length}
+use Rattle.scan_core.proofs.Enterings.{positions_most, weight_length, parts_anywhere}
 use Rattle.scan_core.proofs.Codes.{parts_join}
 use Rattle.scan_core.proofs.Along.{closes_exact, came_exact, one_counted, none_counted, steps_more, steps_wider}
-
-times_suc : (a n : ℕ) → a * suc n ≡ a * n + a
-times_suc a n = grind arith
 
 -- at every place but the last
 pub inner_entered : (code : List Node) (line : List ℕ) (place : ℕ) → place < length line → (number : ℕ) → Inner code line place number ↔ Entered code line number place
@@ -43,24 +39,10 @@ next_by code byte One Other there number h = (h.0, seed h.1, h.2)
     seed (inl s) = inl (s.0, there s.0 s.1, s.2)
     seed (inr e) = inr e
 
-leads_wider : (node : Node) (from to : ℕ) → LeadsOn node false false from to → LeadsOn node false true from to
-leads_wider (Take bytes) from to h = h
-leads_wider First from to h = h
-leads_wider Last from to h = absurd (false≢true h.0)
-leads_wider (Choose skip) from to h = h
-leads_wider (Back by) from to h = h
-
-parts_wider : (code : List Node) (count from to : ℕ) → Parts (Flows code false false) count from to → Parts (Flows code false true) count from to
-parts_wider code zero from to p = p
-parts_wider code (suc count) from to p = (p.0, parts_wider code count from p.0 p.1, (p.2.0, p.2.1, leads_wider p.2.0 p.0 to p.2.2))
-
 -- at the last place, after a byte
 pub last_entered : (code : List Node) (line : List ℕ) (place : ℕ) → suc place ≡ length line → (number : ℕ) → Entered code line number (suc place) ↔ ((from : ℕ) × Inner code line (suc place) from × FlowsOn code false true from number)
 last_entered code line place h number = (λ e. there ((exact number).1 e), λ k. (exact number).0 (here k))
   where
-    Seed : ℕ → Type 0
-    Seed n = (before : ℕ) × Inner code line place before × Passes code (slice_index line place) before n
-
     exact : (n : ℕ) → ((from : ℕ) × (((before : ℕ) × Inner code line place before × Passes code (slice_index line place) before from) ⊎ (from ≡ 0)) × FlowsOn code false true from n) ↔ Entered code line n (suc place)
     exact n = closes_exact code line (suc place) false true (λ m. (before : ℕ) × Inner code line place before × Passes code (slice_index line place) before m)
         (λ m. (from : ℕ) × (((before : ℕ) × Inner code line place before × Passes code (slice_index line place) before from) ⊎ (from ≡ 0)) × FlowsOn code false true from m)
@@ -72,7 +54,7 @@ last_entered code line place h number = (λ e. there ((exact number).1 e), λ k.
     there f = (f.0, (f.0, f.1, (0, refl)), f.2)
 
     here : ((from : ℕ) × Inner code line (suc place) from × FlowsOn code false true from number) → (from : ℕ) × (((before : ℕ) × Inner code line place before × Passes code (slice_index line place) before from) ⊎ (from ≡ 0)) × FlowsOn code false true from number
-    here k = (k.1.0, k.1.1, (k.1.2.0 + k.2.0, parts_join (Flows code false true) k.1.2.0 k.2.0 k.1.0 k.0 number (parts_wider code k.1.2.0 k.1.0 k.0 k.1.2.1) k.2.1))
+    here k = (k.1.0, k.1.1, (k.1.2.0 + k.2.0, parts_join (Flows code false true) k.1.2.0 k.2.0 k.1.0 k.0 number (parts_anywhere code false true k.1.2.0 k.1.0 k.0 k.1.2.1) k.2.1))
 
 pub walked_starts : (code : List Node) (sets : List (List Bool)) (table : Table) (line : List ℕ) → IsTableOf code sets table → Walked code sets line 0 0 0
 walked_starts code sets table line t = record { within = omega arith; known = t.some; exact = t.front; none = λ before h. absurd (omega (arith, h)); counted = none_counted code line; bound = omega arith }
@@ -118,7 +100,7 @@ walked_stay code sets table line zero place state steps t w h b s =
 walked_stay code sets table line (suc more) place state steps t w h b s =
     let before = walked_stay code sets table line more place state steps t w (omega (arith, h)) b (λ k l u. s k l (omega (arith, u))) in
     let m = t.most in
-    let z : positions_among code (set_at sets state) * suc more ≡ positions_among code (set_at sets state) * more + positions_among code (set_at sets state) = times_suc (positions_among code (set_at sets state)) more in
+    let z : positions_among code (set_at sets state) * suc more ≡ positions_among code (set_at sets state) * more + positions_among code (set_at sets state) = mul-suc (positions_among code (set_at sets state)) more in
     let last = walked_more code sets table line (place + more) state state (steps + positions_among code (set_at sets state) * more) (steps + positions_among code (set_at sets state) * suc more) t before (omega (arith, h)) (b (place + more) (omega (arith, h)))
     (sym (s (place + more) (omega arith) (omega arith))) (let l = w.known in omega (arith, m, l)) (omega (arith, z)) in
     let e : suc (place + more) ≡ place + suc more = omega arith in
@@ -218,16 +200,11 @@ walked_ends code sets rows line (suc place) state steps noted n w h some = recor
       λ f. let k = (last_entered code line place h number).0 f in (n.last_exact number).1 (k.0, (w.exact k.0).1 k.1, k.2),
     )
 
-pub any_default : {X : Type 0} (l : List X) (n : ℕ) (d e : X) → n < length l → get_or l n d ≡ get_or l n e
-any_default [] n d e h = absurd (omega (arith, h))
-any_default (x ∷ l) zero d e h = refl
-any_default (x ∷ l) (suc n) d e h = any_default l n d e (omega (arith, h))
-
 pub entry_read : (table : Table) (code : List Node) (sets : List (List Bool)) (state byte read d : ℕ) → IsTableOf code sets table → state < length sets → byte < 256 → read ≡ get_or table.rows.items (state * 256 + byte) d → read ≡ entry table.rows.items state byte
-entry_read table code sets state byte read d t h b e = e ∙ any_default table.rows.items (state * 256 + byte) d 0 (let r = t.rows in omega (arith, h, b, r))
+entry_read table code sets state byte read d t h b e = e ∙ get_or_default table.rows.items (state * 256 + byte) d 0 (let r = t.rows in omega (arith, h, b, r))
 
 pub noted_read : (table : Table) (code : List Node) (sets : List (List Bool)) (state : ℕ) (read d : State) → IsTableOf code sets table → state < length sets → read ≡ get_or table.states.items state d → IsState code sets table.rows.items state read
-noted_read table code sets state read d t h e = subst (IsState code sets table.rows.items state) (sym (e ∙ any_default table.states.items state d no_state (let s = t.states in omega (arith, h, s)))) (t.noted state h)
+noted_read table code sets state read d t h e = subst (IsState code sets table.rows.items state) (sym (e ∙ get_or_default table.states.items state d no_state (let s = t.states in omega (arith, h, s)))) (t.noted state h)
 
 -- along a line, by some table's sets
 abbrev pub WalkedOf : List Node → Table → List ℕ → ℕ → ℕ → ℕ → Type 0

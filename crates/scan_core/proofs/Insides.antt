@@ -1,6 +1,6 @@
 -- What numbers lead to without a byte, ready to be looked up.
 use Rattle.std.proofs.Common.{rules, ◌≡◌, ◌⊎◌, ◌↔◌, inl, inr, ℕ, suc, ◌+◌, ◌*◌, ◌-◌, ◌/◌, ◌%◌, ◌^◌, ◌<◌, ◌≤◌, Bool, false, List, [], ◌∷◌, ◌++◌, length, get_or, min, max, sym, ap, ◌∙◌, subst, arith, length-append, w64}
-use Rattle.std.proofs.lemmas.List.{get_or_append_left}
+use Rattle.std.proofs.lemmas.List.{get_or_append_left, get_or_push}
 use Rattle.std.proofs.lemmas.Bool.{cases_eq, cases_lt, false≢true}
 use Rattle.std.proofs.lemmas.Nat.{and_le_l, le_or_l, or_lt}
 use Rattle.std.proofs.lemmas.Nat.Bits.{and_high, bit_at_and, bit_at_or, bit_at_not, bit_at-lt, bit_at-zero, bit_at_mask_inside, bit_at_ones, bit_at_above, bit_at_cat_low, bit_at_cat_high, bit_at_set_same, bit_at_set_other, same_from_bits_below}
@@ -16,7 +16,6 @@ use Rattle.scan_core.specs.inner.Hops.{HopsTo}
 use Rattle.scan_core.specs.inner.Sets.{LeadsOn, Flows, FlowsOn}
 use Rattle.scan_core.specs.inner.Words.{width}
 use Rattle.scan_core.proofs.Enterings.{flows_of}
-use Rattle.scan_core.proofs.Tables.{get-last}
 use Rattle.scan_core.proofs.Visitings.{cleared}
 
 pub choose_stays : (code : List Node) (hops : List Hop) (at bit skip : ℕ) (at_first at_last : Bool) (to : ℕ) → At code (at * 64 + bit) (Choose skip) → bit < 64
@@ -51,23 +50,6 @@ choose_peer code n other skip more at_first at_last to here there next same f = 
     side : (to ≡ other + 1) ⊎ (to ≡ other + more) → Stays code other to ⊎ Flows code at_first at_last n to
     side (inl e) = inl ((Choose more, there, inl e), ap (λ k. k / 64) e ∙ next)
     side (inr e) = inr (Choose skip, here, inr (e ∙ sym same))
-
--- the first bits of a word are looked at
-abbrev pub Leaving : List Node → List Hop → ℕ → ℕ → ℕ → Type 0
-Leaving code hops at bit word = (b : ℕ) (at_first at_last : Bool) (to : ℕ) → b < bit → Flows code at_first at_last (at * 64 + b) to → (bit_at word b ≡ 1) ⊎ (Stays code (at * 64 + b) to ⊎ HopsTo hops at b to)
-
-pub leaving_more : (code : List Node) (hops : List Hop) (at bit word : ℕ) → Leaving code hops at bit word → bit < 64 → Leaving code hops at (bit + 1) (bit_or word (1 * 2 ^ bit % 2 ^ 64))
-leaving_more code hops at bit word before h b at_first at_last to l f = elim (cases_eq b bit) [
-  | inl same ↦ inl (ap (bit_at (bit_or word (1 * 2 ^ bit % 2 ^ 64))) same ∙ bit_at_set_same w64 word bit h)
-  | inr other ↦ elim (before b at_first at_last to (omega (arith, l, other)) f) [ inl k ↦ inl (bit_at_set_other w64 word bit h b other ∙ k) | inr s ↦ inr s ]
-]
-
-pub leaving_skip : (code : List Node) (hops : List Hop) (at bit word : ℕ) → Leaving code hops at bit word → ((at_first at_last : Bool) (to : ℕ) → Flows code at_first at_last (at * 64 + bit) to → Stays code (at * 64 + bit) to ⊎ HopsTo hops at bit to)
-    → Leaving code hops at (bit + 1) word
-leaving_skip code hops at bit word before here b at_first at_last to l f = elim (cases_eq b bit) [
-  | inl same ↦ inr (subst (λ n. Stays code (at * 64 + n) to ⊎ HopsTo hops at n to) (sym same) (here at_first at_last to (subst (λ n. Flows code at_first at_last (at * 64 + n) to) same f)))
-  | inr other ↦ before b at_first at_last to (omega (arith, l, other)) f
-]
 
 pub record Peering (code : List Node) (number bit word : ℕ) : Type 0 where
   pub own : number % 64 < bit → bit_at word (number % 64) ≡ 1
@@ -408,7 +390,7 @@ entry_of_halves code inside place i low high = closes_both code (place / 2048) _
 -- what is so of each entry of a list and of one more
 pub pushed : {X : Type 0} (d : X) (So : ℕ → X → Type 0) (list new : List X) (count : ℕ) (entry : X) → length list ≡ count → ((k : ℕ) → k < count → So k (get_or list k d)) → So count entry → new ≡ list ++ entry ∷ [] → (k : ℕ) → k < count + 1 → So k (get_or new k d)
 pushed d So list new count entry size before here e k h = elim (cases_eq k count) [
-  | inl same ↦ subst (So k) (sym (ap (λ l. get_or l k d) e ∙ get-last list entry d k (same ∙ sym size))) (subst (λ n. So n entry) (sym same) here)
+  | inl same ↦ subst (So k) (sym (ap (λ l. get_or l k d) e ∙ get_or_push list entry d k (size ∙ sym same))) (subst (λ n. So n entry) (sym same) here)
   | inr other ↦ subst (So k) (sym (ap (λ l. get_or l k d) e ∙ get_or_append_left list (entry ∷ []) d k (omega (arith, h, other, size)))) (before k (omega (arith, h, other)))
 ]
 

@@ -1,8 +1,8 @@
 -- Entering what landings lead to.
-use Rattle.std.proofs.Common.{◌≡◌, ◌⊎◌, ◌↔◌, inl, inr, ℕ, zero, suc, ◌+◌, ◌*◌, ◌-◌, ◌/◌, ◌%◌, ◌^◌, ◌<◌, ◌≤◌, Bool, true, false, IsTrue, List, [], ◌∷◌, ◌++◌, length, get_or, set, eqb, not, refl, sym, ap, ◌∙◌, subst, arith, length-append, eqb-true, w64}
+use Rattle.std.proofs.Common.{◌≡◌, ◌⊎◌, ◌↔◌, inl, inr, ℕ, zero, suc, ◌+◌, ◌*◌, ◌-◌, ◌/◌, ◌%◌, ◌^◌, ◌<◌, ◌≤◌, Bool, true, false, IsTrue, List, [], ◌∷◌, ◌++◌, length, get_or, set, eqb, not, refl, sym, ap, ◌∙◌, subst, arith, length-append, eqb-true}
 use Rattle.std.proofs.lemmas.Bool.{cases_eq, false≢true}
-use Rattle.std.proofs.lemmas.List.{get_or-set_same, get_or_append_left}
-use Rattle.std.proofs.lemmas.Nat.Bits.{bit_at-zero, bit_at_set_same, bit_at_set_other}
+use Rattle.std.proofs.lemmas.List.{get_or-set_same, get_or_append_left, get_or_push}
+use Rattle.std.proofs.lemmas.Nat.Bits.{bit_at-zero}
 use Rattle.std.specs.Prelude.{bit_and, bit_or}
 use Rattle.std.specs.Int.{bit_at}
 use mir.Val.{bool_byte}
@@ -19,7 +19,6 @@ use Rattle.scan_core.proofs.Enterings.{flows_of}
 use Rattle.scan_core.proofs.Hoppings.{one_of, none_of}
 use Rattle.scan_core.proofs.Insides.{bit_is, left_bit, right_bit, either_bit}
 use Rattle.scan_core.proofs.Passings.{set_elsewhere}
-use Rattle.scan_core.proofs.Tables.{get-last}
 use Rattle.scan_core.proofs.Visitings.{is_in_word}
 
 -- a number's bit where something holds
@@ -126,7 +125,7 @@ adding_starts code old are = record { sound = are; longer = omega arith; front =
 pub adding_more : (code : List Node) (old now new : List Landing) (landing : Landing) → Adding code old now → IsLanding code landing → new ≡ now ++ landing ∷ [] → Adding code old new
 adding_more code old now new landing a is e = record {
   sound = λ place h. elim (cases_eq place (length now)) [
-    | inl same ↦ subst (IsLanding code) (sym (ap (λ l. get_or l place no_landing) e ∙ get-last now landing no_landing place same)) is
+    | inl same ↦ subst (IsLanding code) (sym (ap (λ l. get_or l place no_landing) e ∙ get_or_push now landing no_landing place (sym same))) is
     | inr other ↦ subst (IsLanding code) (sym (kept place (omega (arith, h, other, one)))) (a.sound place (omega (arith, h, other, one)))
   ];
   longer = omega (arith, a.longer, one);
@@ -160,23 +159,6 @@ back_settled code base landings at bit by at_first at_last to here before f =
     let e : at * 64 + bit ≡ to + by = flows_of code (at * 64 + bit) (Back by) at_first at_last to here f in
     let q : at * 64 + bit - by ≡ to = omega (arith, e) in
     ((Back by, here, e), subst (Lands base landings at bit) q before)
-
--- the first bits of a word are looked at
-abbrev pub Others : List Node → List ℕ → List Landing → ℕ → ℕ → ℕ → Type 0
-Others code base landings at count word = (bit : ℕ) (at_first at_last : Bool) (to : ℕ) → bit < count → Flows code at_first at_last (at * 64 + bit) to → (bit_at word bit ≡ 1) ⊎ (Flows code false false (at * 64 + bit) to × Lands base landings at bit to)
-
-pub others_more : (code : List Node) (base : List ℕ) (landings : List Landing) (at count word : ℕ) → Others code base landings at count word → count < 64 → Others code base landings at (count + 1) (bit_or word (1 * 2 ^ count % 2 ^ 64))
-others_more code base landings at count word before h bit at_first at_last to l f = elim (cases_eq bit count) [
-  | inl same ↦ inl (ap (bit_at (bit_or word (1 * 2 ^ count % 2 ^ 64))) same ∙ bit_at_set_same w64 word count h)
-  | inr other ↦ elim (before bit at_first at_last to (omega (arith, l, other)) f) [ inl k ↦ inl (bit_at_set_other w64 word count h bit other ∙ k) | inr s ↦ inr s ]
-]
-
-pub others_skip : (code : List Node) (base : List ℕ) (landings : List Landing) (at count word : ℕ) → Others code base landings at count word → ((at_first at_last : Bool) (to : ℕ) → Flows code at_first at_last (at * 64 + count) to → Flows code false false (at * 64 + count) to × Lands base landings at count to)
-    → Others code base landings at (count + 1) word
-others_skip code base landings at count word before here bit at_first at_last to l f = elim (cases_eq bit count) [
-  | inl same ↦ inr (subst (λ n. Flows code false false (at * 64 + n) to × Lands base landings at n to) (sym same) (here at_first at_last to (subst (λ n. Flows code at_first at_last (at * 64 + n) to) same f)))
-  | inr other ↦ before bit at_first at_last to (omega (arith, l, other)) f
-]
 
 pub not_zero : (n : ℕ) → IsTrue (not (eqb n 0)) → n ≡ 0 → ⊥
 not_zero zero t e = false≢true t

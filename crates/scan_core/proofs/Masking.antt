@@ -1,6 +1,6 @@
 -- The words of the numbers of a kind.
 use Rattle.std.proofs.Common.{◌≡◌, ◌↔◌, inl, inr, ℕ, zero, suc, ◌+◌, ◌*◌, ◌-◌, ◌/◌, ◌%◌, ◌^◌, ◌<◌, ◌≤◌, List, [], ◌∷◌, ◌++◌, length, get_or, refl, sym, ap, ◌∙◌, subst, arith, length-append, w64}
-use Rattle.std.proofs.lemmas.List.{get_or_append_left}
+use Rattle.std.proofs.lemmas.List.{get_or_append_left, get_or_push}
 use Rattle.std.proofs.lemmas.Bool.{cases_eq, cases_lt}
 use Rattle.std.proofs.lemmas.Nat.Bits.{bit_at_set_same, bit_at_set_other}
 use Rattle.std.specs.Prelude.{bit_or}
@@ -10,7 +10,6 @@ use Rattle.scan_core.specs.declared.masks.Kind.TheVariants.{Takes}
 use Rattle.scan_core.specs.declared.node.Node.{Node}
 use Rattle.scan_core.specs.Code.{At, weight_of}
 use Rattle.scan_core.specs.inner.Words.{AddsMask, IsMask, IsOf, counted_at, width}
-use Rattle.scan_core.proofs.Tables.{get-last}
 
 -- the first bits of a word are those of a kind
 pub record Wording (code : List Node) (kind : Kind) (from bit word : ℕ) : Type 0 where
@@ -53,7 +52,7 @@ add_more code kind old now new at word a is e = record {
         (λ k. p.0 (sym q ∙ k), λ k. q ∙ p.1 k)
     | inr here ↦
         let s = a.size in
-        let q = ap (λ w. bit_at (get_or w (length old + number / 64) 0) (number % 64)) e ∙ ap (λ x. bit_at x (number % 64)) (get-last now word 0 (length old + number / 64) (omega (arith, s, here, h))) in
+        let q = ap (λ w. bit_at (get_or w (length old + number / 64) 0) (number % 64)) e ∙ ap (λ x. bit_at x (number % 64)) (get_or_push now word 0 (length old + number / 64) (omega (arith, s, here, h))) in
         let same : at * 64 + number % 64 ≡ number = omega (arith, here, h) in
         let p = is (number % 64) (omega arith) in
         (λ k. subst (IsOf code kind) same (p.0 (sym q ∙ k)), λ k. q ∙ p.1 (subst (IsOf code kind) (sym same) k))

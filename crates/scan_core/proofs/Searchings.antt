@@ -11,9 +11,8 @@ use Rattle.scan_core.specs.inner.Sets.{FlowsOn, Passes, Came}
 use Rattle.scan_core.specs.Table.{IsOutcome}
 use Rattle.scan_core.specs.inner.Words.{IsIn, width, flags_of, SpreadsOut}
 use Rattle.scan_core.proofs.Along.{IsPlace, closes_exact, came_exact, none_counted, one_counted, steps_more, steps_wider}
-use Rattle.scan_core.proofs.Closings.{parts_anywhere}
 use Rattle.scan_core.proofs.Countings.{flags_are}
-use Rattle.scan_core.proofs.Enterings.{positions_most}
+use Rattle.scan_core.proofs.Enterings.{positions_most, parts_anywhere}
 use Rattle.scan_core.proofs.Visitings.{flows_join}
 
 -- the line was searched up to a place, and no match has ended

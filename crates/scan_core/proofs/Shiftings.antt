@@ -3,6 +3,7 @@ use Rattle.std.proofs.Common.{◌≡◌, inl, inr, ℕ, zero, suc, ◌+◌, ◌*
 use Rattle.std.proofs.lemmas.Bool.{cases_lt, false≢true}
 use Rattle.std.proofs.lemmas.Nat.{pow-add, shr-shr, shr_high}
 use Rattle.std.proofs.Math.Nat.{pow-le-pow_right}
+use Rattle.std.proofs.lemmas.List.{get_or_default}
 use Rattle.scan_core.specs.declared.node.Node.{Node}
 use Rattle.scan_core.specs.declared.shift_table.ShiftTable.{ShiftTable}
 use Rattle.scan_core.specs.declared.table.State.{State}
@@ -14,7 +15,7 @@ use Rattle.scan_core.specs.Table.{IsFound, IsOutcome}
 use Rattle.scan_core.specs.inner.Table.{IsTable, IsTableOf, Walked, entry, no_state}
 use Rattle.scan_core.proofs.Along.{steps_more, steps_wider}
 use Rattle.scan_core.proofs.Enterings.{positions_most, weight_length}
-use Rattle.scan_core.proofs.Inners.{any_default, walked_starts, walk_least, walk_next, walk_run, walk_ends, fixed_stays, bound_fits}
+use Rattle.scan_core.proofs.Inners.{walked_starts, walk_least, walk_next, walk_run, walk_ends, fixed_stays, bound_fits}
 
 -- a word's six bits after one state more was put before them
 pub six_more : (word offset state : ℕ) → offset < 64 → six_bits (word * 64 + offset) (suc state) ≡ six_bits word state
@@ -90,7 +91,7 @@ weight_read table shifts word added e i g =
     let low : word % 256 < 256 = omega arith in
     let same : word % 256 % 64 ≡ word % 64 = omega arith in
     subst (λ n. IsWeight table.states.items n added) same
-    (subst (IsWeight table.states.items (word % 256 % 64)) (any_default shifts.weights.items (word % 256) 0 e (omega (arith, s, low)) ∙ sym g) (i.weights.each (word % 256) low))
+    (subst (IsWeight table.states.items (word % 256 % 64)) (get_or_default shifts.weights.items (word % 256) 0 e (omega (arith, s, low)) ∙ sym g) (i.weights.each (word % 256) low))
 
 weight_small : (code : List Node) (table : Table) (state low added : ℕ) → IsTable code table → IsWeight table.states.items low added → low ≡ 6 * state → state < length table.states.items → added ≤ weight code + 1
 weight_small code table state low added t w l h =
@@ -169,7 +170,7 @@ at_moved code shifts line place place' word steps steps' p s a = subst (λ n. Is
 pub at_more : (code : List Node) (shifts : ShiftTable) (line : List ℕ) (place word word' steps read d added e : ℕ) → IsAt code shifts line place word steps → place < length line → slice_index line place < 256
     → read ≡ get_or shifts.words.items (slice_index line place) d → word' ≡ read / 2 ^ (word % 64) → added ≡ get_or shifts.weights.items (word % 256) e → IsAt code shifts line (place + 1) word' (steps + added)
 at_more code shifts line place word word' steps read d added e a h b r w g =
-    let o = subst (λ n. IsOffset a.0.rows.items (length a.0.states.items) a.3.0 (slice_index line place) (six_bits n a.3.0)) (any_default shifts.words.items (slice_index line place) 0 d (let s = a.2.words.all in omega (arith, s, b)) ∙ sym r)
+    let o = subst (λ n. IsOffset a.0.rows.items (length a.0.states.items) a.3.0 (slice_index line place) (six_bits n a.3.0)) (get_or_default shifts.words.items (slice_index line place) 0 d (let s = a.2.words.all in omega (arith, s, b)) ∙ sym r)
     (a.2.words.each (slice_index line place) b a.3.0 a.3.2.known) in
     let i = subst (λ n. IsWeight a.0.states.items n added) a.3.1 (weight_read a.0 shifts word added e a.2 g) in
     let m = state_more code a.0 line place a.3.0 steps added (six_bits read a.3.0) a.1 a.2.complete a.3.2 h b i o in

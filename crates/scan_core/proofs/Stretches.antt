@@ -1,6 +1,7 @@
 -- Stretches of nodes, and their copies.
-use Rattle.std.proofs.Common.{◌≡◌, ℕ, zero, suc, ◌+◌, ◌<◌, ◌≤◌, List, [], ◌∷◌, ◌++◌, length, take, drop, get_or, reverse, refl, sym, ap, ◌∙◌, subst, arith, append_assoc, append-nil, add-one, length-drop}
+use Rattle.std.proofs.Common.{◌≡◌, ℕ, zero, suc, ◌+◌, ◌<◌, ◌≤◌, List, [], ◌∷◌, ◌++◌, length, take, drop, get_or, reverse, refl, sym, ap, ◌∙◌, arith, append_assoc, append-nil, add-one, length-drop}
 use Rattle.std.proofs.lemmas.List.{take_more, get_or-drop, take-append-le, drop-append-le, reverse-append, get_or_append_left}
+use Rattle.std.proofs.Math.Seq.{take-append_seam, drop-append_seam}
 use Rattle.scan_core.specs.declared.node.Node.{Node}
 use Rattle.scan_core.specs.Code.{copies}
 use Rattle.scan_core.specs.inner.Backwards.{stretch}
@@ -43,14 +44,6 @@ reverse-copies (suc count) code = reverse-append (copies count code) code ∙ ap
 
 -- the stretch after a front
 pub stretch_after : (before code more : List Node) (from size : ℕ) → length before ≡ from → length code ≡ size → stretch from size (before ++ (code ++ more)) ≡ code
-stretch_after [] code more zero size e f = subst (λ n. take n (code ++ more) ≡ code) f (whole code more)
-  where
-    whole : (code more : List Node) → take (length code) (code ++ more) ≡ code
-    whole [] more = take-none more
-      where
-        take-none : (more : List Node) → take 0 more ≡ []
-        take-none more = refl
-    whole (node ∷ code) more = ap (λ l. node ∷ l) (whole code more)
-stretch_after [] code more (suc from) size e f = absurd (omega (arith, e))
-stretch_after (node ∷ before) code more zero size e f = absurd (omega (arith, e))
-stretch_after (node ∷ before) code more (suc from) size e f = stretch_after before code more from size (omega (arith, e)) f
+stretch_after before code more from size e f =
+    ap (λ n. take size (drop n (before ++ (code ++ more)))) (sym e) ∙ ap (take size) (drop-append_seam before (code ++ more))
+    ∙ ap (λ n. take n (code ++ more)) (sym f) ∙ take-append_seam code more

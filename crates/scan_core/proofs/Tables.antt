@@ -1,7 +1,8 @@
 -- A table that is built set by set and entry by entry.
-use Rattle.std.proofs.Common.{◌≡◌, ◌⊎◌, ◌↔◌, inl, inr, ℕ, zero, suc, ◌+◌, ◌*◌, ◌<◌, ◌≤◌, Bool, true, false, IsTrue, List, [], ◌∷◌, ◌++◌, length, get_or, refl, sym, ap, ◌∙◌, subst, arith}
+use Rattle.std.proofs.Common.{◌≡◌, ◌⊎◌, ◌↔◌, inl, inr, ℕ, ◌+◌, ◌*◌, ◌<◌, ◌≤◌, Bool, true, false, IsTrue, List, [], ◌∷◌, ◌++◌, length, get_or, refl, sym, ap, ◌∙◌, subst, arith}
 use Rattle.std.proofs.lemmas.Bool.{cases_eq, cases_lt}
-use Rattle.std.proofs.lemmas.List.{length-append, get_or_append_left}
+use Rattle.std.proofs.lemmas.List.{length-append, get_or_append_left, get_or_push, get_or_default, ext_get_or}
+use Rattle.bre_core.proofs.Searching.{one_truth}
 use Rattle.bre_core.specs.ByteSet.{has}
 use Rattle.scan_core.specs.declared.build.Building.{Building}
 use Rattle.scan_core.specs.declared.node.Node.{Node}
@@ -16,12 +17,6 @@ use Rattle.scan_core.specs.Sets.{IsMarked, positions_among}
 use Rattle.scan_core.specs.inner.Sets.{IsReach, Has, FlowsOn, Passes, PassesFrom, Advances, Loaded, Spreads}
 use Rattle.scan_core.specs.inner.Table.{Next, InSets, entry, Tells, IsState, no_state, IsTable}
 use Rattle.scan_core.proofs.Enterings.{at_index, at_once, at_least}
-
-pub get-last : {X : Type 0} (xs : List X) (y d : X) (n : ℕ) → n ≡ length xs → get_or (xs ++ y ∷ []) n d ≡ y
-get-last [] y d zero e = refl
-get-last [] y d (suc n) e = absurd (omega (arith, e))
-get-last (x ∷ xs) y d zero e = absurd (omega (arith, e))
-get-last (x ∷ xs) y d (suc n) e = get-last xs y d n (omega (arith, e))
 
 tells_more : (code : List Node) (sets : List (List Bool)) (set : List Bool) (state byte read : ℕ) → state < length sets → Tells code sets state byte read → Tells code (sets ++ set ∷ []) state byte read
 tells_more code sets set state byte read h t = record {
@@ -42,7 +37,7 @@ built_set code sets rows set b small none = record {
   front = λ number. subst (λ s. IsMarked s number ↔ FlowsOn code true false 0 number) (sym (get_or_append_left sets (set ∷ []) [] 0 b.some)) (b.front number);
   none = λ state h k. let l = length-append sets (set ∷ []) in elim (cases_lt state (length sets)) [
     | inl old ↦ b.none state old (subst (λ s. IsMarked s (length code)) (get_or_append_left sets (set ∷ []) [] state old) k)
-    | inr new ↦ none (subst (λ s. IsMarked s (length code)) (get-last sets set [] state (omega (arith, h, new, l))) k)
+    | inr new ↦ none (subst (λ s. IsMarked s (length code)) (get_or_push sets set [] state (omega (arith, h, new, l))) k)
   ];
   told = λ state byte h b256 r. let l = length-append sets (set ∷ []) in
       let old : state < length sets = omega (arith, r, small) in
@@ -60,18 +55,9 @@ built_entry code sets rows state byte read b h e t = record {
     | inr new ↦
         let same_state : s ≡ state = omega (arith, r, new, l, e, h, b256) in
         let same_byte : k ≡ byte = omega (arith, r, new, l, e, same_state) in
-        subst (Tells code sets s k) (sym (get-last rows read 0 (s * 256 + k) (omega (arith, r, new, l)))) (subst (λ m. Tells code sets m k read) (sym same_state) (subst (λ m. Tells code sets state m read) (sym same_byte) t))
+        subst (Tells code sets s k) (sym (get_or_push rows read 0 (s * 256 + k) (omega (arith, r, new, l)))) (subst (λ m. Tells code sets m k read) (sym same_state) (subst (λ m. Tells code sets state m read) (sym same_byte) t))
   ];
 }
-
-pub alike : (one other : List Bool) → length one ≡ length other → ((n : ℕ) → n < length one → get_or one n false ≡ get_or other n false) → one ≡ other
-alike [] [] e h = refl
-alike [] (y ∷ other) e h = absurd (omega (arith, e))
-alike (x ∷ one) [] e h = absurd (omega (arith, e))
-alike (x ∷ one) (y ∷ other) e h =
-    let heads : x ≡ y = h 0 (omega arith) in
-    let tails = alike one other (omega (arith, e)) (λ n k. h (suc n) (omega (arith, k))) in
-    cc
 
 -- the sets stay, or one is added
 record Grown (code : List Node) (state : ℕ) (sets sets' : List (List Bool)) (rows : List ℕ) : Type 0 where
@@ -88,7 +74,7 @@ grown code state sets sets' rows marks b r k s m (inr e) = subst (λ t. Grown co
   known = let l = length-append sets (marks ∷ []) in omega (arith, k, l);
   sized = λ n h. let l = length-append sets (marks ∷ []) in elim (cases_lt n (length sets)) [
     | inl old ↦ ap length (get_or_append_left sets (marks ∷ []) [] n old) ∙ s n old
-    | inr new ↦ ap length (get-last sets marks [] n (omega (arith, h, new, l))) ∙ m
+    | inr new ↦ ap length (get_or_push sets marks [] n (omega (arith, h, new, l))) ∙ m
   ];
   same = get_or_append_left sets (marks ∷ []) [] state k;
 })
@@ -124,12 +110,7 @@ pub twin_entry : (code : List Node) (most state byte twin read d : ℕ) (buildin
 twin_entry code most state byte twin read d building f a less small e =
     let here : state * 256 + twin < length building.rows.items = let l = f.so_far.filled in omega (arith, l, less) in
     tells_twin code building.sets.items state byte twin read a
-    (subst (Tells code building.sets.items state twin) (sym (e ∙ same_default building.rows.items (state * 256 + twin) d 0 here)) (f.so_far.built.told state twin f.known (omega (arith, less, small)) here))
-  where
-    same_default : (l : List ℕ) (n d e : ℕ) → n < length l → get_or l n d ≡ get_or l n e
-    same_default [] n d e h = absurd (omega (arith, h))
-    same_default (x ∷ l) zero d e h = refl
-    same_default (x ∷ l) (suc n) d e h = same_default l n d e (omega (arith, h))
+    (subst (Tells code building.sets.items state twin) (sym (e ∙ get_or_default building.rows.items (state * 256 + twin) d 0 here)) (f.so_far.built.told state twin f.known (omega (arith, less, small)) here))
 
 -- the set that a byte leads to, which may have been added
 pub record Led (code : List Node) (most state byte read : ℕ) (new : Building) : Type 0 where
@@ -240,13 +221,7 @@ alike_all code n one other h before number bytes at = let l = at_least code numb
 
 -- marks that say what flags say are those flags
 same_marks : (marks flags : List Bool) → length marks ≡ length flags → ((n : ℕ) → IsMarked marks n ↔ IsMarked flags n) → marks ≡ flags
-same_marks marks flags e x = alike marks flags e (λ n h. one (get_or marks n false) (get_or flags n false) (x n))
-  where
-    one : (a b : Bool) → (a ≡ true) ↔ (b ≡ true) → a ≡ b
-    one true true f = refl
-    one false false f = refl
-    one true false f = sym (f.0 refl)
-    one false true f = f.1 refl
+same_marks marks flags e x = ext_get_or false marks flags e (λ n h. one_truth (get_or marks n false) (get_or flags n false) (IsMarked flags n) (x n) (λ m. m, λ m. m))
 
 -- what was seen of a set is so
 pub state_is : (code : List Node) (sets : List (List Bool)) (rows : List ℕ) (number : ℕ) (old loaded spread : Reach) (state : State) → length (set_at sets number) ≡ length code + 1 → length old.marks.items ≡ length code + 1 → Loaded code (set_at sets number) old loaded
@@ -272,7 +247,7 @@ one_noted code sets rows states new number noted a e h s q = record {
     | inl old ↦ subst (IsState code sets rows state) (sym (ap (λ t. get_or t state no_state) q ∙ get_or_append_left states (noted ∷ []) no_state state old)) (a.each state old)
     | inr fresh ↦
         let same : state ≡ number = omega (arith, g, l, m, fresh, e) in
-        subst (IsState code sets rows state) (sym (ap (λ t. get_or t state no_state) q ∙ get-last states noted no_state state (same ∙ e))) (subst (λ k. IsState code sets rows k noted) (sym same) s)
+        subst (IsState code sets rows state) (sym (ap (λ t. get_or t state no_state) q ∙ get_or_push states noted no_state state (sym (same ∙ e)))) (subst (λ k. IsState code sets rows k noted) (sym same) s)
   ];
 }
 

@@ -1,10 +1,11 @@
 -- Entering all that a set of words leads to, word by word.
-use Rattle.std.proofs.Common.{◌≡◌, ◌⊎◌, ◌↔◌, inl, inr, ℕ, zero, suc, ◌+◌, ◌*◌, ◌-◌, ◌/◌, ◌%◌, ◌^◌, ◌<◌, ◌≤◌, Bool, List, [], ◌∷◌, length, get_or, refl, sym, ap, ◌∙◌, subst, arith, w64}
+use Rattle.std.proofs.Common.{◌≡◌, ◌⊎◌, ◌↔◌, inl, inr, ℕ, zero, suc, ◌+◌, ◌*◌, ◌-◌, ◌/◌, ◌%◌, ◌^◌, ◌<◌, ◌≤◌, Bool, List, length, get_or, refl, sym, ap, ◌∙◌, subst, arith, w64}
 use Rattle.std.proofs.lemmas.Bool.{cases_eq, cases_lt}
 use Rattle.std.proofs.lemmas.Nat.{and_le_l}
 use Rattle.std.proofs.lemmas.Nat.Bits.{bit_at-zero, bit_at_clear_same, bit_at_clear_other}
 use Rattle.std.specs.Prelude.{bit_and}
 use Rattle.std.specs.Int.{bit_at, bit_not}
+use Rattle.std.proofs.lemmas.List.{get_or_past}
 use Rattle.bre_core.specs.Match.{Parts}
 use Rattle.scan_core.specs.declared.node.Node.{Node}
 use Rattle.scan_core.specs.inner.Sets.{Flows, FlowsOn}
@@ -18,16 +19,11 @@ is_in_word words at bit h =
     let same : bit_at (get_or words ((at * 64 + bit) / 64) 0) ((at * 64 + bit) % 64) ≡ bit_at (get_or words at 0) bit = ap (λ k. bit_at (get_or words k 0) ((at * 64 + bit) % 64)) word ∙ ap (bit_at (get_or words at 0)) place in
     (λ e. same ∙ e, λ e. sym same ∙ e)
 
-get_or-beyond : (words : List ℕ) (n : ℕ) → length words ≤ n → get_or words n 0 ≡ 0
-get_or-beyond [] n h = refl
-get_or-beyond (x ∷ words) zero h = absurd (omega (arith, h))
-get_or-beyond (x ∷ words) (suc n) h = get_or-beyond words n (omega (arith, h))
-
 pub is_within : (words : List ℕ) (number : ℕ) → IsIn words number → number < 64 * length words
 unfolding IsIn
 is_within words number h = elim (cases_lt number (64 * length words)) [
   | inl l ↦ l
-  | inr far ↦ let none = ap (λ x. bit_at x (number % 64)) (get_or-beyond words (number / 64) (omega (arith, far))) ∙ bit_at-zero (number % 64) in absurd (omega (arith, none, h))
+  | inr far ↦ let none = ap (λ x. bit_at x (number % 64)) (get_or_past words (number / 64) 0 (omega (arith, far))) ∙ bit_at-zero (number % 64) in absurd (omega (arith, none, h))
 ]
 
 -- clearing a bit that is set makes a word smaller, and leaves the others

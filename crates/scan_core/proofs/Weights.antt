@@ -1,6 +1,7 @@
 -- A pattern's code has its positions.
 use Rattle.std.proofs.Common.{◌≡◌, ℕ, zero, suc, ◌+◌, ◌*◌, ◌-◌, ◌≤◌, List, [], ◌∷◌, ◌++◌, length, Option, Some, None, refl, ap, ◌∙◌, arith}
 use Rattle.std.proofs.lemmas.List.{length-append}
+use Rattle.std.proofs.Math.Nat.{suc-mul, add-mul}
 use Rattle.bre_core.specs.Match.{IsAtMost}
 use Rattle.bre_core.specs.Pattern.{Pattern, nothing, append, Item, set, front, end, group, repeat, repeated, positions_in, positions_in_item}
 use Rattle.scan_core.specs.declared.node.Node.{Node}
@@ -11,24 +12,18 @@ pub weight-append : (a b : List Node) → weight (a ++ b) ≡ weight a + weight 
 weight-append [] b = let e : weight b ≡ 0 + weight b = omega arith in e
 weight-append (node ∷ a) b = let e = weight-append a b in omega (arith, e)
 
-times_more : (n w : ℕ) → suc n * w ≡ n * w + w
-times_more n w = grind arith
-
 weight_copies : (n : ℕ) (code : List Node) → weight (copies n code) ≡ n * weight code
 weight_copies zero code = let e : 0 ≡ 0 * weight code = grind arith in e
-weight_copies (suc n) code = let a = weight-append (copies n code) code in let b = weight_copies n code in let t = times_more n (weight code) in omega (arith, a, b, t)
+weight_copies (suc n) code = let a = weight-append (copies n code) code in let b = weight_copies n code in let t = suc-mul n (weight code) in omega (arith, a, b, t)
 
 weight_up_to : (n : ℕ) (code : List Node) → weight (up_to n code) ≡ n * weight code + n
 weight_up_to zero code = let e : 0 ≡ 0 * weight code + 0 = grind arith in e
 weight_up_to (suc n) code =
     let a = weight-append code (up_to n code) in
     let b = weight_up_to n code in
-    let t = times_more n (weight code) in
+    let t = suc-mul n (weight code) in
     let f : 1 + weight (code ++ up_to n code) ≡ suc n * weight code + suc n = omega (arith, a, b, t) in
     f
-
-times_sum : (a b w : ℕ) → (a + b) * w ≡ a * w + b * w
-times_sum a b w = grind arith
 
 weight_repeated : (code : List Node) (low : ℕ) (high : Option ℕ) → IsAtMost high low → weight (copies low code ++ tail_of code low high) ≡ repeated (weight code) low high
 weight_repeated code low None o =
@@ -36,13 +31,13 @@ weight_repeated code low None o =
     let b = weight_copies low code in
     let c = weight-append code (Back (length code + 1) ∷ []) in
     let one : 1 * weight code ≡ weight code = grind arith in
-    let t = times_sum low 1 (weight code) in
+    let t = add-mul low 1 (weight code) in
     omega (arith, a, b, c, t, one)
 weight_repeated code low (Some high) o =
     let a = weight-append (copies low code) (up_to (high - low) code) in
     let b = weight_copies low code in
     let c = weight_up_to (high - low) code in
-    let t = times_sum low (high - low) (weight code) in
+    let t = add-mul low (high - low) (weight code) in
     let e : low + (high - low) ≡ high = omega (arith, o) in
     let f = ap (λ n. n * weight code) e in
     omega (arith, a, b, c, t, f)

@@ -1,6 +1,6 @@
-use Rattle.std.proofs.Common.{arith}
-use Rattle.scan_core.proofs.Tables.{alike}
+use Rattle.std.proofs.Common.{false, arith}
+use Rattle.std.proofs.lemmas.List.{ext_get_or}
 use Rattle.scan_core.proofs.build.same.Goals as goal
 
 pub returns : goal.returns
-returns c = λ t. alike c.args.one.now c.args.other.now (omega (arith, c.if-one-other.false)) (λ n h. c.loop-i.invariant n (omega (arith, h, c.loop-i-test.false)))
+returns c = λ t. ext_get_or false c.args.one.now c.args.other.now (omega (arith, c.if-one-other.false)) (λ n h. c.loop-i.invariant n (omega (arith, h, c.loop-i-test.false)))

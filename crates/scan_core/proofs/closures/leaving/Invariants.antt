@@ -1,5 +1,8 @@
-use Rattle.scan_core.proofs.Insides.{Leaving}
+use Rattle.std.proofs.Common.{◌+◌, ◌*◌, ◌⊎◌}
+use Rattle.scan_core.proofs.Bits.{Marking}
+use Rattle.scan_core.specs.inner.Closures.{Stays}
+use Rattle.scan_core.specs.inner.Hops.{HopsTo}
 use Rattle.scan_core.proofs.closures.leaving.Given as goal
 
 abbrev pub invariant-loop-bit : goal.invariant-loop-bit
-invariant-loop-bit l = Leaving l.nodes l.hops l.at l.bit l.word
+invariant-loop-bit l = Marking l.nodes (λ bit to. Stays l.nodes (l.at * 64 + bit) to ⊎ HopsTo l.hops l.at bit to) l.at l.bit l.word

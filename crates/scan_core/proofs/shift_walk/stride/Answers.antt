@@ -1,5 +1,5 @@
 use Rattle.std.proofs.Common.{rules, ◌<◌, ◌+◌, ◌%◌, slice_index, refl, ◌∙◌, arith}
-use Rattle.scan_core.proofs.Inners.{any_default}
+use Rattle.std.proofs.lemmas.List.{get_or_default}
 use Rattle.scan_core.proofs.Shiftings.{at_more, at_moved}
 use Rattle.scan_core.proofs.shift_walk.stride.Goals as goal
 
@@ -9,14 +9,14 @@ loop-done-init c = record { small = omega arith; at = λ before a. at_moved c.ar
 pub overflow_add-steps : goal.overflow_add-steps
 overflow_add-steps c =
     let l = c.requires.sized.light (c.loop-done.word % 256) (omega arith) in
-    let e = c.index.ensures ∙ any_default c.args.table.now.weights.items (c.loop-done.word % 256) _ 0 (omega (arith, c.requires.sized.weights)) in
+    let e = c.index.ensures ∙ get_or_default c.args.table.now.weights.items (c.loop-done.word % 256) _ 0 (omega (arith, c.requires.sized.weights)) in
     let f : c.loop-done.steps + c.index.result.now < 18446744073709551616 = omega (arith, l, e, c.loop-done.invariant.small, c.loop-done-test.true, c.requires.count) in
     search (rules, f)
 
 pub loop-done-preserved : goal.loop-done-preserved
 loop-done-preserved c =
     let l = c.requires.sized.light (c.loop-done.word % 256) (omega arith) in
-    let e = c.index.ensures ∙ any_default c.args.table.now.weights.items (c.loop-done.word % 256) _ 0 (omega (arith, c.requires.sized.weights)) in
+    let e = c.index.ensures ∙ get_or_default c.args.table.now.weights.items (c.loop-done.word % 256) _ 0 (omega (arith, c.requires.sized.weights)) in
     let b : slice_index c.args.line.now (c.args.from + c.loop-done.done) < 256 = search (rules, c.type_inv.line) in
     record {
       small = omega (arith, l, e, c.loop-done.invariant.small);
