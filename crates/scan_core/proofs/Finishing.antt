@@ -22,42 +22,26 @@ are_begun_wider [] size wider h b = tt
 are_begun_wider (Group ∷ pending) size wider h b = are_begun_wider pending size wider h b
 are_begun_wider (Repeated d ∷ pending) size wider h b = (begun_wider d.high d.low d.start size wider h b.0, are_begun_wider pending size wider h b.1)
 
--- the last that waits
-pub are_begun_push : (size : ℕ) (pending : List Pending) (d : Duplication) → AreBegun size pending → IsBegun d.high d.low d.start size → AreBegun size (pending ++ Repeated d ∷ [])
-are_begun_push size [] d b h = (h, tt)
-are_begun_push size (Group ∷ pending) d b h = are_begun_push size pending d b h
-are_begun_push size (Repeated e ∷ pending) d b h = (b.0, are_begun_push size pending d b.1 h)
+-- what waits before others, and they
+pub are_begun_join : (size : ℕ) (pending more : List Pending) → AreBegun size pending → AreBegun size more → AreBegun size (pending ++ more)
+are_begun_join size [] more b c = c
+are_begun_join size (Group ∷ pending) more b c = are_begun_join size pending more b c
+are_begun_join size (Repeated d ∷ pending) more b c = (b.0, are_begun_join size pending more b.1 c)
 
-pub are_begun_group : (size : ℕ) (pending : List Pending) → AreBegun size pending → AreBegun size (pending ++ Group ∷ [])
-are_begun_group size [] b = tt
-are_begun_group size (Group ∷ pending) b = are_begun_group size pending b
-are_begun_group size (Repeated e ∷ pending) b = (b.0, are_begun_group size pending b.1)
-
-pub are_begun_front : (size : ℕ) (pending more : List Pending) → AreBegun size (pending ++ more) → AreBegun size pending
-are_begun_front size [] more b = tt
-are_begun_front size (Group ∷ pending) more b = are_begun_front size pending more b
-are_begun_front size (Repeated e ∷ pending) more b = (b.0, are_begun_front size pending more b.1)
-
-pub are_begun_last : (size : ℕ) (pending : List Pending) (d : Duplication) → AreBegun size (pending ++ Repeated d ∷ []) → IsBegun d.high d.low d.start size
-are_begun_last size [] d b = b.0
-are_begun_last size (Group ∷ pending) d b = are_begun_last size pending d b
-are_begun_last size (Repeated e ∷ pending) d b = are_begun_last size pending d b.1
-
-stack_push : {X : Type 0} (x : X) (stack : List X) → reverse (x ∷ stack) ≡ reverse stack ++ x ∷ []
-stack_push x stack = reverse-append (x ∷ []) stack
-
-pub stack_of : {X : Type 0} (items : List X) → (stack : List X) × (items ≡ reverse stack)
-stack_of items = (reverse items, sym (reverse-reverse items))
+pub are_begun_parts : (size : ℕ) (pending more : List Pending) → AreBegun size (pending ++ more) → AreBegun size pending × AreBegun size more
+are_begun_parts size [] more b = (tt, b)
+are_begun_parts size (Group ∷ pending) more b = are_begun_parts size pending more b
+are_begun_parts size (Repeated d ∷ pending) more b = let parts = are_begun_parts size pending more b.1 in ((b.0, parts.0), parts.1)
 
 -- the last duplication that waits is written out
 pub finish_more : (nodes written : List Node) (pending around : List Pending) (d : Duplication) (final : Compiling) → pending ≡ around ++ Repeated d ∷ [] → Repeats d nodes written → Finishes written around final → Finishes nodes pending final
 finish_more nodes written pending around d final e r f [] s = absurd (no_end around (Repeated d) (sym e ∙ s))
 finish_more nodes written pending around d final e r f (Group ∷ stack) s =
-    let same = same_end around (reverse stack) (Repeated d) Group (sym e ∙ s ∙ stack_push Group stack) in
+    let same = same_end around (reverse stack) (Repeated d) Group (sym e ∙ s ∙ reverse-append (Group ∷ []) stack) in
     let wrong : Repeated d ≡ Group = same.1 in
     cc
 finish_more nodes written pending around d final e r f (Repeated other ∷ stack) s =
-    let same = same_end around (reverse stack) (Repeated d) (Repeated other) (sym e ∙ s ∙ stack_push (Repeated other) stack) in
+    let same = same_end around (reverse stack) (Repeated d) (Repeated other) (sym e ∙ s ∙ reverse-append (Repeated other ∷ []) stack) in
     let repeated : Repeated d ≡ Repeated other = same.1 in
     let d_is : d ≡ other = cc in
     (written, subst (λ o. Repeats o nodes written) d_is r, f stack same.0)
@@ -66,14 +50,13 @@ finish_more nodes written pending around d final e r f (Repeated other ∷ stack
 pub finish_ends : (nodes : List Node) (pending : List Pending) (final : Compiling) → PopsNone pending → final.nodes.items ≡ nodes → final.pending.items ≡ pending → final.passing ≡ None → Finishes nodes pending final
 finish_ends nodes pending final none n p q [] s = record { nodes = n; pending = p ∙ s; passing = q }
 finish_ends nodes pending final none n p q (Group ∷ stack) s = record { nodes = n; pending = p ∙ s; passing = q }
-finish_ends nodes pending final none n p q (Repeated d ∷ stack) s = absurd (none (reverse stack) d (s ∙ stack_push (Repeated d) stack))
+finish_ends nodes pending final none n p q (Repeated d ∷ stack) s = absurd (none (reverse stack) d (s ∙ reverse-append (Repeated d ∷ []) stack))
 
 -- what follows from an item that is complete
 pub finished_group : (nodes : List Node) (pending around : List Pending) (new : Compiling) → Finishes nodes pending new → pending ≡ around ++ Group ∷ [] → IsNow nodes pending None new
 finished_group nodes pending around new f e =
-    let s = stack_of around in
-    let e' : pending ≡ reverse (Group ∷ s.0) = e ∙ ap (λ l. l ++ Group ∷ []) s.1 ∙ sym (stack_push Group s.0) in
-    let n = f (Group ∷ s.0) e' in
+    let e' : pending ≡ reverse (Group ∷ reverse around) = e ∙ ap (λ l. l ++ Group ∷ []) (sym (reverse-reverse around)) ∙ sym (reverse-append (Group ∷ []) (reverse around)) in
+    let n = f (Group ∷ reverse around) e' in
     record { nodes = n.nodes; pending = n.pending ∙ sym e'; passing = n.passing }
 
 pub finished_all : (nodes : List Node) (pending : List Pending) (new : Compiling) → Finishes nodes pending new → pending ≡ [] → IsNow nodes [] None new
@@ -82,12 +65,11 @@ finished_all nodes pending new f e = f [] e
 pub finished_repeated : (nodes : List Node) (pending around : List Pending) (d : Duplication) (new : Compiling) → Finishes nodes pending new → pending ≡ around ++ Repeated d ∷ []
     → (written : List Node) × Repeats d nodes written × Finishes written around new
 finished_repeated nodes pending around d new f e =
-    let s = stack_of around in
-    let first = f (Repeated d ∷ s.0) (e ∙ ap (λ l. l ++ Repeated d ∷ []) s.1 ∙ sym (stack_push (Repeated d) s.0)) in (
+    let first = f (Repeated d ∷ reverse around) (e ∙ ap (λ l. l ++ Repeated d ∷ []) (sym (reverse-reverse around)) ∙ sym (reverse-append (Repeated d ∷ []) (reverse around))) in (
       first.0,
       first.1,
       λ stack q.
-          let same : s.0 ≡ stack = sym (reverse-reverse s.0) ∙ ap reverse (sym s.1 ∙ q) ∙ reverse-reverse stack in
+          let same : reverse around ≡ stack = ap reverse q ∙ reverse-reverse stack in
           subst (λ t. FinishesBy t first.0 new) same first.2,
     )
 
@@ -99,14 +81,14 @@ begun_node nodes new node pending e b =
     are_begun_wider pending (length nodes) (length new) (omega (arith, l, a)) b
 
 pub begun_group : (size : ℕ) (pending new : List Pending) → AreBegun size pending → new ≡ pending ++ Group ∷ [] → AreBegun size new
-begun_group size pending new b e = subst (AreBegun size) (sym e) (are_begun_group size pending b)
+begun_group size pending new b e = subst (AreBegun size) (sym e) (are_begun_join size pending (Group ∷ []) b tt)
 
 pub begun_popped : (size : ℕ) (pending new last : List Pending) → AreBegun size pending → pending ≡ new ++ last → AreBegun size new
-begun_popped size pending new last b e = are_begun_front size new last (subst (AreBegun size) e b)
+begun_popped size pending new last b e = (are_begun_parts size new last (subst (AreBegun size) e b)).0
 
 -- a duplication waits
 pub begun_waits : (size : ℕ) (pending new : List Pending) (d : Duplication) → AreBegun size pending → IsBegun d.high d.low d.start size → new ≡ pending ++ Repeated d ∷ [] → AreBegun size new
-begun_waits size pending new d b h e = subst (AreBegun size) (sym e) (are_begun_push size pending d b h)
+begun_waits size pending new d b h e = subst (AreBegun size) (sym e) (are_begun_join size pending (Repeated d ∷ []) b (h, tt))
 
 pub bounded_begun : (high : Option ℕ) (most low start size : ℕ) → high ≡ Some most → (most ≡ 0 → ⊥) → IsBounded (Repeat low high) → start ≤ size → IsBegun high low start size
 bounded_begun high most low start size e some b within = subst (λ h. IsBegun h low start size) (sym e) (within, subst (λ h. IsBounded (Repeat low h)) e b, omega (arith, some))

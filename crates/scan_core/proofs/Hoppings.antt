@@ -1,6 +1,5 @@
 -- Hops: numbers of a word that lead to the same one beyond it.
-use Rattle.std.proofs.Common.{◌≡◌, ◌⊎◌, inl, inr, ℕ, ◌+◌, ◌*◌, ◌/◌, ◌%◌, ◌^◌, ◌<◌, false, List, [], ◌∷◌, ◌++◌, length, get_or, set, min, sym, refl, ap, ◌∙◌, subst, arith, length-append, w64}
-use Rattle.std.proofs.lemmas.List.{get_or_append_left, get_or_push}
+use Rattle.std.proofs.Common.{◌≡◌, ◌⊎◌, inl, inr, ℕ, ◌+◌, ◌*◌, ◌/◌, ◌%◌, ◌^◌, ◌<◌, false, List, length, get_or, set, min, sym, refl, ap, ◌∙◌, subst, arith, w64}
 use Rattle.std.proofs.lemmas.Bool.{cases_eq}
 use Rattle.std.proofs.lemmas.Nat.{and_le_l}
 use Rattle.std.proofs.lemmas.Nat.Bits.{bit_at-trailing_zeros, bit_at_and, bit_at-lt, bit_at-zero, bit_at_set_other}
@@ -8,7 +7,7 @@ use Rattle.std.specs.Prelude.{bit_and, bit_or}
 use Rattle.std.specs.Int.{bit_at, trailing_zeros}
 use Rattle.scan_core.specs.declared.hops.Hop.{Hop}
 use Rattle.scan_core.specs.declared.node.Node.{Node}
-use Rattle.scan_core.specs.inner.Hops.{AreHops, Hopped, IsHop, no_hop}
+use Rattle.scan_core.specs.inner.Hops.{Hopped, no_hop}
 use Rattle.scan_core.specs.inner.Sets.{Flows}
 use Rattle.scan_core.specs.inner.Words.{IsIn, Grows}
 use Rattle.scan_core.proofs.Bits.{grows_one, grows_none}
@@ -20,31 +19,15 @@ use Rattle.scan_core.proofs.Visitings.{is_in_word}
 abbrev pub From : List Node → ℕ → ℕ → ℕ → ℕ → Type 0
 From code at to count word = (bit : ℕ) → bit < 64 → bit_at word bit ≡ 1 → Flows code false false (at * 64 + bit) to
 
-pub from_starts : (code : List Node) (at to : ℕ) → From code at to 0 0
-from_starts code at to bit h is = let z = bit_at-zero bit in absurd (omega (arith, z, is))
-
 pub from_more : (code : List Node) (at to count word : ℕ) → From code at to count word → count < 64 → Flows code false false (at * 64 + count) to → From code at to (count + 1) (bit_or word (1 * 2 ^ count % 2 ^ 64))
 from_more code at to count word before h here bit small is = elim (cases_eq bit count) [
   | inl same ↦ subst (λ n. Flows code false false (at * 64 + n) to) (sym same) here
   | inr other ↦ before bit small (sym (bit_at_set_other w64 word count h bit other) ∙ is)
 ]
 
-pub from_skip : (code : List Node) (at to count word : ℕ) → From code at to count word → From code at to (count + 1) word
-from_skip code at to count word before = before
-
 -- no number leads anywhere
 pub none_leads : (code : List Node) (at to bit : ℕ) → bit_at 0 bit ≡ 1 → Flows code false false (at * 64 + bit) to
 none_leads code at to bit is = let z = bit_at-zero bit in absurd (omega (arith, z, is))
-
--- one hop more
-pub hop_pushed : (code : List Node) (hops new : List Hop) (count : ℕ) (hop : Hop) → AreHops code count hops → IsHop code (count / 3) hop → new ≡ hops ++ hop ∷ [] → AreHops code (count + 1) new
-hop_pushed code hops new count hop are here e = record {
-  size = let l = ap length e in let a = length-append hops (hop ∷ []) in let s = are.size in omega (arith, l, a, s);
-  each = λ k h. elim (cases_eq k count) [
-    | inl same ↦ subst (IsHop code (k / 3)) (sym (ap (λ l. get_or l k no_hop) e ∙ get_or_push hops hop no_hop k (are.size ∙ sym same))) (subst (λ n. IsHop code (n / 3) hop) (sym same) here)
-    | inr other ↦ subst (IsHop code (k / 3)) (sym (ap (λ l. get_or l k no_hop) e ∙ get_or_append_left hops (hop ∷ []) no_hop k (let s = are.size in omega (arith, h, other, s)))) (are.each k (omega (arith, h, other)))
-  ];
-}
 
 -- some of a word's numbers are those of a hop, or none
 pub one_of : (word from : ℕ) → word < 2 ^ 64 → (bit_and word from ≡ 0 → ⊥) → (bit : ℕ) × (bit < 64) × (bit_at word bit ≡ 1) × (bit_at from bit ≡ 1)

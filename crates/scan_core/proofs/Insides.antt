@@ -18,38 +18,29 @@ use Rattle.scan_core.specs.inner.Words.{width}
 use Rattle.scan_core.proofs.Enterings.{flows_of}
 use Rattle.scan_core.proofs.Visitings.{cleared}
 
+-- a target that is in the word, or that a hop leads to
+stays_or_hops : (code : List Node) (hops : List Hop) (at bit target to : ℕ) → bit < 64 → to ≡ target → Flows code false false (at * 64 + bit) to → (target / 64 ≡ at) ⊎ HopsTo hops at bit target → Stays code (at * 64 + bit) to ⊎ HopsTo hops at bit to
+stays_or_hops code hops at bit target to h e f way = elim way [ inl near ↦ inl (f, omega (arith, e, near, h)) | inr hop ↦ inr (subst (HopsTo hops at bit) (sym e) hop) ]
+
 pub choose_stays : (code : List Node) (hops : List Hop) (at bit skip : ℕ) (at_first at_last : Bool) (to : ℕ) → At code (at * 64 + bit) (Choose skip) → bit < 64
     → ((at * 64 + bit + 1) / 64 ≡ at) ⊎ HopsTo hops at bit (at * 64 + bit + 1) → ((at * 64 + bit + skip) / 64 ≡ at) ⊎ HopsTo hops at bit (at * 64 + bit + skip)
     → Flows code at_first at_last (at * 64 + bit) to → Stays code (at * 64 + bit) to ⊎ HopsTo hops at bit to
-choose_stays code hops at bit skip at_first at_last to here h next other f = side (flows_of code (at * 64 + bit) (Choose skip) at_first at_last to here f) next other
-  where
-    side : (to ≡ at * 64 + bit + 1) ⊎ (to ≡ at * 64 + bit + skip) → ((at * 64 + bit + 1) / 64 ≡ at) ⊎ HopsTo hops at bit (at * 64 + bit + 1) → ((at * 64 + bit + skip) / 64 ≡ at) ⊎ HopsTo hops at bit (at * 64 + bit + skip)
-        → Stays code (at * 64 + bit) to ⊎ HopsTo hops at bit to
-    side (inl e) (inl near) o = inl ((Choose skip, here, inl e), omega (arith, e, near, h))
-    side (inl e) (inr hops_there) o = inr (subst (HopsTo hops at bit) (sym e) hops_there)
-    side (inr e) n (inl near) = inl ((Choose skip, here, inr e), omega (arith, e, near, h))
-    side (inr e) n (inr hops_there) = inr (subst (HopsTo hops at bit) (sym e) hops_there)
+choose_stays code hops at bit skip at_first at_last to here h next other f = elim (flows_of code (at * 64 + bit) (Choose skip) at_first at_last to here f) [
+  | inl e ↦ stays_or_hops code hops at bit (at * 64 + bit + 1) to h e (Choose skip, here, inl e) next
+  | inr e ↦ stays_or_hops code hops at bit (at * 64 + bit + skip) to h e (Choose skip, here, inr e) other
+]
 
 pub back_stays : (code : List Node) (hops : List Hop) (at bit by : ℕ) (at_first at_last : Bool) (to : ℕ) → At code (at * 64 + bit) (Back by) → bit < 64 → ((at * 64 + bit - by) / 64 ≡ at) ⊎ HopsTo hops at bit (at * 64 + bit - by)
     → Flows code at_first at_last (at * 64 + bit) to → Stays code (at * 64 + bit) to ⊎ HopsTo hops at bit to
-back_stays code hops at bit by at_first at_last to here h same f = side same
-  where
-    e : at * 64 + bit ≡ to + by
-    e = flows_of code (at * 64 + bit) (Back by) at_first at_last to here f
-
-    q : to ≡ at * 64 + bit - by
-    q = omega (arith, e)
-
-    side : ((at * 64 + bit - by) / 64 ≡ at) ⊎ HopsTo hops at bit (at * 64 + bit - by) → Stays code (at * 64 + bit) to ⊎ HopsTo hops at bit to
-    side (inl near) = inl ((Back by, here, e), omega (arith, q, near, h))
-    side (inr hops_there) = inr (subst (HopsTo hops at bit) (sym q) hops_there)
+back_stays code hops at bit by at_first at_last to here h same f =
+    let e : at * 64 + bit ≡ to + by = flows_of code (at * 64 + bit) (Back by) at_first at_last to here f in
+    stays_or_hops code hops at bit (at * 64 + bit - by) to h (omega (arith, e)) (Back by, here, e) same
 
 pub choose_peer : (code : List Node) (n other skip more : ℕ) (at_first at_last : Bool) (to : ℕ) → At code n (Choose skip) → At code other (Choose more) → (other + 1) / 64 ≡ other / 64 → n + skip ≡ other + more → Flows code at_first at_last other to → Stays code other to ⊎ Flows code at_first at_last n to
-choose_peer code n other skip more at_first at_last to here there next same f = side (flows_of code other (Choose more) at_first at_last to there f)
-  where
-    side : (to ≡ other + 1) ⊎ (to ≡ other + more) → Stays code other to ⊎ Flows code at_first at_last n to
-    side (inl e) = inl ((Choose more, there, inl e), ap (λ k. k / 64) e ∙ next)
-    side (inr e) = inr (Choose skip, here, inr (e ∙ sym same))
+choose_peer code n other skip more at_first at_last to here there next same f = elim (flows_of code other (Choose more) at_first at_last to there f) [
+  | inl e ↦ inl ((Choose more, there, inl e), ap (λ k. k / 64) e ∙ next)
+  | inr e ↦ inr (Choose skip, here, inr (e ∙ sym same))
+]
 
 pub record Peering (code : List Node) (number bit word : ℕ) : Type 0 where
   pub own : number % 64 < bit → bit_at word (number % 64) ≡ 1
@@ -114,17 +105,9 @@ quiet_led code n read to bit here (inr (inr e)) = none_led code n Last to bit (s
 
 pub choose_led : (code : List Node) (n skip to one other bit : ℕ) → At code n (Choose skip) → ((bit_at one bit ≡ 1) ↔ (n + 1 ≡ to)) → ((bit_at other bit ≡ 1) ↔ (n + skip ≡ to)) → (bit_at (bit_or one other) bit ≡ 1) ↔ Flows code false false n to
 choose_led code n skip to one other bit here a b = (
-  λ k. there (either_bit one other bit k),
-  λ f. back (flows_of code n (Choose skip) false false to here f),
+  λ k. elim (either_bit one other bit k) [ inl first ↦ (Choose skip, here, inl (sym (a.0 first))) | inr second ↦ (Choose skip, here, inr (sym (b.0 second))) ],
+  λ f. elim (flows_of code n (Choose skip) false false to here f) [ inl e ↦ left_bit one other bit (a.1 (sym e)) | inr e ↦ right_bit one other bit (b.1 (sym e)) ],
 )
-  where
-    there : (bit_at one bit ≡ 1) ⊎ (bit_at other bit ≡ 1) → Flows code false false n to
-    there (inl k) = (Choose skip, here, inl (sym (a.0 k)))
-    there (inr k) = (Choose skip, here, inr (sym (b.0 k)))
-
-    back : (to ≡ n + 1) ⊎ (to ≡ n + skip) → bit_at (bit_or one other) bit ≡ 1
-    back (inl e) = left_bit one other bit (a.1 (sym e))
-    back (inr e) = right_bit one other bit (b.1 (sym e))
 
 pub back_led : (code : List Node) (n by to all bit : ℕ) → At code n (Back by) → by ≤ n → ((bit_at all bit ≡ 1) ↔ (n - by ≡ to)) → (bit_at all bit ≡ 1) ↔ Flows code false false n to
 back_led code n by to all bit here l a = (
@@ -147,7 +130,13 @@ pub inside_more : (code : List Node) (at word all left bit found : ℕ) → Insi
     → Insiding code at word (bit_or all (bit_and found (bit_not w64 all))) (bit_or (bit_and left (bit_not w64 (1 * 2 ^ bit % 2 ^ 64))) (bit_and found (bit_not w64 all)))
 inside_more code at word all left bit found i m small here is = record {
   kept = λ b h k. left_bit all more b (i.kept b h k);
-  from_word = λ n h k. from n h (either_bit all more n k);
+  from_word = λ n h k. elim (either_bit all more n k) [
+    | inl old ↦ i.from_word n h old
+    | inr new ↦
+        let f = (is n h).0 (let e = fresh_bit found all n m h in let l = bit_at-lt found n in omega (arith, e, new, l)) in
+        let was = i.from_word bit small (i.within bit small here) in
+        (was.0, was.1, was.2, (suc was.3.0, (at * 64 + bit, was.3.1, f)))
+  ];
   within = λ b h k. elim (either_bit less more b k) [ inl old ↦ left_bit all more b (i.within b h (in_left b h old)) | inr new ↦ right_bit all more b new ];
   rest = λ b h k. elim (either_bit all more b k) [ inl old ↦ rest b h old (i.rest b h old) | inr new ↦ inl (right_bit less more b new) ];
 }
@@ -163,13 +152,6 @@ inside_more code at word all left bit found i m small here is = record {
 
     in_left : (b : ℕ) → b < 64 → bit_at (bit_and left (bit_not w64 (1 * 2 ^ bit % 2 ^ 64))) b ≡ 1 → bit_at left b ≡ 1
     in_left b h k = let e = bit_at_and left (bit_not w64 (1 * 2 ^ bit % 2 ^ 64)) b in let l = bit_at-lt left b in omega (arith, e, k, l)
-
-    from : (n : ℕ) → n < 64 → (bit_at all n ≡ 1) ⊎ (bit_at (bit_and found (bit_not w64 all)) n ≡ 1) → (b : ℕ) × (b < 64) × (bit_at word b ≡ 1) × FlowsOn code false false (at * 64 + b) (at * 64 + n)
-    from n h (inl old) = i.from_word n h old
-    from n h (inr new) =
-        let f = (is n h).0 (let e = fresh_bit found all n m h in let l = bit_at-lt found n in omega (arith, e, new, l)) in
-        let was = i.from_word bit small (i.within bit small here) in
-        (was.0, was.1, was.2, (suc was.3.0, (at * 64 + bit, was.3.1, f)))
 
     found_in : (to : ℕ) → to < 64 → bit_at found to ≡ 1 → bit_at (bit_or all (bit_and found (bit_not w64 all))) to ≡ 1
     found_in to h k = elim (cases_eq (bit_at all to) 1) [
@@ -227,12 +209,11 @@ pub inside_ends : (code : List Node) (at word all left : ℕ) → Insiding code 
 inside_ends code at word all left i e = record {
   kept = i.kept;
   from_chosen = i.from_word;
-  closed = λ number to h l k f. side number (i.rest number h k) to l f;
+  closed = λ number to h l k f. elim (i.rest number h k) [
+    | inl waits ↦ let z = ap (λ x. bit_at x number) e ∙ bit_at-zero number in absurd (omega (arith, z, waits))
+    | inr led ↦ led to l f
+  ];
 }
-  where
-    side : (number : ℕ) → (bit_at left number ≡ 1) ⊎ ((to : ℕ) → to < 64 → Flows code false false (at * 64 + number) (at * 64 + to) → bit_at all to ≡ 1) → (to : ℕ) → to < 64 → Flows code false false (at * 64 + number) (at * 64 + to) → bit_at all to ≡ 1
-    side number (inl k) to l f = let z = ap (λ x. bit_at x number) e ∙ bit_at-zero number in absurd (omega (arith, z, k))
-    side number (inr k) to l f = k to l f
 
 -- the first eights of a word are joined
 pub record Joining (code : List Node) (at word eight all : ℕ) : Type 0 where
@@ -248,17 +229,11 @@ eight_bits word eight bit h =
     let q : word / 2 ^ (eight * 8) % 256 * 2 ^ (eight * 8) % 2 ^ 64 ≡ bit_and word (2 ^ (8 + eight * 8) - 2 ^ (eight * 8)) = omega (arith, e, l, h) in
     ap (λ x. bit_at x bit) q ∙ bit_at_and word (2 ^ (8 + eight * 8) - 2 ^ (eight * 8)) bit
 
--- the entry of a choice
-entry_of : (code : List Node) (inside : List ℕ) (at eight chosen : ℕ) → AreInside code (width code * 2048) inside → at < width code → eight < 8 → chosen < 256 → Closes code at (chosen * 2 ^ (eight * 8) % 2 ^ 64) (get_or inside (at * 2048 + (eight * 256 + chosen)) 0)
-entry_of code inside at eight chosen i within h c =
-    let place : ℕ = at * 2048 + (eight * 256 + chosen) in
-    let word : place / 2048 ≡ at = omega (arith, h, c) in
-    let eight_is : place / 256 % 8 ≡ eight = omega (arith, h, c) in
-    let low : place % 256 ≡ chosen = omega (arith, h, c) in
-    let e = i.each place (omega (arith, within, h, c)) in
-    subst (λ n. Closes code n (chosen * 2 ^ (eight * 8) % 2 ^ 64) (get_or inside place 0)) word
-    (subst (λ n. Closes code (place / 2048) (chosen * 2 ^ (n * 8) % 2 ^ 64) (get_or inside place 0)) eight_is
-    (subst (λ n. Closes code (place / 2048) (n * 2 ^ (place / 256 % 8 * 8) % 2 ^ 64) (get_or inside place 0)) low e))
+-- an entry by its word, its eight and its choice
+entry_at : (code : List Node) (place at eight chosen entry : ℕ) → place / 2048 ≡ at → place / 256 % 8 ≡ eight → place % 256 ≡ chosen → Closes code (place / 2048) (chosen_at place) entry → Closes code at (chosen * 2 ^ (eight * 8) % 2 ^ 64) entry
+entry_at code place at eight chosen entry word which low c =
+    subst (λ n. Closes code n (chosen * 2 ^ (eight * 8) % 2 ^ 64) entry) word
+    (subst (λ n. Closes code (place / 2048) n entry) (ap (λ n. n * 2 ^ (place / 256 % 8 * 8) % 2 ^ 64) low ∙ ap (λ n. chosen * 2 ^ (n * 8) % 2 ^ 64) which) c)
 
 pub join_more : (code : List Node) (inside : List ℕ) (at word eight all entry : ℕ) → Joining code at word eight all → AreInside code (width code * 2048) inside → at < width code → eight < 8 → word < 2 ^ 64 → entry ≡ get_or inside (at * 2048 + (eight * 256 + word / 2 ^ (eight * 8) % 256)) 0 → Joining code at word (eight + 1) (bit_or all entry)
 join_more code inside at word eight all entry j i within h fits e = record {
@@ -269,7 +244,14 @@ join_more code inside at word eight all entry j i within h fits e = record {
         let o = bit_at_mask_inside (eight * 8) (8 + eight * 8) bit here (omega (arith, l)) in
         right_bit all entry bit (c.kept bit (omega (arith, l, h)) (omega (arith, m, o, is)))
   ];
-  from_word = λ number l is. from number l (either_bit all entry number is);
+  from_word = λ number l is. elim (either_bit all entry number is) [
+    | inl old ↦ j.from_word number l old
+    | inr new ↦
+        let k = c.from_chosen number l new in
+        let m = eight_bits word eight k.0 fits in
+        let b = bit_at-lt word k.0 in
+        (k.0, k.1, (let is = k.2 in omega (arith, m, is, b)), k.3)
+  ];
   closed = λ number to l m is f. elim (either_bit all entry number is) [
     | inl old ↦ left_bit all entry to (j.closed number to l m old f)
     | inr new ↦ right_bit all entry to (c.closed number to l m new f)
@@ -277,15 +259,8 @@ join_more code inside at word eight all entry j i within h fits e = record {
 }
   where
     c : Closes code at (word / 2 ^ (eight * 8) % 256 * 2 ^ (eight * 8) % 2 ^ 64) entry
-    c = subst (Closes code at (word / 2 ^ (eight * 8) % 256 * 2 ^ (eight * 8) % 2 ^ 64)) (sym e) (entry_of code inside at eight (word / 2 ^ (eight * 8) % 256) i within h (omega arith))
-
-    from : (number : ℕ) → number < 64 → (bit_at all number ≡ 1) ⊎ (bit_at entry number ≡ 1) → (bit : ℕ) × (bit < 64) × (bit_at word bit ≡ 1) × FlowsOn code false false (at * 64 + bit) (at * 64 + number)
-    from number l (inl old) = j.from_word number l old
-    from number l (inr new) =
-        let k = c.from_chosen number l new in
-        let m = eight_bits word eight k.0 fits in
-        let b = bit_at-lt word k.0 in
-        (k.0, k.1, (let is = k.2 in omega (arith, m, is, b)), k.3)
+    c = subst (Closes code at (word / 2 ^ (eight * 8) % 256 * 2 ^ (eight * 8) % 2 ^ 64)) (sym e) (let place : ℕ = at * 2048 + (eight * 256 + word / 2 ^ (eight * 8) % 256) in
+        entry_at code place at eight _ _ (omega (arith, h)) (omega (arith, h)) (omega arith) (i.each place (omega (arith, within, h))))
 
 pub join_ends : (code : List Node) (at word all : ℕ) → Joining code at word 8 all → Closes code at word all
 join_ends code at word all j = record { kept = λ bit l is. j.kept bit (omega (arith, l)) is; from_chosen = j.from_word; closed = j.closed }
@@ -345,16 +320,15 @@ closes_both code at one other chosen all more c d e = record {
     | inl first ↦ left_bit all more bit (c.kept bit h first)
     | inr differs ↦ right_bit all more bit (d.kept bit h (let q = e bit h in let l = bit_at-lt one bit in let m = bit_at-lt other bit in omega (arith, q, l, m, is, differs)))
   ];
-  from_chosen = λ number h is. from number h (either_bit all more number is);
+  from_chosen = λ number h is. elim (either_bit all more number is) [
+    | inl old ↦ let k = c.from_chosen number h old in (k.0, k.1, (let q = e k.0 k.1 in let is = k.2 in let l = bit_at-lt other k.0 in omega (arith, q, is, l)), k.3)
+    | inr new ↦ let k = d.from_chosen number h new in (k.0, k.1, (let q = e k.0 k.1 in let is = k.2 in let l = bit_at-lt one k.0 in omega (arith, q, is, l)), k.3)
+  ];
   closed = λ number to h l is f. elim (either_bit all more number is) [
     | inl old ↦ left_bit all more to (c.closed number to h l old f)
     | inr new ↦ right_bit all more to (d.closed number to h l new f)
   ];
 }
-  where
-    from : (number : ℕ) → number < 64 → (bit_at all number ≡ 1) ⊎ (bit_at more number ≡ 1) → (bit : ℕ) × (bit < 64) × (bit_at chosen bit ≡ 1) × FlowsOn code false false (at * 64 + bit) (at * 64 + number)
-    from number h (inl old) = let k = c.from_chosen number h old in (k.0, k.1, (let q = e k.0 k.1 in let is = k.2 in let l = bit_at-lt other k.0 in omega (arith, q, is, l)), k.3)
-    from number h (inr new) = let k = d.from_chosen number h new in (k.0, k.1, (let q = e k.0 k.1 in let is = k.2 in let l = bit_at-lt one k.0 in omega (arith, q, is, l)), k.3)
 
 -- the entry of a choice with both lower and higher numbers
 pub entry_of_halves : (code : List Node) (inside : List ℕ) (place : ℕ) → AreInside code place inside → 0 < place % 16 → 0 < place / 16 % 16 * 16
@@ -365,24 +339,10 @@ entry_of_halves code inside place i low high = closes_both code (place / 2048) _
     chosen = omega arith
 
     one : Closes code (place / 2048) (place / 16 % 16 * 16 * 2 ^ (place / 256 % 8 * 8) % 2 ^ 64) (get_or inside (place - place % 16) 0)
-    one =
-        let before : ℕ = place - place % 16 in
-        let word : before / 2048 ≡ place / 2048 = omega arith in
-        let eight : before / 256 % 8 ≡ place / 256 % 8 = omega arith in
-        let rest : before % 256 ≡ place / 16 % 16 * 16 = omega arith in
-        subst (λ n. Closes code n (place / 16 % 16 * 16 * 2 ^ (place / 256 % 8 * 8) % 2 ^ 64) (get_or inside before 0)) word
-        (subst (λ n. Closes code (before / 2048) (place / 16 % 16 * 16 * 2 ^ (n * 8) % 2 ^ 64) (get_or inside before 0)) eight
-        (subst (λ n. Closes code (before / 2048) (n * 2 ^ (before / 256 % 8 * 8) % 2 ^ 64) (get_or inside before 0)) rest (i.each before (omega (arith, low)))))
+    one = let before : ℕ = place - place % 16 in entry_at code before _ _ _ _ (omega arith) (omega arith) (omega arith) (i.each before (omega (arith, low)))
 
     other : Closes code (place / 2048) (place % 16 * 2 ^ (place / 256 % 8 * 8) % 2 ^ 64) (get_or inside (place - place / 16 % 16 * 16) 0)
-    other =
-        let before : ℕ = place - place / 16 % 16 * 16 in
-        let word : before / 2048 ≡ place / 2048 = omega arith in
-        let eight : before / 256 % 8 ≡ place / 256 % 8 = omega arith in
-        let rest : before % 256 ≡ place % 16 = omega arith in
-        subst (λ n. Closes code n (place % 16 * 2 ^ (place / 256 % 8 * 8) % 2 ^ 64) (get_or inside before 0)) word
-        (subst (λ n. Closes code (before / 2048) (place % 16 * 2 ^ (n * 8) % 2 ^ 64) (get_or inside before 0)) eight
-        (subst (λ n. Closes code (before / 2048) (n * 2 ^ (before / 256 % 8 * 8) % 2 ^ 64) (get_or inside before 0)) rest (i.each before (omega (arith, high)))))
+    other = let before : ℕ = place - place / 16 % 16 * 16 in entry_at code before _ _ _ _ (omega arith) (omega arith) (omega arith) (i.each before (omega (arith, high)))
 
     bits : (bit : ℕ) → bit < 64 → bit_at (chosen_at place) bit ≡ max (bit_at (place / 16 % 16 * 16 * 2 ^ (place / 256 % 8 * 8) % 2 ^ 64) bit) (bit_at (place % 16 * 2 ^ (place / 256 % 8 * 8) % 2 ^ 64) bit)
     bits bit h = ap (λ n. bit_at (n * 2 ^ (place / 256 % 8 * 8) % 2 ^ 64) bit) chosen ∙ halved_placed (place / 16 % 16) (place % 16) (place / 256 % 8 * 8) bit (omega arith) h

@@ -1,7 +1,7 @@
 -- Entering what landings lead to.
-use Rattle.std.proofs.Common.{◌≡◌, ◌⊎◌, ◌↔◌, inl, inr, ℕ, zero, suc, ◌+◌, ◌*◌, ◌-◌, ◌/◌, ◌%◌, ◌^◌, ◌<◌, ◌≤◌, Bool, true, false, IsTrue, List, [], ◌∷◌, ◌++◌, length, get_or, set, eqb, not, refl, sym, ap, ◌∙◌, subst, arith, length-append, eqb-true}
+use Rattle.std.proofs.Common.{◌≡◌, ◌⊎◌, ◌↔◌, inl, inr, ℕ, zero, suc, ◌+◌, ◌*◌, ◌-◌, ◌/◌, ◌%◌, ◌^◌, ◌<◌, ◌≤◌, Bool, true, false, IsTrue, List, [], ◌∷◌, ◌++◌, length, get_or, set, eqb, not, refl, sym, ap, ◌∙◌, subst, arith, eqb-true}
 use Rattle.std.proofs.lemmas.Bool.{cases_eq, false≢true}
-use Rattle.std.proofs.lemmas.List.{get_or-set_same, get_or_append_left, get_or_push}
+use Rattle.std.proofs.lemmas.List.{get_or-set_same, get_or_append_left}
 use Rattle.std.proofs.lemmas.Nat.Bits.{bit_at-zero}
 use Rattle.std.specs.Prelude.{bit_and, bit_or}
 use Rattle.std.specs.Int.{bit_at}
@@ -17,7 +17,7 @@ use Rattle.scan_core.specs.inner.Sets.{Flows}
 use Rattle.scan_core.specs.inner.Words.{IsIn, width}
 use Rattle.scan_core.proofs.Enterings.{flows_of}
 use Rattle.scan_core.proofs.Hoppings.{one_of, none_of}
-use Rattle.scan_core.proofs.Insides.{bit_is, left_bit, right_bit, either_bit}
+use Rattle.scan_core.proofs.Insides.{bit_is, left_bit, right_bit, either_bit, pushed, one_longer}
 use Rattle.scan_core.proofs.Passings.{set_elsewhere}
 use Rattle.scan_core.proofs.Visitings.{is_in_word}
 
@@ -124,19 +124,13 @@ adding_starts code old are = record { sound = are; longer = omega arith; front =
 
 pub adding_more : (code : List Node) (old now new : List Landing) (landing : Landing) → Adding code old now → IsLanding code landing → new ≡ now ++ landing ∷ [] → Adding code old new
 adding_more code old now new landing a is e = record {
-  sound = λ place h. elim (cases_eq place (length now)) [
-    | inl same ↦ subst (IsLanding code) (sym (ap (λ l. get_or l place no_landing) e ∙ get_or_push now landing no_landing place (sym same))) is
-    | inr other ↦ subst (IsLanding code) (sym (kept place (omega (arith, h, other, one)))) (a.sound place (omega (arith, h, other, one)))
-  ];
+  sound = λ place h. pushed no_landing (λ k l. IsLanding code l) now new (length now) landing refl a.sound is e place (omega (arith, h, one));
   longer = omega (arith, a.longer, one);
-  front = λ place h. kept place (let l = a.longer in omega (arith, h, l)) ∙ a.front place h;
+  front = λ place h. let l = a.longer in ap (λ l. get_or l place no_landing) e ∙ get_or_append_left now (landing ∷ []) no_landing place (omega (arith, h, l)) ∙ a.front place h;
 }
   where
     one : length new ≡ length now + 1
-    one = ap length e ∙ length-append now (landing ∷ [])
-
-    kept : (place : ℕ) → place < length now → get_or new place no_landing ≡ get_or now place no_landing
-    kept place h = ap (λ l. get_or l place no_landing) e ∙ get_or_append_left now (landing ∷ []) no_landing place h
+    one = one_longer now new (length now) landing refl e
 
 pub hop_lands : (code : List Node) (hops : List Hop) (at which : ℕ) (hop : Hop) → AreHops code (width code * 3) hops → at < width code → which < 3 → hop ≡ get_or hops (at * 3 + which) no_hop → Ends code hop.to → IsLanding code (record { at = at; from = hop.from; to = hop.to })
 hop_lands code hops at which hop are h l e ends =

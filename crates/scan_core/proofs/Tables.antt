@@ -2,6 +2,7 @@
 use Rattle.std.proofs.Common.{◌≡◌, ◌⊎◌, ◌↔◌, inl, inr, ℕ, ◌+◌, ◌*◌, ◌<◌, ◌≤◌, Bool, true, false, IsTrue, List, [], ◌∷◌, ◌++◌, length, get_or, refl, sym, ap, ◌∙◌, subst, arith}
 use Rattle.std.proofs.lemmas.Bool.{cases_eq, cases_lt}
 use Rattle.std.proofs.lemmas.List.{length-append, get_or_append_left, get_or_push, get_or_default, ext_get_or}
+use Rattle.scan_core.proofs.Insides.{pushed, one_longer}
 use Rattle.bre_core.proofs.Searching.{one_truth}
 use Rattle.bre_core.specs.ByteSet.{has}
 use Rattle.scan_core.specs.declared.build.Building.{Building}
@@ -242,13 +243,9 @@ state_is code sets rows number old loaded spread state sized size l s p f q e = 
 -- one state more
 pub one_noted : (code : List Node) (sets : List (List Bool)) (rows : List ℕ) (states new : List State) (number : ℕ) (noted : State) → AreNoted code sets rows states → number ≡ length states → number < length sets → IsState code sets rows number noted → new ≡ states ++ noted ∷ [] → AreNoted code sets rows new
 one_noted code sets rows states new number noted a e h s q = record {
-  some = let l = ap length q in let m = length-append states (noted ∷ []) in omega (arith, l, m, e, h);
-  each = λ state g. let l = ap length q in let m = length-append states (noted ∷ []) in elim (cases_lt state (length states)) [
-    | inl old ↦ subst (IsState code sets rows state) (sym (ap (λ t. get_or t state no_state) q ∙ get_or_append_left states (noted ∷ []) no_state state old)) (a.each state old)
-    | inr fresh ↦
-        let same : state ≡ number = omega (arith, g, l, m, fresh, e) in
-        subst (IsState code sets rows state) (sym (ap (λ t. get_or t state no_state) q ∙ get_or_push states noted no_state state (sym (same ∙ e)))) (subst (λ k. IsState code sets rows k noted) (sym same) s)
-  ];
+  some = let l = one_longer states new number noted (sym e) q in omega (arith, l, h);
+  each = λ state g. let l = one_longer states new number noted (sym e) q in
+      pushed no_state (IsState code sets rows) states new number noted (sym e) (λ k b. a.each k (omega (arith, b, e))) s q state (omega (arith, g, l));
 }
 
 -- a table that was built, with what is noted of each state
