@@ -7,7 +7,6 @@ use Rattle.scan_core.specs.declared.node.Node.{Node}
 use Rattle.scan_core.specs.declared.node.Node.TheVariants.{Take, First, Last, Choose, Back}
 use Rattle.std.specs.Prelude.{◌==◌}
 use Rattle.std.proofs.Common.{length-append}
-use Rattle.std.proofs.Math.Nat.{mul-le-mul}
 use Rattle.std.proofs.lemmas.List.{get_or_push, get_or_append_left}
 use Rattle.scan_core.specs.Sets.{positions_among}
 use Rattle.scan_core.specs.Counted.{positions_in_all, AreSteps}
@@ -46,11 +45,9 @@ leads_place (Back by) line from place to place' h = inl h.1
 
 walk_forward : (code : List Node) (line : List ℕ) (count at place to stop : ℕ) → Walks code line count at place to stop → place ≤ stop
 walk_forward code line zero at place to stop w = omega (arith, w.1)
-walk_forward code line (suc count) at place to stop w = step (leads_place w.2.0 line at place w.0 w.1 w.2.2) (walk_forward code line count w.0 w.1 to stop w.3)
-  where
-    step : (w.1 ≡ place) ⊎ ((w.1 ≡ place + 1) × (bytes : List Bool) × (w.2.0 ≡ Take bytes) × (place < length line) × IsTrue (has bytes (slice_index line place)) × (w.0 ≡ at + 1)) → w.1 ≤ stop → place ≤ stop
-    step (inl e) h = omega (arith, e, h)
-    step (inr e) h = omega (arith, e.0, h)
+walk_forward code line (suc count) at place to stop w =
+    let h = walk_forward code line count w.0 w.1 to stop w.3 in
+    elim (leads_place w.2.0 line at place w.0 w.1 w.2.2) [ inl e ↦ omega (arith, e, h) | inr e ↦ omega (arith, e.0, h) ]
 
 pub entered_on : (code : List Node) (line : List ℕ) (at place to stop : ℕ) → Entered code line at place → Goes code line at place to stop → Entered code line to stop
 entered_on code line at place to stop e g = (e.0, e.1, path_on code line 0 e.0 at place to stop e.2 (1, (to, stop, g, (refl, refl))))
@@ -75,24 +72,20 @@ closes_exact code line place at_first at_last Old Now p came o number = (λ h. t
         let was = (o from).0 h in
         (o to).1 (was.0, was.1, (suc was.2.0, (from, was.2.1, (g.0, g.1, goes_flow g.0 line place at_first at_last from to p g.2))))
 
-    step : (at from at' from' : ℕ) → from ≤ place → Entered code line at from → (from ≡ place → Now at) → Goes code line at from at' from' → from' ≡ place
-        → (from' ≡ from) ⊎ ((from' ≡ from + 1) × (bytes : List Bool) × (Node_is : Unit {0}) × (from < length line) × (at' ≡ at + 1)) → Now at'
-    step at from at' from' l e h g q (inl same) =
-        let here : from ≡ place = omega (arith, same, q) in
-        close at at' (h here) (subst (λ n. Goes code line at n at' place) here (subst (λ n. Goes code line at from at' n) q g))
-    step at from at' from' l e h g q (inr more) =
-        (o at').1 (at', inl ((came at').1 (from, omega (arith, more.0, q), at, e, subst (λ n. Goes code line at from at' n) q g)), (0, refl))
+    step : (at from at' from' : ℕ) → from ≤ place → Entered code line at from → (from ≡ place → Now at) → Goes code line at from at' from'
+        → from' ≡ place → Now at'
+    step at from at' from' l e h g q = elim (leads_place g.0 line at from at' from' g.2) [
+      | inl same ↦
+          let here : from ≡ place = omega (arith, same, q) in
+          close at at' (h here) (subst (λ n. Goes code line at n at' place) here (subst (λ n. Goes code line at from at' n) q g))
+      | inr more ↦ (o at').1 (at', inl ((came at').1 (from, omega (arith, more.0, q), at, e, subst (λ n. Goes code line at from at' n) q g)), (0, refl))
+    ]
 
     arrive : (count at from number : ℕ) → from ≤ place → Walks code line count at from number place → Entered code line at from → (from ≡ place → Now at) → Now number
     arrive zero at from number l w e h = subst Now w.0 (h w.1)
     arrive (suc count) at from number l w e h =
         arrive count w.0 w.1 number (walk_forward code line count w.0 w.1 number place w.3) w.3 (entered_on code line at from w.0 w.1 e w.2)
-        (λ q. step at from w.0 w.1 l e h w.2 q (simple (leads_place w.2.0 line at from w.0 w.1 w.2.2)))
-      where
-        simple : (w.1 ≡ from) ⊎ ((w.1 ≡ from + 1) × (bytes : List Bool) × (w.2.0 ≡ Take bytes) × (from < length line) × IsTrue (has bytes (slice_index line from)) × (w.0 ≡ at + 1))
-            → (w.1 ≡ from) ⊎ ((w.1 ≡ from + 1) × (bytes : List Bool) × (Node_is : Unit {0}) × (from < length line) × (w.0 ≡ at + 1))
-        simple (inl s) = inl s
-        simple (inr s) = inr (s.0, s.1, tt, s.3, s.5)
+        (step at from w.0 w.1 l e h w.2)
 
     here : (number : ℕ) → Entered code line number place → Now number
     here number e =
@@ -136,16 +129,17 @@ final line place at_first h f = record {
 -- what a byte leads to from all that was entered at a place
 pub came_exact : (code : List Node) (line : List ℕ) (place byte : ℕ) (Now : ℕ → Type 0) → ((number : ℕ) → Now number ↔ Entered code line number place) → place < length line → byte ≡ slice_index line place
     → (number : ℕ) → ((from : ℕ) × Now from × Passes code byte from number) ↔ Came code line (suc place) number
-came_exact code line place byte Now a h e number = (λ k. there k, λ c. back c (leads_place c.4.0 line c.2 c.0 number (suc place) c.4.2))
-  where
-    there : ((from : ℕ) × Now from × Passes code byte from number) → Came code line (suc place) number
-    there k = (place, omega arith, k.0, (a k.0).0 k.1, (Take k.2.0, k.2.1, (k.2.3, omega arith, h, subst (λ b. IsTrue (has k.2.0 b)) e k.2.2)))
-
-    back : (c : Came code line (suc place) number) → (suc place ≡ c.0) ⊎ ((suc place ≡ c.0 + 1) × (bytes : List Bool) × (c.4.0 ≡ Take bytes) × (c.0 < length line) × IsTrue (has bytes (slice_index line c.0)) × (number ≡ c.2 + 1)) → (from : ℕ) × Now from × Passes code byte from number
-    back c (inl s) = let q = c.1 in absurd (omega (arith, s, q))
-    back c (inr s) =
+came_exact code line place byte Now a h e number = (
+  λ k. (place, omega arith, k.0, (a k.0).0 k.1, (Take k.2.0, k.2.1, (k.2.3, omega arith, h, subst (λ b. IsTrue (has k.2.0 b)) e k.2.2))),
+  λ c. elim (leads_place c.4.0 line c.2 c.0 number (suc place) c.4.2) [
+    | inl s ↦ let q = c.1 in absurd (omega (arith, s, q))
+    | inr s ↦
         let same : c.0 ≡ place = omega (arith, s.0) in
-        (c.2, (a c.2).1 (subst (λ n. Entered code line c.2 n) same c.3), (s.1, subst (At code c.2) s.2 c.4.1, subst (λ b. IsTrue (has s.1 b)) (ap (λ n. slice_index line n) same ∙ sym e) s.4, s.5))
+        let there = subst (λ n. Entered code line c.2 n) same c.3 in
+        let takes = subst (λ b. IsTrue (has s.1 b)) (ap (λ n. slice_index line n) same ∙ sym e) s.4 in
+        (c.2, (a c.2).1 there, (s.1, subst (At code c.2) s.2 c.4.1, takes, s.5))
+  ],
+)
 
 -- one place more
 pub steps_more : (place steps count size : ℕ) → steps ≤ place * size → count ≤ size → steps + count ≤ (place + 1) * size
@@ -157,9 +151,3 @@ steps_wider place most steps size h k =
     let f : (place + (most - place)) * size ≡ place * size + (most - place) * size = grind arith in
     let g = ap (λ n. n * size) e in
     omega (arith, h, f, g)
-
--- the steps so far and those of one place more fit 128 bits
-pub steps_fit : (steps place size more : ℕ) → steps ≤ place * size → place ≤ 18446744073709551616 → size ≤ 9223372036854775808 → more ≤ 9223372036854775808 → steps + more < 340282366920938463463374607431768211456
-steps_fit steps place size more h p s m =
-    let b : place * size ≤ 18446744073709551616 * 9223372036854775808 = mul-le-mul p s in
-    omega (arith, h, b, m)

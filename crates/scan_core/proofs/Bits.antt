@@ -21,9 +21,11 @@ unset-set (x ∷ words) (suc at) word h l m = let r = unset-set words at word (o
 
 -- of the first numbers of a word each has its bit set, or what it leads to is such
 abbrev pub Marking : List Node → (ℕ → ℕ → Type 0) → ℕ → ℕ → ℕ → Type 0
-Marking code So at count word = (bit : ℕ) (at_first at_last : Bool) (to : ℕ) → bit < count → Flows code at_first at_last (at * 64 + bit) to → (bit_at word bit ≡ 1) ⊎ So bit to
+Marking code So at count word = (bit : ℕ) (at_first at_last : Bool) (to : ℕ) → bit < count → Flows code at_first at_last (at * 64 + bit) to
+    → (bit_at word bit ≡ 1) ⊎ So bit to
 
-pub marking_more : (code : List Node) (So : ℕ → ℕ → Type 0) (at count word : ℕ) → Marking code So at count word → count < 64 → Marking code So at (count + 1) (bit_or word (1 * 2 ^ count % 2 ^ 64))
+pub marking_more : (code : List Node) (So : ℕ → ℕ → Type 0) (at count word : ℕ) → Marking code So at count word → count < 64
+    → Marking code So at (count + 1) (bit_or word (1 * 2 ^ count % 2 ^ 64))
 marking_more code So at count word before h bit at_first at_last to l f = elim (cases_eq bit count) [
   | inl same ↦ inl (ap (bit_at (bit_or word (1 * 2 ^ count % 2 ^ 64))) same ∙ bit_at_set_same w64 word count h)
   | inr other ↦ elim (before bit at_first at_last to (omega (arith, l, other)) f) [ inl k ↦ inl (bit_at_set_other w64 word count h bit other ∙ k) | inr s ↦ inr s ]

@@ -1,16 +1,16 @@
 -- Entering what the numbers of a word lead to, by closures and then by those that lead out of it.
 use Rattle.std.proofs.Common.{◌≡◌, ◌⊎◌, inl, inr, ℕ, zero, suc, ◌+◌, ◌*◌, ◌/◌, ◌%◌, ◌^◌, ◌<◌, ◌≤◌, Bool, false, List, [], ◌∷◌, length, get_or, set, refl, sym, ap, ◌∙◌, subst, arith, w64}
 use Rattle.std.proofs.lemmas.Bool.{cases_eq, cases_lt}
-use Rattle.std.proofs.lemmas.List.{get_or-set_same, length-set}
+use Rattle.std.proofs.lemmas.List.{get_or-set_same, length-set, get_or_default}
 use Rattle.std.proofs.lemmas.Nat.{and_le_l, le_or_l}
-use Rattle.std.proofs.lemmas.Nat.Bits.{bit_at_and, bit_at-lt, bit_at-zero}
+use Rattle.std.proofs.lemmas.Nat.Bits.{bit_at_and, bit_at-lt, bit_at-zero, bit_at-trailing_zeros}
 use Rattle.std.specs.Prelude.{bit_and, bit_or}
-use Rattle.std.specs.Int.{bit_at, bit_not}
+use Rattle.std.specs.Int.{bit_at, bit_not, trailing_zeros}
 use Rattle.scan_core.proofs.Enterings.{flow_anywhere, parts_anywhere}
 use Rattle.scan_core.specs.declared.base.Base.{Base}
 use Rattle.scan_core.specs.declared.node.Node.{Node}
 use Rattle.scan_core.specs.inner.Base.{IsBase}
-use Rattle.scan_core.specs.inner.Closures.{ArePeers, Closes, IsLeaving, Stays}
+use Rattle.scan_core.specs.inner.Closures.{ArePeers, Closes, IsLeaving, Stays, AreAllPeers}
 use Rattle.scan_core.specs.declared.hops.Hop.{Hop}
 use Rattle.scan_core.specs.inner.Hops.{AreHops, Hopped, HopsTo, no_hop}
 use Rattle.scan_core.specs.inner.Sets.{Flows, FlowsOn}
@@ -82,6 +82,16 @@ peers_smaller code at left mask bit m l is p =
       | inl same ↦ let q = ap (λ w. bit_at w bit) same in absurd (omega (arith, q, b, own, is))
       | inr other ↦ let s = and_le_l left (bit_not w64 mask) in omega (arith, s, other)
     ]
+
+-- the lowest number that is left, and its peers
+pub lowest_left : (code : List Node) (peers : List ℕ) (at left read d : ℕ) → AreAllPeers code peers → at < width code
+    → left < 2 ^ 64 → 0 < left → read ≡ get_or peers (at * 64 + trailing_zeros w64 left) d
+    → (trailing_zeros w64 left < 64) × (bit_at left (trailing_zeros w64 left) ≡ 1) × ArePeers code (at * 64 + trailing_zeros w64 left) read
+lowest_left code peers at left read d all within fits some e =
+    let lowest = bit_at-trailing_zeros w64 left some fits in
+    let place : ℕ = at * 64 + trailing_zeros w64 left in
+    let is = get_or_default peers place d 0 (omega (arith, all.size, lowest.0, within)) in
+    (lowest.0, lowest.1, subst (ArePeers code place) (sym (e ∙ is)) (all.each place (omega (arith, lowest.0, within))))
 
 -- numbers that the old ones lead to were added
 visit_more : (code : List Node) (at_first at_last : Bool) (at pending left still : ℕ) (Added : ℕ → Type 0) (old now new : List ℕ) (on on' : ℕ) → Visiting code at_first at_last at pending left old now on → Grows Added now new on on'

@@ -3,7 +3,7 @@ use Rattle.std.proofs.Common.{◌≡◌, ◌⊎◌, inl, inr, ℕ, zero, suc, �
 use Rattle.std.proofs.lemmas.List.{length-append}
 use Rattle.bre_core.specs.Match.{Parts}
 use Rattle.scan_core.specs.declared.node.Node.{Node}
-use Rattle.scan_core.specs.declared.node.Node.TheVariants.{Take, First, Last, Choose, Back}
+use Rattle.scan_core.specs.declared.node.Node.TheVariants.{Choose, Back}
 use Rattle.scan_core.specs.Code.{At, Leads, Goes, Walks, Path, maybe, starred}
 use Rattle.scan_core.proofs.Walks.{at_at, at-right, at-split, leads_unshift, walk-left, walk-right, walk_on, path_on, Exact, in_second, through, ended}
 
@@ -55,16 +55,14 @@ exact_both a b line Kind Other e f = record {
 }
   where
     ends : (n place n' place' : ℕ) → Goes (a ++ b) line n place n' place' → n' ≤ length (a ++ b)
-    ends n place n' place' g = there (at-split a b n g.0 g.1)
-      where
-        there : (At a n g.0) ⊎ ((k : ℕ) × (n ≡ length a + k) × At b k g.0) → n' ≤ length (a ++ b)
-        there (inl h) = let l = length-append a b in let m = e.fits.ends n place n' place' (g.0, h, g.2) in omega (arith, l, m)
-        there (inr h) =
-            let led : Leads g.0 line (length a + h.0) place n' place' = subst (λ m. Leads g.0 line m place n' place') h.1 g.2 in
-            let moved = leads_unshift g.0 line (length a) h.0 place n' place' (λ by q. f.fits.begins h.0 by (subst (λ node. At b h.0 node) q h.2)) led in
-            let m = f.fits.ends h.0 place moved.0 place' (g.0, h.2, moved.2) in
-            let l = length-append a b in
-            omega (arith, l, m, moved.1)
+    ends n place n' place' g = let l = length-append a b in elim (at-split a b n g.0 g.1) [
+      | inl h ↦ let m = e.fits.ends n place n' place' (g.0, h, g.2) in omega (arith, l, m)
+      | inr h ↦
+          let led : Leads g.0 line (length a + h.0) place n' place' = subst (λ m. Leads g.0 line m place n' place') h.1 g.2 in
+          let moved = leads_unshift g.0 line (length a) h.0 place n' place' (λ by q. f.fits.begins h.0 by (subst (λ node. At b h.0 node) q h.2)) led in
+          let m = f.fits.ends h.0 place moved.0 place' (g.0, h.2, moved.2) in
+          omega (arith, l, m, moved.1)
+    ]
 
     begins : (n by : ℕ) → (At a n (Back by)) ⊎ ((k : ℕ) × (n ≡ length a + k) × At b k (Back by)) → by ≤ n
     begins n by (inl h) = e.fits.begins n by h
@@ -87,11 +85,7 @@ exact_maybe code line Kind e = record {
 }
   where
     ends : (n place n' place' : ℕ) → Goes (maybe code) line n place n' place' → n' ≤ length (maybe code)
-    ends zero place n' place' g = either (subst (λ m. Leads m line 0 place n' place') g.1 g.2).0
-      where
-        either : (n' ≡ 0 + 1) ⊎ (n' ≡ 0 + (length code + 1)) → n' ≤ suc (length code)
-        either (inl q) = omega (arith, q)
-        either (inr q) = omega (arith, q)
+    ends zero place n' place' g = elim (subst (λ m. Leads m line 0 place n' place') g.1 g.2).0 [ inl q ↦ omega (arith, q) | inr q ↦ omega (arith, q) ]
     ends (suc n) place n' place' g =
         let n1 : suc n ≡ 1 + n = omega arith in
         let moved = leads_unshift g.0 line 1 n place n' place' (λ by q. e.fits.begins n by (subst (λ node. At code n node) q g.1)) (subst (λ k. Leads g.0 line k place n' place') n1 g.2) in
@@ -99,24 +93,19 @@ exact_maybe code line Kind e = record {
         omega (arith, m, moved.1)
 
     begins : (n by : ℕ) → At (maybe code) n (Back by) → by ≤ n
-    begins zero by h = elim (no_back h) [ ]
-      where
-        no_back : Back by ≡ Choose (length code + 1) → ⊥
-        no_back q = cc
+    begins zero by h = let never : Back by ≡ Choose (length code + 1) = h in cc
     begins (suc n) by h = let m = e.fits.begins n by h in omega (arith, m)
 
     sound : (from to count : ℕ) → Walks (maybe code) line count 0 from (suc (length code)) to → (from ≡ to) ⊎ Kind from to
     sound from to zero w = absurd (omega (arith, w.0))
-    sound from to (suc count) w = either (subst (λ m. Leads m line 0 from w.0 w.1) w.2.1 w.2.2)
-      where
-        either : ((w.0 ≡ 0 + 1) ⊎ (w.0 ≡ 0 + (length code + 1))) × (w.1 ≡ from) → (from ≡ to) ⊎ Kind from to
-        either h = side h.0
-          where
-            side : (w.0 ≡ 0 + 1) ⊎ (w.0 ≡ 0 + (length code + 1)) → (from ≡ to) ⊎ Kind from to
-            side (inl q) =
-                let inside = in_second (Choose (length code + 1) ∷ []) code line e.fits count w.0 0 w.1 to (omega (arith, q)) w.3 in
-                inr (e.sound from to (count, subst (λ place. Walks code line count 0 place (length code) to) h.1 inside))
-            side (inr q) = inl (sym h.1 ∙ ended (maybe code) line count w.0 w.1 (suc (length code)) to (omega (arith, q)) w.3)
+    sound from to (suc count) w =
+        let led : ((w.0 ≡ 0 + 1) ⊎ (w.0 ≡ 0 + (length code + 1))) × (w.1 ≡ from) = subst (λ m. Leads m line 0 from w.0 w.1) w.2.1 w.2.2 in
+        elim led.0 [
+          | inl q ↦
+              let inside = in_second (Choose (length code + 1) ∷ []) code line e.fits count w.0 0 w.1 to (omega (arith, q)) w.3 in
+              inr (e.sound from to (count, subst (λ place. Walks code line count 0 place (length code) to) led.1 inside))
+          | inr q ↦ inl (sym led.1 ∙ ended (maybe code) line count w.0 w.1 (suc (length code)) to (omega (arith, q)) w.3)
+        ]
 
     complete : (from to : ℕ) → (from ≡ to) ⊎ Kind from to → Path (maybe code) line 0 from (suc (length code)) to
     complete from to (inl q) = (1, (suc (length code), from, (Choose (length code + 1), refl, (inr (omega arith), refl)), (refl, q)))
@@ -193,11 +182,9 @@ exact_starred code line Kind e = record {
     size = let l = length-append code (Back (length code + 1) ∷ []) in omega (arith, l)
 
     ends : (n place n' place' : ℕ) → Goes (starred code) line n place n' place' → n' ≤ length (starred code)
-    ends zero place n' place' g = let l = length-append code (Back (length code + 1) ∷ []) in either l (subst (λ m. Leads m line 0 place n' place') g.1 g.2).0
-      where
-        either : length (code ++ Back (length code + 1) ∷ []) ≡ length code + 1 → (n' ≡ 0 + 1) ⊎ (n' ≡ 0 + (length code + 2)) → n' ≤ length (starred code)
-        either l (inl q) = omega (arith, q, l)
-        either l (inr q) = omega (arith, q, l)
+    ends zero place n' place' g =
+        let l = length-append code (Back (length code + 1) ∷ []) in
+        elim (subst (λ m. Leads m line 0 place n' place') g.1 g.2).0 [ inl q ↦ omega (arith, q, l) | inr q ↦ omega (arith, q, l) ]
     ends (suc n) place n' place' g = there (at-split code (Back (length code + 1) ∷ []) n g.0 g.1)
       where
         there : (At code n g.0) ⊎ ((j : ℕ) × (n ≡ length code + j) × At (Back (length code + 1) ∷ []) j g.0) → n' ≤ length (starred code)
@@ -214,19 +201,9 @@ exact_starred code line Kind e = record {
         there (inr (suc j, far, last)) = absurd last
 
     begins : (n by : ℕ) → At (starred code) n (Back by) → by ≤ n
-    begins zero by h = elim (no_back h) [ ]
-      where
-        no_back : Back by ≡ Choose (length code + 2) → ⊥
-        no_back q = cc
+    begins zero by h = let never : Back by ≡ Choose (length code + 2) = h in cc
     begins (suc n) by h = there (at-split code (Back (length code + 1) ∷ []) n (Back by) h)
       where
-        by_of : Node → ℕ
-        by_of (Back b) = b
-        by_of (Take bytes) = 0
-        by_of First = 0
-        by_of Last = 0
-        by_of (Choose skip) = 0
-
         there : (At code n (Back by)) ⊎ ((j : ℕ) × (n ≡ length code + j) × At (Back (length code + 1) ∷ []) j (Back by)) → by ≤ suc n
         there (inl here) = let m = e.fits.begins n by here in omega (arith, m)
         there (inr (zero, far, last)) = let b : by ≡ length code + 1 = cc in omega (arith, b, far)

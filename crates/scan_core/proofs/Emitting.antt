@@ -31,7 +31,9 @@ starred_out nodes marked chosen new before code start size low b n s m ch e =
         omega (arith, l, a, r, b, s)
 
     set_now : marked ≡ before ++ Back (length code + 1) ∷ reverse code
-    set_now = m ∙ ap (λ l. set l start (Back (size + 1))) n ∙ ap (λ n. set (before ++ Back 0 ∷ reverse code) n (Back (size + 1))) (sym b) ∙ set-append_seam before (Back 0) (reverse code) (Back (size + 1)) ∙ ap (λ k. before ++ Back (k + 1) ∷ reverse code) counted
+    set_now =
+        m ∙ ap (λ l. set l start (Back (size + 1))) n ∙ ap (λ n. set (before ++ Back 0 ∷ reverse code) n (Back (size + 1))) (sym b)
+        ∙ set-append_seam before (Back 0) (reverse code) (Back (size + 1)) ∙ ap (λ k. before ++ Back (k + 1) ∷ reverse code) counted
 
     skip : length marked - start + 1 ≡ length code + 2
     skip =

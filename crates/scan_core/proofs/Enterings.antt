@@ -1,13 +1,13 @@
 -- Sets of nodes that grow.
 use Rattle.std.proofs.Common.{◌≡◌, ◌⊎◌, inl, inr, ℕ, zero, suc, ◌+◌, ◌<◌, ◌≤◌, Bool, true, false, IsTrue, List, [], ◌∷◌, length, get_or, set, refl, sym, ap, ◌∙◌, subst, arith, ◌↔◌}
-use Rattle.std.proofs.lemmas.Bool.{cases_eq, false≢true}
-use Rattle.std.proofs.lemmas.List.{get_or-set_same, get_or-set_other, length-set}
+use Rattle.std.proofs.lemmas.Bool.{cases_eq, false≢true, cases_lt}
+use Rattle.std.proofs.lemmas.List.{get_or-set_same, get_or-set_other, length-set, get_or_past}
 use Rattle.bre_core.specs.Match.{Parts}
 use Rattle.scan_core.specs.declared.reach.Reach.{Reach}
 use Rattle.scan_core.specs.declared.node.Node.{Node}
 use Rattle.scan_core.specs.Code.{At, weight_of, weight}
 use Rattle.scan_core.specs.Sets.{IsMarked, weight_if, positions_among}
-use Rattle.scan_core.specs.inner.Sets.{at_place, marked, weight_at, IsSet, IsReach, Has, Gains, LeadsOn, Flows, IsCode, Passes}
+use Rattle.scan_core.specs.inner.Sets.{at_place, marked, weight_at, IsReach, Has, Gains, LeadsOn, Flows, IsCode, Passes}
 use Rattle.bre_core.specs.ByteSet.{has}
 use Rattle.scan_core.specs.declared.node.Node.TheVariants.{Take, First, Last, Choose, Back}
 
@@ -215,13 +215,11 @@ flow_two code n skip at_first at_last old middle new here f g = gain_by old new 
 pub target_in : (code : List Node) (n skip : ℕ) → IsCode code → At code n (Choose skip) → n + skip ≤ length code
 target_in code n skip c here = c.ends n (n + skip) (Choose skip, here, inr refl)
 
-pub count_most : {code : List Node} (reach : Reach) → IsReach code reach → reach.count ≤ length reach.marks.items
-count_most reach r = let l = marked_most reach.marks.items in omega (arith, l, r.counted)
+pub count_most : (reach : Reach) → reach.count ≡ marked reach.marks.items → reach.count ≤ length reach.marks.items
+count_most reach counted = let l = marked_most reach.marks.items in omega (arith, l, counted)
 
 pub marks_within : (marks : List Bool) (n : ℕ) → IsMarked marks n → n < length marks
-marks_within [] n h = absurd (false≢true h)
-marks_within (x ∷ marks) zero h = omega arith
-marks_within (x ∷ marks) (suc n) h = omega (arith, marks_within marks n h)
+marks_within marks n h = elim (cases_lt n (length marks)) [ inl l ↦ l | inr far ↦ absurd (false≢true (sym (get_or_past marks n false far) ∙ h)) ]
 
 pub pass_found : (code : List Node) (n byte to : ℕ) (bytes : List Bool) → At code n (Take bytes) → Passes code byte n to → IsTrue (has bytes byte)
 pass_found code n byte to bytes here p =
@@ -232,22 +230,16 @@ pass_found code n byte to bytes here p =
 pub pass_never : (code : List Node) (n byte to : ℕ) (node : Node) → At code n node → ((bytes : List Bool) → Take bytes ≡ node → ⊥) → Passes code byte n to → ⊥
 pass_never code n byte to node here never p = never p.0 (at_once code n (Take p.0) node p.1 here)
 
-pub read_here : (code : List Node) (n : ℕ) (read : Node) → n < length code → read ≡ get_or code n read → At code n read
-read_here code n read h is = subst (At code n) (sym is) (at_index code n read h)
-
 pub pass_least : (code : List Node) (n byte to : ℕ) → Passes code byte n to → n < length code
 pass_least code n byte to p = at_least code n (Take p.0) p.1
 
 -- the other nodes take no byte
 pub takes_none : (code : List Node) (n byte to : ℕ) (read : Node) → n < length code → read ≡ get_or code n read
     → (read ≡ First) ⊎ ((read ≡ Last) ⊎ (((skip : ℕ) × (read ≡ Choose skip)) ⊎ ((by : ℕ) × (read ≡ Back by)))) → Passes code byte n to → ⊥
-takes_none code n byte to read h is (inl e) p = pass_never code n byte to read (read_here code n read h is) (λ bytes q. cc) p
-takes_none code n byte to read h is (inr (inl e)) p = pass_never code n byte to read (read_here code n read h is) (λ bytes q. cc) p
-takes_none code n byte to read h is (inr (inr (inl (skip, e)))) p = pass_never code n byte to read (read_here code n read h is) (λ bytes q. cc) p
-takes_none code n byte to read h is (inr (inr (inr (by, e)))) p = pass_never code n byte to read (read_here code n read h is) (λ bytes q. cc) p
-
-pub set_count_most : (reach : Reach) → IsSet reach → reach.count ≤ length reach.marks.items
-set_count_most reach r = let l = marked_most reach.marks.items in omega (arith, l, r.counted)
+takes_none code n byte to read h is (inl e) p = pass_never code n byte to read (node_here code n read read h refl is) (λ bytes q. cc) p
+takes_none code n byte to read h is (inr (inl e)) p = pass_never code n byte to read (node_here code n read read h refl is) (λ bytes q. cc) p
+takes_none code n byte to read h is (inr (inr (inl (skip, e)))) p = pass_never code n byte to read (node_here code n read read h refl is) (λ bytes q. cc) p
+takes_none code n byte to read h is (inr (inr (inr (by, e)))) p = pass_never code n byte to read (node_here code n read read h refl is) (λ bytes q. cc) p
 
 pub weight_in : (code : List Node) (n : ℕ) (read : Node) → n < length code → read ≡ get_or code n read → weight_of read ≡ weight_at code n
 weight_in [] n read h e = absurd (omega (arith, h))

@@ -55,7 +55,8 @@ finish_ends nodes pending final none n p q (Repeated d ∷ stack) s = absurd (no
 -- what follows from an item that is complete
 pub finished_group : (nodes : List Node) (pending around : List Pending) (new : Compiling) → Finishes nodes pending new → pending ≡ around ++ Group ∷ [] → IsNow nodes pending None new
 finished_group nodes pending around new f e =
-    let e' : pending ≡ reverse (Group ∷ reverse around) = e ∙ ap (λ l. l ++ Group ∷ []) (sym (reverse-reverse around)) ∙ sym (reverse-append (Group ∷ []) (reverse around)) in
+    let e' : pending ≡ reverse (Group ∷ reverse around) =
+    e ∙ ap (λ l. l ++ Group ∷ []) (sym (reverse-reverse around)) ∙ sym (reverse-append (Group ∷ []) (reverse around)) in
     let n = f (Group ∷ reverse around) e' in
     record { nodes = n.nodes; pending = n.pending ∙ sym e'; passing = n.passing }
 
@@ -65,7 +66,9 @@ finished_all nodes pending new f e = f [] e
 pub finished_repeated : (nodes : List Node) (pending around : List Pending) (d : Duplication) (new : Compiling) → Finishes nodes pending new → pending ≡ around ++ Repeated d ∷ []
     → (written : List Node) × Repeats d nodes written × Finishes written around new
 finished_repeated nodes pending around d new f e =
-    let first = f (Repeated d ∷ reverse around) (e ∙ ap (λ l. l ++ Repeated d ∷ []) (sym (reverse-reverse around)) ∙ sym (reverse-append (Repeated d ∷ []) (reverse around))) in (
+    let e' : pending ≡ reverse (Repeated d ∷ reverse around) =
+    e ∙ ap (λ l. l ++ Repeated d ∷ []) (sym (reverse-reverse around)) ∙ sym (reverse-append (Repeated d ∷ []) (reverse around)) in
+    let first = f (Repeated d ∷ reverse around) e' in (
       first.0,
       first.1,
       λ stack q.

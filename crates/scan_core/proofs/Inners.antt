@@ -21,11 +21,7 @@ pub inner_entered : (code : List Node) (line : List ℕ) (place : ℕ) → place
 inner_entered code line zero h number =
     closes_exact code line 0 true false (λ n. ⊥) (Inner code line 0) (record { within = omega arith; first = (λ t. refl, λ e. refl); last = (λ t. absurd (false≢true t), λ e. absurd (omega (arith, e, h))) })
     (λ n. (λ b. absurd b, λ c. absurd (omega (arith, c.1))))
-    (λ n. (λ f. (0, inr refl, f), λ f. only n f.0 f.1 f.2)) number
-  where
-    only : (n from : ℕ) → ⊥ ⊎ (from ≡ 0) → FlowsOn code true false from n → FlowsOn code true false 0 n
-    only n from (inl b) f = absurd b
-    only n from (inr e) f = subst (λ k. FlowsOn code true false k n) e f
+    (λ n. (λ f. (0, inr refl, f), λ f. elim f.1 [ inl b ↦ absurd b | inr e ↦ subst (λ k. FlowsOn code true false k n) e f.2 ])) number
 inner_entered code line (suc place) h number =
     closes_exact code line (suc place) false false (λ n. (before : ℕ) × Inner code line place before × Passes code (slice_index line place) before n) (Inner code line (suc place))
     (record { within = omega (arith, h); first = (λ t. absurd (false≢true t), λ e. absurd (omega (arith, e))); last = (λ t. absurd (false≢true t), λ e. absurd (omega (arith, e, h))) })
@@ -33,15 +29,16 @@ inner_entered code line (suc place) h number =
     (λ n. (λ f. f, λ f. f)) number
 
 pub next_by : (code : List Node) (byte : ℕ) (One Other : ℕ → Type 0) → ((n : ℕ) → One n → Other n) → (number : ℕ) → Next code byte One number → Next code byte Other number
-next_by code byte One Other there number h = (h.0, seed h.1, h.2)
-  where
-    seed : ((before : ℕ) × One before × Passes code byte before h.0) ⊎ (h.0 ≡ 0) → ((before : ℕ) × Other before × Passes code byte before h.0) ⊎ (h.0 ≡ 0)
-    seed (inl s) = inl (s.0, there s.0 s.1, s.2)
-    seed (inr e) = inr e
+next_by code byte One Other there number h = (h.0, elim h.1 [ inl s ↦ inl (s.0, there s.0 s.1, s.2) | inr e ↦ inr e ], h.2)
 
 -- at the last place, after a byte
 pub last_entered : (code : List Node) (line : List ℕ) (place : ℕ) → suc place ≡ length line → (number : ℕ) → Entered code line number (suc place) ↔ ((from : ℕ) × Inner code line (suc place) from × FlowsOn code false true from number)
-last_entered code line place h number = (λ e. there ((exact number).1 e), λ k. (exact number).0 (here k))
+last_entered code line place h number = (
+  λ e. let f = (exact number).1 e in (f.0, (f.0, f.1, (0, refl)), f.2),
+  λ k.
+      let before = parts_anywhere code false true k.1.2.0 k.1.0 k.0 k.1.2.1 in
+      (exact number).0 (k.1.0, k.1.1, (k.1.2.0 + k.2.0, parts_join (Flows code false true) k.1.2.0 k.2.0 k.1.0 k.0 number before k.2.1)),
+)
   where
     exact : (n : ℕ) → ((from : ℕ) × (((before : ℕ) × Inner code line place before × Passes code (slice_index line place) before from) ⊎ (from ≡ 0)) × FlowsOn code false true from n) ↔ Entered code line n (suc place)
     exact n = closes_exact code line (suc place) false true (λ m. (before : ℕ) × Inner code line place before × Passes code (slice_index line place) before m)
@@ -50,14 +47,22 @@ last_entered code line place h number = (λ e. there ((exact number).1 e), λ k.
         (came_exact code line place (slice_index line place) (Inner code line place) (inner_entered code line place (omega (arith, h))) (omega (arith, h)) refl)
         (λ m. (λ f. f, λ f. f)) n
 
-    there : ((from : ℕ) × (((before : ℕ) × Inner code line place before × Passes code (slice_index line place) before from) ⊎ (from ≡ 0)) × FlowsOn code false true from number) → (from : ℕ) × Inner code line (suc place) from × FlowsOn code false true from number
-    there f = (f.0, (f.0, f.1, (0, refl)), f.2)
-
-    here : ((from : ℕ) × Inner code line (suc place) from × FlowsOn code false true from number) → (from : ℕ) × (((before : ℕ) × Inner code line place before × Passes code (slice_index line place) before from) ⊎ (from ≡ 0)) × FlowsOn code false true from number
-    here k = (k.1.0, k.1.1, (k.1.2.0 + k.2.0, parts_join (Flows code false true) k.1.2.0 k.2.0 k.1.0 k.0 number (parts_anywhere code false true k.1.2.0 k.1.0 k.0 k.1.2.1) k.2.1))
-
 pub walked_starts : (code : List Node) (sets : List (List Bool)) (table : Table) (line : List ℕ) → IsTableOf code sets table → Walked code sets line 0 0 0
 walked_starts code sets table line t = record { within = omega arith; known = t.some; exact = t.front; none = λ before h. absurd (omega (arith, h)); counted = none_counted code line; bound = omega arith }
+
+-- what is entered where the state's set is, and before
+walked_here : (code : List Node) (sets : List (List Bool)) (line : List ℕ) (place state steps : ℕ) → Walked code sets line place state steps
+    → place < length line → (number : ℕ) → InSets sets state number ↔ Entered code line number place
+walked_here code sets line place state steps w h number =
+    let i = inner_entered code line place h number in
+    (λ m. i.0 ((w.exact number).0 m), λ f. (w.exact number).1 (i.1 f))
+
+walked_none : (code : List Node) (sets : List (List Bool)) (table : Table) (line : List ℕ) (place state steps : ℕ) → IsTableOf code sets table
+    → Walked code sets line place state steps → place < length line → (before : ℕ) → before < suc place → Entered code line (length code) before → ⊥
+walked_none code sets table line place state steps t w h before l f = elim (cases_eq before place) [
+  | inl same ↦ t.none state w.known ((walked_here code sets line place state steps w h (length code)).1 (subst (λ p. Entered code line (length code) p) same f))
+  | inr other ↦ w.none before (omega (arith, l, other)) f
+]
 
 -- one byte more
 pub walked_more : (code : List Node) (sets : List (List Bool)) (table : Table) (line : List ℕ) (place state next steps steps' : ℕ) → IsTableOf code sets table → Walked code sets line place state steps → place < length line → slice_index line place < 256
@@ -69,13 +74,11 @@ walked_more code sets table line place state next steps steps' t w h b e k p = r
     λ i. next_by code (slice_index line place) (InSets sets state) (Inner code line place) (λ n. (w.exact n).0) number ((step.1 number).0 i),
     λ i. (step.1 number).1 (next_by code (slice_index line place) (Inner code line place) (InSets sets state) (λ n. (w.exact n).1) number i),
   );
-  none = λ before l f. elim (cases_eq before place) [
-    | inl same ↦ t.none state w.known ((here (length code)).1 (subst (λ p. Entered code line (length code) p) same f))
-    | inr other ↦ w.none before (omega (arith, l, other)) f
-  ];
+  none = walked_none code sets table line place state steps t w h;
   counted =
       let one : place + 1 ≡ suc place = omega arith in
-      subst (λ n. AreSteps code line n steps') one (one_counted code line place steps steps' (set_at sets state) w.counted here p);
+      subst (λ n. AreSteps code line n steps') one
+      (one_counted code line place steps steps' (set_at sets state) w.counted (walked_here code sets line place state steps w h) p);
   bound =
       let m = positions_most code (set_at sets state) in
       let q = steps_more place steps (positions_among code (set_at sets state)) (weight code + 1) w.bound m in
@@ -86,9 +89,6 @@ walked_more code sets table line place state next steps steps' t w h b e k p = r
   where
     step : (entry table.rows.items state (slice_index line place) < length sets) × ((number : ℕ) → InSets sets (entry table.rows.items state (slice_index line place)) number ↔ Next code (slice_index line place) (InSets sets state) number)
     step = (t.told state (slice_index line place) w.known b).next (omega (arith, e, k))
-
-    here : (number : ℕ) → InSets sets state number ↔ Entered code line number place
-    here number = let i = inner_entered code line place h number in (λ m. i.0 ((w.exact number).0 m), λ f. (w.exact number).1 (i.1 f))
 
 walked_stay : (code : List Node) (sets : List (List Bool)) (table : Table) (line : List ℕ) (more place state steps : ℕ) → IsTableOf code sets table → Walked code sets line place state steps → place + more ≤ length line → ((k : ℕ) → k < length line → slice_index line k < 256)
     → ((k : ℕ) → place ≤ k → k < place + more → entry table.rows.items state (slice_index line k) ≡ state) → Walked code sets line (place + more) state (steps + positions_among code (set_at sets state) * more)
@@ -138,19 +138,13 @@ walked_least code sets table line place state steps t w h b e = record {
   place = suc place;
   within = omega (arith, h);
   ends = (walked_stops code sets table line place state steps t w h b e).2;
-  first = λ before l f. elim (cases_eq before place) [
-    | inl same ↦ t.none state w.known ((here (length code)).1 (subst (λ p. Entered code line (length code) p) same f))
-    | inr other ↦ w.none before (omega (arith, l, other)) f
-  ];
+  first = walked_none code sets table line place state steps t w h;
   before = steps + positions_among code (set_at sets state);
   counted =
       let one : place + 1 ≡ suc place = omega arith in
-      subst (λ n. AreSteps code line n (steps + positions_among code (set_at sets state))) one (one_counted code line place steps (steps + positions_among code (set_at sets state)) (set_at sets state) w.counted here refl);
+      subst (λ n. AreSteps code line n (steps + positions_among code (set_at sets state))) one (one_counted code line place steps (steps + positions_among code (set_at sets state)) (set_at sets state) w.counted (walked_here code sets line place state steps w h) refl);
   least = omega arith;
 }
-  where
-    here : (number : ℕ) → InSets sets state number ↔ Entered code line number place
-    here number = let i = inner_entered code line place h number in (λ m. i.0 ((w.exact number).0 m), λ f. (w.exact number).1 (i.1 f))
 
 -- the steps of a byte that leads to the end, as they are noted
 pub walk_least : (code : List Node) (sets : List (List Bool)) (table : Table) (line : List ℕ) (place state steps added : ℕ) (noted : State) → IsTableOf code sets table → Walked code sets line place state steps → place < length line → slice_index line place < 256

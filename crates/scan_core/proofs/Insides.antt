@@ -19,8 +19,12 @@ use Rattle.scan_core.proofs.Enterings.{flows_of}
 use Rattle.scan_core.proofs.Visitings.{cleared}
 
 -- a target that is in the word, or that a hop leads to
-stays_or_hops : (code : List Node) (hops : List Hop) (at bit target to : ℕ) → bit < 64 → to ≡ target → Flows code false false (at * 64 + bit) to → (target / 64 ≡ at) ⊎ HopsTo hops at bit target → Stays code (at * 64 + bit) to ⊎ HopsTo hops at bit to
-stays_or_hops code hops at bit target to h e f way = elim way [ inl near ↦ inl (f, omega (arith, e, near, h)) | inr hop ↦ inr (subst (HopsTo hops at bit) (sym e) hop) ]
+stays_or_hops : (code : List Node) (hops : List Hop) (at bit target to : ℕ) → bit < 64 → to ≡ target → Flows code false false (at * 64 + bit) to
+    → (target / 64 ≡ at) ⊎ HopsTo hops at bit target → Stays code (at * 64 + bit) to ⊎ HopsTo hops at bit to
+stays_or_hops code hops at bit target to h e f way = elim way [
+  | inl near ↦ inl (f, omega (arith, e, near, h))
+  | inr hop ↦ inr (subst (HopsTo hops at bit) (sym e) hop)
+]
 
 pub choose_stays : (code : List Node) (hops : List Hop) (at bit skip : ℕ) (at_first at_last : Bool) (to : ℕ) → At code (at * 64 + bit) (Choose skip) → bit < 64
     → ((at * 64 + bit + 1) / 64 ≡ at) ⊎ HopsTo hops at bit (at * 64 + bit + 1) → ((at * 64 + bit + skip) / 64 ≡ at) ⊎ HopsTo hops at bit (at * 64 + bit + skip)
@@ -105,8 +109,11 @@ quiet_led code n read to bit here (inr (inr e)) = none_led code n Last to bit (s
 
 pub choose_led : (code : List Node) (n skip to one other bit : ℕ) → At code n (Choose skip) → ((bit_at one bit ≡ 1) ↔ (n + 1 ≡ to)) → ((bit_at other bit ≡ 1) ↔ (n + skip ≡ to)) → (bit_at (bit_or one other) bit ≡ 1) ↔ Flows code false false n to
 choose_led code n skip to one other bit here a b = (
-  λ k. elim (either_bit one other bit k) [ inl first ↦ (Choose skip, here, inl (sym (a.0 first))) | inr second ↦ (Choose skip, here, inr (sym (b.0 second))) ],
-  λ f. elim (flows_of code n (Choose skip) false false to here f) [ inl e ↦ left_bit one other bit (a.1 (sym e)) | inr e ↦ right_bit one other bit (b.1 (sym e)) ],
+  λ k. (Choose skip, here, elim (either_bit one other bit k) [ inl first ↦ inl (sym (a.0 first)) | inr second ↦ inr (sym (b.0 second)) ]),
+  λ f. elim (flows_of code n (Choose skip) false false to here f) [
+    | inl e ↦ left_bit one other bit (a.1 (sym e))
+    | inr e ↦ right_bit one other bit (b.1 (sym e))
+  ],
 )
 
 pub back_led : (code : List Node) (n by to all bit : ℕ) → At code n (Back by) → by ≤ n → ((bit_at all bit ≡ 1) ↔ (n - by ≡ to)) → (bit_at all bit ≡ 1) ↔ Flows code false false n to
@@ -230,7 +237,8 @@ eight_bits word eight bit h =
     ap (λ x. bit_at x bit) q ∙ bit_at_and word (2 ^ (8 + eight * 8) - 2 ^ (eight * 8)) bit
 
 -- an entry by its word, its eight and its choice
-entry_at : (code : List Node) (place at eight chosen entry : ℕ) → place / 2048 ≡ at → place / 256 % 8 ≡ eight → place % 256 ≡ chosen → Closes code (place / 2048) (chosen_at place) entry → Closes code at (chosen * 2 ^ (eight * 8) % 2 ^ 64) entry
+entry_at : (code : List Node) (place at eight chosen entry : ℕ) → place / 2048 ≡ at → place / 256 % 8 ≡ eight → place % 256 ≡ chosen
+    → Closes code (place / 2048) (chosen_at place) entry → Closes code at (chosen * 2 ^ (eight * 8) % 2 ^ 64) entry
 entry_at code place at eight chosen entry word which low c =
     subst (λ n. Closes code n (chosen * 2 ^ (eight * 8) % 2 ^ 64) entry) word
     (subst (λ n. Closes code (place / 2048) n entry) (ap (λ n. n * 2 ^ (place / 256 % 8 * 8) % 2 ^ 64) low ∙ ap (λ n. chosen * 2 ^ (n * 8) % 2 ^ 64) which) c)
@@ -259,8 +267,10 @@ join_more code inside at word eight all entry j i within h fits e = record {
 }
   where
     c : Closes code at (word / 2 ^ (eight * 8) % 256 * 2 ^ (eight * 8) % 2 ^ 64) entry
-    c = subst (Closes code at (word / 2 ^ (eight * 8) % 256 * 2 ^ (eight * 8) % 2 ^ 64)) (sym e) (let place : ℕ = at * 2048 + (eight * 256 + word / 2 ^ (eight * 8) % 256) in
-        entry_at code place at eight _ _ (omega (arith, h)) (omega (arith, h)) (omega arith) (i.each place (omega (arith, within, h))))
+    c =
+        let place : ℕ = at * 2048 + (eight * 256 + word / 2 ^ (eight * 8) % 256) in
+        subst (Closes code at (word / 2 ^ (eight * 8) % 256 * 2 ^ (eight * 8) % 2 ^ 64)) (sym e)
+        (entry_at code place at eight _ _ (omega (arith, h)) (omega (arith, h)) (omega arith) (i.each place (omega (arith, within, h))))
 
 pub join_ends : (code : List Node) (at word all : ℕ) → Joining code at word 8 all → Closes code at word all
 join_ends code at word all j = record { kept = λ bit l is. j.kept bit (omega (arith, l)) is; from_chosen = j.from_word; closed = j.closed }
@@ -339,10 +349,14 @@ entry_of_halves code inside place i low high = closes_both code (place / 2048) _
     chosen = omega arith
 
     one : Closes code (place / 2048) (place / 16 % 16 * 16 * 2 ^ (place / 256 % 8 * 8) % 2 ^ 64) (get_or inside (place - place % 16) 0)
-    one = let before : ℕ = place - place % 16 in entry_at code before _ _ _ _ (omega arith) (omega arith) (omega arith) (i.each before (omega (arith, low)))
+    one =
+        let before : ℕ = place - place % 16 in
+        entry_at code before _ _ _ _ (omega arith) (omega arith) (omega arith) (i.each before (omega (arith, low)))
 
     other : Closes code (place / 2048) (place % 16 * 2 ^ (place / 256 % 8 * 8) % 2 ^ 64) (get_or inside (place - place / 16 % 16 * 16) 0)
-    other = let before : ℕ = place - place / 16 % 16 * 16 in entry_at code before _ _ _ _ (omega arith) (omega arith) (omega arith) (i.each before (omega (arith, high)))
+    other =
+        let before : ℕ = place - place / 16 % 16 * 16 in
+        entry_at code before _ _ _ _ (omega arith) (omega arith) (omega arith) (i.each before (omega (arith, high)))
 
     bits : (bit : ℕ) → bit < 64 → bit_at (chosen_at place) bit ≡ max (bit_at (place / 16 % 16 * 16 * 2 ^ (place / 256 % 8 * 8) % 2 ^ 64) bit) (bit_at (place % 16 * 2 ^ (place / 256 % 8 * 8) % 2 ^ 64) bit)
     bits bit h = ap (λ n. bit_at (n * 2 ^ (place / 256 % 8 * 8) % 2 ^ 64) bit) chosen ∙ halved_placed (place / 16 % 16) (place % 16) (place / 256 % 8 * 8) bit (omega arith) h

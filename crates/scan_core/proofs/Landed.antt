@@ -126,7 +126,9 @@ pub adding_more : (code : List Node) (old now new : List Landing) (landing : Lan
 adding_more code old now new landing a is e = record {
   sound = λ place h. pushed no_landing (λ k l. IsLanding code l) now new (length now) landing refl a.sound is e place (omega (arith, h, one));
   longer = omega (arith, a.longer, one);
-  front = λ place h. let l = a.longer in ap (λ l. get_or l place no_landing) e ∙ get_or_append_left now (landing ∷ []) no_landing place (omega (arith, h, l)) ∙ a.front place h;
+  front = λ place h.
+      let l = a.longer in
+      ap (λ l. get_or l place no_landing) e ∙ get_or_append_left now (landing ∷ []) no_landing place (omega (arith, h, l)) ∙ a.front place h;
 }
   where
     one : length new ≡ length now + 1

@@ -159,16 +159,8 @@ clear_none pattern text before line after all ends = absurd (omega (arith, ends)
 pub other_node : (code : List Node) (number : ℕ) (node : Node) → At code number node → ((skip : ℕ) → node ≡ Choose skip → ⊥) → (skip : ℕ) → At code number (Choose skip) → ⊥
 other_node code number node here differs skip there = differs skip (at_once code number node (Choose skip) here there)
 
--- how far a choice leads
-abbrev skip_of : Node → ℕ
-skip_of (Take bytes) = 0
-skip_of First = 0
-skip_of Last = 0
-skip_of (Choose skip) = skip
-skip_of (Back by) = 0
-
 pub same_choice : (code : List Node) (number one other : ℕ) → At code number (Choose one) → At code number (Choose other) → one ≡ other
-same_choice code number one other here there = ap skip_of (at_once code number (Choose one) (Choose other) here there)
+same_choice code number one other here there = let same = at_once code number (Choose one) (Choose other) here there in cc
 
 pub no_choice : (code : List Node) (number : ℕ) (bytes : List Bool) → At code number (Take bytes) → (skip : ℕ) → At code number (Choose skip) → ⊥
 no_choice code number bytes here = other_node code number (Take bytes) here (λ skip same. cc)

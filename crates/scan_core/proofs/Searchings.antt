@@ -1,6 +1,7 @@
 -- A search by sets of words, place by place.
 use Rattle.std.proofs.Common.{◌≡◌, ◌⊎◌, ◌↔◌, inl, inr, ℕ, suc, ◌+◌, ◌*◌, ◌<◌, ◌≤◌, Bool, true, false, IsTrue, List, length, slice_index, refl, sym, ap, ◌∙◌, subst, arith}
 use Rattle.std.proofs.lemmas.Bool.{cases_eq, false≢true}
+use Rattle.std.proofs.Math.Nat.{mul-le-mul}
 use Rattle.scan_core.specs.declared.base.Base.{Base}
 use Rattle.scan_core.specs.declared.node.Node.{Node}
 use Rattle.scan_core.specs.inner.Base.{IsBase}
@@ -12,7 +13,7 @@ use Rattle.scan_core.specs.Table.{IsOutcome}
 use Rattle.scan_core.specs.inner.Words.{IsIn, width, flags_of, SpreadsOut}
 use Rattle.scan_core.proofs.Along.{IsPlace, closes_exact, came_exact, none_counted, one_counted, steps_more, steps_wider}
 use Rattle.scan_core.proofs.Countings.{flags_are}
-use Rattle.scan_core.proofs.Enterings.{positions_most, parts_anywhere}
+use Rattle.scan_core.proofs.Enterings.{positions_most, parts_anywhere, weight_length}
 use Rattle.scan_core.proofs.Visitings.{flows_join}
 
 -- the line was searched up to a place, and no match has ended
@@ -53,6 +54,17 @@ entered_here code line place steps at_first at_last old new s p o = closes_exact
 -- the set of a place has no more positions than the code
 pub few_positions : (code : List Node) (words : List ℕ) (positions : ℕ) → positions ≡ positions_among code (flags_of words) → positions ≤ weight code + 1
 few_positions code words positions e = let m = positions_most code (flags_of words) in omega (arith, m, e)
+
+-- the steps so far and those of one place more fit 128 bits
+pub search_fits : (code : List Node) (line : List ℕ) (place steps positions : ℕ) (old now : List ℕ) → Searched code line place old steps
+    → positions ≡ positions_among code (flags_of now) → length code < 9223372036854775808 → place ≤ 18446744073709551616
+    → steps + positions < 340282366920938463463374607431768211456
+search_fits code line place steps positions old now s e few far =
+    let w = weight_length code in
+    let m = few_positions code now positions e in
+    let size : weight code + 1 ≤ 9223372036854775808 = omega (arith, w, few) in
+    let most : place * (weight code + 1) ≤ 18446744073709551616 * 9223372036854775808 = mul-le-mul far size in
+    omega (arith, s.bound, most, m, size)
 
 marked_here : (code : List Node) (line : List ℕ) (place : ℕ) (words : List ℕ) → ((number : ℕ) → IsIn words number ↔ Entered code line number place) → (number : ℕ) → IsMarked (flags_of words) number ↔ Entered code line number place
 marked_here code line place words here number = (λ h. (here number).0 ((flags_are words number).0 h), λ e. (flags_are words number).1 ((here number).1 e))

@@ -15,7 +15,7 @@ use Rattle.scan_core.specs.inner.Built.{AreAlike, Built, AreSized, IsBuilding, I
 use Rattle.scan_core.specs.Code.{At}
 use Rattle.scan_core.specs.Counted.{set_at}
 use Rattle.scan_core.specs.Sets.{IsMarked, positions_among}
-use Rattle.scan_core.specs.inner.Sets.{IsReach, Has, FlowsOn, Passes, PassesFrom, Advances, Loaded, Spreads}
+use Rattle.scan_core.specs.inner.Sets.{IsReach, Has, FlowsOn, Passes, Advances, Loaded, Spreads}
 use Rattle.scan_core.specs.inner.Table.{Next, InSets, entry, Tells, IsState, no_state, IsTable}
 use Rattle.scan_core.proofs.Enterings.{at_index, at_once, at_least}
 
@@ -85,11 +85,8 @@ passes_alike : (code : List Node) (one other from to : ℕ) → AreAlike code on
 passes_alike code one other from to a p = (p.0, p.1, sym (a from p.0 p.1) ∙ p.2, p.3)
 
 next_alike : (code : List Node) (one other : ℕ) (Set : ℕ → Type 0) (number : ℕ) → AreAlike code one other → Next code one Set number → Next code other Set number
-next_alike code one other Set number a n = (n.0, side n.1, n.2)
-  where
-    side : ((before : ℕ) × Set before × Passes code one before n.0) ⊎ (n.0 ≡ 0) → ((before : ℕ) × Set before × Passes code other before n.0) ⊎ (n.0 ≡ 0)
-    side (inl s) = inl (s.0, s.1, passes_alike code one other s.0 n.0 a s.2)
-    side (inr e) = inr e
+next_alike code one other Set number a n =
+    (n.0, elim n.1 [ inl s ↦ inl (s.0, s.1, passes_alike code one other s.0 n.0 a s.2) | inr e ↦ inr e ], n.2)
 
 alike_back : (code : List Node) (one other : ℕ) → AreAlike code one other → AreAlike code other one
 alike_back code one other a = λ number bytes h. sym (a number bytes h)
@@ -133,7 +130,7 @@ led_on code most state byte read old new marks f b256 a em l er en = record {
       next_size = a.size ∙ f.so_far.next_size;
     };
     known = g.known;
-    set = set;
+    set = λ number. subst (λ r. Has r number ↔ InSets new.sets.items state number) (sym en) (old_set number);
   };
   tells = record {
     next = λ s. let k = l.next s in (k.0, λ number. subst (λ t. IsMarked t number ↔ Next code byte (InSets new.sets.items state) number) (sym k.1) (exact number));
@@ -147,24 +144,13 @@ led_on code most state byte read old new marks f b256 a em l er en = record {
     g : Grown code state old.sets.items new.sets.items old.rows.items
     g = grown code state old.sets.items new.sets.items old.rows.items marks f.so_far.built small f.known f.so_far.sized (ap length em ∙ a.size ∙ f.so_far.next_size) l.sets
 
-    set : (number : ℕ) → Has new.now number ↔ InSets new.sets.items state number
-    set number = subst (λ r. Has r number ↔ InSets new.sets.items state number) (sym en) (subst (λ s. Has old.now number ↔ IsMarked s number) (sym g.same) (f.set number))
-
     old_set : (number : ℕ) → Has old.now number ↔ InSets new.sets.items state number
     old_set number = subst (λ s. Has old.now number ↔ IsMarked s number) (sym g.same) (f.set number)
 
-    there : (from : ℕ) → PassesFrom old.now code byte from ⊎ (from ≡ 0) → ((before : ℕ) × InSets new.sets.items state before × Passes code byte before from) ⊎ (from ≡ 0)
-    there from (inl p) = inl (p.0, (old_set p.0).0 p.1, p.2)
-    there from (inr z) = inr z
-
-    back : (from : ℕ) → ((before : ℕ) × InSets new.sets.items state before × Passes code byte before from) ⊎ (from ≡ 0) → PassesFrom old.now code byte from ⊎ (from ≡ 0)
-    back from (inl p) = inl (p.0, (old_set p.0).1 p.1, p.2)
-    back from (inr z) = inr z
-
     exact : (number : ℕ) → IsMarked marks number ↔ Next code byte (InSets new.sets.items state) number
     exact number = subst (λ s. IsMarked s number ↔ Next code byte (InSets new.sets.items state) number) (sym em) (
-      λ h. let k = (a.exact number).0 h in (k.0, there k.0 k.1, k.2),
-      λ n. (a.exact number).1 (n.0, back n.0 n.1, n.2),
+      λ h. let k = (a.exact number).0 h in (k.0, elim k.1 [ inl p ↦ inl (p.0, (old_set p.0).0 p.1, p.2) | inr z ↦ inr z ], k.2),
+      λ n. (a.exact number).1 (n.0, elim n.1 [ inl p ↦ inl (p.0, (old_set p.0).1 p.1, p.2) | inr z ↦ inr z ], n.2),
     )
 
 -- one entry more
@@ -222,7 +208,8 @@ alike_all code n one other h before number bytes at = let l = at_least code numb
 
 -- marks that say what flags say are those flags
 same_marks : (marks flags : List Bool) → length marks ≡ length flags → ((n : ℕ) → IsMarked marks n ↔ IsMarked flags n) → marks ≡ flags
-same_marks marks flags e x = ext_get_or false marks flags e (λ n h. one_truth (get_or marks n false) (get_or flags n false) (IsMarked flags n) (x n) (λ m. m, λ m. m))
+same_marks marks flags e x = ext_get_or false marks flags e
+    (λ n h. one_truth (get_or marks n false) (get_or flags n false) (IsMarked flags n) (x n) (λ m. m, λ m. m))
 
 -- what was seen of a set is so
 pub state_is : (code : List Node) (sets : List (List Bool)) (rows : List ℕ) (number : ℕ) (old loaded spread : Reach) (state : State) → length (set_at sets number) ≡ length code + 1 → length old.marks.items ≡ length code + 1 → Loaded code (set_at sets number) old loaded

@@ -100,7 +100,7 @@ spreading_ends code at_first at_last old now at s h = record {
         s.closed p.0 number (omega (arith, l, h)) before p.2
 
 -- going back to an earlier word, the set has grown
-pub smaller : (more less size at on : ℕ) → on ≤ at + 1 → at < size → less ≤ more → (on < at + 1 → less < more) → less * (size + 1) + (size - on) < more * (size + 1) + (size - at)
+smaller : (more less size at on : ℕ) → on ≤ at + 1 → at < size → less ≤ more → (on < at + 1 → less < more) → less * (size + 1) + (size - on) < more * (size + 1) + (size - at)
 smaller more less size at on l h m s = elim (cases_lt on (at + 1)) [
   | inl back ↦
       let n = s back in
@@ -114,3 +114,10 @@ smaller more less size at on l h m s = elim (cases_lt on (at + 1)) [
       let g : (less + (more - less)) * (size + 1) ≡ less * (size + 1) + (more - less) * (size + 1) = grind arith in
       omega (arith, f, g, next, h, l)
 ]
+
+pub visits_smaller : (code : List Node) (at_first at_last : Bool) (at : ℕ) (old new : List ℕ) (on : ℕ) → Visits code at_first at_last at old new on
+    → at < length old → unset new * (length new + 1) + (length new - on) < unset old * (length old + 1) + (length old - at)
+visits_smaller code at_first at_last at old new on v h =
+    let e = ap (λ n. unset new * (n + 1) + (n - on)) v.size in
+    let s = smaller (unset old) (unset new) (length old) at on v.low h v.fuller v.less in
+    omega (arith, s, e)

@@ -25,22 +25,15 @@ at-right (x ∷ a) b n node h =
 pub at-split : (a b : List Node) (n : ℕ) (node : Node) → At (a ++ b) n node → (At a n node) ⊎ ((k : ℕ) × (n ≡ length a + k) × At b k node)
 at-split [] b n node h = inr (n, omega arith, h)
 at-split (x ∷ a) b zero node h = inl h
-at-split (x ∷ a) b (suc n) node h = more (at-split a b n node h)
-  where
-    more : (At a n node) ⊎ ((k : ℕ) × (n ≡ length a + k) × At b k node) → (At a n node) ⊎ ((k : ℕ) × (suc n ≡ suc (length a) + k) × At b k node)
-    more (inl g) = inl g
-    more (inr g) = inr (g.0, omega (arith, g.1), g.2)
+at-split (x ∷ a) b (suc n) node h = elim (at-split a b n node h) [ inl g ↦ inl g | inr g ↦ inr (g.0, omega (arith, g.1), g.2) ]
 
 -- the same step further on in a longer code
 pub leads_shift : (node : Node) (line : List ℕ) (base at place at' place' : ℕ) → Leads node line at place at' place' → Leads node line (base + at) place (base + at') place'
 leads_shift (Take bytes) line base at place at' place' h = (omega (arith, h.0), h.1, h.2, h.3)
 leads_shift First line base at place at' place' h = (omega (arith, h.0), h.1, h.2)
 leads_shift Last line base at place at' place' h = (omega (arith, h.0), h.1, h.2)
-leads_shift (Choose skip) line base at place at' place' h = (either h.0, h.1)
-  where
-    either : (at' ≡ at + 1) ⊎ (at' ≡ at + skip) → (base + at' ≡ base + at + 1) ⊎ (base + at' ≡ base + at + skip)
-    either (inl e) = inl (omega (arith, e))
-    either (inr e) = inr (omega (arith, e))
+leads_shift (Choose skip) line base at place at' place' h =
+    (elim h.0 [ inl e ↦ inl (omega (arith, e)) | inr e ↦ inr (omega (arith, e)) ], h.1)
 leads_shift (Back by) line base at place at' place' h = (omega (arith, h.0), h.1)
 
 pub walk-left : (a b : List Node) (line : List ℕ) (count at place to stop : ℕ) → Walks a line count at place to stop → Walks (a ++ b) line count at place to stop
@@ -78,11 +71,8 @@ pub leads_unshift : (node : Node) (line : List ℕ) (base at place at' place' : 
 leads_unshift (Take bytes) line base at place at' place' b h = (at + 1, omega (arith, h.0), (refl, h.1, h.2, h.3))
 leads_unshift First line base at place at' place' b h = (at + 1, omega (arith, h.0), (refl, h.1, h.2))
 leads_unshift Last line base at place at' place' b h = (at + 1, omega (arith, h.0), (refl, h.1, h.2))
-leads_unshift (Choose skip) line base at place at' place' b h = either h.0
-  where
-    either : (at' ≡ base + at + 1) ⊎ (at' ≡ base + at + skip) → (k : ℕ) × (at' ≡ base + k) × (((k ≡ at + 1) ⊎ (k ≡ at + skip)) × (place' ≡ place))
-    either (inl e) = (at + 1, omega (arith, e), (inl refl, h.1))
-    either (inr e) = (at + skip, omega (arith, e), (inr refl, h.1))
+leads_unshift (Choose skip) line base at place at' place' b h =
+    elim h.0 [ inl e ↦ (at + 1, omega (arith, e), (inl refl, h.1)) | inr e ↦ (at + skip, omega (arith, e), (inr refl, h.1)) ]
 leads_unshift (Back by) line base at place at' place' b h =
     let l = b by refl in
     (at - by, omega (arith, h.0, l), (omega (arith, l), h.1))

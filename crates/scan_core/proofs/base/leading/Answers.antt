@@ -8,8 +8,10 @@ pub loop-bit-preserved : goal.loop-bit-preserved
 loop-bit-preserved c =
     let So : ℕ → ℕ → Type 0 = λ bit to. IsIn c.args.words.now to in
     elim c.if-not-is_within.branch [
-      | then-not-is_within w ↦ subst (Marking c.args.nodes.now So c.args.at (c.loop-bit.bit + 1)) (sym w.word-is) (marking_more c.args.nodes.now So c.args.at c.loop-bit.bit c.loop-bit.word c.loop-bit.invariant c.loop-bit-test.true)
-      | else-not-is_within w ↦ subst (Marking c.args.nodes.now So c.args.at (c.loop-bit.bit + 1)) (sym w.word-is) (marking_skip c.args.nodes.now So c.args.at c.loop-bit.bit c.loop-bit.word c.loop-bit.invariant (c.is_within.ensures w.if-not-is_within.false))
+      | then-not-is_within w ↦ subst (Marking c.args.nodes.now So c.args.at (c.loop-bit.bit + 1)) (sym w.word-is)
+          (marking_more c.args.nodes.now So c.args.at c.loop-bit.bit c.loop-bit.word c.loop-bit.invariant c.loop-bit-test.true)
+      | else-not-is_within w ↦ subst (Marking c.args.nodes.now So c.args.at (c.loop-bit.bit + 1)) (sym w.word-is)
+          (marking_skip c.args.nodes.now So c.args.at c.loop-bit.bit c.loop-bit.word c.loop-bit.invariant (c.is_within.ensures w.if-not-is_within.false))
     ]
 
 pub returns : goal.returns

@@ -1,36 +1,28 @@
-use Rattle.std.proofs.Common.{rules, ◌≡◌, List, get_or, set, ◌+◌, ◌*◌, ◌<◌, ◌^◌, ℕ, length, refl, sym, ◌∙◌, subst, arith, w64}
+use Rattle.std.proofs.Common.{rules, ◌≡◌, List, get_or, set, ◌<◌, ◌^◌, ℕ, length, refl, sym, subst, arith, w64}
 use Rattle.std.proofs.lemmas.Grind.{common_steps}
-use Rattle.std.proofs.lemmas.List.{get_or-set_same, get_or_default}
-use Rattle.std.proofs.lemmas.Nat.Bits.{bit_at-trailing_zeros}
+use Rattle.std.proofs.lemmas.List.{get_or-set_same}
 use Rattle.std.specs.Prelude.{bit_or}
 use Rattle.std.specs.Int.{trailing_zeros}
-use Rattle.scan_core.specs.inner.Closures.{ArePeers}
 use Rattle.scan_core.specs.inner.Hops.{Hopped}
 use Rattle.scan_core.specs.inner.Words.{Grows}
-use Rattle.scan_core.proofs.Closings.{close_word, close_more, close_ends, peers_smaller}
+use Rattle.scan_core.proofs.Closings.{close_word, close_more, close_ends, peers_smaller, lowest_left}
 use Rattle.scan_core.proofs.closing.close.Goals as goal
 
 pub bits-smaller : goal.bits-smaller
 bits-smaller c =
-    let lowest = bit_at-trailing_zeros w64 c.bits.left (omega arith) (search rules) in
-    let place : ℕ = c.args.at * 64 + trailing_zeros w64 c.bits.left in
-    let all = c.requires.closures.peers in
-    let inside : place < length c.args.closures.now.peers.items = omega (arith, all.size, lowest.0, c.requires.within) in
-    let e = c.index-in-bits.ensures ∙ get_or_default c.args.closures.now.peers.items place _ 0 inside in
+    let lowest = lowest_left c.args.nodes.now c.args.closures.now.peers.items c.args.at c.bits.left c.index-in-bits.result.now _
+    c.requires.closures.peers c.requires.within (search rules) (omega arith) c.index-in-bits.ensures in
     let fits : c.index-in-bits.result.now < 2 ^ 64 = search rules in
-    peers_smaller c.args.nodes.now c.args.at c.bits.left c.index-in-bits.result.now (trailing_zeros w64 c.bits.left) fits lowest.0 lowest.1 (subst (ArePeers c.args.nodes.now place) (sym e) (all.each place (omega (arith, lowest.0, c.requires.within))))
+    peers_smaller c.args.nodes.now c.args.at c.bits.left c.index-in-bits.result.now (trailing_zeros w64 c.bits.left) fits lowest.0 lowest.1 lowest.2
 
 pub bits-preserved : goal.bits-preserved
 bits-preserved c =
-    let lowest = bit_at-trailing_zeros w64 c.bits.left (omega arith) (search rules) in
-    let place : ℕ = c.args.at * 64 + trailing_zeros w64 c.bits.left in
-    let all = c.requires.closures.peers in
-    let inside : place < length c.args.closures.now.peers.items = omega (arith, all.size, lowest.0, c.requires.within) in
-    let e = c.index-in-bits.ensures ∙ get_or_default c.args.closures.now.peers.items place _ 0 inside in
+    let lowest = lowest_left c.args.nodes.now c.args.closures.now.peers.items c.args.at c.bits.left c.index-in-bits.result.now _
+    c.requires.closures.peers c.requires.within (search rules) (omega arith) c.index-in-bits.ensures in
     let fits : c.index-in-bits.result.now < 2 ^ 64 = search rules in
     let closed = close_word c.args.nodes.now c.args.at _ c.looked_up.result c.args.words.now _ (omega (arith, c.requires.size, c.requires.within)) refl c.looked_up.ensures refl in
     close_more c.args.nodes.now c.args.at_first c.args.at_last c.args.at _ c.bits.left c.index-in-bits.result.now (trailing_zeros w64 c.bits.left) c.args.words.now _ _ _ _ _ closed c.bits.invariant lowest.0 lowest.1 fits
-    (subst (ArePeers c.args.nodes.now place) (sym e) (all.each place (omega (arith, lowest.0, c.requires.within)))) c.lead-on.ensures
+    lowest.2 c.lead-on.ensures
 
 pub returns : goal.returns
 returns c =

@@ -9,8 +9,10 @@ pub loop-bit-preserved : goal.loop-bit-preserved
 loop-bit-preserved c =
     let So : ℕ → ℕ → Type 0 = λ bit to. Stays c.args.nodes.now (c.args.at * 64 + bit) to ⊎ HopsTo c.args.hops.now c.args.at bit to in
     elim c.if-not-stays.branch [
-      | then-not-stays w ↦ subst (Marking c.args.nodes.now So c.args.at (c.loop-bit.bit + 1)) (sym w.word-is) (marking_more c.args.nodes.now So c.args.at c.loop-bit.bit c.loop-bit.word c.loop-bit.invariant c.loop-bit-test.true)
-      | else-not-stays w ↦ subst (Marking c.args.nodes.now So c.args.at (c.loop-bit.bit + 1)) (sym w.word-is) (marking_skip c.args.nodes.now So c.args.at c.loop-bit.bit c.loop-bit.word c.loop-bit.invariant (c.stays.ensures w.if-not-stays.false))
+      | then-not-stays w ↦ subst (Marking c.args.nodes.now So c.args.at (c.loop-bit.bit + 1)) (sym w.word-is)
+          (marking_more c.args.nodes.now So c.args.at c.loop-bit.bit c.loop-bit.word c.loop-bit.invariant c.loop-bit-test.true)
+      | else-not-stays w ↦ subst (Marking c.args.nodes.now So c.args.at (c.loop-bit.bit + 1)) (sym w.word-is)
+          (marking_skip c.args.nodes.now So c.args.at c.loop-bit.bit c.loop-bit.word c.loop-bit.invariant (c.stays.ensures w.if-not-stays.false))
     ]
 
 pub returns : goal.returns

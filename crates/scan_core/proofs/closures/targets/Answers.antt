@@ -1,6 +1,6 @@
-use Rattle.std.proofs.Common.{rules, ◌+◌, ◌*◌, arith}
+use Rattle.std.proofs.Common.{rules, ◌+◌, ◌*◌, arith, refl}
 use Rattle.std.proofs.lemmas.Nat.Bits.{bit_at-zero}
-use Rattle.scan_core.proofs.Enterings.{node_here, read_here, target_in, at_least}
+use Rattle.scan_core.proofs.Enterings.{node_here, target_in, at_least}
 use Rattle.scan_core.proofs.Insides.{quiet_led, choose_led, back_led}
 use Rattle.scan_core.proofs.closures.targets.Goals as goal
 
@@ -29,10 +29,10 @@ returns-in-Back c = λ to h.
     back_led c.args.nodes.now (c.args.at * 64 + c.args.bit) c.in-Back.by (c.args.at * 64 + to) c.bit_in-in-Back.result to here (c.requires.code.begins (c.args.at * 64 + c.args.bit) c.in-Back.by here) (c.bit_in-in-Back.ensures to h)
 
 pub returns-in-Take : goal.returns-in-Take
-returns-in-Take c = λ to h. quiet_led c.args.nodes.now (c.args.at * 64 + c.args.bit) c.index-nodes-number.result (c.args.at * 64 + to) to (read_here _ _ _ c.if-number-nodes.false c.index-nodes-number.is) c.in-Take.is
+returns-in-Take c = λ to h. quiet_led c.args.nodes.now (c.args.at * 64 + c.args.bit) c.index-nodes-number.result (c.args.at * 64 + to) to (node_here _ _ _ _ c.if-number-nodes.false refl c.index-nodes-number.is) c.in-Take.is
 
 pub returns-in-Take-2 : goal.returns-in-Take-2
-returns-in-Take-2 c = λ to h. quiet_led c.args.nodes.now (c.args.at * 64 + c.args.bit) c.index-nodes-number.result (c.args.at * 64 + to) to (read_here _ _ _ c.if-number-nodes.false c.index-nodes-number.is) c.in-Take.is
+returns-in-Take-2 c = λ to h. quiet_led c.args.nodes.now (c.args.at * 64 + c.args.bit) c.index-nodes-number.result (c.args.at * 64 + to) to (node_here _ _ _ _ c.if-number-nodes.false refl c.index-nodes-number.is) c.in-Take.is
 
 pub returns-in-Take-3 : goal.returns-in-Take-3
-returns-in-Take-3 c = λ to h. quiet_led c.args.nodes.now (c.args.at * 64 + c.args.bit) c.index-nodes-number.result (c.args.at * 64 + to) to (read_here _ _ _ c.if-number-nodes.false c.index-nodes-number.is) c.in-Take.is
+returns-in-Take-3 c = λ to h. quiet_led c.args.nodes.now (c.args.at * 64 + c.args.bit) c.index-nodes-number.result (c.args.at * 64 + to) to (node_here _ _ _ _ c.if-number-nodes.false refl c.index-nodes-number.is) c.in-Take.is

@@ -7,10 +7,13 @@ use Rattle.scan_core.proofs.landing.others_of.Goals.{then-not-is_settled, else-n
 
 pub loop-bit-preserved : goal.loop-bit-preserved
 loop-bit-preserved c =
-    let So : ℕ → ℕ → Type 0 = λ bit to. Flows c.args.nodes.now false false (c.args.at * 64 + bit) to × Lands c.args.base.now c.args.landings.now c.args.at bit to in
+    let So : ℕ → ℕ → Type 0 = λ bit to. Flows c.args.nodes.now false false (c.args.at * 64 + bit) to
+    × Lands c.args.base.now c.args.landings.now c.args.at bit to in
     elim c.if-not-is_settled.branch [
-      | then-not-is_settled w ↦ subst (Marking c.args.nodes.now So c.args.at (c.loop-bit.bit + 1)) (sym w.word-is) (marking_more c.args.nodes.now So c.args.at c.loop-bit.bit c.loop-bit.word c.loop-bit.invariant c.loop-bit-test.true)
-      | else-not-is_settled w ↦ subst (Marking c.args.nodes.now So c.args.at (c.loop-bit.bit + 1)) (sym w.word-is) (marking_skip c.args.nodes.now So c.args.at c.loop-bit.bit c.loop-bit.word c.loop-bit.invariant (c.is_settled.ensures w.if-not-is_settled.false))
+      | then-not-is_settled w ↦ subst (Marking c.args.nodes.now So c.args.at (c.loop-bit.bit + 1)) (sym w.word-is)
+          (marking_more c.args.nodes.now So c.args.at c.loop-bit.bit c.loop-bit.word c.loop-bit.invariant c.loop-bit-test.true)
+      | else-not-is_settled w ↦ subst (Marking c.args.nodes.now So c.args.at (c.loop-bit.bit + 1)) (sym w.word-is)
+          (marking_skip c.args.nodes.now So c.args.at c.loop-bit.bit c.loop-bit.word c.loop-bit.invariant (c.is_settled.ensures w.if-not-is_settled.false))
     ]
 
 pub returns : goal.returns

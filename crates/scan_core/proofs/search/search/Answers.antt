@@ -1,29 +1,23 @@
-use Rattle.std.proofs.Common.{rules, ◌≡◌, ◌⊎◌, ◌↔◌, ℕ, ◌+◌, ◌≤◌, ◌<◌, ◌^◌, length, slice_index, true, false, refl, sym, ◌∙◌, subst, arith}
+use Rattle.std.proofs.Common.{rules, ◌≡◌, ◌⊎◌, ◌↔◌, ℕ, ◌<◌, length, slice_index, true, false, refl, sym, ◌∙◌, subst, arith}
 use Rattle.scan_core.specs.declared.masks.Kind.TheVariants.{Counts}
 use Rattle.scan_core.specs.inner.Sets.{Passes}
 use Rattle.scan_core.specs.inner.Words.{IsIn, IsMask}
-use Rattle.scan_core.specs.Code.{weight}
-use Rattle.scan_core.proofs.Enterings.{weight_length}
-use Rattle.scan_core.proofs.Along.{inner, final, steps_fit}
-use Rattle.scan_core.proofs.Searchings.{begun, entered_here, few_positions, search_more, search_found, search_ends, search_starts}
+use Rattle.scan_core.proofs.Along.{inner, final}
+use Rattle.scan_core.proofs.Searchings.{begun, entered_here, search_more, search_found, search_ends, search_starts, search_fits}
 use Rattle.scan_core.proofs.search.search.Goals as goal
 
 pub overflow_add-steps : goal.overflow_add-steps
 overflow_add-steps c =
-    let w = weight_length c.args.nodes.now in
-    let n : length c.args.nodes.now < 2 ^ 63 = search rules in
-    let size : weight c.args.nodes.now + 1 ≤ 9223372036854775808 = omega (arith, w, n) in
-    let m = few_positions c.args.nodes.now c.spread.new.words c.positions.result c.positions.ensures in
-    let f = steps_fit c.loop-place.steps c.loop-place.place (weight c.args.nodes.now + 1) c.positions.result c.loop-place.invariant.bound (omega (arith, c.loop-place-test.true)) size (omega (arith, m, size)) in
+    let n : length c.args.nodes.now < 9223372036854775808 = search rules in
+    let f = search_fits c.args.nodes.now c.args.line.now c.loop-place.place c.loop-place.steps c.positions.result _
+    c.spread.new.words c.loop-place.invariant c.positions.ensures n (omega (arith, c.loop-place-test.true)) in
     search (rules, f)
 
 pub overflow_add-steps-2 : goal.overflow_add-steps-2
 overflow_add-steps-2 c =
-    let w = weight_length c.args.nodes.now in
-    let n : length c.args.nodes.now < 2 ^ 63 = search rules in
-    let size : weight c.args.nodes.now + 1 ≤ 9223372036854775808 = omega (arith, w, n) in
-    let m = few_positions c.args.nodes.now c.spread-2.new.words c.positions-2.result c.positions-2.ensures in
-    let f = steps_fit c.loop-place.steps c.loop-place.place (weight c.args.nodes.now + 1) c.positions-2.result c.loop-place.invariant.bound (omega arith) size (omega (arith, m, size)) in
+    let n : length c.args.nodes.now < 9223372036854775808 = search rules in
+    let f = search_fits c.args.nodes.now c.args.line.now c.loop-place.place c.loop-place.steps c.positions-2.result _
+    c.spread-2.new.words c.loop-place.invariant c.positions-2.ensures n (omega arith) in
     search (rules, f)
 
 pub returns-then-has-clause-outcome : goal.returns-then-has-clause-outcome

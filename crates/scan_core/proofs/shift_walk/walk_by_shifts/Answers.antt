@@ -1,5 +1,4 @@
-use Rattle.std.proofs.Common.{rules, ◌≡◌, ◌<◌, ◌+◌, ◌*◌, ◌-◌, ℕ, length, slice_index, refl, subst, arith}
-use Rattle.scan_core.specs.inner.Shifts.{IsAt}
+use Rattle.std.proofs.Common.{rules, ◌<◌, ◌+◌, ◌*◌, ◌-◌, length, refl, arith}
 use Rattle.scan_core.proofs.Shiftings.{at_starts, at_fits, at_stop, at_known, at_fixed, at_end, outcome_fits}
 use Rattle.scan_core.proofs.shift_walk.walk_by_shifts.Goals as goal
 
@@ -23,8 +22,8 @@ index-state-requires c =
 pub overflow_add-result : goal.overflow_add-result
 overflow_add-result c =
     let a = c.stride-strode.ensures.at c.loop-place.steps c.loop-place.invariant.at in
-    let b : (k : ℕ) → k < length c.args.line.now → slice_index c.args.line.now k < 256 = λ k h. search (rules, c.type_inv.line) in
-    let o = at_fixed c.args.nodes.now c.args.table.now c.args.line.now (c.loop-place.place + 16) c.stride-strode.result.word (c.loop-place.steps + c.stride-strode.result.steps) (c.index-state.result.now.positions * (length c.args.line.now - (c.loop-place.place + 16))) c.index-state.result.now _ a c.if-word-table.false c.requires.some b c.index-state.ensures c.if-state.true refl in
+    let o = at_fixed c.args.nodes.now c.args.table.now c.args.line.now (c.loop-place.place + 16) c.stride-strode.result.word _ _
+    c.index-state.result.now _ a c.if-word-table.false c.requires.some (λ k h. search (rules, c.type_inv.line)) c.index-state.ensures c.if-state.true refl in
     let f = outcome_fits c.args.nodes.now c.args.table.now c.args.line.now _ _ c.requires.table o (omega arith) in
     let g : c.loop-place.steps + c.stride-strode.result.steps + (c.index-state.result.now.positions * (length c.args.line.now - (c.loop-place.place + 16))) < 340282366920938463463374607431768211456 = omega (arith, f) in
     search (rules, g)
@@ -32,47 +31,44 @@ overflow_add-result c =
 pub overflow_add-result-then-state : goal.overflow_add-result-then-state
 overflow_add-result-then-state c =
     let a = c.stride-strode.ensures.at c.loop-place.steps c.loop-place.invariant.at in
-    let b : (k : ℕ) → k < length c.args.line.now → slice_index c.args.line.now k < 256 = λ k h. search (rules, c.type_inv.line) in
-    let o = at_fixed c.args.nodes.now c.args.table.now c.args.line.now (c.loop-place.place + 16) c.stride-strode.result.word (c.loop-place.steps + c.stride-strode.result.steps) (c.index-state.result.now.positions * (length c.args.line.now - (c.loop-place.place + 16))) c.index-state.result.now _ a c.if-word-table.false c.requires.some b c.index-state.ensures c.if-state.true refl in
+    let o = at_fixed c.args.nodes.now c.args.table.now c.args.line.now (c.loop-place.place + 16) c.stride-strode.result.word _ _
+    c.index-state.result.now _ a c.if-word-table.false c.requires.some (λ k h. search (rules, c.type_inv.line)) c.index-state.ensures c.if-state.true refl in
     let f = outcome_fits c.args.nodes.now c.args.table.now c.args.line.now _ _ c.requires.table o (omega arith) in
     search (rules, f)
 
 pub returns-then-state : goal.returns-then-state
 returns-then-state c =
     let a = c.stride-strode.ensures.at c.loop-place.steps c.loop-place.invariant.at in
-    let b : (k : ℕ) → k < length c.args.line.now → slice_index c.args.line.now k < 256 = λ k h. search (rules, c.type_inv.line) in
-    at_fixed c.args.nodes.now c.args.table.now c.args.line.now (c.loop-place.place + 16) c.stride-strode.result.word (c.loop-place.steps + c.stride-strode.result.steps) (c.index-state.result.now.positions * (length c.args.line.now - (c.loop-place.place + 16))) c.index-state.result.now _ a c.if-word-table.false c.requires.some b c.index-state.ensures c.if-state.true refl
+    at_fixed c.args.nodes.now c.args.table.now c.args.line.now (c.loop-place.place + 16) c.stride-strode.result.word _ _
+    c.index-state.result.now _ a c.if-word-table.false c.requires.some (λ k h. search (rules, c.type_inv.line)) c.index-state.ensures c.if-state.true refl
 
 pub overflow_add-steps-2 : goal.overflow_add-steps-2
 overflow_add-steps-2 c =
-    let whole : c.loop-place.place + (length c.args.line.now - c.loop-place.place) ≡ length c.args.line.now = omega (arith, c.loop-place.invariant.within) in
-    let a : IsAt c.args.nodes.now c.args.table.now c.args.line.now (length c.args.line.now) c.stride-strode-2.result.word (c.loop-place.steps + c.stride-strode-2.result.steps) = subst (λ n. IsAt c.args.nodes.now c.args.table.now c.args.line.now n c.stride-strode-2.result.word (c.loop-place.steps + c.stride-strode-2.result.steps)) whole (c.stride-strode-2.ensures.at c.loop-place.steps c.loop-place.invariant.at) in
-    let f = at_fits c.args.nodes.now c.args.table.now c.args.line.now (length c.args.line.now) c.stride-strode-2.result.word _ a (omega arith) in
+    let a = c.stride-strode-2.ensures.at c.loop-place.steps c.loop-place.invariant.at in
+    let f = at_fits c.args.nodes.now c.args.table.now c.args.line.now _ c.stride-strode-2.result.word _ a (omega arith) in
     search (rules, f)
 
 pub returns-then-strode-table : goal.returns-then-strode-table
 returns-then-strode-table c =
-    let whole : c.loop-place.place + (length c.args.line.now - c.loop-place.place) ≡ length c.args.line.now = omega (arith, c.loop-place.invariant.within) in
-    let a : IsAt c.args.nodes.now c.args.table.now c.args.line.now (length c.args.line.now) c.stride-strode-2.result.word (c.loop-place.steps + c.stride-strode-2.result.steps) = subst (λ n. IsAt c.args.nodes.now c.args.table.now c.args.line.now n c.stride-strode-2.result.word (c.loop-place.steps + c.stride-strode-2.result.steps)) whole (c.stride-strode-2.ensures.at c.loop-place.steps c.loop-place.invariant.at) in
-    at_stop c.args.nodes.now c.args.table.now c.args.line.now (length c.args.line.now) c.stride-strode-2.result.word _ a c.if-strode-table.true
+    let a = c.stride-strode-2.ensures.at c.loop-place.steps c.loop-place.invariant.at in
+    at_stop c.args.nodes.now c.args.table.now c.args.line.now _ c.stride-strode-2.result.word _ a c.if-strode-table.true
 
 pub index-state-requires-2 : goal.index-state-requires-2
 index-state-requires-2 c =
-    let whole : c.loop-place.place + (length c.args.line.now - c.loop-place.place) ≡ length c.args.line.now = omega (arith, c.loop-place.invariant.within) in
-    let a : IsAt c.args.nodes.now c.args.table.now c.args.line.now (length c.args.line.now) c.stride-strode-2.result.word (c.loop-place.steps + c.stride-strode-2.result.steps) = subst (λ n. IsAt c.args.nodes.now c.args.table.now c.args.line.now n c.stride-strode-2.result.word (c.loop-place.steps + c.stride-strode-2.result.steps)) whole (c.stride-strode-2.ensures.at c.loop-place.steps c.loop-place.invariant.at) in
-    let k = at_known c.args.nodes.now c.args.table.now c.args.line.now (length c.args.line.now) c.stride-strode-2.result.word _ a c.if-strode-table.false in
+    let a = c.stride-strode-2.ensures.at c.loop-place.steps c.loop-place.invariant.at in
+    let k = at_known c.args.nodes.now c.args.table.now c.args.line.now _ c.stride-strode-2.result.word _ a c.if-strode-table.false in
     search (rules, k)
 
 pub overflow_add-result-2 : goal.overflow_add-result-2
 overflow_add-result-2 c =
-    let whole : c.loop-place.place + (length c.args.line.now - c.loop-place.place) ≡ length c.args.line.now = omega (arith, c.loop-place.invariant.within) in
-    let a : IsAt c.args.nodes.now c.args.table.now c.args.line.now (length c.args.line.now) c.stride-strode-2.result.word (c.loop-place.steps + c.stride-strode-2.result.steps) = subst (λ n. IsAt c.args.nodes.now c.args.table.now c.args.line.now n c.stride-strode-2.result.word (c.loop-place.steps + c.stride-strode-2.result.steps)) whole (c.stride-strode-2.ensures.at c.loop-place.steps c.loop-place.invariant.at) in
-    let o = at_end c.args.nodes.now c.args.table.now c.args.line.now (length c.args.line.now) c.stride-strode-2.result.word (c.loop-place.steps + c.stride-strode-2.result.steps) c.index-state-2.result.now _ a c.if-strode-table.false refl c.requires.some c.index-state-2.ensures in
+    let a = c.stride-strode-2.ensures.at c.loop-place.steps c.loop-place.invariant.at in
+    let o = at_end c.args.nodes.now c.args.table.now c.args.line.now _ c.stride-strode-2.result.word _ c.index-state-2.result.now _ a c.if-strode-table.false
+    (omega (arith, c.loop-place.invariant.within)) c.requires.some c.index-state-2.ensures in
     let f = outcome_fits c.args.nodes.now c.args.table.now c.args.line.now _ _ c.requires.table o (omega arith) in
     search (rules, f)
 
 pub returns : goal.returns
 returns c =
-    let whole : c.loop-place.place + (length c.args.line.now - c.loop-place.place) ≡ length c.args.line.now = omega (arith, c.loop-place.invariant.within) in
-    let a : IsAt c.args.nodes.now c.args.table.now c.args.line.now (length c.args.line.now) c.stride-strode-2.result.word (c.loop-place.steps + c.stride-strode-2.result.steps) = subst (λ n. IsAt c.args.nodes.now c.args.table.now c.args.line.now n c.stride-strode-2.result.word (c.loop-place.steps + c.stride-strode-2.result.steps)) whole (c.stride-strode-2.ensures.at c.loop-place.steps c.loop-place.invariant.at) in
-    at_end c.args.nodes.now c.args.table.now c.args.line.now (length c.args.line.now) c.stride-strode-2.result.word (c.loop-place.steps + c.stride-strode-2.result.steps) c.index-state-2.result.now _ a c.if-strode-table.false refl c.requires.some c.index-state-2.ensures
+    let a = c.stride-strode-2.ensures.at c.loop-place.steps c.loop-place.invariant.at in
+    at_end c.args.nodes.now c.args.table.now c.args.line.now _ c.stride-strode-2.result.word _ c.index-state-2.result.now _ a c.if-strode-table.false
+    (omega (arith, c.loop-place.invariant.within)) c.requires.some c.index-state-2.ensures

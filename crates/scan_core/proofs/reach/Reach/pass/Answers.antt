@@ -9,7 +9,7 @@ use Rattle.scan_core.proofs.reach.Reach.pass.Goals.{then-passes, else-passes}
 
 pub index-number-requires : goal.index-number-requires
 index-number-requires c =
-    let l = count_most c.args.self.now c.requires.sound in
+    let l = count_most c.args.self.now c.requires.sound.counted in
     let h : c.loop-place.place < length c.args.self.now.list.items = omega (arith, l, c.loop-place-test.true, c.requires.sound.fits) in
     search (rules, h)
 
@@ -25,7 +25,7 @@ enter-requires-clause-within c =
 
 pub loop-place-preserved : goal.loop-place-preserved
 loop-place-preserved c =
-    let l = count_most c.args.self.now c.requires.sound in
+    let l = count_most c.args.self.now c.requires.sound.counted in
     let e = c.index-number.ensures ∙ get_or_default c.args.self.now.list.items c.loop-place.place _ 0 (omega (arith, l, c.loop-place-test.true, c.requires.sound.fits)) in
     elim c.if-passes.branch [
       | then-passes w ↦ subst (Gains c.args.nodes.now (Past c.args.self.now c.args.nodes.now c.args.byte (c.loop-place.place + 1)) c.args.next.now) (sym w.next-is) (pass_more c.args.self.now c.args.nodes.now c.args.byte c.loop-place.place c.index-number.result.now _ _ _ c.loop-place.invariant e (c.passes.ensures.yes w.if-passes.true) w.enter.ensures)
