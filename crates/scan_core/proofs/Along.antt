@@ -9,7 +9,7 @@ use Rattle.std.specs.Prelude.{◌==◌}
 use Rattle.std.proofs.Common.{length-append}
 use Rattle.std.proofs.lemmas.List.{get_or_push, get_or_append_left}
 use Rattle.scan_core.specs.Sets.{positions_among}
-use Rattle.scan_core.specs.Counted.{positions_in_all, AreSteps}
+use Rattle.scan_core.specs.Counted.{positions_in_all, AreSteps, HasStepsBefore}
 use Rattle.scan_core.specs.Code.{At, Leads, Goes, Walks, Entered}
 use Rattle.scan_core.specs.Sets.{IsMarked}
 use Rattle.scan_core.specs.inner.Sets.{LeadsOn, Flows, FlowsOn, Passes, Came}
@@ -125,6 +125,12 @@ final line place at_first h f = record {
   first = (λ t. h ∙ eqb-true (length line) 0 (sym f ∙ t), λ e. f ∙ eq-eqb (length line) 0 (sym h ∙ e));
   last = (λ t. h, λ e. refl);
 }
+
+-- the end is entered first at a place, and its steps are among all
+pub steps_before : (code : List Node) (line : List ℕ) (place steps all : ℕ) → place ≤ length line → Entered code line (length code) place
+    → ((before : ℕ) → before < place → Entered code line (length code) before → ⊥) → AreSteps code line place steps → steps ≤ all → HasStepsBefore code line all
+steps_before code line place steps all within ends first counted least =
+    record { place = place; within = within; ends = ends; first = first; before = steps; counted = counted; least = least }
 
 -- what a byte leads to from all that was entered at a place
 pub came_exact : (code : List Node) (line : List ℕ) (place byte : ℕ) (Now : ℕ → Type 0) → ((number : ℕ) → Now number ↔ Entered code line number place) → place < length line → byte ≡ slice_index line place

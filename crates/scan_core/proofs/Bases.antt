@@ -8,11 +8,10 @@ use Rattle.scan_core.specs.inner.Words.{IsIn, Grows, SpreadsOut}
 use Rattle.scan_core.proofs.Enterings.{flows_of}
 
 pub choose_within : (code : List Node) (words : List ℕ) (number skip : ℕ) (at_first at_last : Bool) (to : ℕ) → At code number (Choose skip) → IsIn words (number + 1) → IsIn words (number + skip) → Flows code at_first at_last number to → IsIn words to
-choose_within code words number skip at_first at_last to here next other f = side (flows_of code number (Choose skip) at_first at_last to here f)
-  where
-    side : (to ≡ number + 1) ⊎ (to ≡ number + skip) → IsIn words to
-    side (inl e) = subst (IsIn words) (sym e) next
-    side (inr e) = subst (IsIn words) (sym e) other
+choose_within code words number skip at_first at_last to here next other f = elim (flows_of code number (Choose skip) at_first at_last to here f) [
+  | inl e ↦ subst (IsIn words) (sym e) next
+  | inr e ↦ subst (IsIn words) (sym e) other
+]
 
 -- number 0 alone was entered, and then all that it leads to
 pub begins_exact : (code : List Node) (empty one new : List ℕ) (before on : ℕ) → ((number : ℕ) → IsIn empty number → ⊥) → Grows (λ number. number ≡ 0) empty one before on → SpreadsOut code false false one new → (number : ℕ) → IsIn new number ↔ FlowsOn code false false 0 number

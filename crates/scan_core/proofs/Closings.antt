@@ -12,7 +12,7 @@ use Rattle.scan_core.specs.declared.node.Node.{Node}
 use Rattle.scan_core.specs.inner.Base.{IsBase}
 use Rattle.scan_core.specs.inner.Closures.{ArePeers, Closes, IsLeaving, Stays, AreAllPeers}
 use Rattle.scan_core.specs.declared.hops.Hop.{Hop}
-use Rattle.scan_core.specs.inner.Hops.{AreHops, Hopped, HopsTo, no_hop}
+use Rattle.scan_core.specs.inner.Hops.{AreHops, Hopped, no_hop}
 use Rattle.scan_core.specs.inner.Sets.{Flows, FlowsOn}
 use Rattle.scan_core.specs.inner.Words.{IsIn, unset, Grows, Visits, width}
 use Rattle.scan_core.proofs.Insides.{fresh_bit, left_bit, right_bit, either_bit}
@@ -67,11 +67,7 @@ close_word code at word all old now h ew c en = record {
     bit_old bit l k = ap (λ w. bit_at w bit) ew ∙ (is_in_word old at bit l).1 k
 
     in_all : (bit : ℕ) → bit < 64 → IsIn now (at * 64 + bit) → bit_at all bit ≡ 1
-    in_all bit l k = side (either_bit word all bit (sym (ap (λ w. bit_at w bit) read) ∙ (is_in_word now at bit l).1 k))
-      where
-        side : (bit_at word bit ≡ 1) ⊎ (bit_at all bit ≡ 1) → bit_at all bit ≡ 1
-        side (inl w) = c.kept bit l w
-        side (inr a) = a
+    in_all bit l k = elim (either_bit word all bit (sym (ap (λ w. bit_at w bit) read) ∙ (is_in_word now at bit l).1 k)) [ inl w ↦ c.kept bit l w | inr a ↦ a ]
 
 pub peers_smaller : (code : List Node) (at left mask bit : ℕ) → mask < 2 ^ 64 → bit < 64 → bit_at left bit ≡ 1 → ArePeers code (at * 64 + bit) mask → bit_and left (bit_not w64 mask) < left
 peers_smaller code at left mask bit m l is p =
@@ -122,8 +118,14 @@ close_more code at_first at_last at leaves left mask bit start old now new on on
     (λ number f. (at * 64 + bit, in_old bit small (v.within bit small here), f))
     (λ k s h. let b = fresh_bit left mask k m s in v.within k s (let l = bit_at-lt left k in omega (arith, h, b, l)))
     (λ k s h. elim (cases_eq (bit_at mask k) 1) [
-      | inl peer ↦ inr (λ to f. peer_led k s h to (others k s peer to f))
-      | inr other ↦ left_or k s (let b = fresh_bit left mask k m s in let l = bit_at-lt mask k in omega (arith, b, l, other)) (v.rest k s h)
+      | inl peer ↦ inr (λ to f. elim (others k s peer to f) [
+        | inl stays ↦ (g.exact to).1 (inl (v.kept to (closed.closed (at * 64 + k) to (omega (arith, s)) (in_old k s h) stays)))
+        | inr led ↦ (g.exact to).1 (inr led)
+      ])
+      | inr other ↦ elim (v.rest k s h) [
+        | inl waits ↦ inl (let b = fresh_bit left mask k m s in let l = bit_at-lt mask k in omega (arith, b, l, other, waits))
+        | inr led ↦ inr (λ to f. (g.exact to).1 (inl (led to f)))
+      ]
     ])
   where
     in_old : (k : ℕ) → k < 64 → bit_at (bit_and (get_or old at 0) leaves) k ≡ 1 → IsIn old (at * 64 + k)
@@ -133,14 +135,6 @@ close_more code at_first at_last at leaves left mask bit start old now new on on
     others k s peer to f =
         let e : (at * 64 + bit) / 64 * 64 ≡ at * 64 = omega (arith, small) in
         subst (λ n. Flows code at_first at_last (n + k) to → Stays code (n + k) to ⊎ Flows code at_first at_last (at * 64 + bit) to) e (p.others k at_first at_last to s peer) f
-
-    peer_led : (k : ℕ) → k < 64 → bit_at (bit_and (get_or old at 0) leaves) k ≡ 1 → (to : ℕ) → Stays code (at * 64 + k) to ⊎ Flows code at_first at_last (at * 64 + bit) to → IsIn new to
-    peer_led k s h to (inl stays) = (g.exact to).1 (inl (v.kept to (closed.closed (at * 64 + k) to (omega (arith, s)) (in_old k s h) stays)))
-    peer_led k s h to (inr f) = (g.exact to).1 (inr f)
-
-    left_or : (k : ℕ) → k < 64 → bit_at (bit_and left (bit_not w64 mask)) k ≡ bit_at left k → (bit_at left k ≡ 1) ⊎ ((to : ℕ) → Flows code at_first at_last (at * 64 + k) to → IsIn now to) → (bit_at (bit_and left (bit_not w64 mask)) k ≡ 1) ⊎ ((to : ℕ) → Flows code at_first at_last (at * 64 + k) to → IsIn new to)
-    left_or k s e (inl h) = inl (e ∙ h)
-    left_or k s e (inr h) = inr (λ to f. (g.exact to).1 (inl (h to f)))
 
 -- what the hops of a word lead to
 pub close_hops : (code : List Node) (hops : List Hop) (at_first at_last : Bool) (at pending left : ℕ) (old now new : List ℕ) (on on' : ℕ) → AreHops code (width code * 3) hops → at < width code → Visiting code at_first at_last at pending left old now on → Grows (Hopped hops at (get_or old at 0) 3) now new on on'
@@ -162,7 +156,10 @@ pub close_ends : (code : List Node) (hops : List Hop) (at_first at_last : Bool) 
 close_ends code hops at_first at_last at left leaves start old now new on on' c w e leaving are inside g = record {
   size = v.size ∙ c.size;
   kept = λ number h. v.kept number (c.kept number h);
-  from = λ number h. from number (v.from number h);
+  from = λ number h. elim (v.from number h) [
+    | inl was ↦ closed_from number was
+    | inr led ↦ let one = closed_from led.0 led.1 in (one.0, one.1, (suc one.2.0, (led.0, one.2.1, led.2)))
+  ];
   low = v.low;
   under = λ number l below h. c.under number below (v.under number l h);
   fuller = omega (arith, v.fuller, c.fuller);
@@ -176,25 +173,23 @@ close_ends code hops at_first at_last at left leaves start old now new on on' c 
     closed_from : (number : ℕ) → IsIn old number → (from : ℕ) × IsIn start from × FlowsOn code at_first at_last from number
     closed_from number h = let f = c.from number h in (f.0, f.1, (f.2.0, parts_anywhere code at_first at_last f.2.0 f.0 number f.2.1))
 
-    from : (number : ℕ) → IsIn old number ⊎ ((from : ℕ) × IsIn old from × Flows code at_first at_last from number) → (from : ℕ) × IsIn start from × FlowsOn code at_first at_last from number
-    from number (inl h) = closed_from number h
-    from number (inr f) = let one = closed_from f.0 f.1 in (one.0, one.1, (suc one.2.0, (f.0, one.2.1, f.2)))
-
     all : (from to : ℕ) → from / 64 ≡ at → IsIn old from → Flows code at_first at_last from to → IsIn new to
     all from to here h f =
         let same : from ≡ at * 64 + from % 64 = omega (arith, here) in
         let flow = subst (λ n. Flows code at_first at_last n to) same f in
         let one = (is_in_word old at (from % 64) (omega arith)).1 (subst (IsIn old) same h) in
-        side one flow (leaving (from % 64) at_first at_last to (omega arith) flow)
-      where
-        rested : (bit_at left (from % 64) ≡ 1) ⊎ ((to : ℕ) → Flows code at_first at_last (at * 64 + from % 64) to → IsIn new to) → Flows code at_first at_last (at * 64 + from % 64) to → IsIn new to
-        rested (inl k) flow = let z = ap (λ w. bit_at w (from % 64)) e ∙ bit_at-zero (from % 64) in absurd (omega (arith, z, k))
-        rested (inr k) flow = k to flow
-
-        side : bit_at (get_or old at 0) (from % 64) ≡ 1 → Flows code at_first at_last (at * 64 + from % 64) to → (bit_at leaves (from % 64) ≡ 1) ⊎ (Stays code (at * 64 + from % 64) to ⊎ HopsTo hops at (from % 64) to) → IsIn new to
-        side one flow (inl b) = let m = bit_at_and (get_or old at 0) leaves (from % 64) in rested (v.rest (from % 64) (omega arith) (omega (arith, m, one, b))) flow
-        side one flow (inr (inl stays)) = v.kept to (c.closed (at * 64 + from % 64) to (omega arith) ((is_in_word old at (from % 64) (omega arith)).0 one) stays)
-        side one flow (inr (inr k)) = (g.exact to).1 (inr (k.0, k.1, from % 64, omega arith, one, k.2, k.3))
+        elim (leaving (from % 64) at_first at_last to (omega arith) flow) [
+          | inl leaves_it ↦
+              let m = bit_at_and (get_or old at 0) leaves (from % 64) in
+              elim (v.rest (from % 64) (omega arith) (omega (arith, m, one, leaves_it))) [
+                | inl waits ↦ let z = ap (λ w. bit_at w (from % 64)) e ∙ bit_at-zero (from % 64) in absurd (omega (arith, z, waits))
+                | inr led ↦ led to flow
+              ]
+          | inr more ↦ elim more [
+            | inl stays ↦ v.kept to (c.closed (at * 64 + from % 64) to (omega arith) ((is_in_word old at (from % 64) (omega arith)).0 one) stays)
+            | inr hop ↦ (g.exact to).1 (inr (hop.0, hop.1, from % 64, omega arith, one, hop.2, hop.3))
+          ]
+        ]
 
 -- none of the word's numbers leads out of the base
 pub close_none : (code : List Node) (base : Base) (at_first at_last : Bool) (at : ℕ) (words : List ℕ) → IsBase code base → ((number : ℕ) → IsIn base.words.items number → IsIn words number) → at < width code → bit_and (get_or words at 0) (get_or base.leads.items at 0) ≡ 0 → Visits code at_first at_last at words words (at + 1)

@@ -9,11 +9,11 @@ use Rattle.bre_core.specs.declared.token.Token.{Token}
 use Rattle.bre_core.specs.declared.token.Token.TheVariants.{Set, Front, End, Open, Close, Repeat}
 use Rattle.scan_core.specs.declared.compile.Compiling.{Compiling}
 use Rattle.scan_core.specs.declared.compile.Pending.{Pending}
-use Rattle.scan_core.specs.declared.compile.Pending.TheVariants.{Group}
+use Rattle.scan_core.specs.declared.compile.Pending.TheVariants.{Group, Repeated}
 use Rattle.scan_core.specs.declared.emit.Duplication.{Duplication}
 use Rattle.scan_core.specs.declared.node.Node.{Node}
 use Rattle.scan_core.specs.declared.node.Node.TheVariants.{Back}
-use Rattle.scan_core.specs.inner.Backwards.{Repeats, begun}
+use Rattle.scan_core.specs.inner.Backwards.{begun}
 use Rattle.scan_core.specs.Code.{code_of, code_of_item, IsOrdered, IsOrderedItem, copies, tail_of, up_to}
 use Rattle.scan_core.specs.inner.Compiling.{IsNow, Finishes, Begins, Closes, Writes, Passes, PassesLeaf, TakesIn, Takes}
 use Rattle.bre_core.proofs.Chains.{Steps-push}
@@ -94,9 +94,12 @@ mutual
       (inner.0, passed_from depth old s.0 inner.0 stays.nodes stays.pending inner.1, inner.2)
 
 -- a duplication's item was written out
-repeated_out : (old : List Node) (nodes written code : List Node) (duplication : Duplication) → duplication.start ≡ length old → nodes ≡ old ++ begun duplication.high (reverse code) → Repeats duplication nodes written
-    → written ≡ old ++ reverse (copies duplication.low code ++ tail_of code duplication.low duplication.high)
-repeated_out old nodes written code duplication s n r = r old code (sym s) n
+repeated_out : (old code : List Node) (now new : Compiling) (pending : List Pending) (d : Duplication) → d.start ≡ length old
+    → now.nodes.items ++ reverse code ≡ old ++ begun d.high (reverse code) → now.pending.items ≡ pending ++ Repeated d ∷ []
+    → Finishes (now.nodes.items ++ reverse code) now.pending.items new → Finishes (old ++ reverse (copies d.low code ++ tail_of code d.low d.high)) pending new
+repeated_out old code now new pending d s n p f =
+    let out = finished_repeated (now.nodes.items ++ reverse code) now.pending.items pending d new f p in
+    subst (λ l. Finishes l pending new) (out.1 old code (sym s) n) out.2
 
 -- an item that stands no time
 none_of : (nodes code : List Node) (low : ℕ) → low ≤ 0 → nodes ≡ nodes ++ reverse (copies low code ++ up_to (0 - low) code)
@@ -138,13 +141,9 @@ mutual
   write_item (repeat item low None) tokens old final o e s =
       let begins : Begins low None old s.0 = takes_writing old s.0 (Repeat low None) e s.1 in
       let inner = write_item item tokens s.0 final o.0 begins.passing s.2 in
-      let out = finished_repeated (s.0.nodes.items ++ reverse (code_of_item item)) s.0.pending.items old.pending.items (record { start = length old.nodes.items; low = low; high = None }) inner.0 inner.1 begins.pending in (
-        inner.0,
-        subst (λ l. Finishes l old.pending.items inner.0)
-            (repeated_out old.nodes.items (s.0.nodes.items ++ reverse (code_of_item item)) out.0 (code_of_item item) (record { start = length old.nodes.items; low = low; high = None }) refl
-            (ap (λ l. l ++ reverse (code_of_item item)) begins.nodes ∙ append_assoc old.nodes.items (Back 0 ∷ []) (reverse (code_of_item item))) out.1) out.2,
-        inner.2,
-      )
+      let nodes = ap (λ l. l ++ reverse (code_of_item item)) begins.nodes ∙ append_assoc old.nodes.items (Back 0 ∷ []) (reverse (code_of_item item)) in
+      let d : Duplication = record { start = length old.nodes.items; low = low; high = None } in
+      (inner.0, repeated_out old.nodes.items (code_of_item item) s.0 inner.0 old.pending.items d refl nodes begins.pending inner.1, inner.2)
   write_item (repeat item low (Some zero)) tokens old final o e s =
       let begins : Begins low (Some zero) old s.0 = takes_writing old s.0 (Repeat low (Some zero)) e s.1 in
       let inner = pass_item item tokens 0 s.0 final begins.passing s.2 in
@@ -152,13 +151,9 @@ mutual
   write_item (repeat item low (Some (suc high))) tokens old final o e s =
       let begins : Begins low (Some (suc high)) old s.0 = takes_writing old s.0 (Repeat low (Some (suc high))) e s.1 in
       let inner = write_item item tokens s.0 final o.0 begins.passing s.2 in
-      let out = finished_repeated (s.0.nodes.items ++ reverse (code_of_item item)) s.0.pending.items old.pending.items (record { start = length old.nodes.items; low = low; high = Some (suc high) }) inner.0 inner.1 begins.pending in (
-        inner.0,
-        subst (λ l. Finishes l old.pending.items inner.0)
-            (repeated_out old.nodes.items (s.0.nodes.items ++ reverse (code_of_item item)) out.0 (code_of_item item) (record { start = length old.nodes.items; low = low; high = Some (suc high) }) refl
-            (ap (λ l. l ++ reverse (code_of_item item)) begins.nodes) out.1) out.2,
-        inner.2,
-      )
+      let nodes = ap (λ l. l ++ reverse (code_of_item item)) begins.nodes in
+      let d : Duplication = record { start = length old.nodes.items; low = low; high = Some (suc high) } in
+      (inner.0, repeated_out old.nodes.items (code_of_item item) s.0 inner.0 old.pending.items d refl nodes begins.pending inner.1, inner.2)
 
 -- the bounds of a tree's duplications are in order where those of its tokens are
 bounded_parts : (one other : List Token) → AreBounded (one ++ other) → AreBounded one × AreBounded other

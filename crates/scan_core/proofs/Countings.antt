@@ -1,6 +1,6 @@
 -- The positions of a set of words are its bits that are positions.
 use Rattle.std.proofs.Common.{◌≡◌, ◌↔◌, inl, inr, ℕ, zero, suc, ◌+◌, ◌*◌, ◌-◌, ◌/◌, ◌%◌, ◌^◌, ◌<◌, ◌≤◌, Bool, true, false, List, [], ◌∷◌, ◌++◌, length, get_or, refl, sym, ap, ◌∙◌, arith, eqb-true, eq-eqb}
-use Rattle.std.proofs.lemmas.Bool.{cases_lt}
+use Rattle.std.proofs.lemmas.Bool.{cases_lt, cases_eq}
 use Rattle.std.specs.Prelude.{◌==◌, bit_and, count_ones}
 use Rattle.std.specs.Int.Count.{ones_step}
 use Rattle.std.specs.Int.{bit_at}
@@ -100,12 +100,10 @@ positions_are code words counts size same m fits = ones_sum (counted_at code) wo
         equal (bit_at (get_or counts n 0) bit) (counted_at code (64 * n + bit)) (bit_at-lt (get_or counts n 0) bit) (counted_most code (64 * n + bit)) (λ b. i.0 (e ∙ b)) (λ b. sym e ∙ i.1 b)
       where
         equal : (a b : ℕ) → a < 2 → b ≤ 1 → (a ≡ 1 → b ≡ 1) → (b ≡ 1 → a ≡ 1) → a ≡ b
-        equal zero zero f g there back = refl
-        equal zero (suc zero) f g there back = back refl
-        equal zero (suc (suc b)) f g there back = absurd (omega (arith, g))
-        equal (suc zero) zero f g there back = sym (there refl)
-        equal (suc zero) (suc b) f g there back = omega (arith, g)
-        equal (suc (suc a)) b f g there back = absurd (omega (arith, f))
+        equal a b f g there back = elim (cases_eq a 1) [
+          | inl one ↦ one ∙ sym (there one)
+          | inr other ↦ elim (cases_eq b 1) [ inl one ↦ back one ∙ sym one | inr none ↦ omega (arith, f, g, other, none) ]
+        ]
 
 bits_front : (count word n : ℕ) (rest : List Bool) → n < count → get_or (bits count word ++ rest) n false ≡ (bit_at word n == 1)
 unfolding bits

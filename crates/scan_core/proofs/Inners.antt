@@ -14,7 +14,7 @@ use Rattle.scan_core.specs.inner.Table.{Next, Inner, InSets, entry, IsState, no_
 use Rattle.scan_core.specs.Table.{IsOutcome}
 use Rattle.scan_core.proofs.Enterings.{positions_most, weight_length, parts_anywhere}
 use Rattle.scan_core.proofs.Codes.{parts_join}
-use Rattle.scan_core.proofs.Along.{closes_exact, came_exact, one_counted, none_counted, steps_more, steps_wider}
+use Rattle.scan_core.proofs.Along.{closes_exact, came_exact, one_counted, none_counted, steps_more, steps_wider, steps_before}
 
 -- at every place but the last
 pub inner_entered : (code : List Node) (line : List ℕ) (place : ℕ) → place < length line → (number : ℕ) → Inner code line place number ↔ Entered code line number place
@@ -134,17 +134,13 @@ walked_stops code sets table line place state steps t w h b e = (
 walked_least : (code : List Node) (sets : List (List Bool)) (table : Table) (line : List ℕ) (place state steps : ℕ) → IsTableOf code sets table → Walked code sets line place state steps → place < length line → slice_index line place < 256
     → entry table.rows.items state (slice_index line place) ≡ 65535 → HasStepsBefore code line (steps + positions_among code (set_at sets state))
 unfolding walked_stops
-walked_least code sets table line place state steps t w h b e = record {
-  place = suc place;
-  within = omega (arith, h);
-  ends = (walked_stops code sets table line place state steps t w h b e).2;
-  first = walked_none code sets table line place state steps t w h;
-  before = steps + positions_among code (set_at sets state);
-  counted =
-      let one : place + 1 ≡ suc place = omega arith in
-      subst (λ n. AreSteps code line n (steps + positions_among code (set_at sets state))) one (one_counted code line place steps (steps + positions_among code (set_at sets state)) (set_at sets state) w.counted (walked_here code sets line place state steps w h) refl);
-  least = omega arith;
-}
+walked_least code sets table line place state steps t w h b e =
+    let now : ℕ = steps + positions_among code (set_at sets state) in
+    let counted = one_counted code line place steps now (set_at sets state) w.counted (walked_here code sets line place state steps w h) refl in
+    let one : place + 1 ≡ suc place = omega arith in
+    let ends = (walked_stops code sets table line place state steps t w h b e).2 in
+    steps_before code line (suc place) now now (omega (arith, h)) ends (walked_none code sets table line place state steps t w h)
+    (subst (λ n. AreSteps code line n now) one counted) (omega arith)
 
 -- the steps of a byte that leads to the end, as they are noted
 pub walk_least : (code : List Node) (sets : List (List Bool)) (table : Table) (line : List ℕ) (place state steps added : ℕ) (noted : State) → IsTableOf code sets table → Walked code sets line place state steps → place < length line → slice_index line place < 256
@@ -172,15 +168,7 @@ walked_ends code sets rows line (suc place) state steps noted n w h some = recor
   );
   counted = subst (λ m. AreSteps code line (m + 1) (steps + noted.last_positions)) h
       (one_counted code line (suc place) steps (steps + noted.last_positions) n.last w.counted last (ap (λ p. steps + p) n.last_positions));
-  least = λ f. record {
-    place = suc place;
-    within = omega (arith, h);
-    ends = (last (length code)).0 (n.ends.0 f);
-    first = w.none;
-    before = steps;
-    counted = w.counted;
-    least = omega arith;
-  };
+  least = λ f. steps_before code line (suc place) steps _ (omega (arith, h)) ((last (length code)).0 (n.ends.0 f)) w.none w.counted (omega arith);
   bound =
       let m = positions_most code n.last in
       let q = steps_more (suc place) steps noted.last_positions (weight code + 1) w.bound (let p = n.last_positions in omega (arith, m, p)) in

@@ -1,6 +1,6 @@
 -- Entering what landings lead to.
-use Rattle.std.proofs.Common.{◌≡◌, ◌⊎◌, ◌↔◌, inl, inr, ℕ, zero, suc, ◌+◌, ◌*◌, ◌-◌, ◌/◌, ◌%◌, ◌^◌, ◌<◌, ◌≤◌, Bool, true, false, IsTrue, List, [], ◌∷◌, ◌++◌, length, get_or, set, eqb, not, refl, sym, ap, ◌∙◌, subst, arith, eqb-true}
-use Rattle.std.proofs.lemmas.Bool.{cases_eq, false≢true}
+use Rattle.std.proofs.Common.{◌≡◌, ◌⊎◌, ◌↔◌, inl, inr, ℕ, ◌+◌, ◌*◌, ◌-◌, ◌/◌, ◌%◌, ◌^◌, ◌<◌, ◌≤◌, Bool, true, false, IsTrue, List, [], ◌∷◌, ◌++◌, length, get_or, set, eqb, not, refl, sym, ap, ◌∙◌, subst, arith}
+use Rattle.std.proofs.lemmas.Bool.{cases_eq, false≢true, eqb-false, not-true, ne_eqb}
 use Rattle.std.proofs.lemmas.List.{get_or-set_same, get_or_append_left}
 use Rattle.std.proofs.lemmas.Nat.Bits.{bit_at-zero}
 use Rattle.std.specs.Prelude.{bit_and, bit_or}
@@ -143,11 +143,10 @@ hop_lands code hops at which hop are h l e ends =
 -- what a node leads to by its word, the base and the landings
 pub choose_settled : (code : List Node) (base : List ℕ) (landings : List Landing) (at bit skip : ℕ) (at_first at_last : Bool) (to : ℕ) → At code (at * 64 + bit) (Choose skip) → Lands base landings at bit (at * 64 + bit + 1) → Lands base landings at bit (at * 64 + bit + skip) → Flows code at_first at_last (at * 64 + bit) to
     → Flows code false false (at * 64 + bit) to × Lands base landings at bit to
-choose_settled code base landings at bit skip at_first at_last to here next other f = side (flows_of code (at * 64 + bit) (Choose skip) at_first at_last to here f)
-  where
-    side : (to ≡ at * 64 + bit + 1) ⊎ (to ≡ at * 64 + bit + skip) → Flows code false false (at * 64 + bit) to × Lands base landings at bit to
-    side (inl e) = ((Choose skip, here, inl e), subst (Lands base landings at bit) (sym e) next)
-    side (inr e) = ((Choose skip, here, inr e), subst (Lands base landings at bit) (sym e) other)
+choose_settled code base landings at bit skip at_first at_last to here next other f = elim (flows_of code (at * 64 + bit) (Choose skip) at_first at_last to here f) [
+  | inl e ↦ ((Choose skip, here, inl e), subst (Lands base landings at bit) (sym e) next)
+  | inr e ↦ ((Choose skip, here, inr e), subst (Lands base landings at bit) (sym e) other)
+]
 
 pub back_settled : (code : List Node) (base : List ℕ) (landings : List Landing) (at bit by : ℕ) (at_first at_last : Bool) (to : ℕ) → At code (at * 64 + bit) (Back by) → Lands base landings at bit (at * 64 + bit - by) → Flows code at_first at_last (at * 64 + bit) to
     → Flows code false false (at * 64 + bit) to × Lands base landings at bit to
@@ -157,15 +156,10 @@ back_settled code base landings at bit by at_first at_last to here before f =
     ((Back by, here, e), subst (Lands base landings at bit) q before)
 
 pub not_zero : (n : ℕ) → IsTrue (not (eqb n 0)) → n ≡ 0 → ⊥
-not_zero zero t e = false≢true t
-not_zero (suc n) t e = omega (arith, e)
-
-not_true : (b : Bool) → (b ≡ true → ⊥) → IsTrue (not b)
-not_true true h = absurd (h refl)
-not_true false h = refl
+not_zero n t = eqb-false n 0 (not-true (eqb n 0) t)
 
 pub is_not_zero : (n : ℕ) → (n ≡ 0 → ⊥) → IsTrue (not (eqb n 0))
-is_not_zero n h = not_true (eqb n 0) (λ e. h (eqb-true n 0 e))
+is_not_zero n h = ap not (ne_eqb n 0 h)
 
 -- what a landing leads to stays when others are added
 pub lands_kept : (base : List ℕ) (old new : List Landing) (at bit to : ℕ) → length old ≤ length new → ((place : ℕ) → place < length old → get_or new place no_landing ≡ get_or old place no_landing) → Lands base old at bit to → Lands base new at bit to

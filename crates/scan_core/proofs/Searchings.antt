@@ -11,7 +11,7 @@ use Rattle.scan_core.specs.Sets.{IsMarked, positions_among}
 use Rattle.scan_core.specs.inner.Sets.{FlowsOn, Passes, Came}
 use Rattle.scan_core.specs.Table.{IsOutcome}
 use Rattle.scan_core.specs.inner.Words.{IsIn, width, flags_of, SpreadsOut}
-use Rattle.scan_core.proofs.Along.{IsPlace, closes_exact, came_exact, none_counted, one_counted, steps_more, steps_wider}
+use Rattle.scan_core.proofs.Along.{IsPlace, closes_exact, came_exact, none_counted, one_counted, steps_more, steps_wider, steps_before}
 use Rattle.scan_core.proofs.Countings.{flags_are}
 use Rattle.scan_core.proofs.Enterings.{positions_most, parts_anywhere, weight_length}
 use Rattle.scan_core.proofs.Visitings.{flows_join}
@@ -43,13 +43,12 @@ begun code line base place steps words b s number h = (s.came number).1 (inr ((b
 pub entered_here : (code : List Node) (line : List ℕ) (place steps : ℕ) (at_first at_last : Bool) (old new : List ℕ) → Searched code line place old steps → IsPlace line place at_first at_last → SpreadsOut code at_first at_last old new
     → (number : ℕ) → IsIn new number ↔ Entered code line number place
 entered_here code line place steps at_first at_last old new s p o = closes_exact code line place at_first at_last (Came code line place) (IsIn new) p (λ number. (λ h. h, λ h. h)) (λ number. (
-  λ h. let f = (o.exact number).0 h in there f.0 number ((s.came f.0).0 f.1) f.2,
+  λ h. let f = (o.exact number).0 h in elim ((s.came f.0).0 f.1) [
+    | inl came ↦ (f.0, inl came, f.2)
+    | inr on ↦ (0, inr refl, flows_join code at_first at_last f.2.0 0 f.0 number (on.0, parts_anywhere code at_first at_last on.0 0 f.0 on.1) f.2.1)
+  ],
   λ f. (o.exact number).1 (f.0, (s.came f.0).1 (elim f.1 [ inl came ↦ inl came | inr e ↦ inr (0, sym e) ]), f.2),
 ))
-  where
-    there : (from number : ℕ) → Came code line place from ⊎ FlowsOn code false false 0 from → FlowsOn code at_first at_last from number → (start : ℕ) × (Came code line place start ⊎ (start ≡ 0)) × FlowsOn code at_first at_last start number
-    there from number (inl came) f = (from, inl came, f)
-    there from number (inr flows) f = (0, inr refl, flows_join code at_first at_last f.0 0 from number (flows.0, parts_anywhere code at_first at_last flows.0 0 from flows.1) f.1)
 
 -- the set of a place has no more positions than the code
 pub few_positions : (code : List Node) (words : List ℕ) (positions : ℕ) → positions ≡ positions_among code (flags_of words) → positions ≤ weight code + 1
@@ -95,15 +94,7 @@ pub search_found : (code : List Node) (line : List ℕ) (place steps positions :
 search_found code line place steps positions old now s here h p is = record {
   exact = (λ t. (place, omega (arith, h), (here (length code)).0 is), λ e. refl);
   counted = λ f. absurd (false≢true (sym f));
-  least = λ t. record {
-    place = place;
-    within = omega (arith, h);
-    ends = (here (length code)).0 is;
-    first = s.none;
-    before = steps;
-    counted = s.counted;
-    least = omega arith;
-  };
+  least = λ t. steps_before code line place steps _ (omega (arith, h)) ((here (length code)).0 is) s.none s.counted (omega arith);
   bound = steps_wider (place + 1) (length line + 1) (steps + positions) (weight code + 1) (steps_more place steps positions (weight code + 1) s.bound (few_positions code now positions p)) (omega (arith, h));
 }
 
@@ -118,15 +109,7 @@ search_ends code line place steps positions old now found s here e p test = reco
       | inr other ↦ absurd (s.none k.0 (omega (arith, k.1, e, other)) k.2)
     ],
   );
-  least = λ t. record {
-    place = place;
-    within = omega (arith, e);
-    ends = (here (length code)).0 (test.0 t);
-    first = s.none;
-    before = steps;
-    counted = s.counted;
-    least = omega arith;
-  };
+  least = λ t. steps_before code line place steps _ (omega (arith, e)) ((here (length code)).0 (test.0 t)) s.none s.counted (omega arith);
   counted = λ absent. subst (λ n. AreSteps code line (n + 1) (steps + positions)) e (one_counted code line place steps (steps + positions) (flags_of now) s.counted (marked_here code line place now here) (ap (λ q. steps + q) p));
   bound = steps_wider (place + 1) (length line + 1) (steps + positions) (weight code + 1) (steps_more place steps positions (weight code + 1) s.bound (few_positions code now positions p)) (omega (arith, e));
 }

@@ -13,7 +13,7 @@ use Rattle.scan_core.specs.Counted.{set_at, HasStepsBefore}
 use Rattle.scan_core.specs.inner.Shifts.{AreLight, IsAt, IsComplete, IsOffset, IsReached, IsShiftTable, IsShifted, IsStateAt, IsWeight, six_bits}
 use Rattle.scan_core.specs.Table.{IsFound, IsOutcome}
 use Rattle.scan_core.specs.inner.Table.{IsTable, IsTableOf, Walked, entry, no_state}
-use Rattle.scan_core.proofs.Along.{steps_more, steps_wider}
+use Rattle.scan_core.proofs.Along.{steps_more, steps_wider, steps_before}
 use Rattle.scan_core.proofs.Enterings.{positions_most, weight_length}
 use Rattle.scan_core.proofs.Inners.{walked_starts, walk_least, walk_next, walk_run, walk_ends, fixed_stays, bound_fits}
 
@@ -102,15 +102,8 @@ weight_small code table state low added t w l h =
 
 -- the end that was entered stays entered, whatever steps come
 more_steps : (code : List Node) (line : List ℕ) (steps added : ℕ) → HasStepsBefore code line steps → HasStepsBefore code line (steps + added)
-more_steps code line steps added has = record {
-  place = has.place;
-  within = has.within;
-  ends = has.ends;
-  first = has.first;
-  before = has.before;
-  counted = has.counted;
-  least = let l = has.least in omega (arith, l);
-}
+more_steps code line steps added has =
+    steps_before code line has.place has.before _ has.within has.ends has.first has.counted (let l = has.least in omega (arith, l))
 
 state_over : (code : List Node) (table : Table) (line : List ℕ) (place state steps added : ℕ) → IsTable code table → IsStateAt code table line place state steps → place < length line → HasStepsBefore code line (steps + added) → added ≤ weight code + 1
     → IsStateAt code table line (place + 1) (length table.states.items) (steps + added)

@@ -25,16 +25,15 @@ spread_more code at_first at_last old now new done number s h e g = record {
   size = g.size ∙ s.size;
   order = omega (arith, h, g.more);
   kept = λ n k. (g.exact n).1 (inl (s.kept n k));
-  from = λ n k. from n ((g.exact n).0 k);
+  from = λ n k. elim ((g.exact n).0 k) [
+    | inl was ↦ s.from n was
+    | inr f ↦ let was = s.from number here in (was.0, was.1, (suc was.2.0, (number, was.2.1, f)))
+  ];
   closed = λ place to l f. closed place to l (subst (λ m. Flows code at_first at_last m to) (g.front place (omega (arith, l, h))) f);
 }
   where
     here : Has now number
     here = subst (IsMarked now.marks.items) (sym e) (s.sound.marks done h)
-
-    from : (n : ℕ) → Has now n ⊎ Flows code at_first at_last number n → (start : ℕ) × Has old start × FlowsOn code at_first at_last start n
-    from n (inl k) = s.from n k
-    from n (inr f) = let was = s.from number here in (was.0, was.1, (suc was.2.0, (number, was.2.1, f)))
 
     closed : (place to : ℕ) → place < done + 1 → Flows code at_first at_last (at_place now.list.items place) to → Has new to
     closed place to l f = elim (cases_eq place done) [
@@ -166,22 +165,13 @@ advanced code byte now old empty middle new e g o = record {
   sound = o.sound;
   size = o.size ∙ g.size ∙ e.size;
   exact = λ number. (
-    λ h. let f = (o.exact number).0 h in (f.0, less f.0 f.1, f.2),
-    λ f. (o.exact number).1 (f.0, more f.0 f.1, f.2),
+    λ h. let f = (o.exact number).0 h in (f.0, elim f.1 [ inl k ↦ inl (less f.0 k) | inr z ↦ inr z ], f.2),
+    λ f. (o.exact number).1 (f.0, elim f.1 [ inl p ↦ inl ((g.exact f.0).1 (inr p)) | inr z ↦ inr z ], f.2),
   );
 }
   where
-    less : (from : ℕ) → Has middle from ⊎ (from ≡ 0) → PassesFrom now code byte from ⊎ (from ≡ 0)
-    less from (inr z) = inr z
-    less from (inl h) = side ((g.exact from).0 h)
-      where
-        side : Has empty from ⊎ PassesFrom now code byte from → PassesFrom now code byte from ⊎ (from ≡ 0)
-        side (inl k) = absurd (e.none from k)
-        side (inr k) = inl k
-
-    more : (from : ℕ) → PassesFrom now code byte from ⊎ (from ≡ 0) → Has middle from ⊎ (from ≡ 0)
-    more from (inl p) = inl ((g.exact from).1 (inr p))
-    more from (inr z) = inr z
+    less : (from : ℕ) → Has middle from → PassesFrom now code byte from
+    less from h = elim ((g.exact from).0 h) [ inl k ↦ absurd (e.none from k) | inr k ↦ k ]
 
 -- the first flags were entered
 pub record Loading (code : List Node) (flags : List Bool) (old : Reach) (done : ℕ) (now : Reach) : Type 0 where
@@ -194,16 +184,12 @@ pub load_more : {code : List Node} (flags : List Bool) (old now new : Reach) (do
 load_more flags old now new done l m g = record {
   sound = g.sound;
   size = g.size ∙ l.size;
-  there = λ n h. side n ((g.exact n).0 h);
+  there = λ n h. elim ((g.exact n).0 h) [ inl was ↦ l.there n was | inr e ↦ subst (IsMarked flags) (sym e) m ];
   here = λ n b f. elim (cases_eq n done) [
     | inl same ↦ (g.exact n).1 (inr same)
     | inr other ↦ (g.exact n).1 (inl (l.here n (omega (arith, b, other)) f))
   ];
 }
-  where
-    side : (n : ℕ) → Has now n ⊎ (n ≡ done) → IsMarked flags n
-    side n (inl h) = l.there n h
-    side n (inr e) = subst (IsMarked flags) (sym e) m
 
 pub load_skip : {code : List Node} (flags : List Bool) (old now : Reach) (done : ℕ) → Loading code flags old done now → get_or flags done false ≡ false → Loading code flags old (done + 1) now
 load_skip flags old now done l e = record {

@@ -59,21 +59,16 @@ mutual
   item_weight (repeat item low high) o = weight_repeated (code_of_item item) low high o.1 ∙ ap (λ w. repeated w low high) (item_weight item o.0)
 
 -- a code has at most two nodes a position: each step back has its choice
+length_both : (a b : List Node) → length a ≤ 2 * weight a → length b ≤ 2 * weight b → length (a ++ b) ≤ 2 * weight (a ++ b)
+length_both a b h k = let w = weight-append a b in let l = length-append a b in omega (arith, w, l, h, k)
+
 copies_length : (n : ℕ) (code : List Node) → length code ≤ 2 * weight code → length (copies n code) ≤ 2 * weight (copies n code)
 copies_length zero code h = omega arith
-copies_length (suc n) code h =
-    let a = weight-append (copies n code) code in
-    let l = length-append (copies n code) code in
-    let b = copies_length n code h in
-    omega (arith, a, b, l, h)
+copies_length (suc n) code h = length_both (copies n code) code (copies_length n code h) h
 
 up_to_length : (n : ℕ) (code : List Node) → length code ≤ 2 * weight code → length (up_to n code) ≤ 2 * weight (up_to n code)
 up_to_length zero code h = omega arith
-up_to_length (suc n) code h =
-    let a = weight-append code (up_to n code) in
-    let l = length-append code (up_to n code) in
-    let b = up_to_length n code h in
-    omega (arith, a, b, l, h)
+up_to_length (suc n) code h = let b = length_both code (up_to n code) h (up_to_length n code h) in omega (arith, b)
 
 tail_length : (code : List Node) (low : ℕ) (high : Option ℕ) → length code ≤ 2 * weight code → length (tail_of code low high) ≤ 2 * weight (tail_of code low high)
 tail_length code low None h =
@@ -82,27 +77,16 @@ tail_length code low None h =
     omega (arith, a, l, h)
 tail_length code low (Some high) h = up_to_length (high - low) code h
 
-repeated_length : (code : List Node) (low : ℕ) (high : Option ℕ) → length code ≤ 2 * weight code → length (copies low code ++ tail_of code low high) ≤ 2 * weight (copies low code ++ tail_of code low high)
-repeated_length code low high h =
-    let a = weight-append (copies low code) (tail_of code low high) in
-    let l = length-append (copies low code) (tail_of code low high) in
-    let b = copies_length low code h in
-    let c = tail_length code low high h in
-    omega (arith, a, b, c, l)
-
 mutual
   pub length_most : (pattern : Pattern) → length (code_of pattern) ≤ 2 * weight (code_of pattern)
   length_most nothing = omega arith
-  length_most (append pattern item) =
-      let a = weight-append (code_of pattern) (code_of_item item) in
-      let l = length-append (code_of pattern) (code_of_item item) in
-      let b = length_most pattern in
-      let c = item_length item in
-      omega (arith, a, b, c, l)
+  length_most (append pattern item) = length_both (code_of pattern) (code_of_item item) (length_most pattern) (item_length item)
 
   item_length : (item : Item) → length (code_of_item item) ≤ 2 * weight (code_of_item item)
   item_length (set bytes) = omega arith
   item_length front = omega arith
   item_length end = omega arith
   item_length (group pattern) = length_most pattern
-  item_length (repeat item low high) = repeated_length (code_of_item item) low high (item_length item)
+  item_length (repeat item low high) =
+      let code = code_of_item item in
+      length_both (copies low code) (tail_of code low high) (copies_length low code (item_length item)) (tail_length code low high (item_length item))

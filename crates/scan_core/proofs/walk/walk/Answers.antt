@@ -5,7 +5,8 @@ use Rattle.scan_core.proofs.walk.walk.Goals as goal
 pub overflow_add-steps : goal.overflow_add-steps
 overflow_add-steps c =
     let w = walk_run c.args.nodes.now c.args.table.now c.args.line.now c.loop-place.place c.stretch_end-end.result c.loop-place.state c.loop-place.steps c.positions_of_places-steps.result c.index.result.now _ c.loop-place.invariant c.stretch_end-end.ensures.low
-    c.stretch_end-end.ensures.high (λ k h. search (rules, c.type_inv.line)) c.stretch_end-end.ensures.stays c.index.ensures c.positions_of_places-steps.ensures in
+    c.stretch_end-end.ensures.high (λ k h. search (rules, c.type_inv.line)) c.stretch_end-end.ensures.stays c.index.ensures
+    c.positions_of_places-steps.ensures in
     let f = walk_fits c.args.nodes.now c.args.table.now c.args.line.now c.stretch_end-end.result c.loop-place.state _ w (omega (arith)) in
     search (rules, f)
 
@@ -19,7 +20,8 @@ returns-then-next c =
 pub overflow_add-steps-then-place-line : goal.overflow_add-steps-then-place-line
 overflow_add-steps-then-place-line c =
     let w = walk_run c.args.nodes.now c.args.table.now c.args.line.now c.loop-place.place c.stretch_end-end.result c.loop-place.state c.loop-place.steps c.positions_of_places-steps.result c.index.result.now _ c.loop-place.invariant c.stretch_end-end.ensures.low
-    c.stretch_end-end.ensures.high (λ k h. search (rules, c.type_inv.line)) c.stretch_end-end.ensures.stays c.index.ensures c.positions_of_places-steps.ensures in
+    c.stretch_end-end.ensures.high (λ k h. search (rules, c.type_inv.line)) c.stretch_end-end.ensures.stays c.index.ensures
+    c.positions_of_places-steps.ensures in
     let v = walk_one c.args.nodes.now c.args.table.now c.args.line.now c.stretch_end-end.result c.loop-place.state _ c.index-then-place-line.result.now _ w c.index-then-place-line.ensures in
     let f = bound_fits c.args.nodes.now (c.stretch_end-end.result + 1) _ w.1.few v (omega (arith)) in
     search (rules, f)
