@@ -12,7 +12,7 @@ use Rattle.scan_core.specs.declared.landing.Landing.{Landing}
 use Rattle.scan_core.specs.declared.node.Node.{Node}
 use Rattle.scan_core.specs.inner.Base.{IsBase}
 use Rattle.scan_core.specs.inner.Closures.{Closes}
-use Rattle.scan_core.specs.inner.Landings.{ClosesWords, Ends, HasLanded, Lands, LandsOn}
+use Rattle.scan_core.specs.inner.Landings.{ClosesWords, HasLanded, Lands, LandsOn}
 use Rattle.scan_core.specs.inner.Sets.{Flows, FlowsOn}
 use Rattle.scan_core.specs.inner.Words.{IsIn, SpreadsOut, width}
 use Rattle.scan_core.proofs.Closings.{Closed, close_word}
@@ -63,9 +63,6 @@ apart_more code base old now new count over over' all s b begun inside size clos
   ];
 }
   where
-    within : count < length now
-    within = let e = s.size in omega (arith, e, size, inside)
-
     c : Closed code count now new
     c = close_word code count (get_or now count 0) all now new (let e = s.size in omega (arith, e, size, inside)) refl closes en
 
@@ -103,7 +100,10 @@ pub spread_landed : (code : List Node) (landings : List Landing) (at_first at_la
 spread_landed code landings at_first at_last old now new over s z h = spreading_ends code at_first at_last old new (length new) (record {
   size = h.size ∙ s.size;
   kept = λ n k. h.kept n (s.kept n k);
-  from = λ n k. from n (h.from n k);
+  from = λ n k. elim (h.from n k) [
+    | inl was ↦ on n (s.from n was)
+    | inr led ↦ let f = on led.1.0 (s.from led.1.0 led.1.1) in (f.0, f.1, (suc f.2.0, (led.1.0, f.2.1, flow_anywhere code at_first at_last led.1.0 n led.1.2)))
+  ];
   closed = λ start to l k flow. elim (h.from start k) [
     | inl was ↦ elim (s.done z start to at_first at_last was flow) [
       | inl there ↦ h.kept to there
@@ -113,9 +113,8 @@ spread_landed code landings at_first at_last old now new over s z h = spreading_
   ];
 }) (omega arith)
   where
-    from : (n : ℕ) → IsIn now n ⊎ (Ends code n × ((start : ℕ) × IsIn now start × Flows code false false start n)) → (start : ℕ) × IsIn old start × FlowsOn code at_first at_last start n
-    from n (inl was) = let f = s.from n was in (f.0, f.1, (f.2.0, parts_anywhere code at_first at_last f.2.0 f.0 n f.2.1))
-    from n (inr led) = let f = s.from led.1.0 led.1.1 in (f.0, f.1, (suc f.2.0, (led.1.0, parts_anywhere code at_first at_last f.2.0 f.0 led.1.0 f.2.1, flow_anywhere code at_first at_last led.1.0 n led.1.2)))
+    on : (n : ℕ) → ((start : ℕ) × IsIn old start × FlowsOn code false false start n) → (start : ℕ) × IsIn old start × FlowsOn code at_first at_last start n
+    on n f = (f.0, f.1, (f.2.0, parts_anywhere code at_first at_last f.2.0 f.0 n f.2.1))
 
 -- what the closed words lead to, the words before led to
 pub spread_after : (code : List Node) (landings : List Landing) (at_first at_last : Bool) (old now new : List ℕ) (over : ℕ) → ClosesWords code landings old now over → SpreadsOut code at_first at_last now new → SpreadsOut code at_first at_last old new

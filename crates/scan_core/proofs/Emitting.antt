@@ -65,18 +65,20 @@ counted_item nodes before code start b n =
     omega (arith, l, a, r, b)
 
 -- the item where it stands, nodes having been written after it
-item_here : (nodes more before code : List Node) (start : ℕ) → length before ≡ start → nodes ≡ before ++ reverse code → stretch start (length nodes - start) (nodes ++ more) ≡ reverse code
-item_here nodes more before code start b n =
+item_here : (nodes now more before code : List Node) (start size : ℕ) → length before ≡ start → nodes ≡ before ++ reverse code → size ≡ length nodes - start
+    → now ≡ nodes ++ more → stretch start size now ≡ reverse code
+item_here nodes now more before code start size b n s g =
     let r = length-reverse code in
-    let s = counted_item nodes before code start b n in
-    ap (λ l. stretch start (length nodes - start) (l ++ more)) n ∙ ap (stretch start (length nodes - start)) (append_assoc before (reverse code) more)
-    ∙ stretch_after before (reverse code) more start (length nodes - start) b (omega (arith, r, s))
+    let c = counted_item nodes before code start b n in
+    ap (stretch start size) (g ∙ ap (λ l. l ++ more) n ∙ append_assoc before (reverse code) more)
+    ∙ stretch_after before (reverse code) more start size b (omega (arith, r, s, c))
 
 -- `count` times
 pub exact_out : (nodes new before code : List Node) (start size low high : ℕ) → length before ≡ start → nodes ≡ before ++ reverse code → size ≡ length nodes - start → low ≡ high → 0 < high
     → new ≡ nodes ++ copies (low - 1) (stretch start size nodes) → new ≡ before ++ reverse (copies low code ++ up_to (high - low) code)
 exact_out nodes new before code start size low high b n s same some e =
-    e ∙ ap (λ l. nodes ++ copies (low - 1) l) here ∙ ap (λ l. l ++ copies (low - 1) (reverse code)) n
+    e ∙ ap (λ l. nodes ++ copies (low - 1) l) (item_here nodes nodes [] before code start size b n s (sym (append-nil nodes)))
+    ∙ ap (λ l. l ++ copies (low - 1) (reverse code)) n
     ∙ append_assoc before (reverse code) (copies (low - 1) (reverse code))
     ∙ ap (λ l. before ++ l) (copies_turn (low - 1) (reverse code))
     ∙ ap (λ k. before ++ copies k (reverse code)) one
@@ -84,9 +86,6 @@ exact_out nodes new before code start size low high b n s same some e =
     ∙ ap (λ l. before ++ reverse l) (sym (append-nil (copies low code)))
     ∙ ap (λ k. before ++ reverse (copies low code ++ up_to k code)) none
   where
-    here : stretch start size nodes ≡ reverse code
-    here = ap (λ l. stretch start size l) (sym (append-nil nodes)) ∙ ap (λ k. stretch start k (nodes ++ [])) s ∙ item_here nodes [] before code start b n
-
     one : suc (low - 1) ≡ low
     one = omega (arith, same, some)
 
@@ -116,12 +115,10 @@ optional_more nodes now middle new more before code start size count b n s g w m
     ∙ ap (λ l. before ++ l) (sym (reverse-cons (Choose (length (code ++ up_to count code) + 1)) (code ++ up_to count code)))
     ∙ ap (λ k. before ++ reverse (up_to k code)) (sym (add-one count))
   where
-    here : stretch start size now ≡ reverse code
-    here = ap (λ l. stretch start size l) g ∙ ap (λ k. stretch start k (nodes ++ more)) s ∙ item_here nodes more before code start b n
-
     copied : middle ≡ before ++ reverse (code ++ up_to count code)
     copied =
-        m ∙ ap (λ l. now ++ l) here ∙ ap (λ l. l ++ reverse code) w ∙ append_assoc before (reverse (up_to count code)) (reverse code)
+        m ∙ ap (λ l. now ++ l) (item_here nodes now more before code start size b n s g)
+        ∙ ap (λ l. l ++ reverse code) w ∙ append_assoc before (reverse (up_to count code)) (reverse code)
         ∙ ap (λ l. before ++ l) (sym (reverse-append code (up_to count code)))
 
     skip : length middle - start + 1 ≡ length (code ++ up_to count code) + 1
@@ -135,14 +132,11 @@ optional_more nodes now middle new more before code start size count b n s g w m
 pub bounded_out : (nodes now new more before code : List Node) (start size low high count : ℕ) → length before ≡ start → nodes ≡ before ++ reverse code → size ≡ length nodes - start → now ≡ nodes ++ more
     → now ≡ before ++ reverse (up_to count code) → count ≡ high - low → new ≡ now ++ copies low (stretch start size now) → new ≡ before ++ reverse (copies low code ++ up_to (high - low) code)
 bounded_out nodes now new more before code start size low high count b n s g w k e =
-    e ∙ ap (λ l. now ++ copies low l) here ∙ ap (λ l. l ++ copies low (reverse code)) w
+    e ∙ ap (λ l. now ++ copies low l) (item_here nodes now more before code start size b n s g) ∙ ap (λ l. l ++ copies low (reverse code)) w
     ∙ append_assoc before (reverse (up_to count code)) (copies low (reverse code))
     ∙ ap (λ l. before ++ (reverse (up_to count code) ++ l)) (sym (reverse-copies low code))
     ∙ ap (λ l. before ++ l) (sym (reverse-append (copies low code) (up_to count code)))
     ∙ ap (λ m. before ++ reverse (copies low code ++ up_to m code)) k
-  where
-    here : stretch start size now ≡ reverse code
-    here = ap (λ l. stretch start size l) g ∙ ap (λ k. stretch start k (nodes ++ more)) s ∙ item_here nodes more before code start b n
 
 -- what was written stays at the front
 pub grown_on : (nodes now middle new more first second : List Node) → now ≡ nodes ++ more → middle ≡ now ++ first → new ≡ middle ++ second → (all : List Node) × (new ≡ nodes ++ all)

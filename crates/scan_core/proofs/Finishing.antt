@@ -83,16 +83,13 @@ begun_node nodes new node pending e b =
     let a = length-append nodes (node ∷ []) in
     are_begun_wider pending (length nodes) (length new) (omega (arith, l, a)) b
 
-pub begun_group : (size : ℕ) (pending new : List Pending) → AreBegun size pending → new ≡ pending ++ Group ∷ [] → AreBegun size new
-begun_group size pending new b e = subst (AreBegun size) (sym e) (are_begun_join size pending (Group ∷ []) b tt)
+pub begun_more : (size : ℕ) (pending more new : List Pending) → AreBegun size pending → AreBegun size more → new ≡ pending ++ more → AreBegun size new
+begun_more size pending more new b c e = subst (AreBegun size) (sym e) (are_begun_join size pending more b c)
 
 pub begun_popped : (size : ℕ) (pending new last : List Pending) → AreBegun size pending → pending ≡ new ++ last → AreBegun size new
 begun_popped size pending new last b e = (are_begun_parts size new last (subst (AreBegun size) e b)).0
 
 -- a duplication waits
-pub begun_waits : (size : ℕ) (pending new : List Pending) (d : Duplication) → AreBegun size pending → IsBegun d.high d.low d.start size → new ≡ pending ++ Repeated d ∷ [] → AreBegun size new
-begun_waits size pending new d b h e = subst (AreBegun size) (sym e) (are_begun_join size pending (Repeated d ∷ []) b (h, tt))
-
 pub bounded_begun : (high : Option ℕ) (most low start size : ℕ) → high ≡ Some most → (most ≡ 0 → ⊥) → IsBounded (Repeat low high) → start ≤ size → IsBegun high low start size
 bounded_begun high most low start size e some b within = subst (λ h. IsBegun h low start size) (sym e) (within, subst (λ h. IsBounded (Repeat low h)) e b, omega (arith, some))
 

@@ -144,8 +144,23 @@ inside_more code at word all left bit found i m small here is = record {
         let was = i.from_word bit small (i.within bit small here) in
         (was.0, was.1, was.2, (suc was.3.0, (at * 64 + bit, was.3.1, f)))
   ];
-  within = λ b h k. elim (either_bit less more b k) [ inl old ↦ left_bit all more b (i.within b h (in_left b h old)) | inr new ↦ right_bit all more b new ];
-  rest = λ b h k. elim (either_bit all more b k) [ inl old ↦ rest b h old (i.rest b h old) | inr new ↦ inl (right_bit less more b new) ];
+  within = λ b h k. elim (either_bit less more b k) [
+    | inl old ↦
+        let e = bit_at_and left (bit_not w64 (1 * 2 ^ bit % 2 ^ 64)) b in
+        let l = bit_at-lt left b in
+        left_bit all more b (i.within b h (omega (arith, e, old, l)))
+    | inr new ↦ right_bit all more b new
+  ];
+  rest = λ b h k. elim (either_bit all more b k) [
+    | inl old ↦ elim (i.rest b h old) [
+      | inl waits ↦ elim (cases_eq b bit) [
+        | inl same ↦ inr (λ to l f. found_in to l ((is to l).1 (subst (λ n. Flows code false false (at * 64 + n) (at * 64 + to)) same f)))
+        | inr other ↦ inl (left_bit less more b ((cleared left bit small here).1 b h other ∙ waits))
+      ]
+      | inr led ↦ inr (λ to l f. left_bit all more to (led to l f))
+    ]
+    | inr new ↦ inl (right_bit less more b new)
+  ];
 }
   where
     more : ℕ
@@ -154,24 +169,10 @@ inside_more code at word all left bit found i m small here is = record {
     less : ℕ
     less = bit_and left (bit_not w64 (1 * 2 ^ bit % 2 ^ 64))
 
-    clear : (bit_and left (bit_not w64 (1 * 2 ^ bit % 2 ^ 64)) < left) × ((j : ℕ) → j < 64 → (j ≡ bit → ⊥) → bit_at (bit_and left (bit_not w64 (1 * 2 ^ bit % 2 ^ 64))) j ≡ bit_at left j) × (bit_at (bit_and left (bit_not w64 (1 * 2 ^ bit % 2 ^ 64))) bit ≡ 0)
-    clear = cleared left bit small here
-
-    in_left : (b : ℕ) → b < 64 → bit_at (bit_and left (bit_not w64 (1 * 2 ^ bit % 2 ^ 64))) b ≡ 1 → bit_at left b ≡ 1
-    in_left b h k = let e = bit_at_and left (bit_not w64 (1 * 2 ^ bit % 2 ^ 64)) b in let l = bit_at-lt left b in omega (arith, e, k, l)
-
     found_in : (to : ℕ) → to < 64 → bit_at found to ≡ 1 → bit_at (bit_or all (bit_and found (bit_not w64 all))) to ≡ 1
     found_in to h k = elim (cases_eq (bit_at all to) 1) [
       | inl old ↦ left_bit all (bit_and found (bit_not w64 all)) to old
       | inr other ↦ right_bit all (bit_and found (bit_not w64 all)) to (let e = fresh_bit found all to m h in let l = bit_at-lt all to in omega (arith, e, k, l, other))
-    ]
-
-    rest : (b : ℕ) → b < 64 → bit_at all b ≡ 1 → (bit_at left b ≡ 1) ⊎ ((to : ℕ) → to < 64 → Flows code false false (at * 64 + b) (at * 64 + to) → bit_at all to ≡ 1)
-        → (bit_at (bit_or (bit_and left (bit_not w64 (1 * 2 ^ bit % 2 ^ 64))) (bit_and found (bit_not w64 all))) b ≡ 1) ⊎ ((to : ℕ) → to < 64 → Flows code false false (at * 64 + b) (at * 64 + to) → bit_at (bit_or all (bit_and found (bit_not w64 all))) to ≡ 1)
-    rest b h old (inr led) = inr (λ to l f. left_bit all (bit_and found (bit_not w64 all)) to (led to l f))
-    rest b h old (inl waits) = elim (cases_eq b bit) [
-      | inl same ↦ inr (λ to l f. found_in to l ((is to l).1 (subst (λ n. Flows code false false (at * 64 + n) (at * 64 + to)) same f)))
-      | inr other ↦ inl (left_bit (bit_and left (bit_not w64 (1 * 2 ^ bit % 2 ^ 64))) (bit_and found (bit_not w64 all)) b (clear.1 b h other ∙ waits))
     ]
 
 -- the word grows, or fewer are left

@@ -91,14 +91,16 @@ land_more code landings old now new count landing holds s are h el fits some all
     is : IsLanding code landing
     is = subst (IsLanding code) (sym el) (are (length landings - 1 - count) (omega (arith, h)))
 
-    begun : (number bit : ℕ) → number ≡ landing.to → Flows code false false (landing.at * 64 + bit) landing.to → IsIn old (landing.at * 64 + bit) ⊎ (Ends code (landing.at * 64 + bit) × ((start : ℕ) × IsIn old start × Flows code false false start (landing.at * 64 + bit))) → IsIn old number ⊎ (Ends code number × ((start : ℕ) × IsIn old start × Flows code false false start number))
-    begun number bit e flow (inl was) = inr (subst (Ends code) (sym e) is.ends, (landing.at * 64 + bit, was, subst (Flows code false false (landing.at * 64 + bit)) (sym e) flow))
-    begun number bit e flow (inr new) = absurd (new.0 false false landing.to flow)
-
     entered : (number : ℕ) → IsTrue holds → number ≡ landing.to → IsIn old number ⊎ (Ends code number × ((start : ℕ) × IsIn old start × Flows code false false start number))
     entered number t e =
         let one = one_of (get_or now landing.at 0) landing.from fits (some t) in
-        begun number one.0 e (is.leads one.0 one.1 one.3) (s.from (landing.at * 64 + one.0) ((is_in_word now landing.at one.0 one.1).0 one.2))
+        let flow = is.leads one.0 one.1 one.3 in
+        elim (s.from (landing.at * 64 + one.0) ((is_in_word now landing.at one.0 one.1).0 one.2)) [
+          | inl was ↦
+              let on = subst (Flows code false false (landing.at * 64 + one.0)) (sym e) flow in
+              inr (subst (Ends code) (sym e) is.ends, (landing.at * 64 + one.0, was, on))
+          | inr new ↦ absurd (new.0 false false landing.to flow)
+        ]
 
     reached : (bit : ℕ) → bit < 64 → bit_at landing.from bit ≡ 1 → IsIn old (landing.at * 64 + bit) → IsIn new landing.to
     reached bit small one k =

@@ -1,12 +1,12 @@
 -- Words in which numbers lead only to the next one.
-use Rattle.std.proofs.Common.{◌≡◌, ◌⊎◌, ◌↔◌, inl, inr, ℕ, suc, ◌+◌, ◌*◌, ◌-◌, ◌%◌, ◌^◌, ◌<◌, ◌≤◌, false, List, min, refl, sym, ap, ◌∙◌, subst, arith, w64}
+use Rattle.std.proofs.Common.{◌≡◌, ◌↔◌, inl, inr, ℕ, suc, ◌+◌, ◌*◌, ◌-◌, ◌%◌, ◌^◌, ◌<◌, ◌≤◌, false, List, min, refl, sym, ap, ◌∙◌, subst, arith, w64}
 use Rattle.std.proofs.lemmas.Bool.{cases_eq, cases_lt}
 use Rattle.std.proofs.lemmas.Nat.Bits.{bit_at_and, bit_at-lt, bit_at-zero, bit_at-pow_other}
 use Rattle.std.specs.Prelude.{bit_and, bit_or}
 use Rattle.std.specs.Int.{bit_at, bit_not}
 use Rattle.scan_core.specs.declared.node.Node.{Node}
 use Rattle.scan_core.specs.inner.Closures.{AreNexts, Closes}
-use Rattle.scan_core.specs.inner.Sets.{Flows, FlowsOn}
+use Rattle.scan_core.specs.inner.Sets.{Flows}
 use Rattle.scan_core.proofs.Insides.{either_bit, fresh_bit, left_bit, placed, placed_below, right_bit}
 
 -- the first numbers of a word are looked at
@@ -73,8 +73,31 @@ next_ends code at count nexts n all none = record {
 pub close_nexts : (code : List Node) (at word nexts : ℕ) → AreNexts code at nexts → Closes code at word (bit_or word (bit_and (word * 2 ^ 1 % 2 ^ 64) nexts))
 close_nexts code at word nexts n = record {
   kept = λ bit h is. left_bit word more bit is;
-  from_chosen = λ number h is. from number h (either_bit word more number is);
-  closed = λ number to h l is f. on number to l (n.only number to h l f) (either_bit word more number is);
+  from_chosen = λ number h is. elim (either_bit word more number is) [
+    | inl old ↦ (number, h, old, (0, refl))
+    | inr new ↦ elim (cases_eq number 0) [
+      | inl first ↦
+          let e = bit_at_and (word * 2 ^ 1 % 2 ^ 64) nexts number in
+          let z = placed_below word 1 number h (omega (arith, first)) in
+          absurd (omega (arith, e, z, new))
+      | inr other ↦
+          let bit : ℕ = number - 1 in
+          let same : bit + 1 ≡ number = omega (arith, other) in
+          let one : bit_at more (bit + 1) ≡ 1 = ap (bit_at more) same ∙ new in
+          let e = next_bit word nexts bit (omega (arith, h, other)) in
+          let l = bit_at-lt word bit in
+          let flow = n.leads bit (omega (arith, h, other)) (in_nexts (bit + 1) one) in
+          (bit, omega (arith, h), omega (arith, e, l, one), (suc 0, (at * 64 + bit, refl, subst (λ to. Flows code false false (at * 64 + bit) (at * 64 + to)) same flow)))
+    ]
+  ];
+  closed = λ number to h l is f. let o = n.only number to h l f in elim (either_bit word more number is) [
+    | inl old ↦
+        let t = o.0 in
+        let e = next_bit word nexts number (omega (arith, l, t)) in
+        let next : bit_at nexts (number + 1) ≡ 1 = ap (bit_at nexts) (sym t) ∙ o.1 in
+        right_bit word more to (ap (bit_at more) t ∙ omega (arith, e, next, old))
+    | inr new ↦ absurd (o.2 (in_nexts number new))
+  ];
 }
   where
     more : ℕ
@@ -85,29 +108,3 @@ close_nexts code at word nexts n = record {
         let e = bit_at_and (word * 2 ^ 1 % 2 ^ 64) nexts number in
         let l = bit_at-lt nexts number in
         omega (arith, e, l, new)
-
-    from : (number : ℕ) → number < 64 → (bit_at word number ≡ 1) ⊎ (bit_at (bit_and (word * 2 ^ 1 % 2 ^ 64) nexts) number ≡ 1) → (bit : ℕ) × (bit < 64) × (bit_at word bit ≡ 1) × FlowsOn code false false (at * 64 + bit) (at * 64 + number)
-    from number h (inl old) = (number, h, old, (0, refl))
-    from number h (inr new) = elim (cases_eq number 0) [
-      | inl first ↦
-          let e = bit_at_and (word * 2 ^ 1 % 2 ^ 64) nexts number in
-          let z = placed_below word 1 number h (omega (arith, first)) in
-          absurd (omega (arith, e, z, new))
-      | inr other ↦
-          let bit : ℕ = number - 1 in
-          let same : bit + 1 ≡ number = omega (arith, other) in
-          let one : bit_at (bit_and (word * 2 ^ 1 % 2 ^ 64) nexts) (bit + 1) ≡ 1 = ap (bit_at (bit_and (word * 2 ^ 1 % 2 ^ 64) nexts)) same ∙ new in
-          let e = next_bit word nexts bit (omega (arith, h, other)) in
-          let l = bit_at-lt word bit in
-          let flow = n.leads bit (omega (arith, h, other)) (in_nexts (bit + 1) one) in
-          (bit, omega (arith, h), omega (arith, e, l, one), (suc 0, (at * 64 + bit, refl, subst (λ to. Flows code false false (at * 64 + bit) (at * 64 + to)) same flow)))
-    ]
-
-    on : (number to : ℕ) → to < 64 → (to ≡ number + 1) × (bit_at nexts to ≡ 1) × (bit_at nexts number ≡ 1 → ⊥) → (bit_at word number ≡ 1) ⊎ (bit_at (bit_and (word * 2 ^ 1 % 2 ^ 64) nexts) number ≡ 1) → bit_at (bit_or word (bit_and (word * 2 ^ 1 % 2 ^ 64) nexts)) to ≡ 1
-    on number to l o (inr new) = absurd (o.2 (in_nexts number new))
-    on number to l o (inl old) =
-        let t = o.0 in
-        let e = next_bit word nexts number (omega (arith, l, t)) in
-        let next : bit_at nexts (number + 1) ≡ 1 = ap (bit_at nexts) (sym t) ∙ o.1 in
-        let moved : bit_at (bit_and (word * 2 ^ 1 % 2 ^ 64) nexts) to ≡ 1 = ap (bit_at (bit_and (word * 2 ^ 1 % 2 ^ 64) nexts)) t ∙ omega (arith, e, next, old) in
-        right_bit word (bit_and (word * 2 ^ 1 % 2 ^ 64) nexts) to moved

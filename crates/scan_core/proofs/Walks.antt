@@ -80,16 +80,15 @@ leads_unshift (Back by) line base at place at' place' b h =
 -- a walk that begins in the second of two parts stays there
 pub in_second : (a b : List Node) (line : List ℕ) → Fits b line → (count at k place stop : ℕ) → at ≡ length a + k → Walks (a ++ b) line count at place (length (a ++ b)) stop → Walks b line count k place (length b) stop
 in_second a b line f zero at k place stop e w = let l = length-append a b in (omega (arith, l, e, w.0), w.1)
-in_second a b line f (suc count) at k place stop e w = there (λ k' e'. in_second a b line f count w.0 k' w.1 stop e' w.3) (at-split a b at w.2.0 w.2.1)
-  where
-    there : ((k' : ℕ) → w.0 ≡ length a + k' → Walks b line count k' w.1 (length b) stop) → (At a at w.2.0) ⊎ ((j : ℕ) × (at ≡ length a + j) × At b j w.2.0) → Walks b line (suc count) k place (length b) stop
-    there again (inl h) = let l = at_least a at w.2.0 h in absurd (omega (arith, l, e))
-    there again (inr h) =
-        let same : h.0 ≡ k = omega (arith, e, h.1) in
-        let here : At b k w.2.0 = at_at b h.0 k w.2.0 same h.2 in
-        let led : Leads w.2.0 line (length a + k) place w.0 w.1 = subst (λ n. Leads w.2.0 line n place w.0 w.1) e w.2.2 in
-        let moved = leads_unshift w.2.0 line (length a) k place w.0 w.1 (λ by g. f.begins k by (subst (λ node. At b k node) g here)) led in
-        (moved.0, w.1, (w.2.0, here, moved.2), again moved.0 moved.1)
+in_second a b line f (suc count) at k place stop e w = elim (at-split a b at w.2.0 w.2.1) [
+  | inl h ↦ let l = at_least a at w.2.0 h in absurd (omega (arith, l, e))
+  | inr h ↦
+      let same : h.0 ≡ k = omega (arith, e, h.1) in
+      let here : At b k w.2.0 = at_at b h.0 k w.2.0 same h.2 in
+      let led : Leads w.2.0 line (length a + k) place w.0 w.1 = subst (λ n. Leads w.2.0 line n place w.0 w.1) e w.2.2 in
+      let moved = leads_unshift w.2.0 line (length a) k place w.0 w.1 (λ by g. f.begins k by (subst (λ node. At b k node) g here)) led in
+      (moved.0, w.1, (w.2.0, here, moved.2), in_second a b line f count w.0 moved.0 w.1 stop moved.1 w.3)
+]
 
 -- a walk through two parts goes through the first and then through the second
 pub through : (a b : List Node) (line : List ℕ) → Fits a line → Fits b line → (count at place stop : ℕ) → at ≤ length a → Walks (a ++ b) line count at place (length (a ++ b)) stop
@@ -99,15 +98,14 @@ through a b line f g zero at place stop h w =
     (place, (zero, (omega (arith, l, w.0, h), refl)), (zero, (omega (arith, l, w.0, h), w.1)))
 through a b line f g (suc count) at place stop h w = elim (cases_eq at (length a)) [
   | inl same ↦ (place, (zero, (same, refl)), (suc count, in_second a b line g (suc count) at 0 place stop (omega (arith, same)) w))
-  | inr other ↦ there (λ h'. through a b line f g count w.0 w.1 stop h' w.3) other (at-split a b at w.2.0 w.2.1)
-]
-  where
-    there : (w.0 ≤ length a → (middle : ℕ) × Path a line w.0 w.1 (length a) middle × Path b line 0 middle (length b) stop) → (at ≡ length a → ⊥) → (At a at w.2.0) ⊎ ((j : ℕ) × (at ≡ length a + j) × At b j w.2.0) → (middle : ℕ) × Path a line at place (length a) middle × Path b line 0 middle (length b) stop
-    there again other (inl here) =
+  | inr other ↦ elim (at-split a b at w.2.0 w.2.1) [
+    | inl here ↦
         let step : Goes a line at place w.0 w.1 = (w.2.0, here, w.2.2) in
-        let rest = again (f.ends at place w.0 w.1 step) in
+        let rest = through a b line f g count w.0 w.1 stop (f.ends at place w.0 w.1 step) w.3 in
         (rest.0, (suc rest.1.0, (w.0, w.1, step, rest.1.1)), rest.2)
-    there again other (inr far) = absurd (other (omega (arith, far.1, h)))
+    | inr far ↦ absurd (other (omega (arith, far.1, h)))
+  ]
+]
 
 pub ended : (code : List Node) (line : List ℕ) (count at place to stop : ℕ) → at ≡ length code → Walks code line count at place to stop → place ≡ stop
 ended code line zero at place to stop e w = w.1

@@ -10,6 +10,4 @@ loop-at-preserved c = record {
 }
 
 pub returns-clause-ok : goal.returns-clause-ok
-returns-clause-ok c =
-    let e = c.loop-at.invariant.size in
-    record { size = omega (arith, e); each = λ at h. c.loop-at.invariant.each at (omega (arith, h)) }
+returns-clause-ok c = record { size = omega (arith, c.loop-at.invariant.size); each = λ at h. c.loop-at.invariant.each at (omega (arith, h)) }

@@ -1,13 +1,13 @@
-use Rattle.std.proofs.Common.{◌≡◌, [], refl, subst}
+use Rattle.std.proofs.Common.{[], refl, subst, ◌∙◌}
 use Rattle.std.proofs.lemmas.List.{get_or_default}
-use Rattle.scan_core.specs.Counted.{set_at}
 use Rattle.scan_core.specs.inner.Sets.{Loaded}
 use Rattle.scan_core.proofs.Tables.{fill_starts, filled_more}
 use Rattle.scan_core.proofs.build.Building.fill.Goals as goal
 
 pub loop-byte-init : goal.loop-byte-init
 loop-byte-init c =
-    let e : c.deref.result.now ≡ set_at c.args.self.now.sets.items c.args.state = (let d = get_or_default c.args.self.now.sets.items c.args.state c.index-set.result.now [] c.requires.state in let v = c.deref.ensures.value in let w = c.set.view_is in let i = c.index-set.ensures in cc) in
+    let set = c.deref.ensures.value ∙ c.set.view_is ∙ c.index-set.ensures in
+    let e = set ∙ get_or_default c.args.self.now.sets.items c.args.state c.index-set.result.now [] c.requires.state in
     fill_starts c.args.nodes.now c.args.most c.args.state c.args.self.now _ c.requires.so_far c.requires.state (subst (λ s. Loaded c.args.nodes.now s c.args.self.now.now c.load.new.self) e c.load.ensures) refl refl refl
 
 pub loop-byte-preserved : goal.loop-byte-preserved

@@ -1,7 +1,7 @@
 use Rattle.std.proofs.Common.{length}
 use Rattle.std.specs.Option.{option_to_list}
 use Rattle.std.proofs.lemmas.Result.{on_ok_weaker}
-use Rattle.scan_core.proofs.Finishing.{begun_node, begun_group, begun_popped}
+use Rattle.scan_core.proofs.Finishing.{begun_node, begun_more, begun_popped}
 use Rattle.scan_core.proofs.compile.Compiling.write.Goals as goal
 
 pub finish-requires-clause-begun : goal.finish-requires-clause-begun
@@ -17,4 +17,4 @@ pub finish-requires-in-Open-clause-begun : goal.finish-requires-in-Open-clause-b
 finish-requires-in-Open-clause-begun c = begun_popped (length c.args.self.now.nodes.items) c.args.self.now.pending.items c.pop.new.self.items (option_to_list c.pop.result) c.requires.begun c.pop.ensures.items
 
 pub returns-in-Close-clause-begun : goal.returns-in-Close-clause-begun
-returns-in-Close-clause-begun c = on_ok_weaker c.wait.result (λ e. begun_group (length c.args.self.now.nodes.items) c.args.self.now.pending.items _ c.requires.begun e) c.wait.ensures.ok
+returns-in-Close-clause-begun c = on_ok_weaker c.wait.result (λ e. begun_more (length c.args.self.now.nodes.items) c.args.self.now.pending.items _ _ c.requires.begun tt e) c.wait.ensures.ok
