@@ -1,7 +1,7 @@
 -- Bits of words, and sets that grow by a number.
 use Rattle.std.proofs.Common.{◌≡◌, ◌⊎◌, ◌↔◌, inl, inr, ℕ, zero, suc, ◌*◌, ◌/◌, ◌%◌, ◌^◌, ◌<◌, ◌≤◌, true, List, [], ◌∷◌, length, get_or, set, eqb, refl, sym, ap, ◌∙◌, subst, arith, eq-eqb, eqb-true, w64, min, ◌+◌, Bool}
 use Rattle.std.proofs.lemmas.Bool.{cases_eq}
-use Rattle.std.proofs.lemmas.List.{get_or-set_same, get_or-set_other, length-set}
+use Rattle.std.proofs.lemmas.List.{get_or-set_same, get_or-set_other, length-set, set-get_or}
 use Rattle.std.proofs.lemmas.Nat.{le_or_l, or_lt}
 use Rattle.std.proofs.lemmas.Nat.Bits.{shr_and_one, bit_at_set_same, bit_at_set_other}
 use Rattle.std.specs.Prelude.{bit_and, bit_or}
@@ -38,33 +38,22 @@ marking_skip code So at count word before here bit at_first at_last to l f = eli
   | inr other ↦ before bit at_first at_last to (omega (arith, l, other)) f
 ]
 
--- one number more
-pub grows_one : (old new : List ℕ) (number word before on : ℕ) → number < 64 * length old → (IsIn old number → ⊥) → word ≡ get_or old (number / 64) 0 → word < 2 ^ 64 → new ≡ set old (number / 64) (bit_or word (1 * 2 ^ (number % 64) % 2 ^ 64)) → on ≡ min before (number / 64)
-    → Grows (λ other. other ≡ number) old new before on
+-- a number's bit is set
+pub entered_one : (old new : List ℕ) (number word : ℕ) → number < 64 * length old → word ≡ get_or old (number / 64) 0
+    → new ≡ set old (number / 64) (bit_or word (1 * 2 ^ (number % 64) % 2 ^ 64)) → (other : ℕ) → IsIn new other ↔ (IsIn old other ⊎ (other ≡ number))
 unfolding IsIn
-grows_one old new number word before on h none ew fits en eo = record {
-  size = ap length en ∙ length-set old (number / 64) more;
-  exact = λ other. (there other, back other);
-  low = omega (arith, eo);
-  under = λ other l k. elim (there other k) [ inl was ↦ was | inr same ↦ absurd (omega (arith, l, eo, same)) ];
-  fuller = omega (arith, fuller);
-  less = λ l. fuller;
-}
+entered_one old new number word h ew en other = elim (cases_eq other number) [
+  | inl same ↦
+      let here = ap (λ n. bit_at (get_or new (n / 64) 0) (n % 64)) same ∙ ap (λ x. bit_at x (number % 64)) read in
+      (λ k. inr same, λ k. here ∙ bit_at_set_same w64 word (number % 64) (omega arith))
+  | inr differs ↦ (λ k. inl (sym (elsewhere differs) ∙ k), λ k. elim k [ inl was ↦ elsewhere differs ∙ was | inr same ↦ absurd (differs same) ])
+]
   where
-    more : ℕ
-    more = bit_or word (1 * 2 ^ (number % 64) % 2 ^ 64)
-
-    at : number / 64 < length old
-    at = omega (arith, h)
-
     read : get_or new (number / 64) 0 ≡ bit_or word (1 * 2 ^ (number % 64) % 2 ^ 64)
-    read = ap (λ l. get_or l (number / 64) 0) en ∙ get_or-set_same old (number / 64) (bit_or word (1 * 2 ^ (number % 64) % 2 ^ 64)) 0 at
+    read = ap (λ l. get_or l (number / 64) 0) en ∙ get_or-set_same old (number / 64) (bit_or word (1 * 2 ^ (number % 64) % 2 ^ 64)) 0 (omega (arith, h))
 
-    fresh : bit_at (get_or new (number / 64) 0) (number % 64) ≡ 1
-    fresh = ap (λ x. bit_at x (number % 64)) read ∙ bit_at_set_same w64 word (number % 64) (omega arith)
-
-    elsewhere : (other : ℕ) → (other ≡ number → ⊥) → bit_at (get_or new (other / 64) 0) (other % 64) ≡ bit_at (get_or old (other / 64) 0) (other % 64)
-    elsewhere other differs = elim (cases_eq (other / 64) (number / 64)) [
+    elsewhere : (other ≡ number → ⊥) → bit_at (get_or new (other / 64) 0) (other % 64) ≡ bit_at (get_or old (other / 64) 0) (other % 64)
+    elsewhere differs = elim (cases_eq (other / 64) (number / 64)) [
       | inl same ↦
           ap (λ k. bit_at (get_or new k 0) (other % 64)) same ∙ ap (λ x. bit_at x (other % 64)) read
           ∙ bit_at_set_other w64 word (number % 64) (omega arith) (other % 64) (λ e. differs (omega (arith, e, same)))
@@ -72,24 +61,34 @@ grows_one old new number word before on h none ew fits en eo = record {
       | inr apart ↦ ap (λ x. bit_at x (other % 64)) (ap (λ l. get_or l (other / 64) 0) en ∙ get_or-set_other old (number / 64) (other / 64) (bit_or word (1 * 2 ^ (number % 64) % 2 ^ 64)) 0 apart)
     ]
 
-    there : (other : ℕ) → bit_at (get_or new (other / 64) 0) (other % 64) ≡ 1 → (bit_at (get_or old (other / 64) 0) (other % 64) ≡ 1) ⊎ (other ≡ number)
-    there other k = elim (cases_eq other number) [ inl same ↦ inr same | inr differs ↦ inl (sym (elsewhere other differs) ∙ k) ]
+-- one number more
+pub grows_one : (old new : List ℕ) (number word before on : ℕ) → number < 64 * length old → (IsIn old number → ⊥) → word ≡ get_or old (number / 64) 0 → word < 2 ^ 64 → new ≡ set old (number / 64) (bit_or word (1 * 2 ^ (number % 64) % 2 ^ 64)) → on ≡ min before (number / 64)
+    → Grows (λ other. other ≡ number) old new before on
+grows_one old new number word before on h none ew fits en eo = record {
+  size = ap length en ∙ length-set old (number / 64) more;
+  exact = is;
+  low = omega (arith, eo);
+  under = λ other l k. elim ((is other).0 k) [ inl was ↦ was | inr same ↦ absurd (omega (arith, l, eo, same)) ];
+  fuller = omega (arith, fuller);
+  less = λ l. fuller;
+}
+  where
+    more : ℕ
+    more = bit_or word (1 * 2 ^ (number % 64) % 2 ^ 64)
 
-    back : (other : ℕ) → (bit_at (get_or old (other / 64) 0) (other % 64) ≡ 1) ⊎ (other ≡ number) → bit_at (get_or new (other / 64) 0) (other % 64) ≡ 1
-    back other (inr same) = ap (λ k. bit_at (get_or new (k / 64) 0) (k % 64)) same ∙ fresh
-    back other (inl was) = elim (cases_eq other number) [
-      | inl same ↦ ap (λ k. bit_at (get_or new (k / 64) 0) (k % 64)) same ∙ fresh
-      | inr differs ↦ elsewhere other differs ∙ was
-    ]
+    is : (other : ℕ) → IsIn new other ↔ (IsIn old other ⊎ (other ≡ number))
+    is = entered_one old new number word h ew en
 
     larger : get_or old (number / 64) 0 < bit_or word (1 * 2 ^ (number % 64) % 2 ^ 64)
     larger = elim (cases_eq word (bit_or word (1 * 2 ^ (number % 64) % 2 ^ 64))) [
-      | inl same ↦ absurd (none (ap (λ x. bit_at x (number % 64)) (sym ew ∙ same ∙ sym read) ∙ fresh))
+      | inl same ↦
+          let unchanged = en ∙ ap (set old (number / 64)) (sym same ∙ ew) ∙ set-get_or old (number / 64) 0 in
+          absurd (none (subst (λ l. IsIn l number) unchanged ((is number).1 (inr refl))))
       | inr differs ↦ let l = le_or_l word (1 * 2 ^ (number % 64) % 2 ^ 64) in omega (arith, l, differs, ew)
     ]
 
     fuller : unset new < unset old
-    fuller = subst (λ l. unset l < unset old) (sym en) (unset-set old (number / 64) (bit_or word (1 * 2 ^ (number % 64) % 2 ^ 64)) at larger
+    fuller = subst (λ l. unset l < unset old) (sym en) (unset-set old (number / 64) (bit_or word (1 * 2 ^ (number % 64) % 2 ^ 64)) (omega (arith, h)) larger
         (let m = or_lt 64 word (1 * 2 ^ (number % 64) % 2 ^ 64) fits (omega arith) in omega (arith, m)))
 
 pub grows_none : (Added : ℕ → Type 0) (old new : List ℕ) (before on : ℕ) → new ≡ old → on ≡ before → ((number : ℕ) → Added number → IsIn old number) → Grows Added old new before on

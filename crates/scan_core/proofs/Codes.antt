@@ -17,11 +17,8 @@ exact_copies code line Kind e zero = exact_none line
 exact_copies code line Kind e (suc count) = exact_both (copies count code) code line (Parts Kind count) Kind (exact_copies code line Kind e count) e
 
 exact_up_to : (code : List Node) (line : List ℕ) (Kind : ℕ → ℕ → Type 0) → Exact code line Kind → (most : ℕ) → Exact (up_to most code) line (AtMost Kind most)
-exact_up_to code line Kind e zero = exact_by [] line (λ from to. from ≡ to) (AtMost Kind 0) (exact_none line) (λ from to q. (0, omega arith, q)) (λ from to k. none k.0 from to k.1 k.2)
-  where
-    none : (count from to : ℕ) → count ≤ 0 → Parts Kind count from to → from ≡ to
-    none zero from to h p = p
-    none (suc count) from to h p = absurd (omega (arith, h))
+exact_up_to code line Kind e zero = exact_by [] line (λ from to. from ≡ to) (AtMost Kind 0) (exact_none line) (λ from to q. (0, omega arith, q))
+    (λ from to k. let e : k.0 ≡ 0 = omega (arith, k.1) in subst (λ n. Parts Kind n from to) e k.2)
 exact_up_to code line Kind e (suc most) =
     exact_by (up_to (suc most) code) line (λ from to. (from ≡ to) ⊎ ((middle : ℕ) × Kind from middle × AtMost Kind most middle to)) (AtMost Kind (suc most))
     (exact_maybe (code ++ up_to most code) line (λ from to. (middle : ℕ) × Kind from middle × AtMost Kind most middle to) (exact_both code (up_to most code) line Kind (AtMost Kind most) e (exact_up_to code line Kind e most)))

@@ -19,8 +19,10 @@ sum_of weight (mark ∷ marks) = weight_if mark (weight 0) + sum_of (λ n. weigh
 
 sum_same : (one other : ℕ → ℕ) → ((n : ℕ) → one n ≡ other n) → (marks : List Bool) → sum_of one marks ≡ sum_of other marks
 sum_same one other e [] = refl
-sum_same one other e (true ∷ marks) = let h = e 0 in let r = sum_same (λ n. one (suc n)) (λ n. other (suc n)) (λ n. e (suc n)) marks in omega (arith, h, r)
-sum_same one other e (false ∷ marks) = let r = sum_same (λ n. one (suc n)) (λ n. other (suc n)) (λ n. e (suc n)) marks in omega (arith, r)
+sum_same one other e (mark ∷ marks) =
+    let h = ap (weight_if mark) (e 0) in
+    let r = sum_same (λ n. one (suc n)) (λ n. other (suc n)) (λ n. e (suc n)) marks in
+    omega (arith, h, r)
 
 sum_none : (marks : List Bool) → sum_of (λ n. 0) marks ≡ 0
 sum_none [] = refl

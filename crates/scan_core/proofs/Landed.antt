@@ -1,10 +1,11 @@
 -- Entering what landings lead to.
 use Rattle.std.proofs.Common.{◌≡◌, ◌⊎◌, ◌↔◌, inl, inr, ℕ, ◌+◌, ◌*◌, ◌-◌, ◌/◌, ◌%◌, ◌^◌, ◌<◌, ◌≤◌, Bool, true, false, IsTrue, List, [], ◌∷◌, ◌++◌, length, get_or, set, eqb, not, refl, sym, ap, ◌∙◌, subst, arith}
 use Rattle.std.proofs.lemmas.Bool.{cases_eq, false≢true, eqb-false, not-true, ne_eqb}
-use Rattle.std.proofs.lemmas.List.{get_or-set_same, get_or_append_left}
-use Rattle.std.proofs.lemmas.Nat.Bits.{bit_at-zero}
+use Rattle.std.proofs.lemmas.List.{get_or_append_left, set-get_or}
 use Rattle.std.specs.Prelude.{bit_and, bit_or}
 use Rattle.std.specs.Int.{bit_at}
+use Rattle.std.specs.Int.Bits.{or_zero_r}
+use Rattle.scan_core.proofs.Bits.{entered_one}
 use mir.Val.{bool_byte}
 use Rattle.scan_core.specs.declared.hops.Hop.{Hop}
 use Rattle.scan_core.specs.declared.landing.Landing.{Landing}
@@ -17,48 +18,21 @@ use Rattle.scan_core.specs.inner.Sets.{Flows}
 use Rattle.scan_core.specs.inner.Words.{IsIn, width}
 use Rattle.scan_core.proofs.Enterings.{flows_of}
 use Rattle.scan_core.proofs.Hoppings.{one_of, none_of}
-use Rattle.scan_core.proofs.Insides.{bit_is, left_bit, right_bit, either_bit, pushed, one_longer}
-use Rattle.scan_core.proofs.Passings.{set_elsewhere}
+use Rattle.scan_core.proofs.Insides.{pushed, one_longer}
 use Rattle.scan_core.proofs.Visitings.{is_in_word}
-
--- a number's bit where something holds
-bit_if : (number bit : ℕ) (holds : Bool) → bit < 64 → (bit_at (bool_byte holds * 2 ^ (number % 64) % 2 ^ 64) bit ≡ 1) ↔ (IsTrue holds × (number ≡ number / 64 * 64 + bit))
-bit_if number bit true small = let b = bit_is (number / 64) number bit refl small in (λ k. (refl, b.0 k), λ h. b.1 h.1)
-bit_if number bit false small =
-    let none : 0 * 2 ^ (number % 64) % 2 ^ 64 ≡ 0 = omega arith in
-    let z = ap (λ x. bit_at x bit) none ∙ bit_at-zero bit in
-    (λ k. absurd (omega (arith, z, k)), λ h. absurd (false≢true h.0))
 
 pub enters_if : (words new : List ℕ) (number : ℕ) (holds : Bool) → number < 64 * length words → new ≡ set words (number / 64) (bit_or (get_or words (number / 64) 0) (bool_byte holds * 2 ^ (number % 64) % 2 ^ 64))
     → (other : ℕ) → IsIn new other ↔ (IsIn words other ⊎ (IsTrue holds × (other ≡ number)))
-enters_if words new number holds h en other = elim (cases_eq (other / 64) (number / 64)) [
-  | inl same ↦
-      let e : other ≡ number / 64 * 64 + other % 64 = omega (arith, same) in
-      let b = bit_if number (other % 64) holds (omega arith) in
-      let w = is_in_word new (number / 64) (other % 64) (omega arith) in
-      let o = is_in_word words (number / 64) (other % 64) (omega arith) in
-      let r = ap (λ x. bit_at x (other % 64)) read in (
-        λ k. elim (either_bit before added (other % 64) (sym r ∙ w.1 (subst (IsIn new) e k))) [ inl was ↦ inl (subst (IsIn words) (sym e) (o.0 was)) | inr one ↦ let q = b.0 one in inr (q.0, e ∙ sym q.1) ],
-        λ k. elim k [
-          | inl was ↦ subst (IsIn new) (sym e) (w.0 (r ∙ left_bit before added (other % 64) (o.1 (subst (IsIn words) e was))))
-          | inr q ↦ subst (IsIn new) (sym e) (w.0 (r ∙ right_bit before added (other % 64) (b.1 (q.0, sym q.1 ∙ e))))
-        ],
-      )
-  | inr differs ↦
-      let s = set_elsewhere words (number / 64) (bit_or before added) other differs in (
-        λ k. inl (s.0 (subst (λ l. IsIn l other) en k)),
-        λ k. elim k [ inl was ↦ subst (λ l. IsIn l other) (sym en) (s.1 was) | inr q ↦ absurd (differs (ap (λ n. n / 64) q.1)) ],
-      )
-]
-  where
-    before : ℕ
-    before = get_or words (number / 64) 0
-
-    added : ℕ
-    added = bool_byte holds * 2 ^ (number % 64) % 2 ^ 64
-
-    read : get_or new (number / 64) 0 ≡ bit_or (get_or words (number / 64) 0) (bool_byte holds * 2 ^ (number % 64) % 2 ^ 64)
-    read = ap (λ l. get_or l (number / 64) 0) en ∙ get_or-set_same words (number / 64) (bit_or (get_or words (number / 64) 0) (bool_byte holds * 2 ^ (number % 64) % 2 ^ 64)) 0 (omega (arith, h))
+enters_if words new number true h en other =
+    let e = entered_one words new number (get_or words (number / 64) 0) h refl en other in
+    (λ k. elim (e.0 k) [ inl was ↦ inl was | inr same ↦ inr (refl, same) ], λ k. e.1 (elim k [ inl was ↦ inl was | inr q ↦ inr q.1 ]))
+enters_if words new number false h en other =
+    let none : 0 * 2 ^ (number % 64) % 2 ^ 64 ≡ 0 = omega arith in
+    let before : ℕ = get_or words (number / 64) 0 in
+    let unchanged = en ∙ ap (set words (number / 64)) (ap (bit_or before) none ∙ or_zero_r before) ∙ set-get_or words (number / 64) 0 in (
+      λ k. inl (subst (λ l. IsIn l other) unchanged k),
+      λ k. elim k [ inl was ↦ subst (λ l. IsIn l other) (sym unchanged) was | inr q ↦ absurd (false≢true q.0) ],
+    )
 
 -- the last landings were followed
 pub record Landing_on (code : List Node) (landings : List Landing) (old now : List ℕ) (count : ℕ) : Type 0 where

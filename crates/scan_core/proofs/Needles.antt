@@ -162,9 +162,6 @@ other_node code number node here differs skip there = differs skip (at_once code
 pub same_choice : (code : List Node) (number one other : ℕ) → At code number (Choose one) → At code number (Choose other) → one ≡ other
 same_choice code number one other here there = let same = at_once code number (Choose one) (Choose other) here there in cc
 
-pub no_choice : (code : List Node) (number : ℕ) (bytes : List Bool) → At code number (Take bytes) → (skip : ℕ) → At code number (Choose skip) → ⊥
-no_choice code number bytes here = other_node code number (Take bytes) here (λ skip same. cc)
-
 pub rarest_more : (code : List Node) (at : ℕ) (rarest : Rarest) (far : ℕ) → IsRarest code at rarest → rarest.far ≤ far → ((skip : ℕ) → At code at (Choose skip) → at + skip ≤ far)
     → IsRarest code (at + 1) (record { far = far; run = at + 1; from = rarest.from; rank = rarest.rank })
 rarest_more code at rarest far so_far low choice = record {

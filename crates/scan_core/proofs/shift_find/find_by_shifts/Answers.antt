@@ -1,5 +1,5 @@
-use Rattle.std.proofs.Common.{rules, ◌≡◌, ◌<◌, ◌+◌, ◌-◌, ℕ, length, slice_index, refl, arith}
-use Rattle.scan_core.proofs.Shiftings.{reached_end, reached_fixed, reached_moved, reached_starts}
+use Rattle.std.proofs.Common.{rules, ◌+◌, arith}
+use Rattle.scan_core.proofs.Shiftings.{reached_end, reached_fixed, reached_starts}
 use Rattle.scan_core.proofs.shift_find.find_by_shifts.Goals as goal
 
 pub loop-place-init : goal.loop-place-init
@@ -7,11 +7,11 @@ loop-place-init c = record { within = omega arith; at = reached_starts c.args.no
 
 pub returns-then-state : goal.returns-then-state
 returns-then-state c =
-    let b : (k : ℕ) → k < length c.args.line.now → slice_index c.args.line.now k < 256 = λ k h. search (rules, c.type_inv.line) in
-    reached_fixed c.args.nodes.now c.args.table.now c.args.line.now (c.loop-place.place + 16) c.glide-word.result c.index-state.result.now _ (c.glide-word.ensures c.loop-place.invariant.at) c.if-word-table.false c.requires.some b c.index-state.ensures c.if-state.true
+    reached_fixed c.args.nodes.now c.args.table.now c.args.line.now (c.loop-place.place + 16) c.glide-word.result c.index-state.result.now _
+    (c.glide-word.ensures c.loop-place.invariant.at) c.if-word-table.false c.requires.some (λ k h. search (rules, c.type_inv.line))
+    c.index-state.ensures c.if-state.true
 
 pub returns : goal.returns
 returns c =
-    let whole : c.loop-place.place + (length c.args.line.now - c.loop-place.place) ≡ length c.args.line.now = omega (arith, c.loop-place.invariant.within) in
-    reached_end c.args.nodes.now c.args.table.now c.args.line.now (length c.args.line.now) c.glide-last.result c.index.result.now _
-    (reached_moved c.args.nodes.now c.args.table.now c.args.line.now _ _ c.glide-last.result whole (c.glide-last.ensures c.loop-place.invariant.at)) c.if-last-table.false refl c.requires.some c.index.ensures
+    reached_end c.args.nodes.now c.args.table.now c.args.line.now _ c.glide-last.result c.index.result.now _ (c.glide-last.ensures c.loop-place.invariant.at)
+    c.if-last-table.false (omega (arith, c.loop-place.invariant.within)) c.requires.some c.index.ensures

@@ -1,5 +1,8 @@
-use Rattle.std.proofs.Common.{IfSome, length, sym, ap, ◌∙◌, subst, arith}
+use Rattle.std.proofs.Common.{IfSome, Ok, Err, IsErrOf, length, sym, ap, ◌∙◌, subst, arith}
 use Rattle.std.proofs.lemmas.Result.{err_from_is_err_and}
+use Rattle.bre_core.specs.declared.fault.BreFault.{BreFault}
+use Rattle.bre_core.specs.declared.fault.BreFault.TheVariants.{Memory, TooLarge}
+use Rattle.bre_core.specs.Pattern.{Pattern}
 use Rattle.scan_core.specs.inner.Base.{IsBase}
 use Rattle.scan_core.specs.inner.Closures.{AreClosures}
 use Rattle.scan_core.specs.inner.Needles.{IsNeedle}
@@ -9,6 +12,12 @@ use Rattle.scan_core.specs.inner.Table.{IsTable}
 use Rattle.scan_core.specs.inner.Words.{IsMasks}
 use Rattle.scan_core.proofs.Whole.{is_code, enough_room}
 use Rattle.scan_core.proofs.bre.Bre.read.Goals as goal
+
+no_fault : (bre : Pattern) → IsErrOf {T = Pattern} {E = BreFault} (Ok bre) TooLarge → ⊥
+no_fault bre e = cc
+
+other_fault : IsErrOf {T = Pattern} {E = BreFault} (Err Memory) TooLarge → ⊥
+other_fault e = cc
 
 pub closures_of-requires-clause-code : goal.closures_of-requires-clause-code
 closures_of-requires-clause-code c = subst IsCode (sym (c.deref-2.ensures.value ∙ c.in_ok-code.ensures.ok)) (is_code c.in_ok-expression.expression c.in_ok-code.ensures.order)
@@ -47,12 +56,12 @@ invariant_of-result c = (
 pub returns-in_err-shifts : goal.returns-in_err-shifts
 returns-in_err-shifts c =
     let p = err_from_is_err_and c.from_residual-in_err-shifts.result c.from_residual-in_err-shifts.ensures.1 in
-    rw (p.1, p.2, c.in_err-shifts.ensures.err) (record { reads = tt; groups = tt; size = tt; refused = λ h. absurd h; large = λ e. cc })
+    rw (p.1, p.2, c.in_err-shifts.ensures.err) (record { reads = tt; groups = tt; size = tt; refused = λ h. absurd h; large = λ e. absurd (other_fault e) })
 
 pub returns-in_err-needle : goal.returns-in_err-needle
 returns-in_err-needle c =
     let p = err_from_is_err_and c.from_residual-in_err-needle.result c.from_residual-in_err-needle.ensures.1 in
-    rw (p.1, p.2, c.in_err-needle.ensures.err) (record { reads = tt; groups = tt; size = tt; refused = λ h. absurd h; large = λ e. cc })
+    rw (p.1, p.2, c.in_err-needle.ensures.err) (record { reads = tt; groups = tt; size = tt; refused = λ h. absurd h; large = λ e. absurd (other_fault e) })
 
 pub returns : goal.returns
 returns c = record {
@@ -60,5 +69,5 @@ returns c = record {
   groups = c.in_ok-expression.ensures.groups;
   size = c.in_ok-expression.ensures.size;
   refused = tt;
-  large = λ e. cc;
+  large = λ e. absurd (no_fault _ e);
 }
