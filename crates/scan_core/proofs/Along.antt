@@ -60,12 +60,11 @@ closes_exact code line place at_first at_last Old Now p came o number = (λ h. t
     flows zero from to e q = subst (λ n. Entered code line n place) q e
     flows (suc count) from to e q = entered_on code line q.0 place to place (flows count from q.0 e q.1) (q.2.0, q.2.1, flow_goes q.2.0 line place at_first at_last q.0 to p q.2.2)
 
-    start : (from : ℕ) → Old from ⊎ (from ≡ 0) → Entered code line from place
-    start from (inl h) = let c = (came from).0 h in entered_on code line c.2 c.0 from place c.3 c.4
-    start from (inr e) = (place, p.within, (0, (sym e, refl)))
-
     there : (number : ℕ) → ((from : ℕ) × (Old from ⊎ (from ≡ 0)) × FlowsOn code at_first at_last from number) → Entered code line number place
-    there number f = flows f.2.0 f.0 number (start f.0 f.1) f.2.1
+    there number f = flows f.2.0 f.0 number (elim f.1 [
+      | inl h ↦ let c = (came f.0).0 h in entered_on code line c.2 c.0 f.0 place c.3 c.4
+      | inr e ↦ (place, p.within, (0, (sym e, refl)))
+    ]) f.2.1
 
     close : (from to : ℕ) → Now from → Goes code line from place to place → Now to
     close from to h g =

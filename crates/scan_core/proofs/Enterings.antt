@@ -77,7 +77,13 @@ gain_one code old new n r least e em el ec ep = record {
   sound = record {
     fits = ap length el ∙ length-set old.list.items old.count n ∙ r.fits ∙ sym (length-set old.marks.items n true) ∙ sym (ap length em);
     counted = ec ∙ sym (marked-set old.marks.items n h e ∙ ap (λ k. k + 1) (sym r.counted)) ∙ sym (ap marked em);
-    listed = λ number g. listed number (there number g);
+    listed = λ number g. elim ((is number).0 g) [
+      | inl was ↦
+          let at = r.listed number was in
+          let stays = get_or-set_other old.list.items old.count at.0 n 0 (λ q. omega (arith, at.1, q)) in
+          (at.0, omega (arith, at.1, ec), ap (λ l. at_place l at.0) el ∙ stays ∙ at.2)
+      | inr same ↦ (old.count, omega (arith, ec), last ∙ sym same)
+    ];
     marks = λ place g. marks place g;
     room = let s = length-set old.marks.items n true in let l = ap length em in omega (arith, s, l, r.room);
     weighed = ep ∙ ap (λ k. k + weight_at code n) r.weighed ∙ sym (positions_set code old.marks.items n least h e) ∙ ap (positions_among code) (sym em);
@@ -85,7 +91,7 @@ gain_one code old new n r least e em el ec ep = record {
   size = ap length em ∙ length-set old.marks.items n true;
   more = omega (arith, ec);
   front = λ place g. ap (λ l. at_place l place) el ∙ get_or-set_other old.list.items old.count place n 0 (λ q. omega (arith, g, q));
-  exact = λ number. (there number, back number);
+  exact = is;
 }
   where
     h : n < length old.marks.items
@@ -94,34 +100,23 @@ gain_one code old new n r least e em el ec ep = record {
     fresh : get_or new.marks.items n false ≡ true
     fresh = ap (λ l. get_or l n false) em ∙ get_or-set_same old.marks.items n true false h
 
-    there : (number : ℕ) → Has new number → Has old number ⊎ (number ≡ n)
-    there number g = elim (cases_eq number n) [
-      | inl same ↦ inr same
-      | inr other ↦ inl (sym (get_or-set_other old.marks.items n number true false other) ∙ sym (ap (λ l. get_or l number false) em) ∙ g)
-    ]
-
-    back : (number : ℕ) → Has old number ⊎ (number ≡ n) → Has new number
-    back number (inr same) = ap (λ k. get_or new.marks.items k false) same ∙ fresh
-    back number (inl g) = elim (cases_eq number n) [
-      | inl same ↦ ap (λ k. get_or new.marks.items k false) same ∙ fresh
-      | inr other ↦ ap (λ l. get_or l number false) em ∙ get_or-set_other old.marks.items n number true false other ∙ g
+    is : (number : ℕ) → Has new number ↔ (Has old number ⊎ (number ≡ n))
+    is number = elim (cases_eq number n) [
+      | inl same ↦ (λ g. inr same, λ g. ap (λ k. get_or new.marks.items k false) same ∙ fresh)
+      | inr other ↦
+          let e = ap (λ l. get_or l number false) em ∙ get_or-set_other old.marks.items n number true false other in
+          (λ g. inl (sym e ∙ g), λ g. elim g [ inl was ↦ e ∙ was | inr same ↦ absurd (other same) ])
     ]
 
     last : at_place new.list.items old.count ≡ n
     last = ap (λ l. at_place l old.count) el ∙ get_or-set_same old.list.items old.count n 0 (room old n r h e)
-
-    listed : (number : ℕ) → Has old number ⊎ (number ≡ n) → (place : ℕ) × (place < new.count) × (at_place new.list.items place ≡ number)
-    listed number (inr same) = (old.count, omega (arith, ec), last ∙ sym same)
-    listed number (inl g) =
-        let was = r.listed number g in
-        (was.0, omega (arith, was.1, ec), ap (λ l. at_place l was.0) el ∙ get_or-set_other old.list.items old.count was.0 n 0 (λ q. omega (arith, was.1, q)) ∙ was.2)
 
     marks : (place : ℕ) → place < new.count → IsMarked new.marks.items (at_place new.list.items place)
     marks place g = elim (cases_eq place old.count) [
       | inl same ↦ ap (λ k. get_or new.marks.items k false) (ap (λ p. at_place new.list.items p) same ∙ last) ∙ fresh
       | inr other ↦
           let stays : at_place new.list.items place ≡ at_place old.list.items place = ap (λ l. at_place l place) el ∙ get_or-set_other old.list.items old.count place n 0 other in
-          ap (λ k. get_or new.marks.items k false) stays ∙ back (at_place old.list.items place) (inl (r.marks place (omega (arith, g, ec, other))))
+          ap (λ k. get_or new.marks.items k false) stays ∙ (is (at_place old.list.items place)).1 (inl (r.marks place (omega (arith, g, ec, other))))
     ]
 
 pub gain_nothing : {code : List Node} (old new : Reach) (Added : ℕ → Type 0) → IsReach code old → new ≡ old → ((n : ℕ) → Added n → ⊥) → Gains code Added old new

@@ -71,12 +71,13 @@ Past reach code byte below to = (place : ℕ) × (place < below) × Passes code 
 
 pub pass_more : (reach : Reach) (code : List Node) (byte below number : ℕ) (old now new : Reach) → Gains code (Past reach code byte below) old now → number ≡ at_place reach.list.items below → Passes code byte number (number + 1)
     → Gains code (λ other. other ≡ number + 1) now new → Gains code (Past reach code byte (below + 1)) old new
-pass_more reach code byte below number old now new g e p h = gain_by old new (λ n. Past reach code byte below n ⊎ (n ≡ number + 1)) (Past reach code byte (below + 1)) (gain_both old now new (Past reach code byte below) (λ n. n ≡ number + 1) g h) there here
+pass_more reach code byte below number old now new g e p h = gain_by old new (λ n. Past reach code byte below n ⊎ (n ≡ number + 1)) (Past reach code byte (below + 1)) (gain_both old now new (Past reach code byte below) (λ n. n ≡ number + 1) g h)
+    (λ n s. elim s [
+      | inl q ↦ (q.0, omega (arith, q.1), q.2)
+      | inr q ↦ (below, omega arith, subst (λ m. Passes code byte m n) e (subst (Passes code byte number) (sym q) p))
+    ])
+    here
   where
-    there : (n : ℕ) → Past reach code byte below n ⊎ (n ≡ number + 1) → Past reach code byte (below + 1) n
-    there n (inl q) = (q.0, omega (arith, q.1), q.2)
-    there n (inr q) = (below, omega arith, subst (λ m. Passes code byte m n) e (subst (Passes code byte number) (sym q) p))
-
     here : (n : ℕ) → Past reach code byte (below + 1) n → Past reach code byte below n ⊎ (n ≡ number + 1)
     here n q = elim (cases_eq q.0 below) [
       | inl same ↦ let led : Passes code byte number n = subst (λ m. Passes code byte m n) (ap (λ k. at_place reach.list.items k) same ∙ sym e) q.2 in inr led.3

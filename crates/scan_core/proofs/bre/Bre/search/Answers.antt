@@ -18,7 +18,7 @@ slice_bounds-search-end-2 c =
     let l = ap length c.self.invariant.0 in
     let p = ap positions_of c.self.view_is in
     let h : c.len.result / 64 + 1 ≤ length c.args.words.now = omega (arith, e, l, p, c.requires) in
-    search (rules, length-take, h)
+    search (rules, h)
 
 pub search-requires-clause-code : goal.search-requires-clause-code
 search-requires-clause-code c = subst IsCode (sym (c.deref.ensures.value ∙ c.self.invariant.0)) (is_code c.self.inside.expression c.self.invariant.1)
