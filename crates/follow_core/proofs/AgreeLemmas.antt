@@ -1,6 +1,6 @@
 -- That looks don't matter.
 use Rattle.std.proofs.Math.Seq.{drop-append_seam as drop_front}
-use Rattle.std.proofs.Common.{◌≡◌, ℕ, ◌+◌, ◌==◌, nat_le, Bool, true, false, ◌&&◌, List, [], ◌∷◌, ◌++◌, length, drop, Some, refl, sym, ◌∙◌, ap, arith, append_assoc, length-append, if◌then◌else◌, ◌⊎◌, inl, inr, ◌<◌, zero, suc, take, Option, None, subst, slice_index_or, bytes_eq}
+use Rattle.std.proofs.Common.{◌≡◌, ℕ, ◌+◌, ◌==◌, nat_le, Bool, true, false, ◌&&◌, List, [], ◌∷◌, ◌++◌, length, drop, Some, refl, sym, ◌∙◌, ap, arith, append_assoc, length-append, if◌then◌else◌, ◌⊎◌, inl, inr, ◌<◌, take, Option, None, subst, bytes_eq}
 use Rattle.std.proofs.lemmas.List.{append-nil, get_or_append_left}
 use Rattle.std.proofs.lemmas.Bool.{eq-eqb, le-leb, false≢true}
 use Rattle.ports_core.specs.Part.{IsBeginning}
@@ -8,14 +8,14 @@ use Rattle.watch_core.specs.Snapshot.{Snapshot}
 use Rattle.follow_core.specs.Version.{Version, Entry, version, gap, version_in, entries_led, entries_later, is_file, entries_at_look, entries_of, open_after_look}
 use Rattle.follow_core.specs.Gain.{file_of, gain_between, gains_later, last_from, gains_after}
 use Rattle.std.proofs.lemmas.Slice.Eq.{bytes_eq-Decides}
-use Rattle.ports_core.specs.Slot.{changed_at}
+use Rattle.ports_core.proofs.InputsLemmas.{changed_elsewhere}
 use Rattle.ports_core.proofs.SlotLemmas.{length-changed_at}
 use Rattle.ports_core.proofs.PartLemmas.{begins_itself, begins_trans}
 use Rattle.watch_core.specs.Edits.{Edit, append, truncate, replace, remove, World, empty_world, led_to, with_file, edited, edited_by, seen_in, snapshots_from, snapshots_of}
 use Rattle.follow_core.specs.Run.{AreKept, name_text}
 use Rattle.follow_core.specs.Placing.{all_edits, IsUncut, AreSeen, AllSeen, Agree}
-use Rattle.follow_core.proofs.RunLemmas.{text_is_gains, later-append as gains-append, some_is}
-use Rattle.follow_core.proofs.LaterLemmas.{open_step}
+use Rattle.follow_core.proofs.RunLemmas.{text_is_gains, later-append as gains-append}
+use Rattle.follow_core.proofs.LaterLemmas.{look_leaves}
 use Rattle.watch_core.proofs.WorldLemmas.{append_leads, append_grows}
 
 -- a look more with_file no text
@@ -72,9 +72,6 @@ record Sound (world : World) : Type 0 where
   known : (name : List ℕ) (file : ℕ) → led_to world.links name ≡ Some file → file < length world.files
   one : (name other : List ℕ) (file : ℕ) → led_to world.links name ≡ Some file → led_to world.links other ≡ Some file → name ≡ other
 
-not_some : (a : ℕ) → None ≡ Some a → ⊥
-not_some a is = false≢true (ap (λ (o : Option ℕ). elim o [ None ↦ false | Some x ↦ true ]) is)
-
 sound_changes : (world : World) (file : Option ℕ) (change : List ℕ → List ℕ) → Sound world → Sound (with_file file change world)
 sound_changes world None change sound = sound
 sound_changes world (Some file) change sound = record {
@@ -85,24 +82,24 @@ sound_changes world (Some file) change sound = record {
 sound_replace : (world : World) (name bytes : List ℕ) → Sound world → Sound (edited (replace name bytes) world)
 sound_replace world name bytes sound = record { known = λ a file is. knows a file (bytes_eq name a) is; one = λ a b file is also. ones a b file (bytes_eq name a) (bytes_eq name b) refl refl is also } where
   knows : (a : List ℕ) (file : ℕ) (test : Bool) → (if test then Some (length world.files) else led_to world.links a) ≡ Some file → file < length (world.files ++ bytes ∷ [])
-  knows a file true is = let n = length-append world.files (bytes ∷ []) in let e : length world.files ≡ file = some_is _ _ is in omega (arith, n, e)
+  knows a file true is = let n = length-append world.files (bytes ∷ []) in let e : length world.files ≡ file = cc in omega (arith, n, e)
   knows a file false is = let n = length-append world.files (bytes ∷ []) in let k : file < length world.files = sound.known a file is in omega (arith, n, k)
 
   ones : (a b : List ℕ) (file : ℕ) (test other : Bool) → bytes_eq name a ≡ test → bytes_eq name b ≡ other → (if test then Some (length world.files) else led_to world.links a) ≡ Some file → (if other then Some (length world.files) else led_to world.links b) ≡ Some file → a ≡ b
   ones a b file true true same also is one = sym ((bytes_eq-Decides name a).0 same) ∙ (bytes_eq-Decides name b).0 also
-  ones a b file true false same also is one = absurd (let e : length world.files ≡ file = some_is _ _ is in let k : file < length world.files = sound.known b file one in omega (arith, e, k))
-  ones a b file false true same also is one = absurd (let e : length world.files ≡ file = some_is _ _ one in let k : file < length world.files = sound.known a file is in omega (arith, e, k))
+  ones a b file true false same also is one = absurd (let e : length world.files ≡ file = cc in let k : file < length world.files = sound.known b file one in omega (arith, e, k))
+  ones a b file false true same also is one = absurd (let e : length world.files ≡ file = cc in let k : file < length world.files = sound.known a file is in omega (arith, e, k))
   ones a b file false false same also is one = sound.one a b file is one
 
 sound_remove : (world : World) (name : List ℕ) → Sound world → Sound (edited (remove name) world)
 sound_remove world name sound = record { known = λ a file is. knows a file (bytes_eq name a) is; one = λ a b file is also. ones a b file (bytes_eq name a) (bytes_eq name b) is also } where
   knows : (a : List ℕ) (file : ℕ) (test : Bool) → (if test then None else led_to world.links a) ≡ Some file → file < length world.files
-  knows a file true is = absurd (not_some file is)
+  knows a file true is = absurd (cc)
   knows a file false is = sound.known a file is
 
   ones : (a b : List ℕ) (file : ℕ) (test other : Bool) → (if test then None else led_to world.links a) ≡ Some file → (if other then None else led_to world.links b) ≡ Some file → a ≡ b
-  ones a b file true other is one = absurd (not_some file is)
-  ones a b file false true is one = absurd (not_some file one)
+  ones a b file true other is one = absurd (cc)
+  ones a b file false true is one = absurd (cc)
   ones a b file false false is one = sound.one a b file is one
 
 sound_edited : (world : World) (edit : Edit) → Sound world → Sound (edited edit world)
@@ -114,13 +111,6 @@ sound_edited world (remove name) sound = sound_remove world name sound
 sound_all : (world : World) (edits : List Edit) → Sound world → Sound (edited_by edits world)
 sound_all world [] sound = sound
 sound_all world (edit ∷ edits) sound = sound_all (edited edit world) edits (sound_edited world edit sound)
-
-changed_other : (files : List (List ℕ)) (place file : ℕ) (change : List ℕ → List ℕ) → (place ≡ file → ⊥) → slice_index_or (changed_at place change files) file [] ≡ slice_index_or files file []
-changed_other [] place file change differs = refl
-changed_other (held ∷ files) zero zero change differs = absurd (differs refl)
-changed_other (held ∷ files) zero (suc file) change differs = refl
-changed_other (held ∷ files) (suc place) zero change differs = refl
-changed_other (held ∷ files) (suc place) (suc file) change differs = changed_other files place file change (λ is. differs (ap suc is))
 
 one_append : (world : World) (other bytes : List ℕ) (file : ℕ) → IsBeginning ((seen_in world).holds file) ((seen_in (edited (append other bytes) world)).holds file)
 one_append world other bytes file = elim (append_grows world other bytes file) [
@@ -134,7 +124,7 @@ uncut world name file [] sound leads no_cut seen = begins_itself _
 uncut world name file (truncate other n ∷ []) sound leads no_cut seen = by (led_to world.links other) refl where
   by : (led : Option ℕ) → led_to world.links other ≡ led → IsBeginning ((seen_in world).holds file) ((seen_in (with_file led (λ held. take n held) world)).holds file)
   by None is = begins_itself _
-  by (Some place) is = subst (λ held. IsBeginning ((seen_in world).holds file) held) (sym (changed_other world.files place file _ (λ same. false≢true (sym no_cut.0 ∙ (bytes_eq-Decides name other).1 (sound.one name other file leads (is ∙ ap Some same)))))) (begins_itself _)
+  by (Some place) is = subst (λ held. IsBeginning ((seen_in world).holds file) held) (sym (changed_elsewhere [] place file _ world.files (λ same. false≢true (sym no_cut.0 ∙ (bytes_eq-Decides name other).1 (sound.one name other file leads (is ∙ ap Some (sym same))))))) (begins_itself _)
 uncut world name file (replace other bytes ∷ []) sound leads no_cut seen =
     subst (λ held. IsBeginning ((seen_in world).holds file) held) (sym (get_or_append_left world.files (bytes ∷ []) [] file (sound.known name file leads))) (begins_itself _)
 uncut world name file (remove other ∷ []) sound leads no_cut seen = begins_itself _
@@ -184,14 +174,14 @@ stays_now by_name name last world sound = record {
   matches = matches_now by_name name last (seen_in world);
 } where
   by : (way : Bool) → way ≡ true → led_to world.links name ≡ file_of (last_seen way name last (seen_in world))
-  by true is = open_step true name (file_of last) (seen_in world) last refl
+  by true is = (look_leaves true name (file_of last) (seen_in world) last).file
   by false is = absurd (false≢true is)
 
 -- one look, and then the others
 gained_first : (by_name : Bool) (name : List ℕ) (last : Entry) (snapshot : Snapshot) (looks : List Snapshot) → gained by_name name last (snapshot ∷ looks) ≡ gains_later last (entries_at_look by_name name (file_of last) snapshot) ++ gained by_name name (last_seen by_name name last snapshot) looks
 gained_first by_name name last snapshot looks =
     gains-append last (entries_at_look by_name name (file_of last) snapshot) (entries_later by_name name (open_after_look by_name name (file_of last) snapshot) looks)
-    ∙ ap (λ opened. gains_later last (entries_at_look by_name name (file_of last) snapshot) ++ gains_later (last_seen by_name name last snapshot) (entries_later by_name name opened looks)) (open_step by_name name (file_of last) snapshot last refl)
+    ∙ ap (λ opened. gains_later last (entries_at_look by_name name (file_of last) snapshot) ++ gains_later (last_seen by_name name last snapshot) (entries_later by_name name opened looks)) (look_leaves by_name name (file_of last) snapshot last).file
 
 same_first : (by_name : Bool) (name : List ℕ) (last : Entry) (snapshot : Snapshot) (looks others : List Snapshot) → gained by_name name (last_seen by_name name last snapshot) looks ≡ gained by_name name (last_seen by_name name last snapshot) others → gained by_name name last (snapshot ∷ looks) ≡ gained by_name name last (snapshot ∷ others)
 same_first by_name name last snapshot looks others same =
@@ -249,7 +239,7 @@ from_first start by_name name world groups sound seen (Some file) is =
     ap (λ x. start ((seen_in world).holds file) ++ x) (refines by_name name groups seen world (version_in (seen_in world) file) (record { sound = sound; leads = λ _. is; matches = refl }))
 
 no_world : Sound empty_world
-no_world = record { known = λ name file is. absurd (not_some file is); one = λ name other file is also. absurd (not_some file is) }
+no_world = record { known = λ name file is. absurd (cc); one = λ name other file is also. absurd (cc) }
 
 text_of_singles : (start : List ℕ → List ℕ) (by_name : Bool) (name : List ℕ) (first : List Edit) (groups : List (List Edit)) → AllSeen groups → AreKept (entries_of by_name name (snapshots_of (first ∷ groups)))
     → name_text start (entries_of by_name name (snapshots_of (first ∷ groups))) ≡ gains_after start [] (entries_of by_name name (snapshots_of (first ∷ singles (all_edits groups))))

@@ -1,15 +1,20 @@
 -- What a call on a name gives, by what the calls in it give: the open file, and where the name leads.
 use Rattle.std.proofs.Common.{◌≡◌, ℕ, ◌<◌, ◌≤◌, suc, nat_lt, Bool, true, false, List, [], ◌∷◌, ◌++◌, length, drop, Result, Ok, Err, refl, sym, ◌∙◌, ap, subst, arith, if◌then◌else◌, ◌==◌, zero, nat_le, not, ◌&&◌, IsTrue, map, Option, Some, None, IfOk, option_map, inl, inr}
-use Rattle.std.proofs.lemmas.Bool.{false≢true, leb-true, lt-ltb, eqb-true, eq-eqb, leb-false, le-leb}
+use Rattle.std.proofs.lemmas.Bool.{and_from, le-ltb, false≢true, lt-ltb, eqb-true, eq-eqb}
 use Rattle.std.proofs.lemmas.List.{append-nil, map-append}
 use Rattle.ports_core.specs.Slot.{Slot, is_open, adds, changed_at, told_of, with_written}
 use Rattle.ports_core.specs.declared.tool.Tool.{Tool}
 use Rattle.ports_core.specs.Message.{PrintsOn, Says, SaysOn}
+use Rattle.ports_core.proofs.InputsLemmas.{changed_elsewhere}
+use Rattle.ports_core.proofs.SlotLemmas.{length-changed_at}
+use Rattle.follow_core.specs.inner.Visits.{KeepsOthers}
+use Rattle.ports_core.proofs.LoadLemmas.{changed_there}
 use Rattle.ports_core.proofs.MessageLemmas.{said_state}
+use Rattle.watch_core.proofs.NameLemmas.{watchable_within}
 use Rattle.follow_core.specs.Telling.{TellsAll}
 use Rattle.follow_core.specs.declared.visitor.Stop.{Stop}
 use Rattle.follow_core.specs.declared.visitor.Stop.TheVariants.{Broke, Over}
-use Rattle.follow_core.specs.declared.notice.Notice.TheVariants.{Truncated, Replaced, Inaccessible, Appeared}
+use Rattle.follow_core.specs.declared.notice.Notice.TheVariants.{Truncated, Replaced}
 use Rattle.follow_core.specs.Notice.{notice_of, notices_later}
 use Rattle.follow_core.specs.Printing.{PrinterState, Short, no_room, broke as short_broke}
 use Rattle.follow_core.specs.inner.Giving.{text_under, Gives, Halts, Ends, whole, broke, over}
@@ -18,17 +23,18 @@ use Rattle.follow_core.specs.Share.{IsFront}
 use Rattle.follow_core.specs.inner.Calls.{CanGoOn, HasStopped, Keeps, bytes_past, lines_past, held_at, Follows, bytes_led, change_between, lines_led, entry_open, bytes_again, bytes_open, lines_again, lines_open, Catches, Leads}
 use Rattle.follow_core.proofs.GiveLemmas.{tells_state, no_memory, gives_nothing, gives_line, halts_short, front_nil, stops_early, goes_after}
 use Rattle.ports_core.specs.declared.fault.Fault.{Fault}
-use Rattle.watch_core.specs.Watched.{Watched, breaks, Finds, Reopens, file_seen, is_readable, is_watchable, open_contents, opens, watched_at}
+use Rattle.watch_core.specs.Watched.{Watched, breaks, no_name, Finds, Reopens, file_seen, is_readable, is_watchable, open_contents, opens, watched_at}
 use Rattle.std.specs.Prelude.{is_none, is_some}
 use Rattle.watch_core.specs.Snapshot.{Snapshot, latest}
 use Rattle.watch_core.specs.declared.watch.Seen.{Seen}
 use Rattle.follow_core.specs.declared.notice.Notice.{Notice}
-use Rattle.follow_core.specs.Version.{version_in, Version, Entry, version, gap, entries_led, entries_open, open_after_look}
+use Rattle.follow_core.specs.Version.{Entry, version, gap, entries_led, entries_open, open_after_look}
 use Rattle.follow_core.specs.Gain.{gains_later, last_from}
-use Rattle.std.proofs.lemmas.Option.{none-some}
+use Rattle.std.proofs.lemmas.Bool.Decides.{nat_tests}
+use Rattle.std.proofs.lemmas.Option.{none-some, same_Some}
 use Rattle.std.proofs.lemmas.Result.{IfOk-weaker}
 use Rattle.follow_core.specs.Standing.{StandsAt}
-use Rattle.follow_core.proofs.RunLemmas.{later-append as gains-append, notices-append, some_is}
+use Rattle.follow_core.proofs.RunLemmas.{later-append as gains-append, notices-append}
 use Rattle.ports_core.specs.declared.fault.Fault.TheVariants as fault
 
 -- what a call on a name gives, by what the calls in it give
@@ -108,22 +114,18 @@ untold told_in told printer name due lines slots why is = rw is (over fault.Memo
 pub tells : (told_in told : Bool) (printer : PrinterState) (name line text : List ℕ) (old new : List Slot) → text ≡ line → PrintsOn told text old new → Ends {T = Unit {0}} told_in told printer name [] (line ∷ []) old printer new (Ok tt)
 tells told_in told printer name line text old new is prints = whole tt [] (line ∷ []) (λ _. (refl, refl)) (gives_line told printer name line text old new is prints)
 
-pub no_line : (name : List ℕ) (position len : ℕ) (test : Bool) → nat_lt len position ≡ test → position ≤ len → lines_past name position len ≡ []
-no_line name position len true is few = absurd (let less : len < position = leb-true (suc len) position is in omega (arith, less, few))
-no_line name position len false is few = ap (λ t. if t then notice_of Truncated name ∷ [] else []) is
+pub no_line : (name : List ℕ) (position len : ℕ) → position ≤ len → lines_past name position len ≡ []
+no_line name position len few = ap (λ t. if t then notice_of Truncated name ∷ [] else []) (le-ltb len position few)
 
 pub goes_on_here : (told_in told : Bool) (printer : PrinterState) (name : List ℕ) (slots : List Slot) (position len : ℕ) → position ≤ len → Ends {T = ℕ} told_in told printer name [] (lines_past name position len) slots printer slots (Ok position)
-goes_on_here told_in told printer name slots position len few = subst (λ lines. Ends {T = ℕ} told_in told printer name [] lines slots printer slots (Ok position)) (sym (no_line name position len (nat_lt len position) refl few)) (nothing_due told_in told printer name slots position)
+goes_on_here told_in told printer name slots position len few = subst (λ lines. Ends {T = ℕ} told_in told printer name [] lines slots printer slots (Ok position)) (sym (no_line name position len few)) (nothing_due told_in told printer name slots position)
 
 pub line_due : (name : List ℕ) (position len : ℕ) → len < position → notice_of Truncated name ∷ [] ≡ lines_past name position len
 line_due name position len less = ap (λ t. if t then notice_of Truncated name ∷ [] else []) (sym (lt-ltb len position less))
 
 -- a line where the file is shorter, and then the bytes: from the front there, else from the position on
 pub caught_bytes : (position len from : ℕ) (contents : List ℕ) → len ≡ length contents → from ≡ (if nat_lt len position then 0 else position) → drop from contents ≡ bytes_past position contents
-caught_bytes position len from contents long is = ap (λ n. drop n contents) (is ∙ ap (λ n. if nat_lt n position then 0 else position) long) ∙ by (nat_lt (length contents) position) where
-  by : (test : Bool) → drop (if test then 0 else position) contents ≡ (if test then contents else drop position contents)
-  by true = refl
-  by false = refl
+caught_bytes position len from contents long is = grind (arith, nat_tests)
 
 pub caught : (told_in told : Bool) (printer after : PrinterState) (name contents copied : List ℕ) (position len from : ℕ) (old mid new : List Slot) (result : Result ℕ Stop) → (told_in ≡ true → len ≡ length contents) → copied ≡ contents → from ≡ (if nat_lt len position then 0 else position)
     → Ends {T = ℕ} told_in told printer name [] (lines_past name position len) old printer mid (Ok from) → Ends {T = ℕ} told_in told printer name (drop from copied) [] mid after new result
@@ -144,56 +146,23 @@ caught_none told_in told printer name contents position len old mid why long lin
 
 -- what following a name to where it leads gives
 
-no_notice : (notice : Notice) → Some notice ≡ None → ⊥
-no_notice notice is = false≢true (sym (ap (λ (o : Option Notice). elim o [ None ↦ false | Some n ↦ true ]) is))
-
-one_notice : (a b : Notice) → Some a ≡ Some b → a ≡ b
-one_notice a b is = ap (λ (o : Option Notice). elim o [ None ↦ a | Some n ↦ n ]) is
-
-test_notice : (test : Bool) (change : Notice) → (if test then None else Some change) ≡ None → test ≡ true
-test_notice true change is = refl
-test_notice false change is = absurd (no_notice change is)
-
 -- nothing is due where nothing changed
 pub nothing_led : (name : List ℕ) (snapshot : Snapshot) (opened led : Option ℕ) → change_between opened led ≡ None → (bytes_led snapshot opened led ≡ []) × (lines_led name snapshot opened led ≡ []) × (led ≡ opened)
 nothing_led name snapshot None None is = (refl, refl, refl)
-nothing_led name snapshot (Some opened) None is = absurd (no_notice Inaccessible is)
-nothing_led name snapshot None (Some file) is = absurd (no_notice Appeared is)
+nothing_led name snapshot (Some opened) None is = absurd (cc)
+nothing_led name snapshot None (Some file) is = absurd (cc)
 nothing_led name snapshot (Some opened) (Some file) is =
-    let same : (file == opened) ≡ true = test_notice (file == opened) Replaced is in (
-      ap (λ test. gains_later (version_in snapshot opened) (if test then [] else version_in snapshot file ∷ [])) same,
-      ap (λ test. map (λ notice. notice_of notice name) (notices_later (version_in snapshot opened) (if test then [] else version_in snapshot file ∷ []))) same,
-      ap Some (eqb-true file opened same),
-    )
-
-test_change : (test : Bool) (other change : Notice) → (if test then None else Some other) ≡ Some change → (test ≡ false) × (other ≡ change)
-test_change true other change is = absurd (no_notice change (sym is))
-test_change false other change is = (refl, one_notice other change is)
-
-apart : (a b : ℕ) (test : Bool) → (b == a) ≡ test → (a == b) ≡ true → test ≡ true
-apart a b test is same = sym is ∙ eq-eqb b a (sym (eqb-true a b same))
-
-differs : (a b : ℕ) → (b == a) ≡ false → (a == b) ≡ false
-differs a b is = by (a == b) refl where
-  by : (test : Bool) → (a == b) ≡ test → test ≡ false
-  by true same = absurd (false≢true (apart a b false is same))
-  by false same = refl
+    let same : (file == opened) ≡ true = grind (arith, nat_tests) in rw same (refl, refl, ap Some (eqb-true file opened same))
 
 -- where something changed, that is told, and all is due that the name leads to
 pub change_led : (name : List ℕ) (snapshot : Snapshot) (opened led : Option ℕ) (change : Notice) → change_between opened led ≡ Some change → (bytes_led snapshot opened led ≡ held_at snapshot led) × (lines_led name snapshot opened led ≡ notice_of change name ∷ [])
-change_led name snapshot None None change is = absurd (no_notice change (sym is))
-change_led name snapshot (Some opened) None change is = (refl, ap (λ those. notice_of those name ∷ []) (one_notice Inaccessible change is))
-change_led name snapshot None (Some file) change is = (append-nil (snapshot.holds file), ap (λ those. notice_of those name ∷ []) (one_notice Appeared change is))
+change_led name snapshot None None change is = absurd (cc)
+change_led name snapshot (Some opened) None change is = (refl, cc)
+change_led name snapshot None (Some file) change is = (append-nil (snapshot.holds file), cc)
 change_led name snapshot (Some opened) (Some file) change is =
-    let both = test_change (file == opened) Replaced change is in
-    let other = differs opened file both.0 in (
-      ap (λ test. gains_later (version_in snapshot opened) (if test then [] else version_in snapshot file ∷ [])) both.0
-          ∙ ap (λ test. (if test && nat_le (length (snapshot.holds opened)) (length (snapshot.holds file)) then drop (length (snapshot.holds opened)) (snapshot.holds file) else snapshot.holds file) ++ []) other
-          ∙ append-nil (snapshot.holds file),
-      ap (λ test. map (λ notice. notice_of notice name) (notices_later (version_in snapshot opened) (if test then [] else version_in snapshot file ∷ []))) both.0
-          ∙ ap (λ test. map (λ notice. notice_of notice name) ((if test && nat_le (length (snapshot.holds opened)) (length (snapshot.holds file)) then [] else (if test then Truncated else Replaced) ∷ []) ++ [])) other
-          ∙ ap (λ those. notice_of those name ∷ []) both.1,
-    )
+    let both : ((file == opened) ≡ false) × (Replaced ≡ change) = grind (arith, nat_tests) in
+    let other : (opened == file) ≡ false = grind (arith, nat_tests) in
+    rw (both.0, other) (append-nil (snapshot.holds file), ap (λ those. notice_of those name ∷ []) both.1)
 
 -- what is found is where the name leads
 pub found_led : (snapshot : Snapshot) (name : List ℕ) (found : Option Seen) → Finds snapshot name found → option_map (λ (file : Seen). file.id) found ≡ snapshot.leads name
@@ -209,9 +178,14 @@ opens_same (name ∷ names) (suc place) = ap (λ rest. name ∷ rest) (opens_sam
 
 -- the file that was opened
 pub opened_there : (names : List Watched) (place : ℕ) (file : Option ℕ) → IsTrue (is_watchable names place) → watched_at (changed_at place (opens file) names) place ≡ record (watched_at names place) { opened = file }
-opened_there [] place file can = absurd (false≢true can)
-opened_there (name ∷ names) zero file can = refl
-opened_there (name ∷ names) (suc place) file can = opened_there names place file can
+opened_there names place file can = changed_there no_name place (opens file) names (watchable_within names place can)
+
+-- and the names that stay
+pub keeps_others : (place : ℕ) (change : Watched → Watched) (old new : List Watched) → new ≡ changed_at place change old → KeepsOthers place old new
+keeps_others place change old new is = record {
+  count = ap length is ∙ length-changed_at place change old;
+  others = λ other differs. ap (λ those. watched_at those other) is ∙ changed_elsewhere no_name place other change old differs;
+}
 
 pub seen_change : (snapshot : Snapshot) (old now : List Watched) (place : ℕ) (name : List ℕ) (found : Option Seen) → now ≡ old → (watched_at old place).name ≡ name → Finds snapshot (watched_at old place).name found
     → change_between (watched_at now place).opened (option_map (λ (file : Seen). file.id) found) ≡ change_between (watched_at old place).opened (snapshot.leads name)
@@ -245,9 +219,11 @@ none_of (Some x) is = absurd (false≢true (sym is))
 pub held_nowhere : (told : Bool) (snapshot : Snapshot) (old new : List Watched) (place : ℕ) (name : List ℕ) (is_there : Bool) → Reopens told snapshot old new place is_there → is_there ≡ false → (watched_at old place).name ≡ name → told ≡ true → [] ≡ held_at snapshot (snapshot.leads name)
 held_nowhere told snapshot old new place name is_there reopens gone is t = sym (ap (held_at snapshot) (sym (ap snapshot.leads is) ∙ sym (reopens.leads t) ∙ none_of reopens.file (reopens.found ∙ gone)))
 
-contents_at : (snapshot : Snapshot) (watched : Watched) (file : Option ℕ) → open_contents snapshot (record watched { opened = file }) ≡ held_at snapshot file
-contents_at snapshot watched None = refl
-contents_at snapshot watched (Some file) = refl
+pub contents_open : (snapshot : Snapshot) (watched : Watched) → open_contents snapshot watched ≡ held_at snapshot watched.opened
+contents_open snapshot watched = by watched.opened where
+  by : (opened : Option ℕ) → open_contents snapshot (record watched { opened = opened }) ≡ held_at snapshot opened
+  by None = refl
+  by (Some file) = refl
 
 -- the file that was opened is written whole
 pub contents_led : (told : Bool) (snapshot now : Snapshot) (old new : List Watched) (place : ℕ) (name : List ℕ) (is_there : Bool) → now ≡ snapshot → IsTrue (is_watchable old place) → Reopens told snapshot old new place is_there → (watched_at old place).name ≡ name → told ≡ true
@@ -256,14 +232,11 @@ contents_led told snapshot now old new place name is_there seen can reopens is t
     ap (λ those. open_contents those (watched_at new place)) seen
     ∙ ap (λ those. open_contents snapshot (watched_at those place)) reopens.names
     ∙ ap (open_contents snapshot) (opened_there old place reopens.file can)
-    ∙ contents_at snapshot (watched_at old place) reopens.file
+    ∙ contents_open snapshot (record (watched_at old place) { opened = reopens.file })
     ∙ ap (held_at snapshot) (reopens.leads t ∙ ap snapshot.leads is)
 
 pub past_zero : (contents : List ℕ) → bytes_past 0 contents ≡ contents
-past_zero contents = by (nat_lt (length contents) 0) where
-  by : (test : Bool) → (if test then contents else drop 0 contents) ≡ contents
-  by true = refl
-  by false = refl
+past_zero contents = grind (arith, nat_tests)
 
 pub readable_there : (told : Bool) (snapshot : Snapshot) (old new : List Watched) (place : ℕ) (is_there : Bool) → Reopens told snapshot old new place is_there → is_there ≡ true → IsTrue (is_watchable old place) → IsTrue (is_readable new place)
 readable_there told snapshot old new place is_there reopens there can =
@@ -294,34 +267,7 @@ change_seen told snapshot old now place name found id result is opened same name
 
 -- not shorter is not less
 not_shorter : (p n : ℕ) → nat_le p n ≡ not (nat_lt n p)
-not_shorter p n = by (nat_lt n p) refl where
-  less : (test : Bool) → nat_le p n ≡ test → n < p → test ≡ false
-  less true is few = absurd (let within : p ≤ n = leb-true p n is in omega (arith, within, few))
-  less false is few = refl
-
-  by : (test : Bool) → nat_lt n p ≡ test → nat_le p n ≡ not test
-  by true is = less (nat_le p n) refl (leb-true (suc n) p is)
-  by false is = le-leb p n (let few : p < suc n = leb-false (suc n) p is in omega (arith, few))
-
--- what an open file gives past what was seen of it is what its entry adds
-past_bytes : (v : Version) (file : ℕ) (snapshot : Snapshot) → file ≡ v.file → bytes_past (length v.contents) (snapshot.holds file) ≡ gains_later (version v) (version_in snapshot file ∷ [])
-past_bytes v file snapshot same = sym (
-    append-nil _
-    ∙ ap (λ test. if test && nat_le (length v.contents) (length (snapshot.holds file)) then drop (length v.contents) (snapshot.holds file) else snapshot.holds file) (eq-eqb v.file file (sym same))
-    ∙ ap (λ test. if test then drop (length v.contents) (snapshot.holds file) else snapshot.holds file) (not_shorter (length v.contents) (length (snapshot.holds file)))
-    ∙ turned (nat_lt (length (snapshot.holds file)) (length v.contents))) where
-      turned : (test : Bool) → (if not test then drop (length v.contents) (snapshot.holds file) else snapshot.holds file) ≡ (if test then snapshot.holds file else drop (length v.contents) (snapshot.holds file))
-      turned true = refl
-      turned false = refl
-
-past_lines : (name : List ℕ) (v : Version) (file : ℕ) (snapshot : Snapshot) → file ≡ v.file → lines_past name (length v.contents) (length (snapshot.holds file)) ≡ map (λ notice. notice_of notice name) (notices_later (version v) (version_in snapshot file ∷ []))
-past_lines name v file snapshot same = sym (
-    ap (λ test. map (λ notice. notice_of notice name) ((if test && nat_le (length v.contents) (length (snapshot.holds file)) then [] else (if test then Truncated else Replaced) ∷ []) ++ [])) (eq-eqb v.file file (sym same))
-    ∙ ap (λ test. map (λ notice. notice_of notice name) ((if test then [] else Truncated ∷ []) ++ [])) (not_shorter (length v.contents) (length (snapshot.holds file)))
-    ∙ turned (nat_lt (length (snapshot.holds file)) (length v.contents))) where
-      turned : (test : Bool) → map (λ notice. notice_of notice name) ((if not test then [] else Truncated ∷ []) ++ []) ≡ (if test then notice_of Truncated name ∷ [] else [])
-      turned true = refl
-      turned false = refl
+not_shorter p n = grind (arith, nat_tests)
 
 -- the dues of a call that catches up, as the entry's
 pub dues_open : (name : List ℕ) (last : Entry) (opened : Option ℕ) (snapshot : Snapshot) (position : ℕ) → IsTrue (is_some opened) → StandsAt last opened position
@@ -329,8 +275,15 @@ pub dues_open : (name : List ℕ) (last : Entry) (opened : Option ℕ) (snapshot
 dues_open name last None snapshot position some stands = absurd (false≢true some)
 dues_open name gap (Some file) snapshot position some stands = absurd (none-some file (sym stands.file))
 dues_open name (version v) (Some file) snapshot position some stands =
-    let same : file ≡ v.file = some_is file v.file stands.file in
-    (ap (λ n. bytes_past n (snapshot.holds file)) stands.seen ∙ past_bytes v file snapshot same, ap (λ n. lines_past name n (length (snapshot.holds file))) stands.seen ∙ past_lines name v file snapshot same)
+    let same = eq-eqb v.file file (sym (same_Some file v.file stands.file)) in
+    rw (stands.seen, same, not_shorter (length v.contents) (length held)) (by (nat_lt (length held) (length v.contents))) where
+      held : List ℕ
+      held = snapshot.holds file
+
+      by : (test : Bool) → ((if test then held else drop (length v.contents) held) ≡ (if not test then drop (length v.contents) held else held) ++ [])
+          × ((if test then notice_of Truncated name ∷ [] else []) ≡ map (λ notice. notice_of notice name) ((if not test then [] else Truncated ∷ []) ++ []))
+      by true = (sym (append-nil _), refl)
+      by false = (sym (append-nil _), refl)
 
 -- where none is open nothing is due, and nothing was seen
 none_due : (name : List ℕ) (last : Entry) (opened : Option ℕ) (snapshot : Snapshot) (position : ℕ) → opened ≡ None → StandsAt last opened position
@@ -338,12 +291,6 @@ none_due : (name : List ℕ) (last : Entry) (opened : Option ℕ) (snapshot : Sn
 none_due name last (Some file) snapshot position none stands = absurd (none-some file (sym none))
 none_due name (version v) None snapshot position none stands = absurd (none-some v.file (stands.file))
 none_due name gap None snapshot position none stands = (refl, refl, stands.seen)
-
-pub contents_open : (snapshot : Snapshot) (watched : Watched) → open_contents snapshot watched ≡ held_at snapshot watched.opened
-contents_open snapshot watched = by watched.opened where
-  by : (opened : Option ℕ) → open_contents snapshot (record watched { opened = opened }) ≡ held_at snapshot opened
-  by None = refl
-  by (Some file) = refl
 
 -- after the open file comes where the name leads
 last_open : (last : Entry) (opened : Option ℕ) (snapshot : Snapshot) (position : ℕ) → StandsAt last opened position → last_from last (entries_open snapshot opened) ≡ entry_open snapshot opened
@@ -434,12 +381,8 @@ led_looks by_name {told_in} {told} {snapshot} {place} {name} {position} {watched
       led = subst (λ (those : Snapshot). Leads told_in told those place name len watched mid slots_mid watched_new after slots_new result) seen
           (subst (λ (those : List Watched). Leads told_in told snapshot_mid place name len those mid slots_mid watched_new after slots_new result) catches.keeps leads)
 
-both_true : (a b : Bool) → IsTrue a → IsTrue b → IsTrue (a && b)
-both_true true b first second = second
-both_true false b first second = absurd (false≢true first)
-
 pub readable_open : (names : List Watched) (place id : ℕ) → (watched_at names place).opened ≡ Some id → IsTrue (is_watchable names place) → IsTrue (is_readable names place)
-readable_open names place id some can = both_true (is_some (watched_at names place).opened) (is_watchable names place) (ap is_some some) can
+readable_open names place id some can = and_from (is_some (watched_at names place).opened) (is_watchable names place) (ap is_some some) can
 
 -- ways out of catching up
 
@@ -498,7 +441,7 @@ led_whole told_in told printer after name snapshot now old new place is_there sl
     due_as told_in told printer after name (bytes_open last now (watched_at new place).opened) (held_at snapshot (snapshot.leads name)) (lines_open name last now (watched_at new place).opened) [] slots slots_new result
     (λ t. (
       sym dues.0 ∙ past_zero _ ∙ sym (contents_open now (watched_at new place)) ∙ contents_led told_in snapshot now old new place name is_there seen can reopens named t,
-      sym dues.1 ∙ no_line name 0 (length (held_at now (watched_at new place).opened)) (nat_lt (length (held_at now (watched_at new place).opened)) 0) refl (omega arith),
+      sym dues.1 ∙ no_line name 0 (length (held_at now (watched_at new place).opened)) (omega arith),
     ))
     (ends last (λ t. opened.1))
 

@@ -1,4 +1,5 @@
 -- One look after another.
+use Rattle.std.proofs.lemmas.Bool.{cases_lt}
 use Rattle.std.proofs.Common.{◌≡◌, ℕ, zero, suc, ◌<◌, ◌≤◌, ◌+◌, Bool, true, false, List, [], ◌∷◌, ◌++◌, length, map, take, refl, sym, ◌∙◌, ap, subst, arith, inl, inr, ◌⊎◌, if◌then◌else◌}
 use Rattle.std.proofs.lemmas.List.{length-append, map-append, take-append-le}
 use Rattle.std.proofs.Math.Seq.{take-append_seam}
@@ -46,27 +47,21 @@ seen_more : (shows : ℕ → Snapshot) (looks : List Look) (look : Look) (made :
 seen_more shows looks look made saw count is =
     snaps_more looks look ∙ ap (λ front. front ++ look.snapshot ∷ []) (saw ∙ ap (seen_first shows) count) ∙ ap (λ last. seen_first shows made ++ last ∷ []) is
 
-less_or_same : (n m : ℕ) → n < suc m → (n < m) ⊎ (n ≡ m)
-less_or_same zero zero below = inr refl
-less_or_same zero (suc m) below = inl (omega arith)
-less_or_same (suc n) zero below = absurd (omega arith)
-less_or_same (suc n) (suc m) below = elim (less_or_same n m (omega arith)) [
-  | inl less ↦ inl (omega arith)
-  | inr same ↦ inr (ap suc same)
-]
-
 made_more : (told_in : Bool) (ways : Ways) (names : List (List ℕ)) (shows : ℕ → Snapshot) (looks : List Look) (look : Look) (made : ℕ) → length looks ≡ made → look.snapshot ≡ shows made → Made told_in ways names shows looks → (told_in ≡ true → 0 < length looks → is_alive ways names looks ≡ true)
     → Made told_in ways names shows (looks ++ look ∷ [])
 made_more told_in ways names shows looks look made count is before alive = record {
   saw = seen_more shows looks look made before.saw count is ∙ ap (seen_first shows) (sym long);
-  alive = λ t n above below. by t n above (less_or_same n (length looks) (subst (λ m. n < m) (long ∙ ap suc (sym count)) below));
+  alive = λ t n above below. by t n above (cases_lt n (length looks)) (subst (λ m. n < m) long below);
 } where
   long : length (looks ++ look ∷ []) ≡ suc made
   long = length-append looks (look ∷ []) ∙ ap (λ n. n + 1) count ∙ omega arith
 
-  by : told_in ≡ true → (n : ℕ) → 0 < n → (n < length looks) ⊎ (n ≡ length looks) → is_alive ways names (take n (looks ++ look ∷ [])) ≡ true
-  by t n above (inl below) = ap (is_alive ways names) (take-append-le n looks (look ∷ []) (omega arith)) ∙ before.alive t n above below
-  by t n above (inr at) = ap (λ m. is_alive ways names (take m (looks ++ look ∷ []))) at ∙ ap (is_alive ways names) (take-append_seam looks (look ∷ [])) ∙ alive t (subst (λ m. 0 < m) at above)
+  by : told_in ≡ true → (n : ℕ) → 0 < n → (n < length looks) ⊎ (length looks ≤ n) → n < suc made
+      → is_alive ways names (take n (looks ++ look ∷ [])) ≡ true
+  by t n above (inl below) inside = ap (is_alive ways names) (take-append-le n looks (look ∷ []) (omega arith)) ∙ before.alive t n above below
+  by t n above (inr past) inside =
+      let at : n ≡ length looks = omega (arith, past, inside, count) in
+      ap (λ m. is_alive ways names (take m (looks ++ look ∷ []))) at ∙ ap (is_alive ways names) (take-append_seam looks (look ∷ [])) ∙ alive t (subst (λ m. 0 < m) at above)
 
 -- the snapshot of the next look
 pub next_is : (shows now : ℕ → Snapshot) (seen : List Snapshot) (made : ℕ) → now ≡ shows → seen ≡ seen_first shows made → now (length seen) ≡ shows made

@@ -1,13 +1,12 @@
 -- A later look at a name, with what is told of it.
 use Rattle.follow_core.specs.Standing.{BrokeIn, StandsAt}
-use Rattle.std.proofs.lemmas.Option.{none-some}
 use Rattle.follow_core.proofs.CallLemmas.{none_of}
 use Rattle.std.proofs.Common.{◌≡◌, ℕ, ◌==◌, Bool, true, false, List, [], ◌∷◌, ◌++◌, length, Option, Some, None, refl, sym, ◌∙◌, ap, if◌then◌else◌, map, drop, subst, take, Ok, Err, inl, inr, ◌⊎◌, append_assoc}
 use Rattle.std.proofs.lemmas.Bool.{eqb-true}
 use Rattle.std.proofs.lemmas.List.{append-nil, map-append}
 use Rattle.watch_core.specs.Snapshot.{Snapshot}
 use Rattle.follow_core.specs.Version.{Entry, gap, version_in, entries_at_look, entries_led, entries_later, entries_of, entries_open, open_after, open_after_later, open_after_look}
-use Rattle.follow_core.specs.Gain.{file_of, last_from, last_of, seen_length, gains_later, gains_after}
+use Rattle.follow_core.specs.Gain.{file_of, last_from, last_of, gains_later, gains_after}
 use Rattle.follow_core.specs.inner.Calls.{held_at, bytes_again, lines_again}
 use Rattle.follow_core.specs.Look.{Fate, Look, Ways, entries_in, failed_by, failed_in, fate_at, is_dropped, snapshots, sound, unopened as not_opened, unread as not_read}
 use Rattle.std.proofs.Math.Seq.{drop-append_seam as drop_front}
@@ -49,9 +48,6 @@ later_said : (entries more : List Entry) → Some_entries entries → drop (leng
 later_said entries more some = rw some.are (
     ap (drop (length (notices_later some.first some.rest))) (notices-append some.first some.rest more) ∙ drop_front (notices_later some.first some.rest) _)
 
-later_gain : (start : List ℕ → List ℕ) (entries more : List Entry) → Some_entries entries → gains_after start entries more ≡ gains_later (last_of entries) more
-later_gain start entries more some = rw some.are refl
-
 pub entries_more : (ways : Ways) (name : List ℕ) (before : Look) (looks : List Look) (look : Look) → entries_in ways name ((before ∷ looks) ++ look ∷ []) ≡ entries_in ways name (before ∷ looks) ++ entries_at_look ways.by_name name (open_after ways.by_name name (snapshots (before ∷ looks))) look.snapshot
 entries_more ways name before looks look =
     ap (entries_of ways.by_name name) (map-append (λ (l : Look). l.snapshot) (before ∷ looks) (look ∷ []))
@@ -60,10 +56,6 @@ entries_more ways name before looks look =
 -- what a look adds to the entries
 pub new_are : (ways : Ways) (name : List ℕ) (looks : List Look) (look : Look) (more : List Entry) → entries_in ways name (looks ++ look ∷ []) ≡ entries_in ways name looks ++ more → new_entries ways name looks look ≡ more
 new_are ways name looks look more is = ap (drop (length (entries_in ways name looks))) is ∙ drop_front (entries_in ways name looks) more
-
-gain_later : (ways : Ways) (name : List ℕ) (looks : List Look) (look : Look) (more : List Entry) → entries_in ways name (looks ++ look ∷ []) ≡ entries_in ways name looks ++ more → Some_entries (entries_in ways name looks) → gain ways name looks look ≡ gains_later (last_of (entries_in ways name looks)) more
-gain_later ways name looks look more is some =
-    ap (gains_after ways.start (entries_in ways name looks)) (new_are ways name looks look more is) ∙ later_gain ways.start (entries_in ways name looks) more some
 
 -- a look only adds entries
 pub entries_go_on : (ways : Ways) (name : List ℕ) (looks : List Look) (look : Look) → entries_in ways name (looks ++ look ∷ []) ≡ entries_in ways name looks ++ new_entries ways name looks look
@@ -90,18 +82,19 @@ gains_are ways name before (look ∷ looks) =
 pub looks_give_text : (ways : Ways) (name : List ℕ) (looks : List Look) → AreKept (entries_in ways name looks) → gains_from ways name [] looks ≡ name_text ways.start (entries_in ways name looks)
 looks_give_text ways name looks kept = gains_are ways name [] looks ∙ sym (text_is_gains ways.start (entries_in ways name looks) kept)
 
-tells_later : (ways : Ways) (name : List ℕ) (looks : List Look) (look : Look) (more : List Entry) → entries_in ways name (looks ++ look ∷ []) ≡ entries_in ways name looks ++ more → Some_entries (entries_in ways name looks) → said_at_look ways name looks look ≡ map (λ notice. notice_of notice name) (notices_later (last_of (entries_in ways name looks)) more)
-tells_later ways name looks look more is some =
-    ap (map (λ notice. notice_of notice name)) (ap (λ entries. drop (length (notices_of (entries_in ways name looks))) (notices_of entries)) is ∙ later_said (entries_in ways name looks) more some)
-
 -- what a later look adds to a name's text and tells of it, from the last that was seen of it and the file that is open
 pub gain_more : (ways : Ways) (name : List ℕ) (before : Look) (looks : List Look) (look : Look)
     → gain ways name (before ∷ looks) look ≡ gains_later (last_of (entries_in ways name (before ∷ looks))) (entries_at_look ways.by_name name (open_after ways.by_name name (snapshots (before ∷ looks))) look.snapshot)
-gain_more ways name before looks look = gain_later ways name (before ∷ looks) look _ (entries_more ways name before looks look) (some_at ways.by_name name before.snapshot (snapshots looks))
+gain_more ways name before looks look =
+    ap (gains_after ways.start (entries_in ways name (before ∷ looks))) (new_are ways name (before ∷ looks) look _ (entries_more ways name before looks look))
+    ∙ rw (some_at ways.by_name name before.snapshot (snapshots looks)).are refl
 
 pub more_said : (ways : Ways) (name : List ℕ) (before : Look) (looks : List Look) (look : Look)
     → said_at_look ways name (before ∷ looks) look ≡ map (λ notice. notice_of notice name) (notices_later (last_of (entries_in ways name (before ∷ looks))) (entries_at_look ways.by_name name (open_after ways.by_name name (snapshots (before ∷ looks))) look.snapshot))
-more_said ways name before looks look = tells_later ways name (before ∷ looks) look _ (entries_more ways name before looks look) (some_at ways.by_name name before.snapshot (snapshots looks))
+more_said ways name before looks look =
+    let entries = entries_in ways name (before ∷ looks) in
+    ap (map (λ notice. notice_of notice name)) (ap (λ those. drop (length (notices_of entries)) (notices_of those)) (entries_more ways name before looks look)
+    ∙ later_said entries _ (some_at ways.by_name name before.snapshot (snapshots looks)))
 
 pub later_share : (ways : Ways) (name : List ℕ) (before : Look) (looks : List Look) (look : Look) (place : ℕ)
     → is_dropped place (before ∷ looks) ≡ false → fate_at place look ≡ sound
@@ -112,20 +105,6 @@ later_share ways name before looks look place kept fine = rw (kept, fine)
     (ap (λ bytes. given_share false name bytes (said_at_look ways name (before ∷ looks) look)) (gain_more ways name before looks look)
     ∙ ap (given_share false name _) (more_said ways name before looks look))
 
-pub open_step : (by_name : Bool) (name : List ℕ) (opened : Option ℕ) (snapshot : Snapshot) (last : Entry) → opened ≡ file_of last → open_after_look by_name name opened snapshot ≡ file_of (last_from last (entries_at_look by_name name opened snapshot))
-open_step true name opened snapshot last is = by opened (snapshot.leads name) where
-  same : (file other : ℕ) → (test : Bool) → (file == other) ≡ test → Some file ≡ file_of (last_from (version_in snapshot other) (if test then [] else version_in snapshot file ∷ []))
-  same file other true is = ap Some (eqb-true file other is)
-  same file other false is = refl
-
-  by : (opened led : Option ℕ) → led ≡ file_of (last_from last (entries_open snapshot opened ++ entries_led snapshot opened led))
-  by None None = refl
-  by None (Some file) = refl
-  by (Some other) None = refl
-  by (Some other) (Some file) = same file other (file == other) refl
-open_step false name None snapshot last is = refl
-open_step false name (Some file) snapshot last is = refl
-
 -- the last entry of a name: the file that is open, and how much of it was seen
 
 last_from-append : (last : Entry) (entries more : List Entry) → last_from last (entries ++ more) ≡ last_from (last_from last entries) more
@@ -135,32 +114,36 @@ last_from-append last (entry ∷ entries) more = last_from-append entry entries 
 last_more : (entries more : List Entry) → Some_entries entries → last_of (entries ++ more) ≡ last_from (last_of entries) more
 last_more entries more some = rw some.are (last_from-append some.first some.rest more)
 
--- what a look leaves was seen whole
-seen_step : (by_name : Bool) (name : List ℕ) (opened : Option ℕ) (snapshot : Snapshot) (last : Entry) → seen_length (last_from last (entries_at_look by_name name opened snapshot)) ≡ length (held_at snapshot (open_after_look by_name name opened snapshot))
-seen_step true name opened snapshot last = by opened (snapshot.leads name) where
-  same : (file other : ℕ) → (test : Bool) → (file == other) ≡ test → seen_length (last_from (version_in snapshot other) (if test then [] else version_in snapshot file ∷ [])) ≡ length (snapshot.holds file)
-  same file other true is = ap (λ those. length (snapshot.holds those)) (sym (eqb-true file other is))
-  same file other false is = refl
+-- what a look leaves open is the file of its last entry, which was seen whole
+pub look_leaves : (by_name : Bool) (name : List ℕ) (opened : Option ℕ) (snapshot : Snapshot) (last : Entry)
+    → StandsAt (last_from last (entries_at_look by_name name opened snapshot)) (open_after_look by_name name opened snapshot)
+    (length (held_at snapshot (open_after_look by_name name opened snapshot)))
+look_leaves true name opened snapshot last = by opened (snapshot.leads name) where
+  same : (file other : ℕ) (test : Bool) → (file == other) ≡ test
+      → StandsAt (last_from (version_in snapshot other) (if test then [] else version_in snapshot file ∷ [])) (Some file) (length (snapshot.holds file))
+  same file other true is = record { file = ap Some (eqb-true file other is); seen = ap (λ those. length (snapshot.holds those)) (eqb-true file other is) }
+  same file other false is = record { file = refl; seen = refl }
 
-  by : (opened led : Option ℕ) → seen_length (last_from last (entries_open snapshot opened ++ entries_led snapshot opened led)) ≡ length (held_at snapshot led)
-  by None None = refl
-  by None (Some file) = refl
-  by (Some other) None = refl
+  by : (opened led : Option ℕ) → StandsAt (last_from last (entries_open snapshot opened ++ entries_led snapshot opened led)) led (length (held_at snapshot led))
+  by None None = record { file = refl; seen = refl }
+  by None (Some file) = record { file = refl; seen = refl }
+  by (Some other) None = record { file = refl; seen = refl }
   by (Some other) (Some file) = same file other (file == other) refl
-seen_step false name None snapshot last = refl
-seen_step false name (Some file) snapshot last = refl
+look_leaves false name None snapshot last = record { file = refl; seen = refl }
+look_leaves false name (Some file) snapshot last = record { file = refl; seen = refl }
 
 -- the first look
-pub first_last : (ways : Ways) (name : List ℕ) (look : Look) → (file_of (last_of (entries_in ways name (look ∷ []))) ≡ look.snapshot.leads name) × (seen_length (last_of (entries_in ways name (look ∷ []))) ≡ length (held_at look.snapshot (look.snapshot.leads name)))
+pub first_last : (ways : Ways) (name : List ℕ) (look : Look)
+    → StandsAt (last_of (entries_in ways name (look ∷ []))) (look.snapshot.leads name) (length (held_at look.snapshot (look.snapshot.leads name)))
 first_last ways name look = by (look.snapshot.leads name) where
-  by : (led : Option ℕ) → (file_of (last_of (entries_led look.snapshot None led ++ [])) ≡ led) × (seen_length (last_of (entries_led look.snapshot None led ++ [])) ≡ length (held_at look.snapshot led))
-  by None = (refl, refl)
-  by (Some file) = (refl, refl)
+  by : (led : Option ℕ) → StandsAt (last_of (entries_led look.snapshot None led ++ [])) led (length (held_at look.snapshot led))
+  by None = record { file = refl; seen = refl }
+  by (Some file) = record { file = refl; seen = refl }
 
 later_file : (by_name : Bool) (name : List ℕ) (opened : Option ℕ) (last : Entry) (snaps : List Snapshot) → opened ≡ file_of last → open_after_later by_name name opened snaps ≡ file_of (last_from last (entries_later by_name name opened snaps))
 later_file by_name name opened last [] is = is
 later_file by_name name opened last (snapshot ∷ snaps) is =
-    later_file by_name name (open_after_look by_name name opened snapshot) (last_from last (entries_at_look by_name name opened snapshot)) snaps (open_step by_name name opened snapshot last is)
+    later_file by_name name (open_after_look by_name name opened snapshot) (last_from last (entries_at_look by_name name opened snapshot)) snaps (look_leaves by_name name opened snapshot last).file
     ∙ ap file_of (sym (last_from-append last (entries_at_look by_name name opened snapshot) _))
 
 -- the open file is that of the last entry
@@ -172,25 +155,29 @@ last_file ways name before looks = by (before.snapshot.leads name) where
 
 -- one look more
 pub last_later : (ways : Ways) (name : List ℕ) (before : Look) (looks : List Look) (look : Look) (opened : Option ℕ) → opened ≡ file_of (last_of (entries_in ways name (before ∷ looks)))
-    → (file_of (last_of (entries_in ways name ((before ∷ looks) ++ look ∷ []))) ≡ open_after_look ways.by_name name opened look.snapshot)
-    × (seen_length (last_of (entries_in ways name ((before ∷ looks) ++ look ∷ []))) ≡ length (held_at look.snapshot (open_after_look ways.by_name name opened look.snapshot)))
+    → StandsAt (last_of (entries_in ways name ((before ∷ looks) ++ look ∷ []))) (open_after_look ways.by_name name opened look.snapshot)
+    (length (held_at look.snapshot (open_after_look ways.by_name name opened look.snapshot)))
 last_later ways name before looks look opened is =
     let last = last_of (entries_in ways name (before ∷ looks)) in
     let more : last_of (entries_in ways name ((before ∷ looks) ++ look ∷ [])) ≡ last_from last (entries_at_look ways.by_name name opened look.snapshot) =
     ap last_of (entries_more ways name before looks look)
     ∙ last_more (entries_in ways name (before ∷ looks)) _ (some_at ways.by_name name before.snapshot (snapshots looks))
     ∙ ap (λ those. last_from last (entries_at_look ways.by_name name those look.snapshot)) (last_file ways name before looks ∙ sym is) in
-    (ap file_of more ∙ sym (open_step ways.by_name name opened look.snapshot last is), ap seen_length more ∙ seen_step ways.by_name name opened look.snapshot last)
+    rw more (look_leaves ways.by_name name opened look.snapshot last)
+
+-- a name that no look broke came through each
+came_through : (place : ℕ) (fate : Fate) (later : Option Fault) → failed_by place fate later ≡ None → fate ≡ sound
+came_through place sound later none = refl
+came_through place (not_opened notices bytes) later none = absurd (cc)
+came_through place (not_read notices bytes) later none = absurd (cc)
 
 -- the fault by which a name broke, which didn't break at the looks before
 pub failed_more : (place : ℕ) (looks : List Look) (look : Look) (fate : Fate) → failed_in place looks ≡ None → fate_at place look ≡ fate → failed_in place (looks ++ look ∷ []) ≡ failed_by place fate None
 failed_more place [] look fate kept at = ap (λ those. failed_by place those None) at
-failed_more place (first ∷ looks) look fate kept at = by (fate_at place first) kept (λ none. failed_more place looks look fate none at) where
-  by : (before : Fate) → failed_by place before (failed_in place looks) ≡ None → (failed_in place looks ≡ None → failed_in place (looks ++ look ∷ []) ≡ failed_by place fate None)
-      → failed_by place before (failed_in place (looks ++ look ∷ [])) ≡ failed_by place fate None
-  by sound none rest = rest none
-  by (not_opened notices bytes) none rest = absurd (none-some (Open place) (sym none))
-  by (not_read notices bytes) none rest = absurd (none-some (Read place) (sym none))
+failed_more place (first ∷ looks) look fate kept at =
+    let through = came_through place (fate_at place first) (failed_in place looks) kept in
+    ap (λ those. failed_by place those (failed_in place (looks ++ look ∷ []))) through
+    ∙ failed_more place looks look fate (sym (ap (λ those. failed_by place those (failed_in place looks)) through) ∙ kept) at
 
 -- a look that it comes through changes nothing
 pub failed_sound : (place : ℕ) (looks : List Look) (look : Look) → fate_at place look ≡ sound → failed_in place (looks ++ look ∷ []) ≡ failed_in place looks
@@ -199,19 +186,12 @@ failed_sound place (first ∷ looks) look fine = ap (failed_by place (fate_at pl
 
 failed_first : (place : ℕ) (looks : List Look) → failed_in place looks ≡ None → failed_in place (take 1 looks) ≡ None
 failed_first place [] kept = refl
-failed_first place (look ∷ looks) kept = by (fate_at place look) kept where
-  by : (fate : Fate) → failed_by place fate (failed_in place looks) ≡ None → failed_by place fate None ≡ None
-  by sound none = refl
-  by (not_opened notices bytes) none = absurd (none-some (Open place) (sym none))
-  by (not_read notices bytes) none = absurd (none-some (Read place) (sym none))
-
-none_failed : (place : ℕ) (looks : List Look) → is_dropped place looks ≡ false → failed_in place looks ≡ None
-none_failed place looks kept = none_of (failed_in place looks) kept
+failed_first place (look ∷ looks) kept = ap (λ those. failed_by place those None) (came_through place (fate_at place look) (failed_in place looks) kept)
 
 -- a name that is not dropped is not broken
 pub unbroken_in : (ways : Ways) (looks : List Look) (place : ℕ) (failed : Option Fault) → failed ≡ None → is_dropped place looks ≡ false → BrokeIn ways looks place failed
 unbroken_in ways looks place failed unbroken kept =
-    let none = none_failed place looks kept in
+    let none = none_of (failed_in place looks) kept in
     record { fault = unbroken ∙ sym none; opened = λ way. inl (failed_first place looks none ∙ sym none) }
 
 -- one look more, through which it comes
@@ -236,7 +216,7 @@ broken_later ways looks look place failed why fate is fault kept at read = recor
   opened = λ way. inr (now ∙ ap Some (read way));
 } where
   now : failed_in place (looks ++ look ∷ []) ≡ Some why
-  now = failed_more place looks look fate (none_failed place looks kept) at ∙ fault
+  now = failed_more place looks look fate (none_of (failed_in place looks) kept) at ∙ fault
 
 -- a later look at a name, with what is told of it
 

@@ -1,7 +1,7 @@
 -- The text of a name goes on by what each entry adds.
 use Rattle.follow_core.specs.Notice.{notices_later, notices_between}
 use Rattle.std.proofs.Math.Seq.{drop-append_seam as drop_front}
-use Rattle.std.proofs.Common.{◌≡◌, ℕ, Bool, true, false, List, [], ◌∷◌, ◌++◌, length, drop, refl, sym, ◌∙◌, ap, append_assoc, if◌then◌else◌, Some, None}
+use Rattle.std.proofs.Common.{◌≡◌, ℕ, Bool, true, false, List, [], ◌∷◌, ◌++◌, length, drop, refl, sym, ◌∙◌, ap, append_assoc, if◌then◌else◌}
 use Rattle.std.proofs.lemmas.List.{append-nil}
 use Rattle.std.specs.List.{onto_first}
 use Rattle.ports_core.specs.Part.{IsBeginning}
@@ -96,6 +96,3 @@ text_goes_on start entries more all =
 pub notices-append : (last : Entry) (entries more : List Entry) → notices_later last (entries ++ more) ≡ notices_later last entries ++ notices_later (last_from last entries) more
 notices-append last [] more = refl
 notices-append last (entry ∷ entries) more = ap (λ x. notices_between last entry ++ x) (notices-append entry entries more) ∙ sym (append_assoc (notices_between last entry) (notices_later entry entries) _)
-
-pub some_is : (a b : ℕ) → Some a ≡ Some b → a ≡ b
-some_is a b is = ap (λ o. elim o [ None ↦ a | Some x ↦ x ]) is

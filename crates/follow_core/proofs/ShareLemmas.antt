@@ -1,5 +1,6 @@
 -- One look more adds its shares.
-use Rattle.std.proofs.Common.{◌≡◌, ℕ, Bool, true, false, List, [], ◌∷◌, ◌++◌, Option, None, refl, sym, ◌∙◌, ap, append_assoc, ◌||◌}
+use Rattle.std.proofs.Common.{◌≡◌, ℕ, Bool, List, [], ◌∷◌, ◌++◌, Option, None, refl, sym, ◌∙◌, ap, append_assoc, ◌||◌}
+use Rattle.std.proofs.Math.Bool.{or_assoc}
 use Rattle.std.proofs.lemmas.List.{append-nil}
 use Rattle.watch_core.specs.Snapshot.{Snapshot}
 use Rattle.follow_core.specs.Version.{entries_of, entries_later, entries_at_look, open_after_look, open_after_later, open_after, entries_led}
@@ -30,13 +31,9 @@ pub messages-append : (shares more : List Share) → messages_of (shares ++ more
 messages-append [] more = refl
 messages-append (share ∷ shares) more = ap (λ x. share.messages ++ x) (messages-append shares more) ∙ sym (append_assoc share.messages (messages_of shares) (messages_of more))
 
-or_assoc : (a b c : Bool) → (a || (b || c)) ≡ ((a || b) || c)
-or_assoc true b c = refl
-or_assoc false b c = refl
-
 pub failed-append : (shares more : List Share) → any_failed (shares ++ more) ≡ (any_failed shares || any_failed more)
 failed-append [] more = refl
-failed-append (share ∷ shares) more = ap (λ x. share.has_failed || x) (failed-append shares more) ∙ or_assoc share.has_failed (any_failed shares) (any_failed more)
+failed-append (share ∷ shares) more = ap (λ x. share.has_failed || x) (failed-append shares more) ∙ sym (or_assoc share.has_failed (any_failed shares) (any_failed more))
 
 -- what one look more writes, says and comes to
 pub out_more : (ways : Ways) (headers : Bool) (names : List (List ℕ)) (looks : List Look) (look : Look) → (followed ways headers names (looks ++ look ∷ [])).out ≡ (followed ways headers names looks).out ++ text_from headers (last_header ways headers names looks) (shares_at_look ways names looks look)

@@ -1,10 +1,10 @@
 -- A look at one name after another.
 use Rattle.std.proofs.Common.{◌≡◌, ℕ, zero, suc, ◌<◌, ◌≤◌, ◌+◌, Bool, true, false, ◌||◌, List, [], ◌∷◌, ◌++◌, length, take, set, replicate, get_or, slice_index_or, refl, sym, ◌∙◌, ap, subst, arith, append_assoc, inl, inr, ◌⊎◌, Option, if◌then◌else◌}
-use Rattle.std.proofs.lemmas.List.{append-nil, get_or-map, get_or-set_other, get_or-set_same, length-append, length-map, length-replicate, length-set, length-take-le, take_all, get_or_past}
+use Rattle.std.proofs.Math.Bool.{or-false}
+use Rattle.std.proofs.lemmas.Bool.{cases_eq, cases_lt}
+use Rattle.std.proofs.lemmas.List.{append-nil, get_or_default, get_or-map, get_or-set_other, get_or-set_same, length-append, length-map, length-replicate, length-set, length-take-le, take_all, get_or_past}
 use Rattle.std.proofs.Math.Seq.{get_or-append_seam, map-set_same, take-suc}
 use Rattle.ports_core.specs.Slot.{Slot}
-use Rattle.ports_core.proofs.InputsLemmas.{changed_elsewhere}
-use Rattle.ports_core.proofs.SlotLemmas.{length-changed_at}
 use Rattle.follow_core.specs.FollowState.{AllReady}
 use Rattle.follow_core.specs.Followed.{any_failed, header_after, last_header_from, messages_of, share_text, text_from}
 use Rattle.follow_core.specs.Look.{Fate, Look, Ways, fate_at, is_dropped, sound}
@@ -17,7 +17,7 @@ use Rattle.follow_core.specs.Standing.{AllStand, BrokeIn, CanVisit, NameState, S
 use Rattle.follow_core.proofs.GiveLemmas.{short_as, wrote_as, wrote_both, wrote_none, wrote_short}
 use Rattle.ports_core.specs.declared.fault.Fault.{Fault}
 use Rattle.watch_core.specs.Snapshot.{Snapshot}
-use Rattle.watch_core.specs.Watched.{Watched, no_name, opens, watched_at}
+use Rattle.watch_core.specs.Watched.{Watched, opens, watched_at}
 use Rattle.ports_core.specs.Slot.{changed_at}
 use Rattle.follow_core.specs.declared.name.Standing.{Standing}
 use Rattle.follow_core.specs.declared.name.Standing.TheVariants.{New, Followed, Left}
@@ -100,11 +100,6 @@ stands_same : (told : Bool) (ways : Ways) (looks : List Look) (place : ℕ) (nam
 stands_same told ways looks place name other watched those is same stands =
     subst (λ (n : NameState). Stands told ways looks place n.text those n.standing) is (subst (λ w. Stands told ways looks place name.text w name.standing) same stands)
 
-pub state_there : (names : List NameState) (place : ℕ) (default : NameState) → place < length names → get_or names place default ≡ state_at names place
-state_there [] place default within = absurd (omega arith)
-state_there (first ∷ names) zero default within = refl
-state_there (first ∷ names) (suc place) default within = state_there names place default (omega arith)
-
 pub texts_set : (names : List NameState) (place : ℕ) (default one : NameState) → place < length names → one.text ≡ (get_or names place default).text → texts (set names place one) ≡ texts names
 texts_set names place default one within same = map-set_same (λ (n : NameState). n.text) names place one default same
 
@@ -126,19 +121,7 @@ shares_next ways looks look names now place same within =
     ∙ ap (shares_at_look_from ways looks look ways.first) (sym (take-suc (texts names) place [] below))
 
 failed_one : (shares : List Share) (share : Share) (before failed : Bool) → any_failed shares ≡ before → share.has_failed ≡ failed → any_failed (shares ++ share ∷ []) ≡ (before || failed)
-failed_one shares share before failed is one = failed-append shares (share ∷ []) ∙ ap (λ first. first || (share.has_failed || false)) is ∙ ap (λ last. before || (last || false)) one ∙ ap (λ last. before || last) (none failed) where
-  none : (a : Bool) → (a || false) ≡ a
-  none true = refl
-  none false = refl
-
-equal_or_not : (a b : ℕ) → (a ≡ b) ⊎ (a ≡ b → ⊥)
-equal_or_not zero zero = inl refl
-equal_or_not zero (suc b) = inr (λ same. omega arith)
-equal_or_not (suc a) zero = inr (λ same. omega arith)
-equal_or_not (suc a) (suc b) = elim (equal_or_not a b) [
-  | inl same ↦ inl (ap suc same)
-  | inr differ ↦ inr (λ same. differ (omega arith))
-]
+failed_one shares share before failed is one = failed-append shares (share ∷ []) ∙ ap (λ first. first || (share.has_failed || false)) is ∙ ap (λ last. before || (last || false)) one ∙ ap (λ last. before || last) (or-false failed)
 
 pub visited_more : (told_in told : Bool) (ways : Ways) (looks : List Look) (snapshot snapshot_now : Snapshot) (names now : List NameState) (default one : NameState) (place : ℕ) (printer mid after : PrinterState) (old slots new : List Slot) (watched watched_new : List Watched) (before failed : Bool)
     → place < length now → one.text ≡ (get_or now place default).text → KeepsOthers (ways.first + place) watched watched_new → snapshot_now ≡ snapshot
@@ -153,7 +136,7 @@ visited_more told_in told ways looks snapshot snapshot_now names now default one
   is_failed = failed_one sofar.shares visited.share before failed sofar.is_failed visited.is_failed;
   shared = shared_more told printer mid after sofar.shares visited.share old slots new sofar.shared visited.shared;
   same = texts_set now place default one within same ∙ sofar.same;
-  done = λ later other below. subst (λ those. Stands told_in ways (looks ++ record { snapshot = snapshot; fates = those } ∷ []) (ways.first + other) (state_at (set now place one) other).text (watched_at watched_new (ways.first + other)) (state_at (set now place one) other).standing) (sym (append_assoc sofar.fates (visited.fate ∷ []) later)) (there later other below (equal_or_not other place));
+  done = λ later other below. subst (λ those. Stands told_in ways (looks ++ record { snapshot = snapshot; fates = those } ∷ []) (ways.first + other) (state_at (set now place one) other).text (watched_at watched_new (ways.first + other)) (state_at (set now place one) other).standing) (sym (append_assoc sofar.fates (visited.fate ∷ []) later)) (there later other below (cases_eq other place));
   rest = λ other above inside. stands_same told_in ways looks (ways.first + other) (state_at now other) (state_at (set now place one) other) (watched_at watched (ways.first + other)) (watched_at watched_new (ways.first + other)) (sym (get_or-set_other now place other one no_state (differs other above))) (sym (kept other (differs other above)))
       (sofar.rest other (omega arith) (subst (λ n. other < n) (length-set now place one) inside));
 }) where
@@ -161,7 +144,7 @@ visited_more told_in told ways looks snapshot snapshot_now names now default one
   item = get_or now place default
 
   found : item ≡ state_at now place
-  found = state_there now place default within
+  found = get_or_default now place default no_state within
 
   number : ℕ
   number = ways.first + place
@@ -224,17 +207,6 @@ opens_failed (name ∷ names) zero (suc other) file = refl
 opens_failed (name ∷ names) (suc place) zero file = refl
 opens_failed (name ∷ names) (suc place) (suc other) file = opens_failed names place other file
 
-pub opened_count : (place : ℕ) (old new : List Watched) → Opened place old new → length new ≡ length old
-opened_count place old new (file, is) = ap length is ∙ length-changed_at place (opens file) old
-
-before_or_not : (a b : ℕ) → (a < b) ⊎ (b ≤ a)
-before_or_not a zero = inr (omega arith)
-before_or_not zero (suc b) = inl (omega arith)
-before_or_not (suc a) (suc b) = elim (before_or_not a b) [
-  | inl less ↦ inl (omega arith)
-  | inr more ↦ inr (omega arith)
-]
-
 -- a look that was stopped at a name
 pub visited_short : (told_in told : Bool) (ways : Ways) (looks : List Look) (snapshot snapshot_now : Snapshot) (names now : List NameState) (default : NameState) (place : ℕ) (printer mid : PrinterState) (old slots new : List Slot) (watched watched_new : List Watched) (before : Bool) (why : Fault)
     → place < length now → snapshot_now ≡ snapshot → Opened (ways.first + place) watched watched_new
@@ -250,14 +222,14 @@ visited_short told_in told ways looks snapshot snapshot_now names now default pl
   within = subst (λ n. place < n) (sym (length_texts names now sofar.same)) within;
   are = λ t. sofar.are t [] ∙ ap (λ those. shares_at_look_from ways looks (record { snapshot = snapshot; fates = those }) ways.first (take place (texts names))) (append-nil sofar.fates);
   begins = λ t. subst (BeginsShare stopped.1.share) (share_is t) (stopped.1.begins t sofar.fates);
-  broken = λ other inside. subst (BrokeIn ways (looks ++ look ∷ []) (ways.first + other)) (sym (same (ways.first + other))) (there other (subst (λ n. other < n) (length_texts names now sofar.same) inside) (before_or_not other place));
+  broken = λ other inside. subst (BrokeIn ways (looks ++ look ∷ []) (ways.first + other)) (sym (same (ways.first + other))) (there other (subst (λ n. other < n) (length_texts names now sofar.same) inside) (cases_lt other place));
   short = shared_short told printer mid sofar.shares stopped.1.share old slots new why sofar.shared stopped.1.short;
 } where
   item : NameState
   item = get_or now place default
 
   found : item ≡ state_at now place
-  found = state_there now place default within
+  found = get_or_default now place default no_state within
 
   number : ℕ
   number = ways.first + place
@@ -288,11 +260,7 @@ visited_short told_in told ways looks snapshot snapshot_now names now default pl
       (broken_there told_in ways looks (ways.first + other) (state_at now other).text (watched_at watched (ways.first + other)) (state_at now other).standing (sofar.rest other more inside))
 
 pub next_ready : (first : ℕ) (names : List NameState) (one : NameState) (place : ℕ) (watched watched_new : List Watched) → place < length names → AllReady names first watched → KeepsOthers (first + place) watched watched_new → CanVisit one (watched_at watched_new (first + place)) → AllReady (set names place one) first watched_new
-next_ready first names one place watched watched_new within ready keeps can other inside = by (equal_or_not other place) where
+next_ready first names one place watched watched_new within ready keeps can other inside = by (cases_eq other place) where
   by : (other ≡ place) ⊎ (other ≡ place → ⊥) → CanVisit (state_at (set names place one) other) (watched_at watched_new (first + other))
   by (inl at) = subst (λ n. CanVisit (state_at (set names place one) n) (watched_at watched_new (first + n))) (sym at) (subst (λ (n : NameState). CanVisit n (watched_at watched_new (first + place))) (sym (get_or-set_same names place one no_state within)) can)
   by (inr elsewhere) = subst (λ (n : NameState). CanVisit n (watched_at watched_new (first + other))) (sym (get_or-set_other names place other one no_state elsewhere)) (subst (CanVisit (state_at names other)) (sym (keeps.others (first + other) (λ at. elsewhere (omega (arith, at))))) (ready other (subst (λ n. other < n) (length-set names place one) inside)))
-
--- a name of another number stays as it was
-pub opened_other : (number other : ℕ) (old new : List Watched) → Opened number old new → (other ≡ number → ⊥) → watched_at new other ≡ watched_at old other
-opened_other number other old new (file, is) elsewhere = ap (λ those. watched_at those other) is ∙ changed_elsewhere no_name number other (opens file) old elsewhere

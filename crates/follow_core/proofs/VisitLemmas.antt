@@ -1,10 +1,11 @@
 -- A visit of one name.
-use Rattle.std.proofs.Common.{Result, Ok, Err, ◌≡◌, ◌⊎◌, ℕ, zero, suc, Bool, true, false, IsTrue, List, [], ◌∷◌, ◌++◌, length, map, Option, Some, None, refl, sym, ◌∙◌, ap, subst, inl, inr, if◌then◌else◌}
+use Rattle.std.proofs.Common.{Result, Ok, Err, ◌≡◌, ◌<◌, ◌⊎◌, ℕ, Bool, true, false, IsTrue, List, [], ◌∷◌, ◌++◌, length, map, Option, Some, None, refl, sym, ◌∙◌, ap, subst, inl, inr, if◌then◌else◌}
 use Rattle.std.proofs.lemmas.Bool.{false≢true}
 use Rattle.std.proofs.lemmas.Option.{same_Some}
 use Rattle.ports_core.specs.Slot.{Slot, changed_at}
 use Rattle.ports_core.specs.declared.fault.Fault.{Fault}
-use Rattle.ports_core.proofs.InputsLemmas.{changed_elsewhere}
+use Rattle.ports_core.proofs.LoadLemmas.{changed_there}
+use Rattle.watch_core.proofs.NameLemmas.{watchable_within}
 use Rattle.ports_core.proofs.SlotLemmas.{changed_at-again, length-changed_at}
 use Rattle.watch_core.specs.Snapshot.{Snapshot}
 use Rattle.watch_core.specs.Watched.{Reopens, Watched, added, open_contents, breaks, is_watchable, no_name, opens, watched_at}
@@ -16,7 +17,7 @@ use Rattle.follow_core.specs.declared.name.Standing.TheVariants.{New, Followed, 
 use Rattle.follow_core.specs.declared.visitor.Stop.{Stop}
 use Rattle.follow_core.specs.declared.visitor.Stop.TheVariants.{Broke, Over}
 use Rattle.follow_core.specs.inner.Calls.{Keeps, held_at}
-use Rattle.follow_core.specs.Gain.{file_of, gains_later, last_of, seen_length}
+use Rattle.follow_core.specs.Gain.{file_of, gains_later, last_of}
 use Rattle.follow_core.specs.Notice.{notice_of, notices_later}
 use Rattle.follow_core.specs.Look.{Fate, Look, Ways, entries_in, failed_by, failed_in, fate_at, is_dropped, is_first, snapshots, sound, unread}
 use Rattle.follow_core.specs.inner.Visits.{Opened, TellsStop, Leaves, Stopped, has_failed, standing_after, KeepsOthers, Looks, Visited, Visits}
@@ -24,7 +25,7 @@ use Rattle.follow_core.specs.Printing.{PrinterState}
 use Rattle.follow_core.specs.Share.{Share, no_share, share_by, share_of}
 use Rattle.follow_core.specs.Standing.{BrokeIn, CanVisit, IsFollowed, IsLeft, IsMissed, NameState, Stands, StandsAt}
 use Rattle.follow_core.specs.Version.{Entry, version, gap, entries_at_look, open_after, open_after_look}
-use Rattle.follow_core.proofs.CallLemmas.{contents_led, none_of, opened_there, opens_same, LooksAgain}
+use Rattle.follow_core.proofs.CallLemmas.{contents_led, keeps_others, none_of, opened_there, opens_same, LooksAgain}
 use Rattle.follow_core.proofs.LaterLemmas.{broken_first, broken_later, broken_sound, failed_more, failed_sound, later_share, again_broke, again_over, again_whole, last_in, first_last, last_file, last_later}
 use Rattle.ports_core.specs.Message.{SaysOn}
 use Rattle.ports_core.specs.Text.{message_of}
@@ -43,12 +44,6 @@ abbrev pub IsLater : ℕ → Bool → Option Fault → Came → Type 0
 IsLater place by_name failed (Through len) = Unit {0}
 IsLater place by_name failed Missing = ⊥
 IsLater place by_name failed Dropped = by_name ≡ false → (why : Fault) → failed ≡ Some why → why ≡ Read place
-
-keeps_others : (place : ℕ) (change : Watched → Watched) (old new : List Watched) → new ≡ changed_at place change old → KeepsOthers place old new
-keeps_others place change old new is = record {
-  count = ap length is ∙ length-changed_at place change old;
-  others = λ other differs. ap (λ those. watched_at those other) is ∙ changed_elsewhere no_name place other change old differs;
-}
 
 -- what a look at a name leaves of the others
 pub leaves_others : (told : Bool) (snapshot : Snapshot) (led : Option ℕ) (place : ℕ) (old new : List Watched) (failed : Option Fault) (came : Came) → Leaves told snapshot led place old new failed came → KeepsOthers place old new
@@ -74,15 +69,12 @@ can_again told true snapshot led place name old new failed Missing named unbroke
 can_again told false snapshot led place name old new failed Missing named unbroken leaves = tt
 can_again told by_name snapshot led place name old new failed Dropped named unbroken leaves = tt
 
-broken_at : (names : List Watched) (place : ℕ) (why : Fault) → IsTrue (is_watchable names place) → (watched_at (changed_at place (breaks why) names) place).failed ≡ Some why
-broken_at [] place why can = absurd (false≢true can)
-broken_at (name ∷ names) zero why can = refl
-broken_at (name ∷ names) (suc place) why can = broken_at names place why can
-
 broken_now : (place : ℕ) (file : Option ℕ) (why : Fault) (old new : List Watched) → new ≡ changed_at place (breaks why) (changed_at place (opens file) old) → (watched_at old place).failed ≡ None → (watched_at new place).failed ≡ Some why
 broken_now place file why old new is unbroken =
     ap (λ (names : List Watched). (watched_at names place).failed) is
-    ∙ broken_at (changed_at place (opens file) old) place why (watchable (changed_at place (opens file) old) place (ap (λ (w : Watched). w.failed) (opened_now place file old (changed_at place (opens file) old) refl unbroken) ∙ unbroken))
+    ∙ ap (λ (w : Watched). w.failed) (changed_there no_name place (breaks why) (changed_at place (opens file) old) within) where
+      within : place < length (changed_at place (opens file) old)
+      within = subst (λ n. place < n) (sym (length-changed_at place (opens file) old)) (watchable_within old place (watchable old place unbroken))
 
 -- a look more
 begun_more : (looks : List Look) (look : Look) → is_first (looks ++ look ∷ []) ≡ false
@@ -95,7 +87,7 @@ kept_more place looks look fate broke_by kept at is = ap is_some (failed_more pl
 -- a name that came through it stands at its last entry
 through_stands : (told : Bool) (ways : Ways) (looks : List Look) (look : Look) (place : ℕ) (name : List ℕ) (file led : Option ℕ) (len : ℕ) (old new : List Watched) (fate : Fate) → (watched_at old place).name ≡ name → (watched_at old place).failed ≡ None → is_dropped place looks ≡ false → new ≡ changed_at place (opens file) old
     → failed_by place fate None ≡ None → fate_at place look ≡ fate → (told ≡ true → (file ≡ led) × (len ≡ length (held_at look.snapshot led)))
-    → (told ≡ true → (file_of (last_of (entries_in ways name (looks ++ look ∷ []))) ≡ led) × (seen_length (last_of (entries_in ways name (looks ++ look ∷ []))) ≡ length (held_at look.snapshot led)))
+    → (told ≡ true → StandsAt (last_of (entries_in ways name (looks ++ look ∷ []))) led (length (held_at look.snapshot led)))
     → (told ≡ true → ways.by_name ≡ false → is_some led ≡ true) → IsFollowed told ways (looks ++ look ∷ []) place name (watched_at new place) len
 through_stands told ways looks look place name file led len old new fate named unbroken kept is through at are last there =
     let now = opened_now place file old new is unbroken in
@@ -104,7 +96,7 @@ through_stands told ways looks look place name file led len old new fate named u
       unbroken = ap (λ (w : Watched). w.failed) now ∙ unbroken;
       kept = kept_more place looks look fate None kept at through;
       begun = begun_more looks look;
-      stands = λ t. record { file = ap (λ (w : Watched). w.opened) now ∙ (are t).0 ∙ sym (last t).0; seen = (are t).1 ∙ sym (last t).1 };
+      stands = λ t. record { file = ap (λ (w : Watched). w.opened) now ∙ (are t).0 ∙ (last t).file; seen = (are t).1 ∙ (last t).seen };
       there = λ t way. ap (λ (w : Watched). is_some w.opened) now ∙ ap is_some (are t).0 ∙ there t way;
     }
 
@@ -327,7 +319,7 @@ visit_over {told_in} {told} {ways} {snapshot} {place} {text} {standing} {old} {n
 
 no_last : (last : Entry) → None ≡ file_of last → last ≡ gap
 no_last gap is = refl
-no_last (version v) is = absurd (false≢true (ap is_some is))
+no_last (version v) is = absurd (cc)
 
 abbrev share_from : List ℕ → Entry → List Entry → Share
 share_from name entry entries = given_share false name (gains_later entry entries) (map (λ notice. notice_of notice name) (notices_later entry entries))
@@ -362,7 +354,7 @@ still_left told ways (before ∷ looks) look place name watched fine left = reco
       unbroken = missed.unbroken;
       kept = ap is_some (failed_sound place (before ∷ looks) look fine) ∙ missed.kept;
       unopened = λ t. last_file ways name before (looks ++ look ∷ [])
-          ∙ (last_later ways name before looks look None (sym (missed.unopened t) ∙ last_file ways name before looks)).0
+          ∙ sym (last_later ways name before looks look None (sym (missed.unopened t) ∙ last_file ways name before looks)).file
           ∙ ap (λ by_name. open_after_look by_name name None look.snapshot) missed.way;
     })
   ];

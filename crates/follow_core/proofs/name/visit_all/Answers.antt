@@ -1,11 +1,12 @@
 use Rattle.std.proofs.Common.{◌≡◌, ◌<◌, ◌≤◌, ◌+◌, ◌||◌, ℕ, length, set, refl, sym, ◌∙◌, ap, subst, arith}
 use Rattle.std.proofs.lemmas.List.{length-set, get_or_default}
 use Rattle.watch_core.specs.Snapshot.{latest}
-use Rattle.watch_core.specs.Watched.{watched_at}
+use Rattle.watch_core.specs.Watched.{opens, watched_at}
+use Rattle.follow_core.proofs.CallLemmas.{keeps_others}
 use Rattle.follow_core.specs.Look.{Ways, ways_of}
 use Rattle.follow_core.specs.Standing.{AllStand, texts, CanVisit}
 use Rattle.follow_core.specs.inner.Visits.{StoppedAt}
-use Rattle.follow_core.proofs.VisitAllLemmas.{VisitedUpTo, next_ready, opened_count, opened_other, same_length, texts_set, visited_all, visited_more, visited_none, visited_short}
+use Rattle.follow_core.proofs.VisitAllLemmas.{VisitedUpTo, next_ready, same_length, texts_set, visited_all, visited_more, visited_none, visited_short}
 use Rattle.follow_core.proofs.name.visit_all.Goals as goal
 
 pub loop-place-init : goal.loop-place-init
@@ -42,14 +43,16 @@ pub returns-in-Err-clause-texts : goal.returns-in-Err-clause-texts
 returns-in-Err-clause-texts g c = texts_set c.loop-place.names c.loop-place.place c.index-names-place.result c.visit.new.self c.loop-place-test.true (c.visit.ensures.visits c.args.first).same ∙ c.loop-place.invariant.same
 
 pub returns-in-Err-clause-count : goal.returns-in-Err-clause-count
-returns-in-Err-clause-count g c = opened_count (c.args.first + c.loop-place.place) (g.W.Watch.watched c.loop-place.watch) (g.W.Watch.watched c.visit.new.watch) (c.in-Err.ensures.visits c.args.first).halts ∙ c.loop-place.invariant.count
+returns-in-Err-clause-count g c =
+    let halts = (c.in-Err.ensures.visits c.args.first).halts in (keeps_others _ (opens halts.0) _ _ halts.1).count ∙ c.loop-place.invariant.count
 
 pub returns-in-Err-clause-others : goal.returns-in-Err-clause-others
 returns-in-Err-clause-others g c number other =
     let l = c.loop-place in
     let many : length c.args.names.now ≡ length l.names = same_length c.args.names.now l.names l.invariant.same in
     let test : l.place < length l.names = c.loop-place-test.true in
-    opened_other (c.args.first + l.place) number (g.W.Watch.watched l.watch) (g.W.Watch.watched c.visit.new.watch) (c.in-Err.ensures.visits c.args.first).halts (other l.place (omega (arith, many, test))) ∙ l.invariant.others number other
+    let halts = (c.in-Err.ensures.visits c.args.first).halts in
+    (keeps_others _ (opens halts.0) _ _ halts.1).others number (other l.place (omega (arith, many, test))) ∙ l.invariant.others number other
 
 pub loop-place-preserved : goal.loop-place-preserved
 loop-place-preserved g c =
