@@ -1,8 +1,7 @@
 -- Lemmas on outputs of which some are changed, and on how many broke.
 use Rattle.std.proofs.Common.{◌≡◌, ℕ, ◌+◌, ◌<◌, ◌≤◌, zero, suc, List, [], ◌∷◌, length, Bool, true, false, not, ◌&&◌, if◌then◌else◌, ◌⊎◌, inl, inr, refl, sym, ◌∙◌, ap, subst, arith}
-use Rattle.std.proofs.lemmas.Bool.{false≢true, cases_lt}
-use mathlib.Core.Logic.{dite}
-use native.Mathlib.Decide.{ℕ_discrete}
+use Rattle.std.proofs.lemmas.Bool.{false≢true, cases_eq, cases_lt}
+use Rattle.std.proofs.lemmas.Bool.Decides.{nat_tests}
 use Rattle.ports_core.specs.Slot.{Slot, slot_at, changed_at, is_open}
 use Rattle.ports_core.proofs.SlotLemmas.{length-changed_at, slot_at-changed, slot_at-elsewhere}
 use Rattle.tee_core.specs.Outputs.{ChangesEach, newly_broken}
@@ -65,9 +64,6 @@ stay_broken {Change} {IsOne} old new stays decides changes = λ place broken. by
   by place (inl is) broken = stays (slot_at old place) (slot_at new place) (changes.each place is) broken
   by place (inr differs) broken = ap (λ (slot : Slot). slot.is_broken) (changes.others place differs) ∙ broken
 
-pub is_place : (place other : ℕ) → (other ≡ place) ⊎ (other ≡ place → ⊥)
-is_place place other = dite (ℕ_discrete other place) (λ is. inl is) (λ differs. inr differs)
-
 pub is_between : (first end place : ℕ) → ((first ≤ place) × (place < end)) ⊎ ((first ≤ place) × (place < end) → ⊥)
 is_between first end place = elim (cases_lt place first) [
   | inl before ↦ inr (λ is. omega (arith, before, is.0))
@@ -78,12 +74,10 @@ is_between first end place = elim (cases_lt place first) [
 ]
 
 same_flag : (flag : Bool) (n m : ℕ) → n ≡ m → (if not flag && flag then 1 else 0) + n ≡ m
-same_flag true n m is = omega (arith, is)
-same_flag false n m is = omega (arith, is)
+same_flag flag n m is = grind (arith, nat_tests)
 
 last_flag : (flag : Bool) (n : ℕ) → n ≡ 0 → (if flag then 1 else 0) + n ≡ (if flag then 1 else 0)
-last_flag true n none = omega (arith, none)
-last_flag false n none = omega (arith, none)
+last_flag flag n none = grind (arith, nat_tests)
 
 pub newly_none : (slots : List Slot) → newly_broken slots slots ≡ 0
 newly_none [] = refl
@@ -97,13 +91,7 @@ newly_one zero change (slot ∷ slots) flag within sound is =
 newly_one (suc place) change (slot ∷ slots) flag within sound is = same_flag slot.is_broken _ _ (newly_one place change slots flag (omega arith) sound is)
 
 in_two : (a b c : Bool) → (a ≡ true → b ≡ true) → (b ≡ true → c ≡ true) → (if not a && c then 1 else 0) ≡ (if not a && b then 1 else 0) + (if not b && c then 1 else 0)
-in_two true true true ab bc = refl
-in_two true true false ab bc = refl
-in_two true false c ab bc = absurd (false≢true (ab refl))
-in_two false true true ab bc = refl
-in_two false true false ab bc = absurd (false≢true (bc refl))
-in_two false false true ab bc = refl
-in_two false false false ab bc = refl
+in_two a b c ab bc = grind (arith, nat_tests, ab, bc)
 
 -- one stretch after another
 pub newly_in_two : (old mid new : List Slot) → length mid ≡ length old → length new ≡ length mid → StayBroken old mid → StayBroken mid new → newly_broken old new ≡ newly_broken old mid + newly_broken mid new
@@ -154,7 +142,7 @@ none_in_turn first slots = record { turned = turned_none slots (λ place is. ome
 
 pub next_in_turn : {Change : Slot → Slot → Type 0} (first n broke more : ℕ) (old now new : List Slot) → ((before after : Slot) → Change before after → before.is_broken ≡ true → after.is_broken ≡ true) → InTurn Change first n old now broke → ChangesEach Change (λ place. place ≡ first + n) now new → more ≡ newly_broken now new → more ≤ 1 → InTurn Change first (n + 1) old new (broke + more)
 next_in_turn first n broke more old now new stays so_far changes are one = record {
-  turned = turned_both old now new broke more stays (is_between first (first + n)) (is_place (first + n))
+  turned = turned_both old now new broke more stays (is_between first (first + n)) (λ place. cases_eq place (first + n))
       (λ place is other. omega (arith, is.1, other)) to from so_far.turned (record { changes = changes; broke_are = are });
   few = let few : broke ≤ n = so_far.few in omega arith;
 } where

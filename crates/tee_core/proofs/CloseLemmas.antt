@@ -2,19 +2,19 @@
 use Rattle.std.proofs.Common.{◌≡◌, ℕ, ◌<◌, suc, List, [], ◌∷◌, ◌++◌, length, map, Bool, not, Option, Some, None, inr, refl, sym, ◌∙◌, ap, subst, arith}
 use Rattle.std.proofs.lemmas.List.{append-nil}
 use Rattle.std.proofs.lemmas.Bool.{false≢true}
-use Rattle.ports_core.specs.Slot.{Slot, slot_at, changed_at, is_open}
+use Rattle.ports_core.specs.Slot.{Slot, slot_at, changed_at}
 use Rattle.ports_core.specs.Message.{SaysAll}
 use Rattle.ports_core.specs.declared.slot.Mode.{Mode}
 use Rattle.ports_core.specs.declared.tool.Tool.TheVariants.{Tee}
 use Rattle.ports_core.specs.declared.fault.Fault.{Fault}
-use Rattle.ports_core.proofs.MessageLemmas.{all_said_state, says_after}
+use Rattle.ports_core.proofs.MessageLemmas.{says_after}
 use Rattle.ports_core.specs.Streams.{standard_error}
 use Rattle.tee_core.specs.Outputs.{ChangesEach, Closes, is_closed, fails_to_close, was_broken, IsFile}
 use Rattle.tee_core.specs.Run.{OutputLeft, output_whole, output_cut, FileLeft, file_whole, file_unopened, file_cut, file_unclosed, FilesLeft, no_file, one_file, fault_in, messages_of, output_names, said_before, said_of_input}
 use Rattle.std.specs.Prelude.{is_none}
 use Rattle.tee_core.specs.inner.Steps.{HasCopied, Copies, FileHas, has_all, has_none, has_begun, FilesHave, no_more, one_more, HasStreams, IsTeeOf, SaysTo, all_of, broken_of, said_since}
 use Rattle.tee_core.specs.TeeState.{TeeState}
-use Rattle.tee_core.proofs.CopyLemmas.{AllMark, Marks, all_marked, all_older, call_before, error_no_output, length-files, marked_before, marked_none, marked_now, none_marked, none_sooner, place_file, file_place, said_marked}
+use Rattle.tee_core.proofs.CopyLemmas.{AllMark, Marks, all_marked, all_older, call_before, error_no_output, length-files, marked_before, marked_none, marked_now, none_marked, none_sooner, place_file, file_place, said_marked, streams_after}
 
 -- an output that isn't closed
 output_kept : (told : Bool) (pieces : List (List ℕ)) (first : Option ℕ) (output : Slot) → OutputLeft told pieces first output → Marks (suc (length pieces)) first first output.is_broken output.is_broken
@@ -93,16 +93,6 @@ module _ (told : Bool) (mode : Mode) (names : List (List ℕ)) where
     new_is : new ≡ copies.output ∷ says.0 ∷ copies.files
     new_is = says.2 ∙ ap (changed_at 1 (λ _. says.0)) copies.are
 
-  pub copies_streams : (pieces : List (List ℕ)) (messages : List (List ℕ)) (slots : List Slot) (known : List Bool) → Copies told mode names pieces messages slots known → HasStreams slots (length names)
-  copies_streams pieces messages slots known copies = record {
-    output = copies.output;
-    error = copies.error;
-    files = copies.files;
-    are = copies.are;
-    opened = ap is_open (all_said_state told Tee _ standard_error copies.error copies.said);
-    files_are = length-files told mode pieces names copies.broke copies.files copies.files_have;
-  }
-
   -- the outputs once the files were closed, before anything is said of it
   pub record Ending (pieces : List (List ℕ)) (messages : List (List ℕ)) (old mid : List Slot) (known : List Bool) (copies : Copies told mode names pieces messages old known) : Type 0 where
     pub files : List Slot
@@ -158,11 +148,5 @@ module _ (told : Bool) (mode : Mode) (names : List (List ℕ)) where
 
   pub ending_streams : (pieces : List (List ℕ)) (messages : List (List ℕ)) (old mid : List Slot) (known : List Bool) (tee : TeeState) → IsTeeOf names tee → Copies told mode names pieces messages old known → ChangesEach Closes (IsFile tee) old mid → HasStreams mid (length names)
   ending_streams pieces messages old mid known tee is copies closes =
-      let next = closed_next pieces messages old mid known tee is copies closes in record {
-        output = copies.output;
-        error = copies.error;
-        files = next.files;
-        are = next.are;
-        opened = ap is_open (all_said_state told Tee _ standard_error copies.error copies.said);
-        files_are = left_count told mode pieces names next.broke next.files next.files_left;
-      }
+      let next = closed_next pieces messages old mid known tee is copies closes in
+      streams_after told mode names pieces messages old mid known copies.output next.files copies next.are (left_count told mode pieces names next.broke next.files next.files_left)

@@ -1,9 +1,9 @@
 -- Lemmas on copying a piece: what the outputs have after it, and what is said of it.
-use Rattle.std.proofs.Common.{append_assoc, ◌≡◌, ℕ, ◌+◌, ◌<◌, ◌≤◌, zero, suc, eqb, List, [], ◌∷◌, ◌++◌, length, map, take, Bool, true, false, not, ◌&&◌, if◌then◌else◌, Option, Some, None, inl, inr, refl, sym, ◌∙◌, ap, subst, arith, length-append}
+use Rattle.std.proofs.Common.{append_assoc, ◌≡◌, ℕ, ◌+◌, ◌<◌, ◌≤◌, zero, suc, List, [], ◌∷◌, ◌++◌, length, map, take, Bool, true, false, not, ◌&&◌, if◌then◌else◌, Option, Some, None, inl, inr, refl, sym, ◌∙◌, ap, subst, arith, length-append}
 use Rattle.std.specs.List.{concat}
 use Rattle.std.proofs.lemmas.List.Folds.{concat-append}
 use Rattle.std.proofs.lemmas.List.{append-nil}
-use Rattle.std.proofs.lemmas.Bool.{false≢true, eq-eqb, eqb-true, le-ltb, lt-ltb}
+use Rattle.std.proofs.lemmas.Bool.{false≢true, eq-eqb, ne_eqb, le-ltb, lt-ltb}
 use Rattle.ports_core.specs.Slot.{Slot, slot_at, changed_at, is_open, opened, adds, breaks, told_of}
 use Rattle.ports_core.specs.Message.{SaysAll}
 use Rattle.ports_core.specs.Text.{message_of}
@@ -18,17 +18,6 @@ use Rattle.tee_core.specs.TeeState.{TeeState}
 use Rattle.ports_core.proofs.Runs.{adds_both}
 use Rattle.tee_core.proofs.TellLemmas.{count_broken}
 
--- in which call
-
-same_call : (call : ℕ) → broke_in call (Some call) ≡ true
-same_call call = eq-eqb call call refl
-
-other_call : (call other : ℕ) → (other ≡ call → ⊥) → broke_in call (Some other) ≡ false
-other_call call other differs = by (eqb other call) refl where
-  by : (flag : Bool) → eqb other call ≡ flag → eqb other call ≡ false
-  by true is = absurd (differs (eqb-true other call is))
-  by false is = is
-
 -- What a call added to what broke when: it is said where the flag rose, and what broke in the calls before stays.
 pub record Marks (call : ℕ) (before after : Option ℕ) (was now : Bool) : Type 0 where
   pub said : broke_in call after ≡ (not was && now)
@@ -42,8 +31,8 @@ marked_none call = record { said = refl; older = λ other less. refl; sooner = �
 
 pub marked_now : (call : ℕ) → Marks call None (Some call) false true
 marked_now call = record {
-  said = same_call call;
-  older = λ other less. other_call other call (λ is. omega (arith, is, less));
+  said = eq-eqb call call refl;
+  older = λ other less. ne_eqb call other (λ is. omega (arith, is, less));
   sooner = λ other within. le-ltb call other within;
   then_is = le-ltb call call (omega arith);
   now_is = lt-ltb call (suc call) (omega arith);
@@ -51,7 +40,7 @@ marked_now call = record {
 
 pub marked_before : (call earlier : ℕ) → earlier < call → Marks call (Some earlier) (Some earlier) true true
 marked_before call earlier less = record {
-  said = other_call call earlier (λ is. omega (arith, is, less));
+  said = ne_eqb earlier call (λ is. omega (arith, is, less));
   older = λ other before. refl;
   sooner = λ other within. refl;
   then_is = lt-ltb earlier call less;
@@ -274,24 +263,28 @@ module _ (told : Bool) (mode : Mode) (names : List (List ℕ)) where
         ∙ ap (λ texts. texts ++ said_in (suc (length pieces)) (output_names names) (next.first ∷ next.broke)) (sym (all_older (suc (length pieces)) (suc (length pieces)) (output_names names) _ _ _ _ (omega arith) next.marked))
         ∙ sym (append-nil _) ∙ ap (λ call. said_before (suc call) (output_names names) (next.first ∷ next.broke) ++ []) one_more_call
 
+  -- both streams are there, whatever became of the other outputs
+  pub streams_after : (pieces : List (List ℕ)) (messages : List (List ℕ)) (old mid : List Slot) (known : List Bool) (output : Slot) (files : List Slot)
+      → (copies : Copies told mode names pieces messages old known) → mid ≡ output ∷ copies.error ∷ files → length files ≡ length names → HasStreams mid (length names)
+  streams_after pieces messages old mid known output files copies are many = record {
+    output = output;
+    error = copies.error;
+    files = files;
+    are = are;
+    opened = ap is_open (all_said_state told Tee _ standard_error copies.error copies.said);
+    files_are = many;
+  }
+
+  pub copies_streams : (pieces : List (List ℕ)) (messages : List (List ℕ)) (slots : List Slot) (known : List Bool)
+      → Copies told mode names pieces messages slots known → HasStreams slots (length names)
+  copies_streams pieces messages slots known copies =
+      streams_after pieces messages slots slots known copies.output copies.files copies copies.are (length-files told mode pieces names copies.broke copies.files copies.files_have)
+
   pub next_streams : (pieces : List (List ℕ)) (piece : List ℕ) (messages : List (List ℕ)) (old mid : List Slot) (known : List Bool) (tee : TeeState) → IsTeeOf names tee → Copies told mode names pieces messages old known → ChangesEach (Gets told piece) (IsOutput tee) old mid → HasStreams mid (length names)
   next_streams pieces piece messages old mid known tee is copies gets =
-      let next = fed_next pieces piece messages old mid known tee is copies gets in record {
-        output = next.output;
-        error = copies.error;
-        files = next.files;
-        are = next.are;
-        opened = ap is_open (all_said_state told Tee _ standard_error copies.error copies.said);
-        files_are = length-files told mode (pieces ++ piece ∷ []) names next.broke next.files next.files_have;
-      }
+      let next = fed_next pieces piece messages old mid known tee is copies gets in
+      streams_after pieces messages old mid known next.output next.files copies next.are (length-files told mode (pieces ++ piece ∷ []) names next.broke next.files next.files_have)
 
   pub known_many : (pieces : List (List ℕ)) (messages : List (List ℕ)) (slots : List Slot) (known : List Bool) → Copies told mode names pieces messages slots known → length known ≡ length names + 1
   known_many pieces messages slots known copies =
-      ap length copies.known_are ∙ count_broken slots (length names) (record {
-        output = copies.output;
-        error = copies.error;
-        files = copies.files;
-        are = copies.are;
-        opened = ap is_open (all_said_state told Tee _ standard_error copies.error copies.said);
-        files_are = length-files told mode pieces names copies.broke copies.files copies.files_have;
-      })
+      ap length copies.known_are ∙ count_broken slots (length names) (copies_streams pieces messages slots known copies)

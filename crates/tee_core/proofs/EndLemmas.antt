@@ -2,6 +2,7 @@
 use Rattle.std.proofs.Common.{length, ◌≡◌, ℕ, zero, suc, List, [], ◌∷◌, ◌++◌, map, Bool, true, false, not, ◌&&◌, ◌||◌, if◌then◌else◌, Option, Some, None, refl, sym, ◌∙◌, ap, subst, arith}
 use Rattle.std.specs.List.{concat}
 use Rattle.std.proofs.lemmas.Bool.{false≢true}
+use Rattle.std.proofs.lemmas.Bool.Decides.{nat_tests}
 use Rattle.ports_core.specs.Slot.{Slot, adds, closes, opened, streams, told_of}
 use Rattle.ports_core.specs.Source.{Content, IsFresh, Source, source_at}
 use Rattle.ports_core.specs.Text.{message_of}
@@ -21,16 +22,10 @@ use Rattle.tee_core.specs.inner.Steps.{CopiesInput, any_of}
 
 any_broken : (broke : List (Option ℕ)) → any_of (map (λ (when : Option ℕ). not (is_none when)) broke) ≡ not (are_sound broke)
 any_broken [] = refl
-any_broken (first ∷ broke) = ap (λ (flag : Bool). not (is_none first) || flag) (any_broken broke) ∙ by (is_none first) (are_sound broke) where
-  by : (a b : Bool) → (not a || not b) ≡ not (a && b)
-  by true b = refl
-  by false b = refl
+any_broken (first ∷ broke) = let rest = any_broken broke in grind (arith, nat_tests, rest)
 
 one_fails : (sound whole : Bool) → ◌≡◌ {A = ℕ} (if not sound || not whole then 1 else 0) (if whole && sound then 0 else 1)
-one_fails true true = refl
-one_fails true false = refl
-one_fails false true = refl
-one_fails false false = refl
+one_fails sound whole = grind (arith, nat_tests)
 
 status_is : (broke : List (Option ℕ)) (fault : Option Fault) (failed : Bool) (known : List Bool) → failed ≡ (not (is_none fault) || any_of known) → known ≡ map (λ (when : Option ℕ). not (is_none when)) broke → (if failed then 1 else 0) ≡ status_of broke fault
 status_is broke fault failed known failing is =
@@ -79,9 +74,7 @@ nothing_before (suc call) names broke sound = ap (λ texts. texts ++ said_in cal
 
 pub whole_output : (told : Bool) (pieces : List (List ℕ)) (first : Option ℕ) (output : Slot) → first ≡ None → OutputLeft told pieces first output → output ≡ adds (told_of told (concat pieces)) standard_output
 whole_output told pieces _ _ is output_whole = refl
-whole_output told pieces _ _ is (output_cut before that after n is_there within) = absurd (some_none is) where
-  some_none : {a : ℕ} → Some a ≡ None → ⊥
-  some_none is = false≢true (ap is_none is)
+whole_output told pieces _ _ is (output_cut before that after n is_there within) = absurd (cc)
 
 pub whole_files : (told : Bool) (mode : Mode) (pieces : List (List ℕ)) (names : List (List ℕ)) (broke : List (Option ℕ)) (files : List Slot) → are_sound broke ≡ true → FilesLeft told mode pieces names broke files → files ≡ map (λ name. closes (adds (told_of told (concat pieces)) (opened name mode))) names
 whole_files told mode pieces _ _ _ sound no_file = refl
@@ -91,10 +84,7 @@ whole_files told mode pieces _ _ _ sound (one_file name names _ broke _ files (f
 whole_files told mode pieces _ _ _ sound (one_file name names _ broke _ files file_unclosed rest) = absurd (false≢true sound)
 
 status_zero : (sound whole : Bool) → ◌≡◌ {A = ℕ} (if whole && sound then 0 else 1) 0 → (whole ≡ true) × (sound ≡ true)
-status_zero true true is = (refl, refl)
-status_zero true false is = absurd (omega (arith, is))
-status_zero false true is = absurd (omega (arith, is))
-status_zero false false is = absurd (omega (arith, is))
+status_zero sound whole is = grind (arith, nat_tests)
 
 read_whole : (content : Content) (Leaves : List ℕ → Type 0) (is_vain : Bool) (x : List ℕ) (fault : Option Fault) → is_vain ≡ false → is_none fault ≡ true → IsRead content Leaves is_vain x fault → content.bytes ≡ x
 read_whole content Leaves _ _ _ left sound (to_end x is ended leaves) = is

@@ -1,4 +1,5 @@
 -- Lemmas on what outputs get.
+use Rattle.std.proofs.lemmas.Bool.{cases_eq}
 use Rattle.std.proofs.Common.{◌≡◌, ℕ, ◌+◌, ◌<◌, ◌≤◌, List, ◌++◌, length, take, Bool, true, false, refl, sym, ◌∙◌, ap, subst, arith, length-append}
 use Rattle.std.proofs.Math.Seq.{take-append-add}
 use Rattle.std.proofs.lemmas.List.{take-append-le}
@@ -9,7 +10,7 @@ use Rattle.ports_core.proofs.SlotLemmas.{changed_at-again}
 use Rattle.ports_core.proofs.Runs.{adds_both}
 use Rattle.tee_core.specs.Outputs.{ChangesEach, Closes, Gets, gets_all, breaks_off, gets_none, is_closed, fails_to_close, was_broken, IsFile, IsOutput, IsUsable, newly_broken}
 use Rattle.tee_core.specs.TeeState.{TeeState}
-use Rattle.tee_core.proofs.ChangeLemmas.{InTurn, Turns, is_between, is_place, next_in_turn, open_within, turned_both, turned_one, turned_same}
+use Rattle.tee_core.proofs.ChangeLemmas.{InTurn, Turns, is_between, next_in_turn, open_within, turned_both, turned_one, turned_same}
 
 -- one output
 
@@ -96,6 +97,6 @@ closes_next first n broke more old now new so_far closes are one = next_in_turn 
 -- standard output, and then the files
 pub fed : (told : Bool) (piece : List ℕ) (tee : TeeState) (broke more : ℕ) (old mid new : List Slot) → (0 < tee.count → 2 ≤ tee.first) → ChangesEach (Gets told piece) (λ place. place ≡ 0) old mid → broke ≡ newly_broken old mid → ChangesEach (Gets told piece) (IsFile tee) mid new → more ≡ newly_broken mid new → Turns (Gets told piece) (IsOutput tee) old new (broke + more)
 fed told piece tee broke more old mid new streams first are second more_are =
-    turned_both old mid new broke more (still_broken told piece) (is_place 0) (is_between tee.first (tee.first + tee.count))
+    turned_both old mid new broke more (still_broken told piece) (λ place. cases_eq place 0) (is_between tee.first (tee.first + tee.count))
     (λ place is file. let past : 2 ≤ tee.first = streams (omega (arith, file.0, file.1)) in omega (arith, is, past, file.0))
     (λ place is. is) (λ place is. is) (record { changes = first; broke_are = are }) (record { changes = second; broke_are = more_are })

@@ -1,8 +1,8 @@
 -- Lemmas on files that are opened one after another.
 use Rattle.std.proofs.Common.{◌≡◌, ℕ, ◌+◌, ◌-◌, ◌^◌, ◌<◌, ◌≤◌, zero, suc, List, [], ◌∷◌, ◌++◌, length, map, take, drop, get_or, Bor, true, inl, inr, refl, sym, ◌∙◌, ap, subst, arith, append_assoc, length-append}
-use Rattle.std.proofs.lemmas.List.{append-nil, take_all}
+use Rattle.std.proofs.lemmas.List.{append-nil, get_or-append-add, get_or_append_left, take_all}
 use Rattle.std.proofs.lemmas.Bool.{false≢true}
-use Rattle.ports_core.specs.Slot.{Slot, slot_at, opened, unopened, is_open, FailsToOpen, broke}
+use Rattle.ports_core.specs.Slot.{Slot, no_slot, slot_at, opened, unopened, is_open, FailsToOpen, broke}
 use Rattle.ports_core.specs.declared.slot.Mode.{Mode}
 use Rattle.ports_core.specs.declared.fault.Fault.TheVariants as fault
 use Rattle.tee_core.specs.Opening.{OpensAs, is_opened, is_unopened, OpensEach, no_more, one_more, Opens, OpensSome}
@@ -77,14 +77,6 @@ since_usable mode [] [] place no_more within = absurd (omega arith)
 since_usable mode _ _ zero (one_more name names slot slots one rest) within = opened_usable mode name slot one
 since_usable mode _ _ (suc place) (one_more name names slot slots one rest) within = since_usable mode names slots place rest (omega arith)
 
-at_front : (front rest : List Slot) → 0 < length front → slot_at (front ++ rest) 0 ≡ slot_at front 0
-at_front [] rest some = absurd (omega arith)
-at_front (slot ∷ front) rest some = refl
-
-after_front : (front rest : List Slot) (place : ℕ) → slot_at (front ++ rest) (length front + place) ≡ slot_at rest place
-after_front [] rest place = ap (slot_at rest) (let e : 0 + place ≡ place = omega arith in e)
-after_front (slot ∷ front) rest place = ap (slot_at (slot ∷ (front ++ rest))) (let e : suc (length front) + place ≡ suc (length front + place) = omega arith in e) ∙ after_front front rest place
-
 pub length-since : (mode : Mode) (names : List (List ℕ)) (slots : List Slot) → OpensEach mode names slots → length slots ≡ length names
 length-since mode [] [] no_more = refl
 length-since mode _ _ (one_more name names slot slots one rest) = ap suc (length-since mode names slots rest)
@@ -92,22 +84,19 @@ length-since mode _ _ (one_more name names slot slots one rest) = ap suc (length
 pub ready_to_go : (mode : Mode) (names : List (List ℕ)) (old new : List Slot) (tee : TeeState) → 0 < length old → is_open (slot_at old 0).state ≡ true → Opens mode names old new → tee.count ≡ length names → (0 < tee.count → tee.first ≡ length old) → IsReady tee new
 ready_to_go mode names old new tee some standard opens count first place is = by is where
   by : IsOutput tee place → IsUsable (slot_at new place)
-  by (inl here) = λ sound. ap (λ at. is_open (slot_at new at).state) here ∙ ap (λ those. is_open (slot_at those 0).state) opens.slots ∙ ap (λ (slot : Slot). is_open slot.state) (at_front old opens.since some) ∙ standard
+  by (inl here) = λ sound. ap (λ at. is_open (slot_at new at).state) here ∙ ap (λ those. is_open (slot_at those 0).state) opens.slots ∙ ap (λ (slot : Slot). is_open slot.state) (get_or_append_left old opens.since no_slot 0 some) ∙ standard
   by (inr file) =
       let start : tee.first ≡ length old = first (omega (arith, file.0, file.1)) in
       let many : length opens.since ≡ length names = length-since mode names opens.since opens.each in
       let there : place ≡ length old + (place - length old) = omega (arith, start, file.0) in
-      subst IsUsable (sym (ap (λ at. slot_at new at) there ∙ ap (λ those. slot_at those (length old + (place - length old))) opens.slots ∙ after_front old opens.since (place - length old)))
+      subst IsUsable (sym (ap (λ at. slot_at new at) there ∙ ap (λ those. slot_at those (length old + (place - length old))) opens.slots ∙ get_or-append-add old opens.since (place - length old) no_slot))
       (since_usable mode names opens.since (place - length old) opens.each (omega (arith, start, file.0, file.1, many, count)))
 
 -- the same of names as the code has them
 
-names_none : (names : List (Bor (List ℕ))) → length names < 1 → map (λ name. name.now) names ≡ []
-names_none [] few = refl
-names_none (name ∷ names) few = absurd (omega arith)
-
 pub none_left : (mode : Mode) (names : List (Bor (List ℕ))) (slots : List Slot) → length names < 1 → Opens mode (map (λ name. name.now) names) slots slots
-none_left mode names slots few = rw (names_none names few) (opens_none mode slots)
+none_left mode [] slots few = opens_none mode slots
+none_left mode (name ∷ names) slots few = absurd (omega arith)
 
 pub first_and_rest : (other : Bor (List ℕ)) (names : List (Bor (List ℕ))) → 1 ≤ length names → map (λ name. name.now) names ≡ (get_or names 0 other).now ∷ map (λ name. name.now) (take (length names - 1) (drop 1 names))
 first_and_rest other [] some = absurd (omega arith)

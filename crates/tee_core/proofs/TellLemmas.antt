@@ -1,7 +1,8 @@
 -- Lemmas on the messages for outputs that broke.
 use Rattle.std.proofs.Common.{◌≡◌, ℕ, ◌+◌, ◌<◌, zero, suc, List, [], ◌∷◌, ◌++◌, length, map, take, drop, get_or, set, Bor, Bool, true, false, not, ◌&&◌, if◌then◌else◌, refl, sym, ◌∙◌, ap, subst, arith, append_assoc}
+use Rattle.std.proofs.Math.ListN.{get_or-map}
 use Rattle.std.proofs.lemmas.List.{length-map}
-use Rattle.ports_core.specs.Slot.{Slot, slot_at, is_open}
+use Rattle.ports_core.specs.Slot.{Slot, no_slot, slot_at, is_open}
 use Rattle.ports_core.specs.Text.{message_of}
 use Rattle.ports_core.specs.Message.{SaysOn}
 use Rattle.ports_core.specs.declared.tool.Tool.TheVariants.{Tee}
@@ -43,14 +44,9 @@ get_next (suc n) (was ∷ known) (now ∷ broken) other within many = get_next n
 
 -- where outputs stand
 
-broken_there : (files : List Slot) (n : ℕ) → (slot_at files n).is_broken ≡ get_or (map (λ (file : Slot). file.is_broken) files) n false
-broken_there [] n = refl
-broken_there (file ∷ files) zero = refl
-broken_there (file ∷ files) (suc n) = broken_there files n
-
 broken_at : (output error : Slot) (files : List Slot) (n : ℕ) → (slot_at (output ∷ error ∷ files) (output_slot n)).is_broken ≡ get_or (broken_of (output ∷ error ∷ files)) n false
 broken_at output error files zero = refl
-broken_at output error files (suc n) = broken_there files n
+broken_at output error files (suc n) = sym (get_or-map (λ (file : Slot). file.is_broken) files n no_slot)
 
 pub count_broken : (slots : List Slot) (count : ℕ) → HasStreams slots count → length (broken_of slots) ≡ count + 1
 count_broken slots count has = ap (λ those. length (broken_of those)) has.are ∙ (let many : length (map (λ (file : Slot). file.is_broken) has.files) ≡ length has.files = length-map has.files _ in let same : length has.files ≡ count = has.files_are in let e : suc (length (map (λ (file : Slot). file.is_broken) has.files)) ≡ count + 1 = omega arith in e)

@@ -1,21 +1,18 @@
-use Rattle.std.proofs.Common.{sym, ◌∙◌}
+use Rattle.std.proofs.Common.{sym, ◌∙◌, rules}
 use Rattle.tee_core.proofs.GetsLemmas.{not_closed, closed_whole, closed_short}
 use Rattle.tee_core.proofs.tee.close_file.Goals as goal
 
-pub returns-then-broken-clause-closes : goal.returns-then-broken-clause-closes
-returns-then-broken-clause-closes g c = (not_closed _ _ (sym c.broken.ensures ∙ c.if-broken.true)).changes
+pub returns-then-broken : goal.returns-then-broken
+returns-then-broken g c =
+    let turned = not_closed _ _ (sym c.broken.ensures ∙ c.if-broken.true) in
+    record { closes = turned.changes; broke = turned.broke_are; few = search rules }
 
-pub returns-then-broken-clause-broke : goal.returns-then-broken-clause-broke
-returns-then-broken-clause-broke g c = (not_closed _ _ (sym c.broken.ensures ∙ c.if-broken.true)).broke_are
+pub returns-in-Ok : goal.returns-in-Ok
+returns-in-Ok g c =
+    let turned = closed_whole _ _ _ c.requires.usable (sym c.broken.ensures ∙ c.if-broken.false) c.in-Ok.ensures.ok in
+    record { closes = turned.changes; broke = turned.broke_are; few = search rules }
 
-pub returns-in-Ok-clause-closes : goal.returns-in-Ok-clause-closes
-returns-in-Ok-clause-closes g c = (closed_whole _ _ _ c.requires.usable (sym c.broken.ensures ∙ c.if-broken.false) c.in-Ok.ensures.ok).changes
-
-pub returns-in-Ok-clause-broke : goal.returns-in-Ok-clause-broke
-returns-in-Ok-clause-broke g c = (closed_whole _ _ _ c.requires.usable (sym c.broken.ensures ∙ c.if-broken.false) c.in-Ok.ensures.ok).broke_are
-
-pub returns-in-Err-clause-closes : goal.returns-in-Err-clause-closes
-returns-in-Err-clause-closes g c = (closed_short _ _ _ c.requires.usable (sym c.broken.ensures ∙ c.if-broken.false) c.in-Err.ensures.err.1).changes
-
-pub returns-in-Err-clause-broke : goal.returns-in-Err-clause-broke
-returns-in-Err-clause-broke g c = (closed_short _ _ _ c.requires.usable (sym c.broken.ensures ∙ c.if-broken.false) c.in-Err.ensures.err.1).broke_are
+pub returns-in-Err : goal.returns-in-Err
+returns-in-Err g c =
+    let turned = closed_short _ _ _ c.requires.usable (sym c.broken.ensures ∙ c.if-broken.false) c.in-Err.ensures.err.1 in
+    record { closes = turned.changes; broke = turned.broke_are; few = search rules }
