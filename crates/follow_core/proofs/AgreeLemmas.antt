@@ -42,11 +42,15 @@ inside file first middle last (some, is) (more, is_more) =
 pub led_same : (snapshot : Snapshot) (file : ℕ) → entries_led snapshot (Some file) (Some file) ≡ []
 led_same snapshot file = ap (λ test. if test then [] else version_in snapshot file ∷ []) (same_file file)
 
+-- a look after no edit gives nothing
+still : (v : Version) (snapshot : Snapshot) (entries : List Entry) → snapshot.holds v.file ≡ v.contents → gains_later (version v) (version_in snapshot v.file ∷ entries) ≡ gains_later (version v) entries
+still v snapshot entries same =
+    ap (λ contents. gains_later (version v) (version (record { file = v.file; contents = contents }) ∷ entries)) same
+    ∙ ap (λ x. x ++ gains_later (version v) entries) (grown v.file v.contents [] v.contents (sym (append-nil v.contents)))
+
 through : (v : Version) (extra next : Snapshot) (entries : List Entry) → (extra.holds v.file ≡ v.contents) ⊎ (IsBeginning v.contents (extra.holds v.file) × IsBeginning (extra.holds v.file) (next.holds v.file))
     → gains_later (version v) (version_in extra v.file ∷ version_in next v.file ∷ entries) ≡ gains_later (version v) (version_in next v.file ∷ entries)
-through v extra next entries (inl same) =
-    ap (λ contents. gains_later (version v) (version (record { file = v.file; contents = contents }) ∷ version_in next v.file ∷ entries)) same
-    ∙ ap (λ x. x ++ gains_later (version v) (version_in next v.file ∷ entries)) (grown v.file v.contents [] v.contents (sym (append-nil v.contents)))
+through v extra next entries (inl same) = still v extra (version_in next v.file ∷ entries) same
 through v extra next entries (inr (first, more)) =
     sym (append_assoc (gain_between (version v) (version_in extra v.file)) (gain_between (version_in extra v.file) (version_in next v.file)) (gains_later (version_in next v.file) entries))
     ∙ ap (λ x. x ++ gains_later (version_in next v.file) entries) (inside v.file v.contents (extra.holds v.file) (next.holds v.file) first more)
@@ -186,12 +190,6 @@ gained_first by_name name last snapshot looks =
 same_first : (by_name : Bool) (name : List ℕ) (last : Entry) (snapshot : Snapshot) (looks others : List Snapshot) → gained by_name name (last_seen by_name name last snapshot) looks ≡ gained by_name name (last_seen by_name name last snapshot) others → gained by_name name last (snapshot ∷ looks) ≡ gained by_name name last (snapshot ∷ others)
 same_first by_name name last snapshot looks others same =
     gained_first by_name name last snapshot looks ∙ ap (λ x. gains_later last (entries_at_look by_name name (file_of last) snapshot) ++ x) same ∙ sym (gained_first by_name name last snapshot others)
-
--- a look after no edit gives nothing
-still : (v : Version) (snapshot : Snapshot) (entries : List Entry) → snapshot.holds v.file ≡ v.contents → gains_later (version v) (version_in snapshot v.file ∷ entries) ≡ gains_later (version v) entries
-still v snapshot entries same =
-    ap (λ contents. gains_later (version v) (version (record { file = v.file; contents = contents }) ∷ entries)) same
-    ∙ ap (λ x. x ++ gains_later (version v) entries) (grown v.file v.contents [] v.contents (sym (append-nil v.contents)))
 
 idle_look : (by_name : Bool) (name : List ℕ) (last : Entry) (world : World) (looks : List Snapshot) → Stays by_name name world last → gained by_name name last (seen_in world ∷ looks) ≡ gained by_name name last looks
 idle_look false name gap world looks stays = refl

@@ -51,11 +51,6 @@ short_error : (told : Bool) (text : List ℕ) (output error : Slot) (others new 
 short_error told text output error others new _ (short_broke n part) can = subst (HasStopped (fault.Write 0)) (sym part.slots) (inr (refl, refl), can)
 short_error told text output error others new _ (no_room n within is) can = subst (HasStopped fault.Memory) (sym is) (inl refl, can)
 
-pub short_can : (told : Bool) (text : List ℕ) (old new : List Slot) (why : Fault) → Short told text old new why → CanPrint old → HasStopped why new
-short_can told text [] new why short can = absurd (false≢true can.0)
-short_can told text (output ∷ []) new why short can = absurd (false≢true can.1)
-short_can told text (output ∷ error ∷ others) new why short can = short_error told text output error others new why short can.1
-
 -- both streams can be used on, whatever was said or written
 pub said_can : (told : Bool) (tool : Tool) (text : List ℕ) (old new : List Slot) → SaysOn told tool text old new → CanPrint old → CanPrint new
 said_can told tool text [] new says can = absurd (false≢true can.0)
@@ -75,6 +70,10 @@ wrote_error told text lines (output ∷ []) new why short can = absurd (false≢
 wrote_error told text lines (output ∷ error ∷ others) new why short can = by (short output error others refl) where
   by : (last : Slot) × TellsAll told lines error last × Short told text (output ∷ last ∷ others) new why → HasStopped why new
   by (last, said, part) = short_error told text output last others new why part (ap is_open (tells_state told lines error last said) ∙ can.1)
+
+pub short_can : (told : Bool) (text : List ℕ) (old new : List Slot) (why : Fault) → Short told text old new why → CanPrint old → HasStopped why new
+short_can told text old new why short can =
+    wrote_error told text [] old new why (λ output error others is. (error, refl, subst (λ those. Short told text those new why) is short)) can
 
 halts_error : (told : Bool) (printer : PrinterState) (name bytes : List ℕ) (lines : List (List ℕ)) (old new : List Slot) (why : Fault) → Halts told printer name bytes lines old new why → CanPrint old → HasStopped why new
 halts_error told printer name bytes lines old new why halts can = wrote_error told (text_under printer name bytes) lines old new why halts.slots can

@@ -40,12 +40,10 @@ none_made told_in told ways headers names shows first follow watched slots holds
   alive = λ t above. absurd (omega arith);
 }
 
-snaps_more : (looks : List Look) (look : Look) → snapshots (looks ++ look ∷ []) ≡ snapshots looks ++ look.snapshot ∷ []
-snaps_more looks look = map-append (λ (l : Look). l.snapshot) looks (look ∷ [])
-
 seen_more : (shows : ℕ → Snapshot) (looks : List Look) (look : Look) (made : ℕ) → snapshots looks ≡ seen_first shows (length looks) → length looks ≡ made → look.snapshot ≡ shows made → snapshots (looks ++ look ∷ []) ≡ seen_first shows (suc made)
 seen_more shows looks look made saw count is =
-    snaps_more looks look ∙ ap (λ front. front ++ look.snapshot ∷ []) (saw ∙ ap (seen_first shows) count) ∙ ap (λ last. seen_first shows made ++ last ∷ []) is
+    map-append (λ (l : Look). l.snapshot) looks (look ∷ [])
+    ∙ ap (λ front. front ++ look.snapshot ∷ []) (saw ∙ ap (seen_first shows) count) ∙ ap (λ last. seen_first shows made ++ last ∷ []) is
 
 made_more : (told_in : Bool) (ways : Ways) (names : List (List ℕ)) (shows : ℕ → Snapshot) (looks : List Look) (look : Look) (made : ℕ) → length looks ≡ made → look.snapshot ≡ shows made → Made told_in ways names shows looks → (told_in ≡ true → 0 < length looks → is_alive ways names looks ≡ true)
     → Made told_in ways names shows (looks ++ look ∷ [])

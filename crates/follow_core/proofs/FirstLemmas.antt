@@ -1,6 +1,7 @@
 -- The first look at a name, with what is told of it.
 use Rattle.follow_core.specs.declared.visitor.Came.{Came}
 use Rattle.std.proofs.Common.{if◌then◌else◌, ◌≡◌, ℕ, true, false, List, [], ◌∷◌, ◌++◌, length, take, map, Option, Some, None, refl, sym, ◌∙◌, ap, Bool, Ok, Err, inl, subst, Result, not, ◌&&◌}
+use Rattle.std.proofs.Math.Bool.{and-false}
 use Rattle.std.proofs.lemmas.List.{append-nil}
 use Rattle.std.proofs.Math.Seq.{take-append_seam}
 use Rattle.ports_core.specs.Text.{message_of}
@@ -11,10 +12,9 @@ use Rattle.follow_core.specs.Version.{entries_led}
 use Rattle.follow_core.specs.Gain.{gains_after}
 use Rattle.follow_core.specs.Notice.{is_missing, notice_of, notices_of}
 use Rattle.follow_core.specs.Look.{Ways, Look, sound, unopened, entries_in, failed_by, Fate, is_first}
-use Rattle.follow_core.specs.Share.{gain, missing_share, share_by, said_at_look, IsFront, Share, BeginsShare}
+use Rattle.follow_core.specs.Share.{gain, missing_share, no_share, share_by, said_at_look, IsFront, Share, BeginsShare}
 use Rattle.follow_core.specs.inner.Visits.{Stopped, has_failed}
-use Rattle.follow_core.proofs.GiveLemmas.{front_nil, failure_said, itself, short_more, short_as, wrote_as, wrote_both, wrote_line, wrote_none, wrote_short, wrote_text}
-use Rattle.follow_core.specs.Sharing.{Wrote}
+use Rattle.follow_core.proofs.GiveLemmas.{front_nil, gives_nothing, failure_said, itself, short_more, short_as, wrote_as, wrote_both, wrote_line, wrote_short, wrote_text}
 use Rattle.ports_core.specs.Slot.{Slot, told_of, with_written}
 use Rattle.ports_core.specs.Message.{SaysOn}
 use Rattle.follow_core.specs.Telling.{IsFailure}
@@ -23,7 +23,7 @@ use Rattle.follow_core.specs.declared.visitor.Stop.TheVariants.{Broke, Over}
 use Rattle.follow_core.specs.declared.visitor.Came.TheVariants.{Through, Missing, Dropped}
 use Rattle.follow_core.specs.Followed.{header_after, share_text, is_empty}
 use Rattle.follow_core.specs.Printing.{PrinterState, Short}
-use Rattle.follow_core.specs.inner.Giving.{is_due, printer_under, text_under, Shared, SharedShort, opened_under, opening_under, Ends, Gives, Halts, whole, broke, over as ends_over}
+use Rattle.follow_core.specs.inner.Giving.{is_due, text_under, Shared, SharedShort, opened_under, opening_under, Ends, Gives, Halts, whole, broke, over as ends_over}
 use Rattle.ports_core.specs.declared.fault.Fault.{Fault}
 use Rattle.follow_core.specs.inner.Calls.{held_at}
 use Rattle.watch_core.specs.Watched.{Reopens, watched_at, Watched}
@@ -85,22 +85,20 @@ said_after told printer after share line old mid new shared failure says = recor
       (wrote_line told line mid new (λ output error others are. let said = says output error others are in (said.0, failure_said told line error said.0 failure said.1, said.2))));
 }
 
+-- what was given for a name comes to its share
+if_out : (printer : PrinterState) (name : List ℕ) (test : Bool) → ◌≡◌ {A = PrinterState} (if test then record printer { last = Some name } else printer) (record printer { last = if test then Some name else printer.last })
+if_out printer name true = refl
+if_out printer name false = refl
+
+pub gives_shared : (told : Bool) (printer after : PrinterState) (name bytes : List ℕ) (lines : List (List ℕ)) (old new : List Slot) → Gives told printer name bytes lines old after new → Shared told printer (given_share false name bytes lines) old after new
+gives_shared told printer after name bytes lines old new gives = record {
+  printer_is = gives.printer_is ∙ if_out printer name (is_due printer name bytes);
+  slots = gives.slots;
+}
+
 -- a share of nothing
-abbrev empty_share : List ℕ → Share
-empty_share name = record { name = name; is_opened = false; bytes = []; messages = []; has_failed = false }
-
-pub empty_shared : (told : Bool) (printer after : PrinterState) (name : List ℕ) (old new : List Slot) → after ≡ printer → new ≡ old → Shared told printer (empty_share name) old after new
-empty_shared told printer after name old new same_printer same = record {
-  printer_is = same_printer ∙ by printer.headers printer.last;
-  slots = subst (Wrote told _ [] old) (sym same) (wrote_as told [] _ [] [] old old (sym (text printer.headers printer.last)) refl (wrote_none told old));
-} where
-  by : (headers : Bool) (last : Option (List ℕ)) → ◌≡◌ {A = PrinterState} (record { headers = headers; last = last }) (record { headers = headers; last = header_after headers last (empty_share name) })
-  by true last = refl
-  by false last = refl
-
-  text : (headers : Bool) (last : Option (List ℕ)) → share_text headers last (empty_share name) ≡ []
-  text true last = refl
-  text false last = refl
+pub empty_shared : (told : Bool) (printer : PrinterState) (name : List ℕ) (slots : List Slot) → Shared told printer (no_share name) slots printer slots
+empty_shared told printer name slots = gives_shared told printer printer name [] [] slots slots (gives_nothing told printer name slots)
 
 -- all that a look gives was given
 pub looked_whole : (told_in told : Bool) (ways : Ways) (before : List Look) (snapshot : Snapshot) (place : ℕ) (name : List ℕ) (printer after : PrinterState) (old new : List Slot) (bytes : List ℕ) (lines : List (List ℕ)) (len : ℕ) → Dues told_in ways before snapshot name (λ due said. (bytes ≡ due) × (lines ≡ said))
@@ -150,14 +148,14 @@ meets_nothing told_in told ways snapshot place name printer old new leads says =
   is_share = λ is fates. sym (share_missing ways name (record { snapshot = snapshot; fates = fates }) (leads is));
   fault = refl;
   failed = refl;
-  shared = said_after told printer printer (empty_share name) (message_of Tail (Open 0) name) old old new (empty_shared told printer printer name old old refl refl) (name, inl refl) says;
+  shared = said_after told printer printer (no_share name) (message_of Tail (Open 0) name) old old new (empty_shared told printer name old) (name, inl refl) says;
 }
 
 pub meets_unopened : (told_in told : Bool) (ways : Ways) (snapshot : Snapshot) (place : ℕ) (name : List ℕ) (printer : PrinterState) (old new : List Slot)
     → SaysOn told Tail (message_of Tail (Open place) name) old new → Looked told_in told ways [] snapshot place name printer old printer new Dropped (Some (Open place))
 meets_unopened told_in told ways snapshot place name printer old new says =
     looked_failed told_in told ways [] snapshot place name printer printer old old new [] [] (message_of Tail (Open 0) name) false (unopened 0 0) (Some (Open place)) refl (λ fates. refl) (λ is fates. (front_nil _, front_nil _))
-    (empty_shared told printer printer name old old refl refl) (name, inl refl) says
+    (empty_shared told printer name old) (name, inl refl) says
 
 -- what is due of a file that the first look finds
 first_dues : (ways : Ways) (snapshot : Snapshot) (name : List ℕ) (id : ℕ) → snapshot.leads name ≡ Some id → Dues true ways [] snapshot name (λ due said. (due ≡ ways.start (snapshot.holds id)) × (said ≡ []))
@@ -181,42 +179,32 @@ start_copied due due_found {told_in} {told} {printer} {inside} {after} {name} {c
     (due_as told_in told inside after name (due_found copied) (due contents) [] [] old new result (λ is. (part is ∙ ap due same, refl)) ends)
 
 -- after the header that a file is opened under none is due
-not_due_again : (test : Bool) (name : List ℕ) → (true && (not test && not true)) ≡ false
-not_due_again true name = refl
-not_due_again false name = refl
-
 opened_not_due : (printer : PrinterState) (name bytes : List ℕ) → is_due (opened_under printer name) name bytes ≡ false
 opened_not_due printer name bytes = by printer.headers printer.last where
   by : (headers : Bool) (last : Option (List ℕ)) → is_due (opened_under (record { headers = headers; last = last }) name) name bytes ≡ false
-  by true last = rw (itself name) (not_due_again (is_empty bytes) name)
+  by true last = rw (itself name) (and-false (not (is_empty bytes)))
   by false last = refl
 
-opened_text : (printer : PrinterState) (name bytes : List ℕ) → text_under (opened_under printer name) name bytes ≡ bytes
-opened_text printer name bytes = rw (opened_not_due printer name bytes) refl
-
-opened_printer : (printer : PrinterState) (name bytes : List ℕ) → printer_under (opened_under printer name) name bytes ≡ opened_under printer name
-opened_printer printer name bytes = rw (opened_not_due printer name bytes) refl
-
-share_printer : (printer : PrinterState) (name bytes : List ℕ) (lines : List (List ℕ)) → opened_under printer name ≡ record printer { last = header_after printer.headers printer.last (given_share true name bytes lines) }
-share_printer printer name bytes lines = by printer.headers printer.last where
-  by : (headers : Bool) (last : Option (List ℕ)) → opened_under (record { headers = headers; last = last }) name ≡ record { headers = headers; last = header_after headers last (given_share true name bytes lines) }
-  by true last = refl
-  by false last = refl
-
-share_bytes : (printer : PrinterState) (name bytes : List ℕ) (lines : List (List ℕ)) → opening_under printer name ++ bytes ≡ share_text printer.headers printer.last (given_share true name bytes lines)
-share_bytes printer name bytes lines = by printer.headers printer.last where
-  by : (headers : Bool) (last : Option (List ℕ)) → opening_under (record { headers = headers; last = last }) name ++ bytes ≡ share_text headers last (given_share true name bytes lines)
-  by true last = refl
-  by false last = refl
+-- so both are one share's
+opened_share : (printer : PrinterState) (name bytes : List ℕ) (lines : List (List ℕ))
+    → (opened_under printer name ≡ record printer { last = header_after printer.headers printer.last (given_share true name bytes lines) })
+    × (opening_under printer name ++ bytes ≡ share_text printer.headers printer.last (given_share true name bytes lines))
+opened_share printer name bytes lines = by printer.headers printer.last where
+  by : (headers : Bool) (last : Option (List ℕ))
+      → (opened_under (record { headers = headers; last = last }) name
+      ≡ record { headers = headers; last = header_after headers last (given_share true name bytes lines) })
+      × (opening_under (record { headers = headers; last = last }) name ++ bytes ≡ share_text headers last (given_share true name bytes lines))
+  by true last = (refl, refl)
+  by false last = (refl, refl)
 
 opened_bytes : (printer : PrinterState) (name bytes : List ℕ) (lines : List (List ℕ)) → opening_under printer name ++ text_under (opened_under printer name) name bytes ≡ share_text printer.headers printer.last (given_share true name bytes lines)
-opened_bytes printer name bytes lines = ap (λ text. opening_under printer name ++ text) (opened_text printer name bytes) ∙ share_bytes printer name bytes lines
+opened_bytes printer name bytes lines = rw (opened_not_due printer name bytes) (opened_share printer name bytes lines).1
 
 -- the header, and then the start part
 opened_gives : (told : Bool) (printer after : PrinterState) (name bytes : List ℕ) (lines : List (List ℕ)) (old mid new : List Slot) → mid ≡ with_written 0 (told_of told (opening_under printer name)) old
     → Gives told (opened_under printer name) name bytes lines mid after new → Shared told printer (given_share true name bytes lines) old after new
 opened_gives told printer after name bytes lines old mid new first gives = record {
-  printer_is = gives.printer_is ∙ opened_printer printer name bytes ∙ share_printer printer name bytes lines;
+  printer_is = gives.printer_is ∙ rw (opened_not_due printer name bytes) (opened_share printer name bytes lines).0;
   slots = wrote_as told _ _ _ _ old new (opened_bytes printer name bytes lines) refl (wrote_both told _ _ [] lines old mid new (wrote_text told (opening_under printer name) old mid first) gives.slots);
 }
 
@@ -238,7 +226,7 @@ pub first_short : {told_in told : Bool} {ways : Ways} {snapshot : Snapshot} {nam
 first_short {told_in} {told} {ways} {snapshot} {name} {printer} {inside} {old} {new} {why} viewed found short =
     subst (λ (p : PrinterState). Stopped told_in told ways [] snapshot name p old new why) viewed (
     looked_over told_in told ways [] snapshot name inside old new why [] [] (first_fronts told_in ways snapshot name [] [] (λ is. ((found is).0, (found is).1, front_nil _, front_nil _)))
-    (record { slots = λ output error others is. (error, refl, subst (λ text. Short told text (output ∷ error ∷ others) new why) (share_bytes inside name [] []) (short_more told (opening_under inside name) [] (output ∷ error ∷ others) new why (subst (λ those. Short told (opening_under inside name) those new why) is short))) }))
+    (record { slots = λ output error others is. (error, refl, subst (λ text. Short told text (output ∷ error ∷ others) new why) (opened_share inside name [] []).1 (short_more told (opening_under inside name) [] (output ∷ error ∷ others) new why (subst (λ those. Short told (opening_under inside name) those new why) is short))) }))
 
 held_file : (snapshot : Snapshot) (name contents : List ℕ) (id : ℕ) → snapshot.leads name ≡ Some id → contents ≡ held_at snapshot (snapshot.leads name) → contents ≡ snapshot.holds id
 held_file snapshot name contents id leads same = same ∙ ap (held_at snapshot) leads

@@ -1,10 +1,10 @@
 -- A look at all names more, and one that was stopped.
 use Rattle.std.proofs.Math.Bool.{or-false as or_none, and-false as and_none}
-use Rattle.std.proofs.Common.{Err, ◌≡◌, ℕ, zero, suc, ◌<◌, ◌+◌, Bool, true, false, not, ◌||◌, ◌&&◌, List, [], ◌∷◌, ◌++◌, length, map, slice_index_or, refl, sym, ◌∙◌, ap, subst, arith, inl, inr, IsTrue}
-use Rattle.std.proofs.lemmas.Bool.{false≢true}
+use Rattle.std.proofs.Common.{Err, ◌≡◌, ℕ, suc, ◌<◌, ◌+◌, Bool, true, false, not, ◌||◌, ◌&&◌, List, [], ◌∷◌, ◌++◌, length, map, slice_index_or, refl, sym, ◌∙◌, ap, subst, arith, inl, inr}
+use Rattle.std.proofs.lemmas.Bool.{and_parts, false≢true, not-true}
 use Rattle.std.proofs.lemmas.List.{get_or-append-add, get_or-map, get_or_append_left, length-append, length-map}
 use Rattle.std.proofs.Math.Seq.{take-length}
-use Rattle.ports_core.specs.Slot.{Slot, adds, can_write, is_open, is_writable, slot_at, told_of}
+use Rattle.ports_core.specs.Slot.{Slot, adds, told_of}
 use Rattle.follow_core.specs.Telling.{TellsAll}
 use Rattle.follow_core.specs.declared.name.Standing.{Standing}
 use Rattle.follow_core.specs.declared.name.Standing.TheVariants.{New, Followed, Left}
@@ -22,7 +22,6 @@ use Rattle.follow_core.specs.Standing.{AllStand, AreBroken, BrokeIn, CanVisit, I
 use Rattle.follow_core.specs.inner.Visits.{any_goes_on, goes_on_as, StoppedAt, VisitedAll}
 use Rattle.follow_core.specs.Version.{open_after}
 use Rattle.ports_core.specs.declared.fault.Fault.{Fault}
-use Rattle.ports_core.specs.declared.slot.State.{State}
 use Rattle.ports_core.specs.declared.fault.Fault.TheVariants as fault
 use Rattle.watch_core.specs.Snapshot.{Snapshot}
 use Rattle.watch_core.specs.Watched.{Watched, added, no_name, watched_at}
@@ -300,13 +299,11 @@ alive_from ways looks from (name ∷ names) all =
     ap (λ rest. goes_on_as ways.by_name name.standing || rest) (alive_from ways looks (1 + from) names (λ place within. all (suc place) (omega arith) ∙ ap (λ at. goes_on_at ways looks at (state_at names place).text) (omega arith)))
     ∙ ap (λ one. one || is_alive_from ways looks (1 + from) (texts names)) (all 0 (omega arith) ∙ ap (λ at. goes_on_at ways looks at name.text) (omega arith))
 
-new_at : (names : List (List ℕ)) (place : ℕ) → place < length names → (state_at (map new_state names) place).standing ≡ New
-new_at [] place within = absurd (omega arith)
-new_at (name ∷ names) zero within = refl
-new_at (name ∷ names) (suc place) within = new_at names place (omega arith)
-
 new_there : (names : List NameState) (place : ℕ) → place < length names → names ≡ map new_state (texts names) → (state_at names place).standing ≡ New
-new_there names place within new = ap (λ (those : List NameState). (state_at those place).standing) new ∙ new_at (texts names) place (subst (λ n. place < n) (sym (length-map names (λ (n : NameState). n.text))) within)
+new_there names place within new =
+    let inside : place < length (texts names) = subst (λ n. place < n) (sym (length-map names (λ (n : NameState). n.text))) within in
+    ap (λ (those : List NameState). (state_at those place).standing) new
+    ∙ ap (λ (n : NameState). n.standing) (get_or-map new_state (texts names) place [] no_state inside)
 
 fresh_alive : (ways : Ways) (looks : List Look) (names : List NameState) → looks ≡ [] → names ≡ map new_state (texts names) → (place : ℕ) → place < length names → goes_on_as ways.by_name (state_at names place).standing ≡ goes_on_at ways looks (ways.first + place) (state_at names place).text
 fresh_alive ways looks names none new place within =
@@ -325,13 +322,6 @@ alive_is told ways headers names looks first slots follow watched holds =
 
 -- why a look was stopped
 
-not_broken : (old : List Slot) → IsTrue (is_writable old 0) → (slot_at old 0).is_broken ≡ false
-not_broken [] can = absurd (false≢true can)
-not_broken (output ∷ others) can = by output.state output.is_broken can where
-  by : (state : State) (is_broken : Bool) → IsTrue (can_write (record output { state = state; is_broken = is_broken })) → is_broken ≡ false
-  by state false can = refl
-  by state true can = absurd (false≢true (sym (and_none (is_open state)) ∙ can))
-
 -- following isn't over
 can_print : (old : FollowState) (watched : List Watched) (slots : List Slot) → (old.stage ≡ Over → ⊥) → CanLook old watched slots → CanPrint slots
 can_print old watched slots live can = by old.stage live can where
@@ -342,7 +332,7 @@ can_print old watched slots live can = by old.stage live can where
 
 pub cause_is : {old : FollowState} {slots slots_new : List Slot} {why : Fault} (watched : List Watched) → (old.stage ≡ Over → ⊥) → CanLook old watched slots → HasStopped why slots_new → IsCause old slots slots_new why
 cause_is {old} {slots} {slots_new} {why} watched live can (inl memory, error) = subst (IsCause old slots slots_new) (sym memory) lacks_memory
-cause_is {old} {slots} {slots_new} {why} watched live can (inr (is, broken), error) = subst (IsCause old slots slots_new) (sym is) (output_broke (not_broken slots (can_print old watched slots live can).0, broken))
+cause_is {old} {slots} {slots_new} {why} watched live can (inr (is, broken), error) = subst (IsCause old slots slots_new) (sym is) (output_broke (not-true _ (and_parts _ _ (can_print old watched slots live can).0).1, broken))
 
 pub no_memory_is : {old : FollowState} {slots slots_new : List Slot} {why : Fault} → why ≡ fault.Memory → IsCause old slots slots_new why
 no_memory_is {old} {slots} {slots_new} {why} is = subst (IsCause old slots slots_new) (sym is) lacks_memory

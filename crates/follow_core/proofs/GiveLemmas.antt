@@ -1,5 +1,5 @@
 -- What is given for a name: bytes under headers, and lines.
-use Rattle.std.proofs.Common.{◌≡◌, ℕ, Bool, List, [], ◌∷◌, ◌++◌, inl, inr, ◌∙◌, ap, subst, ◌+◌, ◌<◌, length, take, true, false, not, ◌&&◌, if◌then◌else◌, Some, refl, sym, arith, append_assoc, length-append, Result, Ok, Err, ◌-◌, ◌≤◌, drop, min, IsTrue, length-drop}
+use Rattle.std.proofs.Common.{◌≡◌, ℕ, Bool, List, [], ◌∷◌, ◌++◌, inl, inr, ◌∙◌, ap, subst, ◌+◌, ◌<◌, length, take, true, false, not, if◌then◌else◌, Some, refl, sym, arith, append_assoc, length-append, Result, Ok, Err, ◌-◌, ◌≤◌, drop, min, IsTrue, length-drop}
 use Rattle.ports_core.specs.Slot.{Slot, with_written, with_broken, told_of, adds, is_writable, changed_at}
 use Rattle.ports_core.specs.Message.{Prints, Says, PrintsOn}
 use Rattle.ports_core.specs.declared.tool.Tool.TheVariants.{Tail}
@@ -8,6 +8,7 @@ use Rattle.follow_core.specs.Sharing.{Wrote, WroteShort}
 use Rattle.follow_core.specs.Telling.{IsFailure, Tells, TellsAll}
 use Rattle.std.proofs.lemmas.List.{append-nil, take-append-le, length-take, take-append-drop, take_all, drop-drop as drop_drop}
 use Rattle.std.proofs.Math.Seq.{take-append-add, take-add}
+use Rattle.std.proofs.Math.Bool.{and-false}
 use Rattle.std.specs.Str.{bytes_eq}
 use Rattle.std.proofs.lemmas.Slice.Eq.{bytes_eq-Decides}
 use Rattle.std.proofs.lemmas.Bool.{false≢true}
@@ -68,20 +69,11 @@ same_last : (printer : PrinterState) (name first more : List ℕ) → is_empty f
 same_last printer name first more some = by printer.headers (is_last name printer.last) refl refl where
   by : (headers last : Bool) → printer.headers ≡ headers → is_last name printer.last ≡ last → is_due (printer_under printer name first) name more ≡ false
   by false last h l = rw h refl
-  by true true h l = rw (h, some, l, l) (by_more (is_empty more)) where
-    by_more : (e : Bool) → (true && (not e && not true)) ≡ false
-    by_more true = refl
-    by_more false = refl
-  by true false h l = rw (h, some, l, itself name) (by_more (is_empty more)) where
-    by_more : (e : Bool) → (true && (not e && not true)) ≡ false
-    by_more true = refl
-    by_more false = refl
+  by true true h l = rw (h, some, l, l) (and-false (not (is_empty more)))
+  by true false h l = rw (h, some, l, itself name) (and-false (not (is_empty more)))
 
 pub not_due : (printer : PrinterState) (name : List ℕ) → is_due printer name [] ≡ false
-not_due printer name = by printer.headers refl where
-  by : (h : Bool) → printer.headers ≡ h → is_due printer name [] ≡ false
-  by true h = rw h refl
-  by false h = rw h refl
+not_due printer name = and-false printer.headers
 
 no_bytes : (printer : PrinterState) (name more : List ℕ) → text_under printer name more ≡ text_under printer name [] ++ text_under (printer_under printer name []) name more
 no_bytes printer name more = rw (not_due printer name) refl

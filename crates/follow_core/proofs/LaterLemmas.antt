@@ -23,11 +23,11 @@ use Rattle.ports_core.specs.declared.fault.Fault.{Fault}
 use Rattle.ports_core.specs.declared.fault.Fault.TheVariants.{Open, Read}
 use Rattle.follow_core.specs.declared.visitor.Stop.TheVariants.{Broke, Over}
 use Rattle.follow_core.specs.declared.visitor.Came.TheVariants.{Through, Dropped}
-use Rattle.follow_core.specs.inner.Giving.{Ends, Gives, Halts, broke, over, whole, Shared, SharedShort, is_due}
+use Rattle.follow_core.specs.inner.Giving.{Ends, Halts, broke, over, whole, SharedShort}
 use Rattle.follow_core.specs.inner.Visits.{Stopped}
 use Rattle.follow_core.specs.Printing.{PrinterState}
 use Rattle.follow_core.specs.Telling.{IsFailure}
-use Rattle.follow_core.proofs.FirstLemmas.{Dues, Looked, failed_share, given_share, looked_failed, looked_over, looked_whole}
+use Rattle.follow_core.proofs.FirstLemmas.{Dues, Looked, failed_share, given_share, gives_shared, looked_failed, looked_over, looked_whole}
 
 -- what a look gives for a name, from where the looks before left it
 
@@ -219,16 +219,6 @@ broken_later ways looks look place failed why fate is fault kept at read = recor
   now = failed_more place looks look fate (none_of (failed_in place looks) kept) at ∙ fault
 
 -- a later look at a name, with what is told of it
-
-if_out : (printer : PrinterState) (name : List ℕ) (test : Bool) → ◌≡◌ {A = PrinterState} (if test then record printer { last = Some name } else printer) (record printer { last = if test then Some name else printer.last })
-if_out printer name true = refl
-if_out printer name false = refl
-
-gives_shared : (told : Bool) (printer after : PrinterState) (name bytes : List ℕ) (lines : List (List ℕ)) (old new : List Slot) → Gives told printer name bytes lines old after new → Shared told printer (given_share false name bytes lines) old after new
-gives_shared told printer after name bytes lines old new gives = record {
-  printer_is = gives.printer_is ∙ if_out printer name (is_due printer name bytes);
-  slots = gives.slots;
-}
 
 halts_shared : (told : Bool) (printer : PrinterState) (name bytes : List ℕ) (lines : List (List ℕ)) (old new : List Slot) (why : Fault) → Halts told printer name bytes lines old new why → SharedShort told printer (given_share false name bytes lines) old new why
 halts_shared told printer name bytes lines old new why halts = record { slots = halts.slots }

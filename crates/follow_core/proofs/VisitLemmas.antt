@@ -372,7 +372,7 @@ left_visited told_in told ways snapshot place name printer slots watched standin
       share = no_share name;
       is_share = λ t fates at. left_share told_in ways looks (record { snapshot = snapshot; fates = fates }) place name watched t left at;
       is_failed = refl;
-      shared = empty_shared told printer printer name slots slots refl refl;
+      shared = empty_shared told printer name slots;
       stands = λ fates at. subst (λ those. Stands told_in ways (looks ++ record { snapshot = snapshot; fates = fates } ∷ []) place name watched those) (sym is) (still_left told_in ways looks (record { snapshot = snapshot; fates = fates }) place name watched at left);
     }
 
