@@ -17,7 +17,7 @@ use Rattle.follow_core.specs.declared.visitor.Stop.TheVariants.{Broke, Over}
 use Rattle.follow_core.specs.declared.notice.Notice.TheVariants.{Truncated, Replaced}
 use Rattle.follow_core.specs.Notice.{notice_of, notices_later}
 use Rattle.follow_core.specs.Printing.{PrinterState, Short, no_room, broke as short_broke}
-use Rattle.follow_core.specs.inner.Giving.{text_under, Gives, Halts, Ends, whole, broke, over}
+use Rattle.follow_core.specs.inner.Giving.{text_under, Gives, Ends, whole, broke, over}
 use Rattle.follow_core.specs.Sharing.{WroteShort, CanPrint}
 use Rattle.follow_core.specs.Share.{IsFront}
 use Rattle.follow_core.specs.inner.Calls.{CanGoOn, HasStopped, Keeps, bytes_past, lines_past, held_at, Follows, bytes_led, change_between, lines_led, entry_open, bytes_again, bytes_open, lines_again, lines_open, Catches, Leads}
@@ -75,13 +75,11 @@ pub short_can : (told : Bool) (text : List ℕ) (old new : List Slot) (why : Fau
 short_can told text old new why short can =
     wrote_error told text [] old new why (λ output error others is. (error, refl, subst (λ those. Short told text those new why) is short)) can
 
-halts_error : (told : Bool) (printer : PrinterState) (name bytes : List ℕ) (lines : List (List ℕ)) (old new : List Slot) (why : Fault) → Halts told printer name bytes lines old new why → CanPrint old → HasStopped why new
-halts_error told printer name bytes lines old new why halts can = wrote_error told (text_under printer name bytes) lines old new why halts.slots can
-
 pub ends_can : {T : Type 0} (told_in told : Bool) (printer after : PrinterState) (name due : List ℕ) (lines : List (List ℕ)) (old new : List Slot) (result : Result T Stop) → Ends {T = T} told_in told printer name due lines old after new result → CanPrint old → CanGoOn result new
 ends_can told_in told printer after name due lines old new _ (whole value bytes said are gives) can = gives_can told printer after name bytes said old new gives can
 ends_can told_in told printer after name due lines old new _ (broke why bytes said are gives) can = gives_can told printer after name bytes said old new gives can
-ends_can told_in told printer after name due lines old new _ (over why bytes said are halts) can = halts_error told printer name bytes said old new why halts can
+ends_can told_in told printer after name due lines old new _ (over why bytes said are halts) can =
+    wrote_error told (text_under printer name bytes) said old new why halts.slots can
 
 -- what is due may be said in another way
 pub due_as : {T : Type 0} (told_in told : Bool) (printer after : PrinterState) (name due other : List ℕ) (lines more : List (List ℕ)) (old new : List Slot) (result : Result T Stop) → (told_in ≡ true → (due ≡ other) × (lines ≡ more))
@@ -186,12 +184,6 @@ keeps_others place change old new is = record {
   others = λ other differs. ap (λ those. watched_at those other) is ∙ changed_elsewhere no_name place other change old differs;
 }
 
-pub seen_change : (snapshot : Snapshot) (old now : List Watched) (place : ℕ) (name : List ℕ) (found : Option Seen) → now ≡ old → (watched_at old place).name ≡ name → Finds snapshot (watched_at old place).name found
-    → change_between (watched_at now place).opened (option_map (λ (file : Seen). file.id) found) ≡ change_between (watched_at old place).opened (snapshot.leads name)
-seen_change snapshot old now place name found same is finds =
-    ap (λ those. change_between (watched_at those place).opened (option_map (λ (file : Seen). file.id) found)) same
-    ∙ ap (change_between (watched_at old place).opened) (found_led snapshot (watched_at old place).name found finds ∙ ap snapshot.leads is)
-
 pub reopens_as : (told : Bool) (seen seen_old : List Snapshot) (now old new : List Watched) (place : ℕ) (is_there : Bool) → seen ≡ seen_old → now ≡ old → Reopens told (latest seen) now new place is_there → Reopens told (latest seen_old) old new place is_there
 reopens_as told seen seen_old now old new place is_there s w reopens = subst (λ those. Reopens told (latest those) old new place is_there) s (subst (λ those. Reopens told (latest seen) those new place is_there) w reopens)
 
@@ -260,7 +252,8 @@ follows_broken told led place old now new why same is broken = ((watched_at old 
 pub change_seen : (told : Bool) (snapshot : Snapshot) (old now : List Watched) (place : ℕ) (name : List ℕ) (found : Option Seen) (id : Option ℕ) (result : Option Notice) → result ≡ change_between id (option_map (λ (file : Seen). file.id) found) → id ≡ (watched_at now place).opened → now ≡ old
     → (watched_at old place).name ≡ name → (told ≡ true → Finds snapshot (watched_at old place).name found) → told ≡ true → change_between (watched_at old place).opened (snapshot.leads name) ≡ result
 change_seen told snapshot old now place name found id result is opened same named finds t =
-    sym (is ∙ ap (λ those. change_between those (option_map (λ (file : Seen). file.id) found)) opened ∙ seen_change snapshot old now place name found same named (finds t))
+    sym (is ∙ ap (λ those. change_between those (option_map (λ (file : Seen). file.id) found)) (opened ∙ ap (λ those. (watched_at those place).opened) same)
+    ∙ ap (change_between (watched_at old place).opened) (found_led snapshot (watched_at old place).name found (finds t) ∙ ap snapshot.leads named))
 
 -- what a later look gives for a name
 

@@ -132,14 +132,11 @@ all_made told_in told ways headers names shows first made count follow watched s
   observed = observed_all told_in told ways headers names shows first made follow watched slots seen seen_is after;
   made = after.is_made;
   within = subst (λ n. n ≤ count) (sym (after.count ∙ end)) (omega arith);
-  over = λ fewer. absurd (not_less (after.count ∙ end) fewer);
+  over = λ fewer. absurd (let many : length after.looks ≡ count = after.count ∙ end in omega (arith, many, fewer));
   holds = after.holds;
 } where
   after : After told_in told ways headers names shows first made follow watched slots
   after = progress.after
-
-  not_less : length after.looks ≡ count → length after.looks < count → ⊥
-  not_less same fewer = omega arith
 
 pub seen_one : (shows now : ℕ → Snapshot) (seen seen_new : List Snapshot) (made next : ℕ) → now ≡ shows → seen ≡ seen_first shows made → seen_new ≡ seen ++ now (length seen) ∷ [] → suc made ≡ next → seen_new ≡ seen_first shows next
 seen_one shows now seen seen_new made next same is more last =

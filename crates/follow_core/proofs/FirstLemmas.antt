@@ -67,10 +67,6 @@ pub quiet_first : (ways : Ways) (name : List ℕ) (look : Look) (led : Option �
 quiet_first ways name look None is = ap (λ entries. map (λ notice. notice_of notice name) (notices_of entries)) (entries_first ways name look None is)
 quiet_first ways name look (Some file) is = ap (λ entries. map (λ notice. notice_of notice name) (notices_of entries)) (entries_first ways name look (Some file) is)
 
--- a name that leads nowhere
-pub share_missing : (ways : Ways) (name : List ℕ) (look : Look) → look.snapshot.leads name ≡ None → share_by ways name [] look sound ≡ missing_share name
-share_missing ways name look is = rw (ap is_missing (entries_first ways name look None is)) refl
-
 pub front_taken : {X : Type 0} (bytes all : List X) → IsFront bytes all → take (length bytes) all ≡ bytes
 front_taken bytes all (rest, is) = ap (take (length bytes)) is ∙ take-append_seam bytes rest
 
@@ -145,7 +141,7 @@ pub meets_nothing : (told_in told : Bool) (ways : Ways) (snapshot : Snapshot) (p
 meets_nothing told_in told ways snapshot place name printer old new leads says = record {
   fate = sound;
   share = missing_share name;
-  is_share = λ is fates. sym (share_missing ways name (record { snapshot = snapshot; fates = fates }) (leads is));
+  is_share = λ is fates. sym (rw (ap is_missing (entries_first ways name (record { snapshot = snapshot; fates = fates }) None (leads is))) refl);
   fault = refl;
   failed = refl;
   shared = said_after told printer printer (no_share name) (message_of Tail (Open 0) name) old old new (empty_shared told printer name old) (name, inl refl) says;

@@ -11,7 +11,6 @@ use Rattle.std.proofs.Math.Seq.{take-append-add, take-add}
 use Rattle.std.proofs.Math.Bool.{and-false}
 use Rattle.std.specs.Str.{bytes_eq}
 use Rattle.std.proofs.lemmas.Slice.Eq.{bytes_eq-Decides}
-use Rattle.std.proofs.lemmas.Bool.{false≢true}
 use Rattle.ports_core.specs.Write.{BrokeAfter}
 use Rattle.ports_core.specs.declared.fault.Fault.{Fault}
 use Rattle.ends_core.proofs.StopLemmas.{nothing_written, broke_later, written_both}
@@ -75,31 +74,19 @@ same_last printer name first more some = by printer.headers (is_last name printe
 pub not_due : (printer : PrinterState) (name : List ℕ) → is_due printer name [] ≡ false
 not_due printer name = and-false printer.headers
 
-no_bytes : (printer : PrinterState) (name more : List ℕ) → text_under printer name more ≡ text_under printer name [] ++ text_under (printer_under printer name []) name more
-no_bytes printer name more = rw (not_due printer name) refl
-
-first_some : (printer : PrinterState) (name first more : List ℕ) → is_empty first ≡ false → is_due printer name (first ++ more) ≡ is_due printer name first
-first_some printer name [] more some = absurd (false≢true (sym some))
-first_some printer name (byte ∷ first) more some = refl
-
 pub under_append : (printer : PrinterState) (name first more : List ℕ) → text_under printer name (first ++ more) ≡ text_under printer name first ++ text_under (printer_under printer name first) name more
-under_append printer name first more = by first refl where
-  by : (front : List ℕ) → first ≡ front → text_under printer name (first ++ more) ≡ text_under printer name first ++ text_under (printer_under printer name first) name more
-  by [] is = rw is (no_bytes printer name more)
-  by (byte ∷ front) is =
-      let some : is_empty first ≡ false = ap is_empty is in
-      ap (λ due. (if due then header_under printer name else []) ++ (first ++ more)) (first_some printer name first more some)
-      ∙ sym (append_assoc (front_under printer name first) first more)
-      ∙ ap (λ due. text_under printer name first ++ ((if due then header_under (printer_under printer name first) name else []) ++ more)) (sym (same_last printer name first more some))
+under_append printer name [] more = rw (not_due printer name) refl
+under_append printer name (byte ∷ first) more =
+    let mid : PrinterState = printer_under printer name (byte ∷ first) in
+    sym (append_assoc (front_under printer name (byte ∷ first)) (byte ∷ first) more)
+    ∙ ap (λ due. text_under printer name (byte ∷ first) ++ ((if due then header_under mid name else []) ++ more))
+    (sym (same_last printer name (byte ∷ first) more refl))
 
 pub last_append : (printer : PrinterState) (name first more : List ℕ) → printer_under printer name (first ++ more) ≡ printer_under (printer_under printer name first) name more
-last_append printer name first more = by first refl where
-  by : (front : List ℕ) → first ≡ front → printer_under printer name (first ++ more) ≡ printer_under (printer_under printer name first) name more
-  by [] is = rw is (rw (not_due printer name) refl)
-  by (byte ∷ front) is =
-      let some : is_empty first ≡ false = ap is_empty is in
-      ap (λ due. if due then record printer { last = Some name } else printer) (first_some printer name first more some)
-      ∙ ap (λ due. if due then record (printer_under printer name first) { last = Some name } else printer_under printer name first) (sym (same_last printer name first more some))
+last_append printer name [] more = rw (not_due printer name) refl
+last_append printer name (byte ∷ first) more =
+    let mid : PrinterState = printer_under printer name (byte ∷ first) in
+    ap (λ due. if due then record mid { last = Some name } else mid) (sym (same_last printer name (byte ∷ first) more refl))
 
 pub under_nil : (printer : PrinterState) (name : List ℕ) → text_under printer name [] ≡ []
 under_nil printer name = rw (not_due printer name) refl
@@ -189,8 +176,8 @@ halts_short told printer name bytes old new why short = record {
 front_more : {X : Type 0} (front all more : List X) → IsFront front all → IsFront front (all ++ more)
 front_more front all more (rest, is) = (rest ++ more, ap (λ x. x ++ more) is ∙ append_assoc front rest more)
 
-front_after : {X : Type 0} (done front all : List X) → IsFront front all → IsFront (done ++ front) (done ++ all)
-front_after done front all (rest, is) = (rest, ap (λ x. done ++ x) is ∙ sym (append_assoc done front rest))
+front_after : {X : Type 0} (done first front all : List X) → done ≡ first → IsFront front all → IsFront (done ++ front) (first ++ all)
+front_after done first front all same (rest, is) = (rest, ap (λ x. x ++ all) (sym same) ∙ ap (λ x. done ++ x) is ∙ sym (append_assoc done front rest))
 
 pub front_nil : {X : Type 0} (all : List X) → IsFront [] all
 front_nil all = (all, refl)
@@ -211,10 +198,12 @@ goes_after told_in told printer mid after name first second lines more old now n
     whole value (bytes ++ bytes2) (said ++ said2) (λ is. (ap (λ x. x ++ bytes2) (are is).0 ∙ ap (λ x. first ++ x) (are2 is).0, ap (λ x. x ++ said2) (are is).1 ∙ ap (λ x. lines ++ x) (are2 is).1))
     (gives_both told printer mid after name bytes bytes2 said said2 old now new gives gives2)
 goes_after told_in told printer mid after name first second lines more old now new _ _ (whole done bytes said are gives) (broke why bytes2 said2 are2 gives2) =
-    broke why (bytes ++ bytes2) (said ++ said2) (λ is. (subst (λ x. IsFront (x ++ bytes2) (first ++ second)) (sym (are is).0) (front_after first bytes2 second (are2 is).0), subst (λ x. IsFront (x ++ said2) (lines ++ more)) (sym (are is).1) (front_after lines said2 more (are2 is).1)))
+    broke why (bytes ++ bytes2) (said ++ said2)
+    (λ is. (front_after bytes first bytes2 second (are is).0 (are2 is).0, front_after said lines said2 more (are is).1 (are2 is).1))
     (gives_both told printer mid after name bytes bytes2 said said2 old now new gives gives2)
 goes_after told_in told printer mid after name first second lines more old now new _ _ (whole done bytes said are gives) (over why bytes2 said2 are2 halts) =
-    over why (bytes ++ bytes2) (said ++ said2) (λ is. (subst (λ x. IsFront (x ++ bytes2) (first ++ second)) (sym (are is).0) (front_after first bytes2 second (are2 is).0), subst (λ x. IsFront (x ++ said2) (lines ++ more)) (sym (are is).1) (front_after lines said2 more (are2 is).1)))
+    over why (bytes ++ bytes2) (said ++ said2)
+    (λ is. (front_after bytes first bytes2 second (are is).0 (are2 is).0, front_after said lines said2 more (are is).1 (are2 is).1))
     (halts_after told printer mid name bytes bytes2 said said2 old now new why gives halts)
 
 -- copying, read by read

@@ -23,7 +23,7 @@ use Rattle.ports_core.specs.declared.fault.Fault.{Fault}
 use Rattle.ports_core.specs.declared.fault.Fault.TheVariants.{Open, Read}
 use Rattle.follow_core.specs.declared.visitor.Stop.TheVariants.{Broke, Over}
 use Rattle.follow_core.specs.declared.visitor.Came.TheVariants.{Through, Dropped}
-use Rattle.follow_core.specs.inner.Giving.{Ends, Halts, broke, over, whole, SharedShort}
+use Rattle.follow_core.specs.inner.Giving.{Ends, broke, over, whole}
 use Rattle.follow_core.specs.inner.Visits.{Stopped}
 use Rattle.follow_core.specs.Printing.{PrinterState}
 use Rattle.follow_core.specs.Telling.{IsFailure}
@@ -220,9 +220,6 @@ broken_later ways looks look place failed why fate is fault kept at read = recor
 
 -- a later look at a name, with what is told of it
 
-halts_shared : (told : Bool) (printer : PrinterState) (name bytes : List ℕ) (lines : List (List ℕ)) (old new : List Slot) (why : Fault) → Halts told printer name bytes lines old new why → SharedShort told printer (given_share false name bytes lines) old new why
-halts_shared told printer name bytes lines old new why halts = record { slots = halts.slots }
-
 abbrev pub last_in : Ways → List ℕ → Look → List Look → Entry
 last_in ways name before looks = last_of (entries_in ways name (before ∷ looks))
 
@@ -274,4 +271,4 @@ pub again_over : (told_in told : Bool) (ways : Ways) (before : Look) (looks : Li
     → Ends {T = ℕ} told_in told printer name (bytes_again by_name name (last_in ways name before looks) snapshot opened) (lines_again by_name name (last_in ways name before looks) snapshot opened) old after new (Err (Over why))
     → Stopped told_in told ways (before ∷ looks) snapshot name printer old new why
 again_over told_in told ways before looks snapshot name opened position by_name printer after old new _ way ready (over why bytes lines are halts) =
-    looked_over told_in told ways (before ∷ looks) snapshot name printer old new why bytes lines (again_fronts told_in ways before looks snapshot name opened position by_name bytes lines way ready are) (halts_shared told printer name bytes lines old new why halts)
+    looked_over told_in told ways (before ∷ looks) snapshot name printer old new why bytes lines (again_fronts told_in ways before looks snapshot name opened position by_name bytes lines way ready are) (record { slots = halts.slots })

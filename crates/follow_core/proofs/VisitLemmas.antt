@@ -61,11 +61,9 @@ opened_now place file old new is unbroken = ap (λ those. watched_at those place
 pub can_again : (told by_name : Bool) (snapshot : Snapshot) (led : Option ℕ) (place : ℕ) (name : List ℕ) (old new : List Watched) (failed : Option Fault) (came : Came) → (watched_at old place).name ≡ name → (watched_at old place).failed ≡ None → Leaves told snapshot led place old new failed came
     → CanVisit (record { text = name; standing = standing_after by_name came }) (watched_at new place)
 can_again told by_name snapshot led place name old new failed (Through len) named unbroken (file, is, none, are) =
-    let now = opened_now place file old new is unbroken in
-    (ap (λ (w : Watched). w.name) now ∙ named, ap (λ (w : Watched). w.failed) now ∙ unbroken)
+    rw (opened_now place file old new is unbroken) (named, unbroken)
 can_again told true snapshot led place name old new failed Missing named unbroken (file, is, none, are) =
-    let now = opened_now place file old new is unbroken in
-    (ap (λ (w : Watched). w.name) now ∙ named, ap (λ (w : Watched). w.failed) now ∙ unbroken)
+    rw (opened_now place file old new is unbroken) (named, unbroken)
 can_again told false snapshot led place name old new failed Missing named unbroken leaves = tt
 can_again told by_name snapshot led place name old new failed Dropped named unbroken leaves = tt
 
@@ -276,11 +274,9 @@ again_fails {told_in} {told} {ways} {snapshot} {place} {name} {position} {old} {
     })
 
 -- what stands before a visit, by how the name stands
-pub can_first : (name : NameState) (watched : Watched) → name.standing ≡ New → CanVisit name watched → (watched.name ≡ name.text) × (watched.failed ≡ None)
-can_first name watched fresh can = subst (λ those. CanVisit (record { text = name.text; standing = those }) watched) fresh can
-
-pub can_later : (name : NameState) (watched : Watched) (position : ℕ) → name.standing ≡ Followed position → CanVisit name watched → (watched.name ≡ name.text) × (watched.failed ≡ None)
-can_later name watched position followed can = subst (λ those. CanVisit (record { text = name.text; standing = those }) watched) followed can
+pub can_as : (name : NameState) (watched : Watched) (standing : Standing) → name.standing ≡ standing → CanVisit name watched
+    → CanVisit (record { text = name.text; standing = standing }) watched
+can_as name watched standing is can = subst (λ those. CanVisit (record { text = name.text; standing = those }) watched) is can
 
 -- the name itself, after the look
 pub visit_made : {told_in told : Bool} {ways : Ways} {snapshot : Snapshot} {place : ℕ} {text : List ℕ} {standing : Standing} {old new : NameState} {watched watched_new : List Watched} {printer after : PrinterState} {slots slots_new : List Slot} {came : Came} {failed : Bool}
@@ -360,13 +356,10 @@ still_left told ways (before ∷ looks) look place name watched fine left = reco
   ];
 }
 
-left_at : (told : Bool) (ways : Ways) (looks : List Look) (place : ℕ) (name : List ℕ) (watched : Watched) (standing : Standing) → standing ≡ Left → Stands told ways looks place name watched standing → IsLeft told ways looks place name watched
-left_at told ways looks place name watched standing left stands = subst (λ those. Stands told ways looks place name watched those) left stands
-
 left_visited : (told_in told : Bool) (ways : Ways) (snapshot : Snapshot) (place : ℕ) (name : List ℕ) (printer : PrinterState) (slots : List Slot) (watched : Watched) (standing : Standing) (looks : List Look) → standing ≡ Left → Stands told_in ways looks place name watched standing
     → Visited told_in told ways looks snapshot place name printer slots printer slots watched standing false
 left_visited told_in told ways snapshot place name printer slots watched standing looks is stands =
-    let left = left_at told_in ways looks place name watched standing is stands in
+    let left : IsLeft told_in ways looks place name watched = subst (Stands told_in ways looks place name watched) is stands in
     record {
       fate = sound;
       share = no_share name;
