@@ -149,4 +149,4 @@ module _ (told : Bool) (mode : Mode) (names : List (List ℕ)) where
   pub ending_streams : (pieces : List (List ℕ)) (messages : List (List ℕ)) (old mid : List Slot) (known : List Bool) (tee : TeeState) → IsTeeOf names tee → Copies told mode names pieces messages old known → ChangesEach Closes (IsFile tee) old mid → HasStreams mid (length names)
   ending_streams pieces messages old mid known tee is copies closes =
       let next = closed_next pieces messages old mid known tee is copies closes in
-      streams_after told mode names pieces messages old mid known copies.output next.files copies next.are (left_count told mode pieces names next.broke next.files next.files_left)
+      streams_after told mode names copies next.are (left_count told mode pieces names next.broke next.files next.files_left)

@@ -264,9 +264,10 @@ module _ (told : Bool) (mode : Mode) (names : List (List ℕ)) where
         ∙ sym (append-nil _) ∙ ap (λ call. said_before (suc call) (output_names names) (next.first ∷ next.broke) ++ []) one_more_call
 
   -- both streams are there, whatever became of the other outputs
-  pub streams_after : (pieces : List (List ℕ)) (messages : List (List ℕ)) (old mid : List Slot) (known : List Bool) (output : Slot) (files : List Slot)
-      → (copies : Copies told mode names pieces messages old known) → mid ≡ output ∷ copies.error ∷ files → length files ≡ length names → HasStreams mid (length names)
-  streams_after pieces messages old mid known output files copies are many = record {
+  pub streams_after : {pieces messages : List (List ℕ)} {old mid : List Slot} {known : List Bool} {output : Slot} {files : List Slot}
+      → (copies : Copies told mode names pieces messages old known) → mid ≡ output ∷ copies.error ∷ files → length files ≡ length names
+      → HasStreams mid (length names)
+  streams_after {output = output} {files = files} copies are many = record {
     output = output;
     error = copies.error;
     files = files;
@@ -278,12 +279,12 @@ module _ (told : Bool) (mode : Mode) (names : List (List ℕ)) where
   pub copies_streams : (pieces : List (List ℕ)) (messages : List (List ℕ)) (slots : List Slot) (known : List Bool)
       → Copies told mode names pieces messages slots known → HasStreams slots (length names)
   copies_streams pieces messages slots known copies =
-      streams_after pieces messages slots slots known copies.output copies.files copies copies.are (length-files told mode pieces names copies.broke copies.files copies.files_have)
+      streams_after copies copies.are (length-files told mode pieces names copies.broke copies.files copies.files_have)
 
   pub next_streams : (pieces : List (List ℕ)) (piece : List ℕ) (messages : List (List ℕ)) (old mid : List Slot) (known : List Bool) (tee : TeeState) → IsTeeOf names tee → Copies told mode names pieces messages old known → ChangesEach (Gets told piece) (IsOutput tee) old mid → HasStreams mid (length names)
   next_streams pieces piece messages old mid known tee is copies gets =
       let next = fed_next pieces piece messages old mid known tee is copies gets in
-      streams_after pieces messages old mid known next.output next.files copies next.are (length-files told mode (pieces ++ piece ∷ []) names next.broke next.files next.files_have)
+      streams_after copies next.are (length-files told mode (pieces ++ piece ∷ []) names next.broke next.files next.files_have)
 
   pub known_many : (pieces : List (List ℕ)) (messages : List (List ℕ)) (slots : List Slot) (known : List Bool) → Copies told mode names pieces messages slots known → length known ≡ length names + 1
   known_many pieces messages slots known copies =
