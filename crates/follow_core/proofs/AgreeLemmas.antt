@@ -1,6 +1,6 @@
 -- That looks don't matter.
 use Rattle.std.proofs.Math.Seq.{drop-append_seam as drop_front}
-use Rattle.std.proofs.Common.{◌≡◌, ℕ, ◌+◌, ◌==◌, nat_le, Bool, true, false, ◌&&◌, List, [], ◌∷◌, ◌++◌, length, drop, Some, refl, sym, ◌∙◌, ap, arith, append_assoc, length-append, if◌then◌else◌, ◌⊎◌, inl, inr, ◌<◌, take, Option, None, subst, bytes_eq}
+use Rattle.std.proofs.Common.{◌≡◌, ℕ, ◌+◌, nat_le, Bool, true, false, ◌&&◌, List, [], ◌∷◌, ◌++◌, length, drop, Some, refl, sym, ◌∙◌, ap, arith, append_assoc, length-append, if◌then◌else◌, ◌⊎◌, inl, inr, ◌<◌, take, Option, None, subst, bytes_eq}
 use Rattle.std.proofs.lemmas.List.{append-nil, get_or_append_left}
 use Rattle.std.proofs.lemmas.Bool.{eq-eqb, le-leb, false≢true}
 use Rattle.ports_core.specs.Part.{IsBeginning}
@@ -20,13 +20,10 @@ use Rattle.watch_core.proofs.WorldLemmas.{append_leads, append_grows}
 
 -- a look more with_file no text
 
-same_file : (file : ℕ) → (file == file) ≡ true
-same_file file = eq-eqb file file refl
-
 -- what an appended file adds
 pub grown : (file : ℕ) (front rest whole : List ℕ) → whole ≡ front ++ rest → gain_between (version (record { file = file; contents = front })) (version (record { file = file; contents = whole })) ≡ rest
 grown file front rest whole is = rw is (
-    ap (λ test. if test && nat_le (length front) (length (front ++ rest)) then drop (length front) (front ++ rest) else front ++ rest) (same_file file)
+    ap (λ test. if test && nat_le (length front) (length (front ++ rest)) then drop (length front) (front ++ rest) else front ++ rest) (eq-eqb file file refl)
     ∙ ap (λ test. if test then drop (length front) (front ++ rest) else front ++ rest) (le-leb (length front) (length (front ++ rest)) (let a : length (front ++ rest) ≡ length front + length rest = length-append front rest in omega arith))
     ∙ drop_front front rest)
 
@@ -40,7 +37,7 @@ inside file first middle last (some, is) (more, is_more) =
     ∙ sym (grown file first (some ++ more) last (is_more ∙ ap (λ x. x ++ more) is ∙ append_assoc first some more))
 
 pub led_same : (snapshot : Snapshot) (file : ℕ) → entries_led snapshot (Some file) (Some file) ≡ []
-led_same snapshot file = ap (λ test. if test then [] else version_in snapshot file ∷ []) (same_file file)
+led_same snapshot file = ap (λ test. if test then [] else version_in snapshot file ∷ []) (eq-eqb file file refl)
 
 -- a look after no edit gives nothing
 still : (v : Version) (snapshot : Snapshot) (entries : List Entry) → snapshot.holds v.file ≡ v.contents → gains_later (version v) (version_in snapshot v.file ∷ entries) ≡ gains_later (version v) entries

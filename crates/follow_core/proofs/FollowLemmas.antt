@@ -10,14 +10,14 @@ use Rattle.follow_core.specs.declared.name.Standing.{Standing}
 use Rattle.follow_core.specs.declared.name.Standing.TheVariants.{New, Followed, Left}
 use Rattle.follow_core.specs.declared.follow.Stage.{Stage}
 use Rattle.follow_core.specs.declared.follow.Stage.TheVariants.{Fresh, Looking, Over}
-use Rattle.follow_core.specs.Followed.{any_failed, last_header_from, messages_of, text_from}
+use Rattle.follow_core.specs.Followed.{any_failed}
 use Rattle.follow_core.specs.FollowState.{AllReady, CanLook, FollowState, Holds, IsCause, IsOther, LooksOn, StandsIn, StopsOn, goes_on_at, is_alive, is_alive_from, new_state, nothing, up_to, lacks_memory, output_broke}
 use Rattle.follow_core.specs.inner.Calls.{HasStopped}
 use Rattle.follow_core.specs.inner.Looks.{AddsSome, Begins, MakesLook}
 use Rattle.follow_core.specs.Look.{Look, Ways, is_dropped, snapshots, ways_of}
 use Rattle.follow_core.specs.Printing.{PrinterState, Short, fresh_printer, no_room}
-use Rattle.follow_core.specs.Share.{IsFront, Share, shares_at_look, shares_of}
-use Rattle.follow_core.specs.Sharing.{AllShared, AllShort, CanPrint, Wrote, WroteShort}
+use Rattle.follow_core.specs.Share.{IsFront, shares_at_look, shares_of}
+use Rattle.follow_core.specs.Sharing.{AllShort, CanPrint, Wrote, WroteShort}
 use Rattle.follow_core.specs.Standing.{AllStand, AreBroken, BrokeIn, CanVisit, IsFollowed, NameState, Stands, no_state, state_at, texts}
 use Rattle.follow_core.specs.inner.Visits.{any_goes_on, goes_on_as, StoppedAt, VisitedAll}
 use Rattle.follow_core.specs.Version.{open_after}
@@ -27,24 +27,8 @@ use Rattle.watch_core.specs.Snapshot.{Snapshot}
 use Rattle.watch_core.specs.Watched.{Watched, added, no_name, watched_at}
 use Rattle.std.specs.Prelude.{None, is_some}
 use Rattle.follow_core.proofs.LaterLemmas.{last_file, unbroken_in}
-use Rattle.follow_core.proofs.ShareLemmas.{failed-append, last-append, messages-append, shares_more, text-append}
-use Rattle.follow_core.proofs.VisitAllLemmas.{broken_there, nothing_shared, same_length}
-use Rattle.follow_core.proofs.GiveLemmas.{wrote_as, wrote_both}
-
--- further shares
-
-text_all : (printer mid : PrinterState) (shares more : List Share) → mid ≡ record printer { last = last_header_from printer.headers printer.last shares }
-    → text_from printer.headers printer.last shares ++ text_from mid.headers mid.last more ≡ text_from printer.headers printer.last (shares ++ more)
-text_all printer mid shares more is =
-    ap (λ (p : PrinterState). text_from printer.headers printer.last shares ++ text_from p.headers p.last more) is ∙ sym (text-append printer.headers printer.last shares more)
-
-all_both : (told : Bool) (printer mid after : PrinterState) (shares more : List Share) (old now new : List Slot) → AllShared told printer shares old mid now → AllShared told mid more now after new → AllShared told printer (shares ++ more) old after new
-all_both told printer mid after shares more old now new all rest = record {
-  printer_is = rest.printer_is ∙ ap (λ (p : PrinterState). record p { last = last_header_from p.headers p.last more }) all.printer_is
-      ∙ ap (λ last. record printer { last = last }) (sym (last-append printer.headers printer.last shares more));
-  slots = wrote_as told (text_from printer.headers printer.last shares ++ text_from mid.headers mid.last more) (text_from printer.headers printer.last (shares ++ more)) (messages_of shares ++ messages_of more) (messages_of (shares ++ more)) old new
-      (text_all printer mid shares more all.printer_is) (sym (messages-append shares more)) (wrote_both told _ _ _ _ old now new all.slots rest.slots);
-}
+use Rattle.follow_core.proofs.ShareLemmas.{failed-append, shares_more}
+use Rattle.follow_core.proofs.VisitAllLemmas.{all_both, broken_there, nothing_shared, same_length}
 
 -- memory was wanting after all of them
 wrote_stop : (told : Bool) (text : List ℕ) (lines : List (List ℕ)) (old new : List Slot) → Wrote told text lines old new → WroteShort told text lines old new fault.Memory

@@ -1,6 +1,6 @@
 -- What is given for a name: bytes under headers, and lines.
 use Rattle.std.proofs.Common.{◌≡◌, ℕ, Bool, List, [], ◌∷◌, ◌++◌, inl, inr, ◌∙◌, ap, subst, ◌+◌, ◌<◌, length, take, true, false, not, if◌then◌else◌, Some, refl, sym, arith, append_assoc, length-append, Result, Ok, Err, ◌-◌, ◌≤◌, drop, min, IsTrue, length-drop}
-use Rattle.ports_core.specs.Slot.{Slot, with_written, with_broken, told_of, adds, is_writable, changed_at}
+use Rattle.ports_core.specs.Slot.{Slot, with_written, with_broken, told_of, adds, is_writable}
 use Rattle.ports_core.specs.Message.{Prints, Says, PrintsOn}
 use Rattle.ports_core.specs.declared.tool.Tool.TheVariants.{Tail}
 use Rattle.ports_core.proofs.MessageLemmas.{printed_open}
@@ -22,9 +22,8 @@ use Rattle.follow_core.specs.Share.{IsFront}
 use Rattle.ports_core.proofs.Runs.{adds-nil, adds_both}
 use Rattle.ports_core.proofs.WriteLemmas.{writable-written}
 use Rattle.watch_core.specs.Snapshot.{Snapshot}
-use Rattle.watch_core.specs.Watched.{Watched, GaveFrom, breaks}
+use Rattle.watch_core.specs.Watched.{Watched, GaveFrom}
 use Rattle.follow_core.specs.declared.visitor.Stop.TheVariants.{Broke, Over}
-use Rattle.follow_core.specs.inner.Calls.{Keeps}
 use Rattle.ports_core.specs.declared.fault.Fault.TheVariants as fault
 
 -- lines that following says, one after another
@@ -286,14 +285,15 @@ some_left room buffer read same some =
 front_taken_by : (n : ℕ) (xs : List ℕ) → IsFront (take n xs) xs
 front_taken_by n xs = (drop n xs, sym (take-append-drop n xs))
 
-pub copy_broke : (told_in told : Bool) (printer : PrinterState) (name contents : List ℕ) (from at len place : ℕ) (old : List Slot) (mid : PrinterState) (now : List Slot) (seen_old seen_now : List Snapshot) (watched_old watched_now watched_new : List Watched) (room : ℕ) (why : Fault)
+pub copy_broke : {told_in told : Bool} {printer : PrinterState} {name contents : List ℕ} {from at len : ℕ}
+    {old : List Slot} {mid : PrinterState} {now : List Slot}
+    {seen_old seen_now : List Snapshot} {watched_old watched_now : List Watched} {room : ℕ} (why : Fault)
     → Copying told_in told printer name contents from at len old mid now seen_old seen_now watched_old watched_now room
-    → why ≡ fault.Read place → watched_new ≡ changed_at place (breaks why) watched_now
-    → Ends {T = ℕ} told_in told printer name (drop from contents) [] old mid now (Err (Broke why)) × Keeps {T = ℕ} place watched_old watched_new (Err (Broke why))
-copy_broke told_in told printer name contents from at len place old mid now seen_old seen_now watched_old watched_now watched_new room why c is failed = (
-  broke why c.bytes [] (λ told. (subst (λ bytes. IsFront bytes (drop from contents)) (sym (c.are told)) (front_taken_by (at - from) (drop from contents)), front_nil [])) (gives_put told printer mid name c.bytes old now c.put),
-  (is, failed ∙ ap (changed_at place (breaks why)) c.watched_same),
-)
+    → Ends {T = ℕ} told_in told printer name (drop from contents) [] old mid now (Err (Broke why))
+copy_broke {told_in} {told} {printer} {name} {contents} {from} {at} {len} {old} {mid} {now} why c =
+    broke why c.bytes []
+    (λ told. (subst (λ bytes. IsFront bytes (drop from contents)) (sym (c.are told)) (front_taken_by (at - from) (drop from contents)), front_nil []))
+    (gives_put told printer mid name c.bytes old now c.put)
 
 pub copy_over : (told_in told : Bool) (printer : PrinterState) (name contents now_contents : List ℕ) (from at len n : ℕ) (old : List Slot) (mid after : PrinterState) (now new : List Slot) (seen_old seen_now : List Snapshot) (watched_old watched_now : List Watched) (room : ℕ) (read_old read_new tail : List ℕ) (why : Fault)
     → Copying told_in told printer name contents from at len old mid now seen_old seen_now watched_old watched_now room

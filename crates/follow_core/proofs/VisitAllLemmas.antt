@@ -6,7 +6,7 @@ use Rattle.std.proofs.lemmas.List.{append-nil, get_or_default, get_or-map, get_o
 use Rattle.std.proofs.Math.Seq.{get_or-append_seam, map-set_same, take-suc}
 use Rattle.ports_core.specs.Slot.{Slot}
 use Rattle.follow_core.specs.FollowState.{AllReady}
-use Rattle.follow_core.specs.Followed.{any_failed, header_after, last_header_from, messages_of, share_text, text_from}
+use Rattle.follow_core.specs.Followed.{any_failed, last_header_from, messages_of, share_text, text_from}
 use Rattle.follow_core.specs.Look.{Fate, Look, Ways, fate_at, is_dropped, sound}
 use Rattle.follow_core.specs.Share.{BeginsShare, Share, share_by, share_of, no_share, shares_at_look_from}
 use Rattle.follow_core.specs.inner.Visits.{Opened, Stopped, KeepsOthers, StoppedAt, Visited, VisitedAll}
@@ -41,24 +41,34 @@ pub record VisitedUpTo (told_in told : Bool) (ways : Ways) (looks : List Look) (
 pub nothing_shared : (told : Bool) (printer : PrinterState) (slots : List Slot) → AllShared told printer [] slots printer slots
 nothing_shared told printer slots = record { printer_is = refl; slots = wrote_none told slots }
 
+-- further shares
+
+text_all : (printer mid : PrinterState) (shares more : List Share) → mid ≡ record printer { last = last_header_from printer.headers printer.last shares }
+    → text_from printer.headers printer.last shares ++ text_from mid.headers mid.last more ≡ text_from printer.headers printer.last (shares ++ more)
+text_all printer mid shares more is =
+    ap (λ (p : PrinterState). text_from printer.headers printer.last shares ++ text_from p.headers p.last more) is ∙ sym (text-append printer.headers printer.last shares more)
+
+pub all_both : (told : Bool) (printer mid after : PrinterState) (shares more : List Share) (old now new : List Slot) → AllShared told printer shares old mid now → AllShared told mid more now after new → AllShared told printer (shares ++ more) old after new
+all_both told printer mid after shares more old now new all rest = record {
+  printer_is = rest.printer_is ∙ ap (λ (p : PrinterState). record p { last = last_header_from p.headers p.last more }) all.printer_is
+      ∙ ap (λ last. record printer { last = last }) (sym (last-append printer.headers printer.last shares more));
+  slots = wrote_as told (text_from printer.headers printer.last shares ++ text_from mid.headers mid.last more) (text_from printer.headers printer.last (shares ++ more)) (messages_of shares ++ messages_of more) (messages_of (shares ++ more)) old new
+      (text_all printer mid shares more all.printer_is) (sym (messages-append shares more)) (wrote_both told _ _ _ _ old now new all.slots rest.slots);
+}
+
 -- the text and the lines of one share more
 text_one : (printer mid : PrinterState) (shares : List Share) (share : Share) → mid ≡ record printer { last = last_header_from printer.headers printer.last shares }
     → text_from printer.headers printer.last shares ++ share_text mid.headers mid.last share ≡ text_from printer.headers printer.last (shares ++ share ∷ [])
 text_one printer mid shares share is =
-    ap (λ (p : PrinterState). text_from printer.headers printer.last shares ++ share_text p.headers p.last share) is
-    ∙ ap (λ rest. text_from printer.headers printer.last shares ++ rest) (sym (append-nil _))
-    ∙ sym (text-append printer.headers printer.last shares (share ∷ []))
+    ap (λ rest. text_from printer.headers printer.last shares ++ rest) (sym (append-nil _)) ∙ text_all printer mid shares (share ∷ []) is
 
 lines_one : (shares : List Share) (share : Share) → messages_of shares ++ share.messages ≡ messages_of (shares ++ share ∷ [])
 lines_one shares share = ap (λ rest. messages_of shares ++ rest) (sym (append-nil share.messages)) ∙ sym (messages-append shares (share ∷ []))
 
 pub shared_more : (told : Bool) (printer mid after : PrinterState) (shares : List Share) (share : Share) (old now new : List Slot) → AllShared told printer shares old mid now → Shared told mid share now after new → AllShared told printer (shares ++ share ∷ []) old after new
-shared_more told printer mid after shares share old now new all one = record {
-  printer_is = one.printer_is ∙ ap (λ (p : PrinterState). record p { last = header_after p.headers p.last share }) all.printer_is
-      ∙ ap (λ last. record printer { last = last }) (sym (last-append printer.headers printer.last shares (share ∷ [])));
-  slots = wrote_as told (text_from printer.headers printer.last shares ++ share_text mid.headers mid.last share) (text_from printer.headers printer.last (shares ++ share ∷ [])) (messages_of shares ++ share.messages) (messages_of (shares ++ share ∷ [])) old new
-      (text_one printer mid shares share all.printer_is) (lines_one shares share) (wrote_both told _ _ _ _ old now new all.slots one.slots);
-}
+shared_more told printer mid after shares share old now new all one =
+    all_both told printer mid after shares (share ∷ []) old now new all
+    (record { printer_is = one.printer_is; slots = wrote_as told _ _ _ _ now new (sym (append-nil _)) (sym (append-nil _)) one.slots })
 
 pub shared_short : (told : Bool) (printer mid : PrinterState) (shares : List Share) (share : Share) (old now new : List Slot) (why : Fault) → AllShared told printer shares old mid now → SharedShort told mid share now new why → AllShort told printer (shares ++ share ∷ []) old new why
 shared_short told printer mid shares share old now new why all one = record {

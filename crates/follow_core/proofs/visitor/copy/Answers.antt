@@ -31,7 +31,7 @@ returns-clause-ends g c =
     copy_done c.loop-at.invariant.copying (λ t. let whole : c.args.len ≡ length (open_contents (latest (g.W.Watch.seen c.args.watch.now)) (watched_at (g.W.Watch.watched c.args.watch.now) c.args.place)) = c.requires.whole t in omega (arith, whole))
 
 pub returns-in-Err-clause-ends : goal.returns-in-Err-clause-ends
-returns-in-Err-clause-ends g c = (copy_broke _ _ _ _ _ _ _ _ _ _ _ _ _ (g.W.Watch.seen c.loop-at.watch) _ (g.W.Watch.watched c.loop-at.watch) _ _ _ c.loop-at.invariant.copying c.in-Err.ensures.err.0 c.in-Err.ensures.err.1).0
+returns-in-Err-clause-ends g c = copy_broke _ c.loop-at.invariant.copying
 
 pub returns-in-Err-clause-keeps : goal.returns-in-Err-clause-keeps
 returns-in-Err-clause-keeps g c = (c.in-Err.ensures.err.0, c.in-Err.ensures.err.1 ∙ ap (changed_at c.args.place (breaks c.in-Err.fault)) c.loop-at.invariant.copying.watched_same)
