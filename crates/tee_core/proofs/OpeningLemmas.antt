@@ -15,12 +15,9 @@ use Rattle.tee_core.specs.TeeState.{TeeState}
 pub opened_one : (mode : Mode) (name : List ℕ) (old new : List Slot) → new ≡ old ++ opened name mode ∷ [] → OpensOne mode name old new
 opened_one mode name old new is = record { slot = opened name mode; opens = is_opened; slots = is }
 
-pub record InVain (mode : Mode) (name : List ℕ) (old new : List Slot) (slot : ℕ) : Type 0 where
-  pub number : slot ≡ length old
-  pub one : OpensOne mode name old new
-
-pub in_vain : (mode : Mode) (name : List ℕ) (old new : List Slot) (slot : ℕ) → FailsToOpen old name new (fault.Open slot) → InVain mode name old new slot
-in_vain mode name old new slot (broke _ kept is named made) = record { number = is; one = record { slot = unopened kept; opens = is_unopened kept named; slots = made } }
+pub in_vain : (mode : Mode) (name : List ℕ) (old new : List Slot) (slot : ℕ) → FailsToOpen old name new (fault.Open slot)
+    → (slot ≡ length old) × OpensOne mode name old new
+in_vain mode name old new slot (broke _ kept is named made) = (is, record { slot = unopened kept; opens = is_unopened kept named; slots = made })
 
 -- one after another
 

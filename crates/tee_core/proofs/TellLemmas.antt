@@ -62,9 +62,6 @@ says_too told texts text count old now new has so_far says =
     subst (λ those. SaysTo told (texts ++ text ∷ []) those new) (sym has.are)
     (says_after told texts text has.output has.error has.files now new (subst (λ those. SaysTo told texts those now) has.are so_far) says)
 
-still_open : (told : Bool) (texts : List (List ℕ)) (output error : Slot) (files now : List Slot) → is_open error.state ≡ true → SaysTo told texts (output ∷ error ∷ files) now → is_open (slot_at now 1).state ≡ true
-still_open told texts output error files now opened said = ap (λ those. is_open (slot_at those 1).state) said.2 ∙ ap is_open (all_said_state told Tee texts error said.0 said.1) ∙ opened
-
 broken_still : (told : Bool) (texts : List (List ℕ)) (output error : Slot) (files now : List Slot) (n : ℕ) → SaysTo told texts (output ∷ error ∷ files) now → (slot_at now (output_slot n)).is_broken ≡ get_or (broken_of (output ∷ error ∷ files)) n false
 broken_still told texts output error files now n said = ap (λ those. (slot_at those (output_slot n)).is_broken) said.2 ∙ broken_at output said.0 files n
 
@@ -76,7 +73,9 @@ pub record Telling (told : Bool) (fault : Fault) (names : List (List ℕ)) (know
   pub known_are : known ≡ take n (broken_of old) ++ drop n known_before
 
 pub error_open : (told : Bool) (fault : Fault) (names : List (List ℕ)) (before known : List Bool) (n count : ℕ) (old now : List Slot) → HasStreams old count → Telling told fault names before n old now known → is_open (slot_at now 1).state ≡ true
-error_open told fault names before known n count old now has so_far = still_open told so_far.so_far has.output has.error has.files now has.opened (subst (λ those. SaysTo told so_far.so_far those now) has.are so_far.said)
+error_open told fault names before known n count old now has so_far =
+    let said : SaysTo told so_far.so_far (has.output ∷ has.error ∷ has.files) now = subst (λ those. SaysTo told so_far.so_far those now) has.are so_far.said in
+    ap (λ those. is_open (slot_at those 1).state) said.2 ∙ ap is_open (all_said_state told Tee so_far.so_far has.error said.0 said.1) ∙ has.opened
 
 pub tells_next : (told : Bool) (fault : Fault) (names : List (List ℕ)) (before known : List Bool) (other : Bool) (n count : ℕ) (old now new : List Slot) (name : List ℕ) (broken : Bool) → HasStreams old count → length names ≡ count + 1 → length before ≡ count + 1 → n < length before → Telling told fault names before n old now known
     → name ≡ get_or names n [] → broken ≡ (slot_at now (output_slot n)).is_broken → ((not (get_or known n other) && broken) ≡ true → SaysOn told Tee (message_of Tee fault name) now new) → ((not (get_or known n other) && broken) ≡ false → new ≡ now)

@@ -5,4 +5,4 @@ pub returns-in-Ok-clause-ok : goal.returns-in-Ok-clause-ok
 returns-in-Ok-clause-ok g c = (c.in-Ok.ensures.ok.0, opened_one _ _ _ _ c.in-Ok.ensures.ok.1)
 
 pub returns-in-Err-Open-clause-ok : goal.returns-in-Err-Open-clause-ok
-returns-in-Err-Open-clause-ok g c = let v = in_vain c.args.mode _ _ _ c.in-Err-Open.slot (rw c.in-Err-Open.field-0-is at c.in-Err-Open.ensures.err) in (v.number, v.one)
+returns-in-Err-Open-clause-ok g c = in_vain c.args.mode _ _ _ c.in-Err-Open.slot (rw c.in-Err-Open.field-0-is at c.in-Err-Open.ensures.err)
