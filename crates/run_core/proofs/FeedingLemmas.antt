@@ -1,7 +1,7 @@
 -- Lemmas on the loop that feeds an engine.
-use Rattle.std.proofs.Common.{◌≡◌, ℕ, ◌+◌, ◌<◌, ◌≤◌, ◌^◌, Bool, true, false, not, ◌||◌, List, [], ◌++◌, length, take, Result, Ok, Err, IfOk, None, arith, length-append, length-take, inl, inr, refl, sym, ◌∙◌, ap, subst}
+use Rattle.std.proofs.Common.{◌≡◌, ℕ, ◌+◌, ◌<◌, ◌≤◌, ◌^◌, Bool, true, false, not, List, [], ◌++◌, length, take, Result, Ok, Err, IfOk, None, arith, length-append, length-take, inl, inr, refl, sym, ◌∙◌, ap, subst}
 use Rattle.std.proofs.lemmas.List.{append-nil}
-use Rattle.std.proofs.lemmas.Bool.{false≢true}
+use Rattle.std.proofs.lemmas.Bool.{false≢true, not-false, or_left, or_right}
 use Rattle.ports_core.specs.Slot.{Slot}
 use Rattle.ports_core.specs.Source.{Content}
 use Rattle.ports_core.specs.Part.{Part, OutputsAt, StoppedBetween}
@@ -11,7 +11,7 @@ use Rattle.ports_core.specs.Engine.{StandsAt, TakesIn, PutsOut, CutsOff, EndsSho
 use Rattle.ports_core.specs.Engine as engine
 use Rattle.ports_core.specs.Guard.{GuardState, HoldsIn}
 use Rattle.ports_core.specs.declared.fault.Fault.{Fault}
-use Rattle.ports_core.specs.declared.fault.Fault.TheVariants.{Memory, Write, Read, Open, Suffixes, NoMatch, Range, Usage, Failed, TooLong}
+use Rattle.ports_core.specs.declared.fault.Fault.TheVariants.{Memory, Write, Open, Suffixes, NoMatch, Range}
 use Rattle.run_core.specs.declared.feeding.Fed.{Fed}
 use Rattle.run_core.specs.declared.feeding.Fed.TheVariants.{Whole, Enough, Broken}
 use Rattle.ports_core.specs.Inputs.{empty}
@@ -30,13 +30,10 @@ stops work read low high needs Lacks Ends fault taken size old new is long (engi
   by_why Memory is why = why.0
   by_why (Write slot) is why = (why.0, why.1, why.2.1)
   by_why (Open slot) is why = (why.0, why.1)
-  by_why TooLong is why = absurd why
   by_why Suffixes is why = absurd (false≢true (sym is))
-  by_why Failed is why = absurd why
-  by_why (Read slot) is why = absurd why
   by_why (NoMatch operand repetition) is why = absurd (false≢true (sym is))
   by_why (Range operand repetition) is why = absurd (false≢true (sym is))
-  by_why (Usage kind word) is why = absurd why
+  by_why fault is why = absurd why
 
 -- a verdict comes only where the work ends so
 pub judges : (means : Means) (needs : Needs) (Lacks : Type 0) (Ends : Fault → Type 0) (fault : Fault) (over : Bool) (taken size : ℕ) (old new : List Slot) → is_verdict fault ≡ true → IsCaused (IsMet means needs Lacks Ends old new) over taken size old new fault → Ends fault
@@ -44,34 +41,14 @@ judges means needs Lacks Ends _ over taken size old new is (engine.over is_over 
 judges means needs Lacks Ends _ over taken size old new is (engine.long live many kept) = absurd (false≢true is)
 judges means needs Lacks Ends fault over taken size old new is (engine.met _ live why) = by_why fault is why where
   by_why : (fault : Fault) → is_verdict fault ≡ true → IsMet means needs Lacks Ends old new fault → Ends fault
-  by_why Memory is why = absurd (false≢true is)
-  by_why (Write slot) is why = absurd (false≢true is)
-  by_why (Open slot) is why = absurd (false≢true is)
-  by_why TooLong is why = absurd why
   by_why Suffixes is why = why
-  by_why Failed is why = absurd why
-  by_why (Read slot) is why = absurd why
   by_why (NoMatch operand repetition) is why = why
   by_why (Range operand repetition) is why = why
-  by_why (Usage kind word) is why = absurd why
+  by_why fault is why = absurd (false≢true is)
 
 -- a fault that doesn't stop is a verdict
 pub judging_of : (given fault : Fault) → given ≡ fault → not (is_verdict given) ≡ false → is_verdict fault ≡ true
-judging_of given fault is ends = ap is_verdict (sym is) ∙ by_flag (is_verdict given) ends where
-  by_flag : (b : Bool) → not b ≡ false → b ≡ true
-  by_flag true is = refl
-  by_flag false is = absurd (false≢true (sym is))
-
-ends_whole : (breaks complete : Bool) → breaks ≡ false → (not breaks || complete) ≡ true
-ends_whole false complete is = refl
-ends_whole true complete is = absurd (false≢true (sym is))
-
-or_complete : (breaks complete : Bool) → complete ≡ true → (not breaks || complete) ≡ true
-or_complete breaks true is = either_way breaks where
-  either_way : (b : Bool) → (not b || true) ≡ true
-  either_way true = refl
-  either_way false = refl
-or_complete breaks false is = absurd (false≢true is)
+judging_of given fault is ends = ap is_verdict (sym is) ∙ not-false (is_verdict given) ends
 
 -- what a fault left within an input, and what was made of its files then
 short_of_piece : (told : Bool) (opening : Needs) (most : ℕ) (work : Work) (content : Content) (WasRead : List ℕ → Type 0) (x piece rest : List ℕ) (reached new before : List Slot) (fault : Fault) → IsLawful work → content.bytes ≡ (x ++ piece) ++ rest → length piece ≤ most → work.is_complete x ≡ false → WasRead (x ++ piece)
@@ -82,7 +59,7 @@ short_of_piece told opening most work content WasRead x piece rest reached new b
     stopped fault unjudged _ (feeds x piece rest is within going) read reached (why unjudged) stop (swept unjudged)
 short_of_piece told opening most work content WasRead x piece rest reached new before fault lawful is within going read (engine.judged judging first at cleared) why settles kept swept =
     let stays : IsComplete work (x ++ piece) rest = lawful.stays (x ++ piece) rest (settles judging).0 in
-    judged fault judging (or_complete content.breaks_off _ (ap work.is_complete is ∙ stays.still)) (ap work.verdict is ∙ stays.verdict_stays ∙ (settles judging).1) first
+    judged fault judging (or_right _ _ (ap work.is_complete is ∙ stays.still)) (ap work.verdict is ∙ stays.verdict_stays ∙ (settles judging).1) first
     (subst (λ part. OutputsAt told before part first) (sym stays.whole_stays ∙ ap work.whole (sym is)) at)
     (subst (λ those. Swept work.clears (length before) first those) (sym (kept judging)) cleared)
 
@@ -114,10 +91,10 @@ fed_all told opening most work content WasRead x new before Broken lawful got we
 
 judged_all : (told : Bool) (opening : Needs) (most : ℕ) (work : Work) (content : Content) (WasRead : List ℕ → Type 0) (x : List ℕ) (reached new before : List Slot) (fed : Fed) (fault : Fault) → is_verdict fault ≡ true → IsLawful work → HasGot work content x fed → Judges work x fault → OutputsAt told before (work.whole x) reached → Swept work.clears (length before) reached new → FedAs told before work opening most content WasRead new (Err fault)
 judged_all told opening most work content WasRead x reached new before Whole fault judging lawful got verdict at swept =
-    judged fault judging (ends_whole content.breaks_off _ got.0) (ap work.verdict got.2 ∙ verdict) reached (subst (λ bytes. OutputsAt told before (work.whole bytes) reached) (sym got.2) at) swept
+    judged fault judging (or_left _ _ (ap not got.0)) (ap work.verdict got.2 ∙ verdict) reached (subst (λ bytes. OutputsAt told before (work.whole bytes) reached) (sym got.2) at) swept
 judged_all told opening most work content WasRead x reached new before Enough fault judging lawful got verdict at swept =
     let stays : IsComplete work x got.1.0 = lawful.stays x got.1.0 got.0 in
-    judged fault judging (or_complete content.breaks_off _ (ap work.is_complete got.1.1 ∙ stays.still)) (ap work.verdict got.1.1 ∙ stays.verdict_stays ∙ verdict) reached
+    judged fault judging (or_right _ _ (ap work.is_complete got.1.1 ∙ stays.still)) (ap work.verdict got.1.1 ∙ stays.verdict_stays ∙ verdict) reached
     (subst (λ part. OutputsAt told before part reached) (sym (ap work.whole got.1.1 ∙ whole_at work x got.1.0 lawful got.0)) at) swept
 judged_all told opening most work content WasRead x reached new before Broken fault judging lawful got verdict at swept = absurd got
 

@@ -1,6 +1,7 @@
 -- Lemmas on one input of a run.
-use Rattle.std.proofs.Common.{arith, ◌≡◌, ℕ, ◌<◌, ◌≤◌, Bool, true, false, not, ◌&&◌, ◌||◌, IsTrue, if◌then◌else◌, List, [], ◌∷◌, length, take, Option, Some, None, IfSome, Result, Ok, Err, refl, sym, ◌∙◌, ap, subst}
-use Rattle.std.proofs.lemmas.Bool.{false≢true}
+use Rattle.std.proofs.Common.{◌⊎◌, arith, inl, inr, ◌≡◌, ℕ, ◌<◌, ◌≤◌, Bool, true, false, not, ◌||◌, IsTrue, List, [], ◌∷◌, length, take, Option, Some, None, Result, Ok, Err, refl, sym, ◌∙◌, ap, subst}
+use Rattle.std.proofs.lemmas.Bool.{false≢true, or_left, or_right}
+use Rattle.std.proofs.Math.Bool.{and-false, and-true, or-false, or-true}
 use Rattle.ports_core.specs.Slot.{Slot, is_open, slot_at, is_writable, told_of, with_written}
 use Rattle.ports_core.specs.Write.{BrokeAfter}
 use Rattle.ports_core.specs.Source.{Content, Source, source_at}
@@ -13,25 +14,24 @@ use Rattle.ports_core.specs.Text.{message_of}
 use Rattle.ports_core.specs.Message.{SaysOn}
 use Rattle.ports_core.specs.declared.tool.Tool.{Tool}
 use Rattle.ports_core.specs.declared.fault.Fault.{Fault}
-use Rattle.ports_core.specs.declared.fault.Fault.TheVariants.{Memory, Write, Read, Open, Suffixes, NoMatch, Range, Usage, Failed, TooLong}
+use Rattle.ports_core.specs.declared.fault.Fault.TheVariants.{Memory, Write, Read}
 use Rattle.ports_core.proofs.PartLemmas.{out_more, out_cut, part_begins_itself, stopped_here, broken_at, outputs_count}
 use Rattle.ports_core.proofs.WriteLemmas.{writable-written}
 use Rattle.ports_core.proofs.SlotLemmas.{length-changed_at}
 use Rattle.run_core.specs.declared.inputs.Progress.{Progress}
 use Rattle.run_core.specs.declared.feeding.Fed.{Fed}
 use Rattle.run_core.specs.declared.feeding.Fed.TheVariants.{Whole, Enough, Broken}
-use Rattle.run_core.specs.Feeding.{is_enough, Step, Stops, opens, FedAs, whole, had_enough, broke_off, judged, stopped, is_stop, IsUnread, LeavesOf, Uses}
+use Rattle.run_core.specs.Feeding.{is_enough, opens, FedAs, whole, had_enough, broke_off, judged, stopped, is_stop, LeavesOf, Uses}
 use Rattle.ports_core.specs.Inputs.{BreaksOnly, OfContent, empty}
 use Rattle.run_core.specs.Reading.{IsDone, Leaves}
 use Rattle.run_core.specs.RunEnds.{unheaded, heading, calling, step_after}
 use Rattle.ports_core.specs.Streams.{standard_output, streams_with}
 use Rattle.run_core.specs.inner.RunSteps.{HeaderFails, no_room, broke, TookInput, took, cut_off, OfSource, KeepsOther}
 use Rattle.run_core.specs.RunSteps.{Opens, OpensShort}
-use Rattle.run_core.specs.Task.{Task, Outcome, after_part, header_text, verdict_messages, of_content}
-use Rattle.std.specs.Prelude.{is_some}
+use Rattle.run_core.specs.Task.{Task, Outcome, after_part, header_text, of_content}
 use Rattle.run_core.proofs.ReadingLemmas.{left_of}
 use Rattle.run_core.proofs.JoinedLemmas.{after_assoc, out_on, at_after, stop_after, none_to_sweep}
-use Rattle.run_core.proofs.StopLemmas.{said_swept}
+use Rattle.run_core.proofs.StopLemmas.{said_swept, swept_error}
 
 -- headers
 
@@ -40,10 +40,6 @@ no_header told text old fault is = subst (HeaderFails told text old old) (sym is
 
 pub broken_header : (told : Bool) (text said : List ℕ) (old new : List Slot) (n : ℕ) → said ≡ text → BrokeAfter told old new 0 said n → HeaderFails told text old new (Write 0)
 broken_header told text said old new n is cut = broke n (subst (λ bytes. BrokeAfter told old new 0 bytes n) is cut)
-
-pub header_some : (is_first : Bool) (name : List ℕ) (with_header : Bool) → with_header ≡ true → header_text true is_first name ≡ header_text with_header is_first name
-header_some is_first name true is = refl
-header_some is_first name false is = absurd (false≢true is)
 
 -- the streams
 
@@ -73,75 +69,24 @@ pub from_source : (told : Bool) (source : Option ℕ) (sources : List Source) (A
 from_source told None sources A B Q more (one, two) = more _ one two
 from_source told (Some slot) sources A B Q more (content, there, both) = more content both.0 both.1
 
--- tests
-
-pub or_true : (a : Bool) → (a || true) ≡ true
-or_true true = refl
-or_true false = refl
-
-and_false : (a : Bool) → (a && false) ≡ false
-and_false true = refl
-and_false false = refl
-
-pub or_false : (a : Bool) → (a || false) ≡ a
-or_false true = refl
-or_false false = refl
-
-pub and_true : (a : Bool) → (a && true) ≡ a
-and_true true = refl
-and_true false = refl
-
 -- what is made of an input, by how it ends
-
-ended_enough : (work : Work) (content : Content) → content.breaks_off ≡ false → is_enough work content ≡ true
-ended_enough work content sound = ap (λ (b : Bool). not b || work.is_complete content.bytes) sound
-
-complete_enough : (work : Work) (content : Content) → work.is_complete content.bytes ≡ true → is_enough work content ≡ true
-complete_enough work content complete = ap (λ (b : Bool). not content.breaks_off || b) complete ∙ or_true (not content.breaks_off)
 
 breaks_short : (work : Work) (content : Content) → content.breaks_off ≡ true → work.is_complete content.bytes ≡ false → is_enough work content ≡ false
 breaks_short work content breaks going = ap (λ (b : Bool). not b || work.is_complete content.bytes) breaks ∙ going
 
--- the outcome of an input, where it is known how it ends
-by_end : Task → Bool → List ℕ → Content → Bool → Option Fault → Outcome
-by_end task is_first name content enough verdict = record {
-  part = after_part (only_out (header_text task.with_header is_first name)) (if enough then task.work.whole content.bytes else task.work.settled content.bytes);
-  messages = if enough then verdict_messages task verdict else message_of task.tool (Read 0) name ∷ [];
-  failed = if enough then is_some verdict else true;
-  sweeps = task.work.clears && (if enough then is_some verdict else true);
-}
-
-made_so : (task : Task) (is_first : Bool) (name : List ℕ) (content : Content) (enough : Bool) (verdict : Option Fault) → is_enough task.work content ≡ enough → task.work.verdict content.bytes ≡ verdict
-    → of_content task is_first name (Some content) ≡ by_end task is_first name content enough verdict
-unfolding by_end
-made_so task is_first name content enough verdict is judges =
-    ap (λ (b : Bool). by_end task is_first name content b (task.work.verdict content.bytes)) is ∙ ap (by_end task is_first name content enough) judges
-
 made_well : (task : Task) (is_first : Bool) (name : List ℕ) (content : Content) → is_enough task.work content ≡ true → task.work.verdict content.bytes ≡ None
     → of_content task is_first name (Some content) ≡ record { part = after_part (only_out (header_text task.with_header is_first name)) (task.work.whole content.bytes); messages = []; failed = false; sweeps = false }
-unfolding by_end
-made_well task is_first name content enough well =
-    made_so task is_first name content true None enough well
-    ∙ ap (λ (b : Bool). record { part = after_part (only_out (header_text task.with_header is_first name)) (task.work.whole content.bytes); messages = []; failed = false; sweeps = b }) (and_false task.work.clears)
+made_well task is_first name content enough well = simp (enough, well, and-false)
 
 made_judged : (task : Task) (is_first : Bool) (name : List ℕ) (content : Content) (fault : Fault) → is_enough task.work content ≡ true → task.work.verdict content.bytes ≡ Some fault
     → of_content task is_first name (Some content) ≡ record { part = after_part (only_out (header_text task.with_header is_first name)) (task.work.whole content.bytes); messages = message_of task.tool fault (task.subject fault) ∷ []; failed = true; sweeps = task.work.clears }
-unfolding by_end
-made_judged task is_first name content fault enough judges =
-    made_so task is_first name content true (Some fault) enough judges
-    ∙ ap (λ (b : Bool). record { part = after_part (only_out (header_text task.with_header is_first name)) (task.work.whole content.bytes); messages = message_of task.tool fault (task.subject fault) ∷ []; failed = true; sweeps = b }) (and_true task.work.clears)
+made_judged task is_first name content fault enough judges = simp (enough, judges, and-true)
 
 made_short : (task : Task) (is_first : Bool) (name : List ℕ) (content : Content) → is_enough task.work content ≡ false
     → of_content task is_first name (Some content) ≡ record { part = after_part (only_out (header_text task.with_header is_first name)) (task.work.settled content.bytes); messages = message_of task.tool (Read 0) name ∷ []; failed = true; sweeps = task.work.clears }
-unfolding by_end
-made_short task is_first name content short =
-    made_so task is_first name content false (task.work.verdict content.bytes) short refl
-    ∙ ap (λ (b : Bool). record { part = after_part (only_out (header_text task.with_header is_first name)) (task.work.settled content.bytes); messages = message_of task.tool (Read 0) name ∷ []; failed = true; sweeps = b }) (and_true task.work.clears)
+made_short task is_first name content short = simp (short, and-true)
 
 -- the header could not be written
-
-still_writable : (told : Bool) (old : List Slot) (bytes : List ℕ) → IsTrue (is_writable old 0) → IsTrue (is_writable (with_written 0 (told_of told bytes) old) 0)
-still_writable told old bytes can = writable-written old 0 0 (told_of told bytes) ∙ can
 
 pub stopped_in_header : (told_in told : Bool) (task : Task) (most : ℕ) (is_first : Bool) (name : List ℕ) (source : Option ℕ) (content : Content) (outcome : Outcome) (progress : Progress) (was_read : Bool) (so_far : Part) (error : Slot) (sources : List Source) (old new : List Slot) (fault : Fault) → task.with_header ≡ true → Leaves told_in content source sources []
     → OutputsAt told (streams_with error) so_far old → HeaderFails told (header_text task.with_header is_first name) old new fault
@@ -154,22 +99,9 @@ stopped_in_header told_in told task most is_first name source content outcome pr
     let text = header_text task.with_header is_first name in
     let count : length new ≡ length old = ap length after.slots ∙ length-changed_at 0 _ _ ∙ length-changed_at 0 _ old in
     cut_off (Write 0) _ new (heading content due unread)
-    (λ _. refl, λ alone. refl, ap (λ those. (slot_at those 0).is_broken) after.slots ∙ broken_at 0 _ (still_writable told old (take n text) (part_writable told error so_far old at)))
+    (λ _. refl, λ alone. refl, ap (λ those. (slot_at those 0).is_broken) after.slots ∙ broken_at 0 _ (writable-written old 0 0 (told_of told (take n text)) ∙ part_writable told error so_far old at))
     (subst (λ high. StoppedBetween told (streams_with error) so_far high (Write 0) new) (out_on so_far text) (out_cut told (streams_with error) so_far old new text n at after))
     (none_to_sweep task.work.clears (length old) new (omega (arith, count)))
-
--- what stopped a call stopped the same after what was written before
-stops_after : (first : Part) (call : Step) (now : List Slot) (fault : Fault) → Stops call now fault → Stops (step_after first call) now fault
-stops_after first call now Memory why = why
-stops_after first call now (Write slot) why = why
-stops_after first call now (Open slot) why = why
-stops_after first call now TooLong why = why
-stops_after first call now (Read slot) why = why
-stops_after first call now Suffixes why = why
-stops_after first call now (NoMatch operand repetition) why = why
-stops_after first call now (Range operand repetition) why = why
-stops_after first call now (Usage kind word) why = why
-stops_after first call now Failed why = why
 
 -- the engine's part of an input, after the header
 module _ (told_in told : Bool) (task : Task) (most : ℕ) (is_first : Bool) (name : List ℕ) (progress : Progress) (so_far : Part) (error : Slot) (count : ℕ) (source : Option ℕ) (sources : List Source) (mid : List Slot) (counted : length mid ≡ count) (streams_there : 2 ≤ count)
@@ -186,8 +118,7 @@ module _ (told_in told : Bool) (task : Task) (most : ℕ) (is_first : Bool) (nam
   went_well content new done enough well there =
       subst (λ outcome. TookInput told_in told task most outcome (header_text task.with_header is_first name) source (Some content) progress progress.was_read so_far error count sources new (Ok (record progress { is_first = false }))) (sym (made_well task is_first name content enough well))
       (took (record progress { is_first = false }) error new
-      (ap (λ (b : Bool). record { was_read = progress.was_read; is_first = b; failed = progress.failed }) (sym (and_false progress.is_first)) ∙ ap (λ (b : Bool). record { was_read = progress.was_read; is_first = progress.is_first && false; failed = b }) (sym (or_false progress.failed)))
-      done refl (part_after error _ new (at_after told (streams_with error) _ _ mid new at there)) refl)
+      (simp (and-false, or-false)) done refl (part_after error _ new (at_after told (streams_with error) _ _ mid new at there)) refl)
 
   -- a message is due
   went_badly : (content : Content) (part : Part) (text : List ℕ) (reached old new : List Slot) → IsDone told_in task.work most source (Some content) sources
@@ -197,23 +128,16 @@ module _ (told_in told : Bool) (task : Task) (most : ℕ) (is_first : Bool) (nam
       let said = said_swept told task.tool text task.work.clears standard_output error _ reached old new count streams_there (at_after told (streams_with error) _ part mid reached at there) (subst (λ n. Swept task.work.clears n reached old) counted swept) says in
       subst (λ outcome. TookInput told_in told task most outcome (header_text task.with_header is_first name) source (Some content) progress progress.was_read so_far error count sources new (Ok (record progress { is_first = false; failed = true }))) (sym made)
       (took (record progress { is_first = false; failed = true }) said.0 said.2.0
-      (ap (λ (b : Bool). record { was_read = progress.was_read; is_first = b; failed = true }) (sym (and_false progress.is_first)) ∙ ap (λ (b : Bool). record { was_read = progress.was_read; is_first = progress.is_first && false; failed = b }) (sym (or_true progress.failed)))
-      done (said.0, said.1, refl) (part_after said.0 part said.2.0 said.2.1) said.2.2)
+      (simp (and-false, or-true)) done (said.0, said.1, refl) (part_after said.0 part said.2.0 said.2.1) said.2.2)
 
-  pub took_whole : (content : Content) (new : List Slot) (fed : Fed) → IsDone told_in task.work most source (Some content) sources → fed ≡ Whole → FedAs told mid task.work task.opening most content (Leaves told_in content source sources) new (Ok fed) → TookSo content new (Ok (record progress { is_first = false }))
-  took_whole content new fed done is ends = from_whole (subst (λ those. FedAs told mid task.work task.opening most content (Leaves told_in content source sources) new (Ok those)) is ends) where
-    from_whole : FedAs told mid task.work task.opening most content (Leaves told_in content source sources) new (Ok Whole) → TookSo content new (Ok (record progress { is_first = false }))
-    from_whole (whole sound going well there) = went_well content new done (ended_enough task.work content sound) well there
-
-  pub took_enough : (content : Content) (new : List Slot) (fed : Fed) → IsDone told_in task.work most source (Some content) sources → fed ≡ Enough → FedAs told mid task.work task.opening most content (Leaves told_in content source sources) new (Ok fed) → TookSo content new (Ok (record progress { is_first = false }))
-  took_enough content new fed done is ends = from_enough (subst (λ those. FedAs told mid task.work task.opening most content (Leaves told_in content source sources) new (Ok those)) is ends) where
-    from_enough : FedAs told mid task.work task.opening most content (Leaves told_in content source sources) new (Ok Enough) → TookSo content new (Ok (record progress { is_first = false }))
-    from_enough (had_enough complete well there) = went_well content new done (complete_enough task.work content complete) well there
+  pub took_well : (content : Content) (new : List Slot) (fed : Fed) → IsDone told_in task.work most source (Some content) sources → (fed ≡ Whole) ⊎ (fed ≡ Enough) → FedAs told mid task.work task.opening most content (Leaves told_in content source sources) new (Ok fed) → TookSo content new (Ok (record progress { is_first = false }))
+  took_well content new _ done good (whole sound going well there) = went_well content new done (or_left _ _ (ap not sound)) well there
+  took_well content new _ done good (had_enough complete well there) = went_well content new done (or_right _ _ complete) well there
+  took_well content new _ done good (broke_off breaks going reached there swept) = absurd (elim good [ | inl is ↦ cc | inr is ↦ cc ])
 
   pub took_broken : (content : Content) (old new : List Slot) (fed : Fed) → IsDone told_in task.work most source (Some content) sources → fed ≡ Broken → FedAs told mid task.work task.opening most content (Leaves told_in content source sources) old (Ok fed) → SaysOn told task.tool (message_of task.tool (Read 0) name) old new → TookSo content new (Ok (record progress { is_first = false; failed = true }))
-  took_broken content old new fed done is ends says = from_broken (subst (λ those. FedAs told mid task.work task.opening most content (Leaves told_in content source sources) old (Ok those)) is ends) where
-    from_broken : FedAs told mid task.work task.opening most content (Leaves told_in content source sources) old (Ok Broken) → TookSo content new (Ok (record progress { is_first = false; failed = true }))
-    from_broken (broke_off breaks going reached there swept) = went_badly content _ _ reached old new done (made_short task is_first name content (breaks_short task.work content breaks going)) there swept says
+  took_broken content old new _ done is (broke_off breaks going reached there swept) says = went_badly content _ _ reached old new done (made_short task is_first name content (breaks_short task.work content breaks going)) there swept says
+  took_broken content old new _ done is ends says = absurd (cc)
 
   pub took_verdict : (content : Content) (old new : List Slot) (fault : Fault) → IsDone told_in task.work most source (Some content) sources → is_verdict fault ≡ true → FedAs told mid task.work task.opening most content (Leaves told_in content source sources) old (Err fault) → SaysOn told task.tool (message_of task.tool fault (task.subject fault)) old new → TookSo content new (Ok (record progress { is_first = false; failed = true }))
   took_verdict content old new fault done judging (judged _ is enough judges reached there swept) says = went_badly content _ _ reached old new done (made_judged task is_first name content fault enough judges) there swept says
@@ -223,30 +147,22 @@ module _ (told_in told : Bool) (task : Task) (most : ℕ) (is_first : Bool) (nam
   took_stopped content new fault unjudged (judged _ is enough judges reached there swept) = absurd (false≢true (sym unjudged ∙ is))
   took_stopped content new fault unjudged (stopped _ is call is_call read reached why stop swept) =
       cut_off fault (step_after (after_part so_far (only_out (header_text task.with_header is_first name))) call) reached (calling content call is_call read)
-      (stops_after (after_part so_far (only_out (header_text task.with_header is_first name))) call reached fault why)
+      why
       (stop_after told (streams_with error) _ call.low call.high fault mid reached at stop) (subst (λ n. Swept task.work.clears n reached new) counted swept)
 
 -- standard error is open after an input was fed
 
-swept_open : (told : Bool) (clears : Bool) (error : Slot) (part : Part) (reached new : List Slot) (first : ℕ) → 2 ≤ first → is_open error.state ≡ true → OutputsAt told (streams_with error) part reached → Swept clears first reached new → is_open (slot_at new 1).state ≡ true
-swept_open told false error part reached new first past opened at same = ap (λ those. is_open (slot_at those 1).state) same ∙ part_open told error part reached opened at
-swept_open told true error part reached new first past opened at swept = ap (λ (slot : Slot). is_open slot.state) (swept.before 1 (omega (arith, past))) ∙ part_open told error part reached opened at
+pub swept_open : (clears : Bool) (reached new : List Slot) (first : ℕ) → 2 ≤ first → is_open (slot_at reached 1).state ≡ true → Swept clears first reached new → is_open (slot_at new 1).state ≡ true
+swept_open clears reached new first past opened swept = ap (λ (slot : Slot). is_open slot.state) (swept_error clears first reached new past swept) ∙ opened
 
 pub fed_open : (told : Bool) (work : Work) (opening : Needs) (most : ℕ) (error : Slot) (part : Part) (mid new : List Slot) (content : Content) (WasRead : List ℕ → Type 0) (fed : Fed) → fed ≡ Broken → is_open error.state ≡ true → OutputsAt told (streams_with error) part mid → FedAs told mid work opening most content WasRead new (Ok fed) → is_open (slot_at new 1).state ≡ true
-fed_open told work opening most error part mid new content WasRead fed is opened at ends = from_broken (subst (λ those. FedAs told mid work opening most content WasRead new (Ok those)) is ends) where
-  from_broken : FedAs told mid work opening most content WasRead new (Ok Broken) → is_open (slot_at new 1).state ≡ true
-  from_broken (broke_off breaks going reached there swept) = swept_open told work.clears error _ reached new (length mid) (part_two told error part mid at) opened (at_after told (streams_with error) part _ mid reached at there) swept
+fed_open told work opening most error part mid new content WasRead _ is opened at (broke_off breaks going reached there swept) =
+    swept_open work.clears reached new (length mid) (part_two told error part mid at) (part_open told error _ reached opened (at_after told (streams_with error) part _ mid reached at there)) swept
+fed_open told work opening most error part mid new content WasRead _ is opened at ends = absurd (cc)
 
 pub judged_open : (told : Bool) (work : Work) (opening : Needs) (most : ℕ) (error : Slot) (part : Part) (mid new : List Slot) (content : Content) (WasRead : List ℕ → Type 0) (fault : Fault) → is_verdict fault ≡ true → is_open error.state ≡ true → OutputsAt told (streams_with error) part mid → FedAs told mid work opening most content WasRead new (Err fault) → is_open (slot_at new 1).state ≡ true
-judged_open told work opening most error part mid new content WasRead fault judging opened at (judged _ is enough judges reached there swept) = swept_open told work.clears error _ reached new (length mid) (part_two told error part mid at) opened (at_after told (streams_with error) part _ mid reached at there) swept
+judged_open told work opening most error part mid new content WasRead fault judging opened at (judged _ is enough judges reached there swept) = swept_open work.clears reached new (length mid) (part_two told error part mid at) (part_open told error _ reached opened (at_after told (streams_with error) part _ mid reached at there)) swept
 judged_open told work opening most error part mid new content WasRead fault judging opened at (stopped _ unjudged call is_call read reached why stop swept) = absurd (false≢true (sym unjudged ∙ judging))
-
--- a fault that is no verdict stops
-pub stops_here : {P : Type 0} (fault : Fault) → is_verdict fault ≡ false → not (is_verdict fault) ≡ false → P
-stops_here fault unjudged ends = absurd (false≢true (sym ends ∙ ap not unjudged))
-
-pub unread_at : (source : Option ℕ) (slot : ℕ) (sources : List Source) → source ≡ Some slot → IfSome source (λ place. IsUnread (source_at sources place)) → IsUnread (source_at sources slot)
-unread_at source slot sources is unread = subst (λ from. IfSome from (λ place. IsUnread (source_at sources place))) is unread
 
 -- an engine that could not be opened
 pub not_opened : (told : Bool) (work : Work) (opening : Needs) (most : ℕ) (content : Content) (WasRead : List ℕ → Type 0) (old new : List Slot) (fault : Fault) → OpensShort work opening told old new fault → WasRead [] → FedAs told old work opening most content WasRead new (Err fault)

@@ -1,13 +1,14 @@
 -- Lemmas on what is written after what was written before.
-use Rattle.std.proofs.Common.{◌≡◌, ℕ, ◌+◌, ◌<◌, ◌≤◌, suc, zero, Bool, true, false, List, [], ◌∷◌, ◌++◌, length, map, drop, inl, inr, refl, sym, ◌∙◌, ap, subst, arith, append_assoc, length-append}
+use Rattle.std.proofs.Common.{◌≡◌, ℕ, ◌+◌, ◌<◌, ◌≤◌, suc, Bool, true, false, List, [], ◌∷◌, ◌++◌, length, map, drop, inl, inr, refl, sym, ◌∙◌, ap, subst, arith, append_assoc, length-append}
 use Rattle.std.proofs.lemmas.List.{map-append, append-nil}
 use Rattle.std.proofs.Math.Seq.{take-append-add, drop-append-add}
-use Rattle.ports_core.specs.Slot.{Slot, slot_at, has_file, with_written, told_of}
+use Rattle.ports_core.specs.Slot.{Slot, with_written, told_of}
 use Rattle.ports_core.specs.Part.{Part, File, only_out, OutputsAt, IsBeginning, FilesBegin, Begins, IsNext, IsAt, InOrder, StoppedBetween, file_of, told_file}
-use Rattle.ports_core.specs.Swept.{Swept, SweptFrom, none}
+use Rattle.ports_core.specs.Swept.{Swept, SweptFrom}
 use Rattle.ports_core.specs.declared.fault.Fault.{Fault}
-use Rattle.ports_core.specs.declared.fault.Fault.TheVariants.{Memory, Write, Read, Open, Suffixes, NoMatch, Range, Usage, Failed, TooLong}
+use Rattle.ports_core.specs.declared.fault.Fault.TheVariants.{Write, Open}
 use Rattle.ports_core.proofs.PartLemmas.{begins_itself, marks_by, outputs_count}
+use Rattle.ports_core.proofs.SlotSteps.{none_past, swept_none}
 use Rattle.ports_core.proofs.SlotLemmas.{length-changed_at, changed_at-append}
 use Rattle.ports_core.proofs.WriteLemmas.{told_of-append, with_written-append}
 use Rattle.run_core.specs.Task.{after_part}
@@ -23,9 +24,7 @@ pub begins_after : (first low high : Part) → Begins low high → Begins (after
 begins_after first low high begins = record { out = out_after first.out low.out high.out begins.out; files = files_after first.files low.files high.files begins.files }
 
 pub after_assoc : (first next last : Part) → after_part (after_part first next) last ≡ after_part first (after_part next last)
-after_assoc first next last =
-    ap (λ (out : List ℕ). record { out = out; files = (first.files ++ next.files) ++ last.files }) (append_assoc first.out next.out last.out)
-    ∙ ap (λ (files : List File). record { out = first.out ++ (next.out ++ last.out); files = files }) (append_assoc first.files next.files last.files)
+after_assoc first next last = simp append_assoc
 
 -- bytes on standard output, after a part
 pub out_on : (first : Part) (bytes : List ℕ) → record first { out = first.out ++ bytes } ≡ after_part first (only_out bytes)
@@ -67,14 +66,7 @@ from_after : (fault : Fault) (base mid place count : ℕ) (first : ℕ) → mid 
 from_after (Write slot) base mid place count first is (inl here) = inl here
 from_after (Write slot) base mid place count first is (inr there) = inr (omega (arith, is, there))
 from_after (Open slot) base mid place count first is at = ap (λ n. first + n) at
-from_after Memory base mid place count first is at = tt
-from_after (Read slot) base mid place count first is at = tt
-from_after Suffixes base mid place count first is at = tt
-from_after (NoMatch operand repetition) base mid place count first is at = tt
-from_after (Range operand repetition) base mid place count first is at = tt
-from_after (Usage kind word) base mid place count first is at = tt
-from_after Failed base mid place count first is at = tt
-from_after TooLong base mid place count first is at = tt
+from_after fault base mid place count first is at = tt
 
 -- what stopped after a part, stopped after it
 pub stop_after : (told : Bool) (base : List Slot) (first low high : Part) (fault : Fault) (mid now : List Slot) → OutputsAt told base first mid → StoppedBetween told mid low high fault now → StoppedBetween told base (after_part first low) (after_part first high) fault now
@@ -93,18 +85,8 @@ stop_after told base first low high fault mid now at stop = record {
 
 -- where there is no file, none is to be removed
 
-no_slot_there : (slots : List Slot) (place : ℕ) → length slots ≤ place → has_file (slot_at slots place).state ≡ false
-no_slot_there [] place past = refl
-no_slot_there (slot ∷ slots) zero past = absurd (omega (arith, past))
-no_slot_there (slot ∷ slots) (suc place) past = no_slot_there slots place (omega (arith, past))
-
 pub none_to_sweep : (clears : Bool) (first : ℕ) (slots : List Slot) → length slots ≤ first → Swept clears first slots slots
-none_to_sweep false first slots past = refl
-none_to_sweep true first slots past = record {
-  size = refl;
-  before = λ place within. refl;
-  cleared = λ place above. none (no_slot_there slots place (omega (arith, past, above)));
-}
+none_to_sweep clears first slots past = swept_none clears first slots (λ place above. none_past slots place (omega (arith, past, above)))
 
 -- the same from another place, where it matters
 pub swept_from : (clears : Bool) (first other : ℕ) (old new : List Slot) → (clears ≡ true → first ≡ other) → Swept clears first old new → Swept clears other old new

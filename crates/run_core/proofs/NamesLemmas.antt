@@ -1,11 +1,13 @@
 -- Lemmas on taking the inputs for names, one after another.
-use Rattle.std.proofs.Common.{codes, ◌≡◌, ℕ, ◌+◌, ◌-◌, ◌<◌, ◌≤◌, Bool, true, false, not, ◌&&◌, ◌||◌, IsTrue, if◌then◌else◌, List, [], ◌∷◌, ◌++◌, length, take, drop, map, get_or, Bor, Option, Some, None, Result, Ok, Err, ◌⊎◌, inl, inr, arith, append_assoc, refl, sym, ◌∙◌, ap, subst, lit<}
-use Rattle.std.proofs.lemmas.List.{append-nil, length-map, take_rest}
-use Rattle.std.proofs.lemmas.Bool.{false≢true}
+use Rattle.std.proofs.Common.{codes, ◌≡◌, ℕ, ◌-◌, ◌<◌, ◌≤◌, Bool, true, false, not, ◌&&◌, ◌||◌, IsTrue, List, [], ◌∷◌, ◌++◌, length, take, drop, map, get_or, Bor, Option, Some, None, Result, Ok, Err, ◌⊎◌, inl, inr, arith, append_assoc, refl, sym, ◌∙◌, ap, subst, lit<}
+use Rattle.std.proofs.lemmas.List.{append-nil, nil_from_length, take_rest}
+use Rattle.std.proofs.lemmas.Bool.{and_parts, false_from_ne_true, false≢true, or_parts}
+use Rattle.std.proofs.lemmas.List.Recursion.{and_push}
+use Rattle.std.proofs.Math.Bool.{and-true, or-false, or-true, or_assoc}
 use Rattle.ports_core.specs.Slot.{Slot, is_open, streams}
 use Rattle.ports_core.specs.Source.{Content, Source, source_at, source_of, missing, is_readable, IsFresh, Opens, OpensNothing}
 use Rattle.ports_core.specs.Source as from
-use Rattle.ports_core.specs.Part.{Part, File, OutputsAt, nothing}
+use Rattle.ports_core.specs.Part.{Part, OutputsAt, nothing}
 use Rattle.ports_core.specs.Swept.{Swept}
 use Rattle.ports_core.specs.Text.{message_of}
 use Rattle.ports_core.specs.Message.{SaysAll, SaysOn}
@@ -14,7 +16,7 @@ use Rattle.ports_core.specs.declared.fault.Fault.TheVariants.{Memory, Open}
 use Rattle.ports_core.proofs.PartLemmas.{nothing_out, part_begins_itself, stopped_here}
 use Rattle.ports_core.proofs.MessageLemmas.{says_after, all_said_state}
 use Rattle.run_core.specs.declared.inputs.Progress.{Progress}
-use Rattle.run_core.specs.Reading.{AreUntouched, count_after}
+use Rattle.run_core.specs.Reading.{AreDone, AreUntouched, count_after}
 use Rattle.ports_core.specs.Inputs.{AsksAtMost, empty, largest_piece}
 use Rattle.run_core.specs.inner.Reading.{TakesOne}
 use Rattle.run_core.specs.Input.{has_dash, Input, World, AreFrom, is_dash, input_of, inputs_from, inputs_at, file_input, standard_input, read_before, next_slot}
@@ -23,10 +25,9 @@ use Rattle.ports_core.specs.Streams.{standard_output, standard_error, streams_wi
 use Rattle.run_core.specs.inner.RunSteps.{HasStreams, after_input, TookInput, took, cut_off, TookAll, all, stopped_at, not_begun, OfSource, OfName, is_unopened, standard_source}
 use Rattle.run_core.specs.RunSteps.{world_of}
 use Rattle.run_core.specs.Task.{Task, Outcome, no_outcome, joined, after_part, of_content, of_input, of_inputs, made_by, header_text, is_missing, are_missing, ends_badly}
-use Rattle.run_core.proofs.ReadingLemmas.{StayDone, all_done, all_done_nil, count_more, done_more, done_with, last_source, missing_done, rest_untouched, still_done}
+use Rattle.run_core.proofs.ReadingLemmas.{StayDone, all_done, count_more, done_more, done_with, last_source, missing_done, rest_untouched, still_done}
 use Rattle.ports_core.proofs.InputsLemmas.{fresh_asks}
-use Rattle.run_core.proofs.InputLemmas.{or_true, or_false, and_true}
-use Rattle.run_core.proofs.JoinedLemmas.{after_assoc, none_to_sweep, swept_from}
+use Rattle.run_core.proofs.JoinedLemmas.{none_to_sweep, swept_from}
 use Rattle.run_core.proofs.StopLemmas.{said_at}
 
 -- a list of words and its front
@@ -38,16 +39,6 @@ front_and_rest none (word ∷ words) some = ap (λ (rest : List (Bor (List ℕ))
 pub none_left : (left : List (Bor (List ℕ))) → length left < 1 → map (λ word. word.now) left ≡ []
 none_left [] none = refl
 none_left (word ∷ words) none = absurd (omega arith)
-
--- tests
-
-or_assoc : (a b c : Bool) → (a || (b || c)) ≡ ((a || b) || c)
-or_assoc true b c = refl
-or_assoc false b c = refl
-
-neither : (a b : Bool) → (a || b) ≡ false → (a ≡ false) × (b ≡ false)
-neither false b is = (refl, is)
-neither true b is = absurd (false≢true (sym is))
 
 -- the inputs that were opened
 
@@ -104,17 +95,17 @@ took_dash : (told_in told : Bool) (task : Task) (most : ℕ) (outcome : Outcome)
     → TookInput told_in told task most outcome header slot content (record progress { was_read = true }) true so_far error first sources new result → TookInput told_in told task most outcome header slot content progress (progress.was_read || is_dash name) so_far error first sources new result
 took_dash told_in told task most outcome header slot content progress name so_far error first sources new result dash =
     took_as told_in told task most outcome header slot content (record progress { was_read = true }) progress true (progress.was_read || is_dash name) so_far error first sources new result
-    (λ failed. ap (λ (b : Bool). record { was_read = b; is_first = progress.is_first && is_missing content; failed = progress.failed || failed }) (sym (ap (λ (b : Bool). progress.was_read || b) dash ∙ or_true progress.was_read)))
+    (λ failed. ap (λ (b : Bool). record { was_read = b; is_first = progress.is_first && is_missing content; failed = progress.failed || failed }) (sym (ap (λ (b : Bool). progress.was_read || b) dash ∙ or-true progress.was_read)))
 
 pub took_file : (told_in told : Bool) (task : Task) (most : ℕ) (outcome : Outcome) (header : List ℕ) (slot : ℕ) (content : Option Content) (progress : Progress) (laid : ℕ → List ℕ → Option Content) (name : List ℕ) (old mid : List Source) (so_far : Part) (error : Slot) (first : ℕ) (sources : List Source) (new : List Slot) (result : Result Progress Fault) → is_dash name ≡ false → Opens told_in laid old mid name slot
     → TookInput told_in told task most outcome header (Some slot) content progress progress.was_read so_far error first sources new result → TookInput told_in told task most outcome header (Some (length old)) content progress (progress.was_read || is_dash name) so_far error first sources new result
 took_file told_in told task most outcome header slot content progress laid name old mid so_far error first sources new result differs opens one =
     took_as told_in told task most outcome header (Some (length old)) content progress progress progress.was_read (progress.was_read || is_dash name) so_far error first sources new result
-    (λ failed. ap (λ (b : Bool). record { was_read = b; is_first = progress.is_first && is_missing content; failed = progress.failed || failed }) (sym (ap (λ (b : Bool). progress.was_read || b) differs ∙ or_false progress.was_read)))
+    (λ failed. ap (λ (b : Bool). record { was_read = b; is_first = progress.is_first && is_missing content; failed = progress.failed || failed }) (sym (ap (λ (b : Bool). progress.was_read || b) differs ∙ or-false progress.was_read)))
     (subst (λ n. TookInput told_in told task most outcome header (Some n) content progress progress.was_read so_far error first sources new result) opens.number one)
 
 nothing_after : (part : Part) → after_part part nothing ≡ part
-nothing_after part = ap (λ (out : List ℕ). record { out = out; files = part.files ++ [] }) (append-nil part.out) ∙ ap (λ (files : List File). record { out = part.out; files = files }) (append-nil part.files)
+nothing_after part = simp append-nil
 
 took_missing : (told_in told : Bool) (task : Task) (most : ℕ) (progress : Progress) (name : List ℕ) (sources after : List Source) (slot : ℕ) (so_far : Part) (error : Slot) (old new : List Slot) → is_dash name ≡ false → after ≡ sources ++ missing ∷ [] → OutputsAt told (streams_with error) so_far old
     → SaysOn told task.tool (message_of task.tool (Open slot) name) old new
@@ -122,9 +113,7 @@ took_missing : (told_in told : Bool) (task : Task) (most : ℕ) (progress : Prog
 took_missing told_in told task most progress name sources after slot so_far error old new differs are at says =
     let said = said_at told task.tool (message_of task.tool (Open slot) name) standard_output error so_far old new at says in
     took (record progress { failed = true }) said.0 new
-    (ap (λ (b : Bool). record { was_read = b; is_first = progress.is_first; failed = true }) (sym (ap (λ (b : Bool). progress.was_read || b) differs ∙ or_false progress.was_read))
-    ∙ ap (λ (b : Bool). record { was_read = progress.was_read || is_dash name; is_first = b; failed = true }) (sym (and_true progress.is_first))
-    ∙ ap (λ (b : Bool). record { was_read = progress.was_read || is_dash name; is_first = progress.is_first && true; failed = b }) (sym (or_true progress.failed)))
+    (simp (differs, or-false, and-true, or-true))
     (missing_done told_in task.work most sources after are)
     (said.0, said.1, refl)
     (subst (λ part. OutputsAt told (streams_with said.0) part new) (sym (nothing_after so_far)) said.2) refl
@@ -165,37 +154,15 @@ of_no_room told_in told task most progress laid name sources after _ so_far erro
 -- the loop over names
 
 joined_assoc : (a b c : Outcome) → joined a (joined b c) ≡ joined (joined a b) c
-joined_assoc a b c =
-    ap (λ (part : Part). record { part = part; messages = a.messages ++ (b.messages ++ c.messages); failed = a.failed || (b.failed || c.failed); sweeps = a.sweeps || (b.sweeps || c.sweeps) }) (sym (after_assoc a.part b.part c.part))
-    ∙ ap (λ (messages : List (List ℕ)). record { part = after_part (after_part a.part b.part) c.part; messages = messages; failed = a.failed || (b.failed || c.failed); sweeps = a.sweeps || (b.sweeps || c.sweeps) }) (sym (append_assoc a.messages b.messages c.messages))
-    ∙ ap (λ (failed : Bool). record { part = after_part (after_part a.part b.part) c.part; messages = (a.messages ++ b.messages) ++ c.messages; failed = failed; sweeps = a.sweeps || (b.sweeps || c.sweeps) }) (or_assoc a.failed b.failed c.failed)
-    ∙ ap (λ (sweeps : Bool). record { part = after_part (after_part a.part b.part) c.part; messages = (a.messages ++ b.messages) ++ c.messages; failed = (a.failed || b.failed) || c.failed; sweeps = sweeps }) (or_assoc a.sweeps b.sweeps c.sweeps)
+joined_assoc a b c = simp (append_assoc, or_assoc)
 
 joined_nothing : (a : Outcome) → joined a no_outcome ≡ a
-joined_nothing a =
-    ap (λ (part : Part). record { part = part; messages = a.messages ++ []; failed = a.failed || false; sweeps = a.sweeps || false }) (nothing_after a.part)
-    ∙ ap (λ (messages : List (List ℕ)). record { part = a.part; messages = messages; failed = a.failed || false; sweeps = a.sweeps || false }) (append-nil a.messages)
-    ∙ ap (λ (failed : Bool). record { part = a.part; messages = a.messages; failed = failed; sweeps = a.sweeps || false }) (or_false a.failed)
-    ∙ ap (λ (sweeps : Bool). record { part = a.part; messages = a.messages; failed = a.failed; sweeps = sweeps }) (or_false a.sweeps)
-
-and_left : (a b : Bool) → (a && b) ≡ true → a ≡ true
-and_left true b is = refl
-and_left false b is = absurd (false≢true is)
+joined_nothing a = simp (append-nil, or-false)
 
 -- files are removed only where the work clears them
-sweeps_clears : (task : Task) (is_first : Bool) (input : Input) (content : Option Content) → input.content ≡ content → (of_input task is_first input).sweeps ≡ true → task.work.clears ≡ true
-sweeps_clears task is_first input content is sweeps = by_content content (ap (λ (those : Option Content). sweeps_of task those) (sym is) ∙ same task is_first input input.content refl ∙ sweeps) where
-  sweeps_of : Task → Option Content → Bool
-  sweeps_of task None = false
-  sweeps_of task (Some content) = task.work.clears && ends_badly task.work content
-
-  same : (task : Task) (is_first : Bool) (input : Input) (content : Option Content) → input.content ≡ content → sweeps_of task input.content ≡ (of_input task is_first input).sweeps
-  same task is_first input None is = ap (sweeps_of task) is ∙ sym (ap (λ (those : Option Content). (of_input task is_first (record input { content = those })).sweeps) is)
-  same task is_first input (Some content) is = ap (sweeps_of task) is ∙ sym (ap (λ (those : Option Content). (of_input task is_first (record input { content = those })).sweeps) is)
-
-  by_content : (content : Option Content) → sweeps_of task content ≡ true → task.work.clears ≡ true
-  by_content None is = absurd (false≢true is)
-  by_content (Some content) is = and_left task.work.clears (ends_badly task.work content) is
+sweeps_clears : (task : Task) (is_first : Bool) (name : List ℕ) (content : Option Content) → (of_content task is_first name content).sweeps ≡ true → task.work.clears ≡ true
+sweeps_clears task is_first name None sweeps = absurd (false≢true sweeps)
+sweeps_clears task is_first name (Some content) sweeps = (and_parts task.work.clears (ends_badly task.work content) sweeps).0
 
 pub are_from : (world : World) (was_read : Bool) (slot : ℕ) (names : List (List ℕ)) → AreFrom was_read slot names (inputs_from world was_read slot names)
 are_from world was_read slot [] = refl
@@ -242,7 +209,7 @@ walk_begins told_in told task names laid sources slots fresh are alone =
       alone = λ clears. inr (alone clears, ap length are);
       unswept = λ some. refl;
       first = refl;
-      rest_made = λ rest. sym (nothing_joined (of_inputs task true rest));
+      rest_made = λ rest. refl;
       rest_are = λ rest are_rest. subst (λ n. AreFrom false n names rest) one are_rest;
       rest_there = λ t. ap (λ n. inputs_from (world_of laid sources) false n names) one;
       laid_same = refl;
@@ -251,9 +218,7 @@ walk_begins told_in told task names laid sources slots fresh are alone =
       known = tt;
       asked = fresh_asks largest_piece sources fresh;
       count = ap (λ n. count_after n names) one;
-    } where
-      nothing_joined : (outcome : Outcome) → joined no_outcome outcome ≡ outcome
-      nothing_joined outcome = refl
+    }
 
 -- where names are left, no file was removed
 slots_at : (told_in told : Bool) (task : Task) (world : World) (names left : List (List ℕ)) (progress : Progress) (laid : ℕ → List ℕ → Option Content) (sources : List Source) (slots : List Slot) → 1 ≤ length left
@@ -287,23 +252,12 @@ same_input world was_read slot name false laid sources same standard = ap (λ (t
 same_input world true slot name true laid sources same standard = refl
 same_input world false slot name true laid sources same standard = ap (λ (source : Source). standard_input source.left) (standard refl)
 
-are_missing-append : (inputs : List Input) (input : Input) → are_missing (inputs ++ input ∷ []) ≡ (are_missing inputs && is_missing input.content)
-are_missing-append [] input = and_true (is_missing input.content)
-are_missing-append (one ∷ inputs) input = ap (λ (b : Bool). is_missing one.content && b) (are_missing-append inputs input) ∙ and_assoc (is_missing one.content) (are_missing inputs) (is_missing input.content) where
-  and_assoc : (a b c : Bool) → (a && (b && c)) ≡ ((a && b) && c)
-  and_assoc true b c = refl
-  and_assoc false b c = refl
-
-no_more : (left : List (List ℕ)) → length left ≤ 0 → left ≡ []
-no_more [] few = refl
-no_more (name ∷ left) few = absurd (omega (arith, few))
-
 -- the only name was taken
 taken_alone : (clears : Bool) (name : List ℕ) (left : List (List ℕ)) (slots : List Slot) → (clears ≡ true → ((name ∷ left) ≡ []) ⊎ ((length (name ∷ left) ≤ 1) × (length slots ≡ 2))) → clears ≡ true → (left ≡ []) × (length slots ≡ 2)
-taken_alone clears name left slots alone is = by (alone is) where
-  by : ((name ∷ left) ≡ []) ⊎ ((length (name ∷ left) ≤ 1) × (length slots ≡ 2)) → (left ≡ []) × (length slots ≡ 2)
-  by (inl none) = absurd (let few : length (name ∷ left) ≡ 0 = ap length none in omega (arith, few))
-  by (inr few) = (no_more left (let less = few.0 in omega (arith, less)), few.1)
+taken_alone clears name left slots alone is = elim (alone is) [
+  | inl none ↦ absurd (cc)
+  | inr few ↦ (nil_from_length left (omega (arith, few.0)), few.1)
+]
 
 abbrev pub Takes : Bool → Bool → Task → ℕ → Progress → (ℕ → List ℕ → Option Content) → List Source → List Source → List ℕ → Part → Slot → List Slot → List Slot → Result Progress Fault → Type 0
 Takes told_in told task most progress laid sources new_sources name so_far error slots new result =
@@ -324,7 +278,7 @@ walk_goes_on told_in told task world names name left progress next laid new_laid
           let was : next.was_read ≡ (progress.was_read || is_dash name) = ap (λ (p : Progress). p.was_read) is in
           let unswept : walked.made.sweeps ≡ false = walked.unswept (omega arith) in
           let sweeps_one : (walked.made.sweeps || one.sweeps) ≡ one.sweeps = ap (λ (b : Bool). b || one.sweeps) unswept in
-          let only : one.sweeps ≡ true → (left ≡ []) × (length slots ≡ 2) = λ sweeps. taken_alone task.work.clears name left slots walked.alone (sweeps_clears task progress.is_first input input.content refl sweeps) in
+          let only : one.sweeps ≡ true → (left ≡ []) × (length slots ≡ 2) = λ sweeps. taken_alone task.work.clears name left slots walked.alone (sweeps_clears task progress.is_first input.name input.content sweeps) in
           record {
             done = walked.done ++ input ∷ [];
             made = joined walked.made one;
@@ -335,8 +289,8 @@ walk_goes_on told_in told task world names name left progress next laid new_laid
             says = says_after told task.tool walked.made.messages one.messages standard_error walked.error after walked.says says;
             failed = ap (λ (p : Progress). p.failed) is ∙ ap (λ (b : Bool). b || one.failed) walked.failed;
             alone = λ clears. inl (taken_alone task.work.clears name left slots walked.alone clears).0;
-            unswept = λ some. sweeps_one ∙ none_swept one.sweeps (λ sweeps. (only sweeps).0) some;
-            first = ap (λ (p : Progress). p.is_first) is ∙ ap (λ (b : Bool). b && is_missing input.content) walked.first ∙ sym (are_missing-append walked.done input);
+            unswept = λ some. sweeps_one ∙ false_from_ne_true one.sweeps (λ sweeps. omega (arith, some, ap length (only sweeps).0));
+            first = ap (λ (p : Progress). p.is_first) is ∙ ap (λ (b : Bool). b && is_missing input.content) walked.first ∙ sym (and_push are_missing (λ (one : Input). is_missing one.content) refl (λ one inputs. refl) walked.done input);
             rest_made = λ rest. ap (of_inputs task true) (append_assoc walked.done (input ∷ []) rest)
                 ∙ walked.rest_made (input ∷ rest)
                 ∙ joined_assoc walked.made one (of_inputs task (progress.is_first && is_missing input.content) rest)
@@ -349,22 +303,15 @@ walk_goes_on told_in told task world names name left progress next laid new_laid
                 ∙ ap (λ (b : Bool). walked.done ++ input_of world progress.was_read (length sources) name (is_dash name) ∷ inputs_from world b (next_slot (length sources) name) left) was
                 ∙ walked.rest_there t;
             laid_same = same ∙ walked.laid_same;
-            standard = λ unread. let both = neither progress.was_read (is_dash name) (sym was ∙ unread) in leaves.unasked both.1 ∙ walked.standard both.0;
-            some = subst (λ n. 0 < n) (sym opens) (more_some (is_dash name));
+            standard = λ unread. let both = or_parts progress.was_read (is_dash name) (sym was ∙ unread) in leaves.unasked both.1 ∙ walked.standard both.0;
+            some = omega (arith, walked.some, leaves.grown);
             known = subst (λ (b : Bool). StayDone told_in task.work largest_piece b (walked.done ++ input ∷ []) new_sources) (sym was)
                 (done_more told_in task.work largest_piece (progress.was_read || is_dash name) walked.done input new_sources
                 (still_done told_in task.work largest_piece largest_piece progress.was_read (progress.was_read || is_dash name) name walked.done sources new_sources (λ had. ap (λ (b : Bool). b || is_dash name) had) leaves walked.known)
                 (done_with told_in task.work largest_piece progress.was_read (length sources) name input new_sources is_for walked.some is_done));
             asked = leaves.asked walked.asked;
             count = sym (ap (λ n. count_after n left) (sym opens)) ∙ walked.count;
-          } where
-            more_some : (d : Bool) → 0 < (if d then length sources else length sources + 1)
-            more_some true = walked.some
-            more_some false = let had = walked.some in omega (arith, had)
-
-            none_swept : (sweeps : Bool) → (sweeps ≡ true → left ≡ []) → 1 ≤ length left → sweeps ≡ false
-            none_swept false none some = refl
-            none_swept true none some = absurd (let few : length left ≡ 0 = ap length (none refl) in omega (arith, few, some))
+          }
 
 -- a fault stopped the run at a name
 pub walk_stops : (told_in told : Bool) (task : Task) (world : World) (names : List (List ℕ)) (name : List ℕ) (left : List (List ℕ)) (progress : Progress) (laid : ℕ → List ℕ → Option Content) (sources new_sources : List Source) (slots new : List Slot) (fault : Fault)
@@ -388,7 +335,7 @@ walk_stops told_in told task world names name left progress laid sources new_sou
                 (all_done told_in task.work largest_piece (progress.was_read || is_dash name) walked.done new_sources
                 (still_done told_in task.work largest_piece largest_piece progress.was_read (progress.was_read || is_dash name) name walked.done sources new_sources (λ had. ap (λ (b : Bool). b || is_dash name) had) leaves walked.known))
                 (rest_untouched world (progress.was_read || is_dash name) (next_slot (length sources) name) left new_sources
-                (λ unread. let both = neither progress.was_read (is_dash name) unread in leaves.unasked both.1 ∙ walked.standard both.0) leaves.within)
+                (λ unread. let both = or_parts progress.was_read (is_dash name) unread in leaves.unasked both.1 ∙ walked.standard both.0) leaves.within)
                 (subst (λ (outcome : Outcome). RunStep told_in task largest_piece outcome.part (header_text task.with_header (are_missing walked.done) input.name) input.slot new_sources input.content step) (sym before)
                 (subst (λ (is_first : Bool). RunStep told_in task largest_piece walked.made.part (header_text task.with_header is_first input.name) input.slot new_sources input.content step) walked.first is_step))
                 stops
@@ -419,7 +366,7 @@ walk_ends told_in told task world names left progress laid sources slots none wa
           (subst (λ (those : Outcome). SaysAll told task.tool those.messages standard_error walked.error) (sym made) walked.says)
           (subst (λ (those : Outcome). OutputsAt told (streams_with walked.error) those.part walked.reached) (sym made) walked.at)
           (subst (λ (those : Outcome). Swept those.sweeps 2 walked.reached slots) (sym made) walked.swept)
-          (all_done_nil told_in task.work largest_piece walked.done sources (all_done told_in task.work largest_piece progress.was_read walked.done sources walked.known)),
+          (subst (λ those. AreDone told_in task.work largest_piece those sources) (sym (append-nil walked.done)) (all_done told_in task.work largest_piece progress.was_read walked.done sources walked.known)),
     )
 
 pub walk_counts : (told_in told : Bool) (task : Task) (world : World) (names left : List (List ℕ)) (progress : Progress) (laid : ℕ → List ℕ → Option Content) (sources : List Source) (slots : List Slot) → left ≡ []
@@ -462,9 +409,6 @@ walk_within_at told_in told task room world names none left progress laid source
 pub asks_on_at : (room : ℕ) (was_read : Bool) (name : List ℕ) (sources new_sources : List Source) → room ≡ largest_piece → AsksAtMost largest_piece sources → TakesOne room was_read name sources new_sources → AsksAtMost largest_piece new_sources
 asks_on_at room was_read name sources new_sources at_most asked leaves = subst (λ n. AsksAtMost n new_sources) at_most (leaves.asked (subst (λ n. AsksAtMost n sources) (sym at_most) asked))
 
-pub some_left : (left : List (Bor (List ℕ))) → 1 ≤ length left → 1 ≤ length (map (λ (word : Bor (List ℕ)). word.now) left)
-some_left left some = subst (λ n. 1 ≤ n) (sym (length-map left (λ (word : Bor (List ℕ)). word.now))) some
-
 -- a run that touched no input
 pub none_touched : (told_in : Bool) (laid : ℕ → List ℕ → Option Content) (sources : List Source) (names : List (List ℕ)) → IsFresh sources → RunsOver told_in (world_of laid sources) names (λ found. AreUntouched found sources)
 none_touched told_in laid sources names fresh =
@@ -489,20 +433,13 @@ pub record Untouched (names left : List (List ℕ)) (start now : List Source) : 
   pub none_left : has_dash names ≡ false → has_dash left ≡ false
   pub same : has_dash names ≡ false → source_at now 0 ≡ source_at start 0
 
-pub untouched_at_first : (names : List (List ℕ)) (start : List Source) → Untouched names names start start
-untouched_at_first names start = record { none_left = λ none. none; same = λ none. refl }
-
-pub untouched_by : (names : List (List ℕ)) (none : Bor (List ℕ)) (left : List (Bor (List ℕ))) (start now new : List Source) → 1 ≤ length left → Untouched names (map (λ word. word.now) left) start now
-    → (is_dash (get_or left 0 none).now ≡ false → source_at new 0 ≡ source_at now 0)
-    → has_dash names ≡ false → source_at new 0 ≡ source_at start 0
-untouched_by names none left start now new some untouched keeps has_none =
-    let both = neither (is_dash (get_or left 0 none).now) (has_dash (map (λ word. word.now) (take (length left - 1) (drop 1 left)))) (sym (ap has_dash (front_and_rest none left some)) ∙ untouched.none_left has_none) in
-    keeps both.0 ∙ untouched.same has_none
-
 pub untouched_on : (names : List (List ℕ)) (none : Bor (List ℕ)) (left : List (Bor (List ℕ))) (start now new : List Source) → 1 ≤ length left → Untouched names (map (λ word. word.now) left) start now
     → (is_dash (get_or left 0 none).now ≡ false → source_at new 0 ≡ source_at now 0)
     → Untouched names (map (λ word. word.now) (take (length left - 1) (drop 1 left))) start new
-untouched_on names none left start now new some untouched keeps = record {
-  none_left = λ has_none. (neither (is_dash (get_or left 0 none).now) (has_dash (map (λ word. word.now) (take (length left - 1) (drop 1 left)))) (sym (ap has_dash (front_and_rest none left some)) ∙ untouched.none_left has_none)).1;
-  same = untouched_by names none left start now new some untouched keeps;
-}
+untouched_on names none left start now new some untouched keeps =
+    let both = λ (has_none : has_dash names ≡ false).
+    or_parts (is_dash (get_or left 0 none).now) (has_dash (map (λ word. word.now) (take (length left - 1) (drop 1 left))))
+    (sym (ap has_dash (front_and_rest none left some)) ∙ untouched.none_left has_none) in record {
+      none_left = λ has_none. (both has_none).1;
+      same = λ has_none. keeps (both has_none).0 ∙ untouched.same has_none;
+    }

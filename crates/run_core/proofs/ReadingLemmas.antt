@@ -1,9 +1,11 @@
 -- Lemmas on what a run leaves of its inputs.
 use Rattle.std.proofs.Common.{◌≡◌, ℕ, ◌+◌, ◌<◌, ◌≤◌, zero, suc, Bool, true, false, ◌||◌, IsTrue, if◌then◌else◌, List, [], ◌∷◌, ◌++◌, length, Option, Some, None, IfSome, arith, length-append, inl, inr, refl, sym, ◌∙◌, ap, subst}
-use Rattle.std.proofs.lemmas.Bool.{false≢true}
+use Rattle.std.proofs.lemmas.Bool.{false≢true, or_parts}
+use Rattle.std.proofs.lemmas.List.{get_or_append_left}
+use Rattle.std.proofs.Math.Seq.{get_or-append_seam}
 use mathlib.Core.Logic.{dite}
 use native.Mathlib.Decide.{ℕ_discrete}
-use Rattle.ports_core.specs.Source.{Content, Source, source_at, source_of, is_readable, missing, Opens, OpensNothing}
+use Rattle.ports_core.specs.Source.{Content, Source, no_source, source_at, source_of, is_readable, missing, Opens, OpensNothing}
 use Rattle.ports_core.specs.Source as from
 use Rattle.ports_core.specs.declared.fault.Fault.{Fault}
 use Rattle.ports_core.specs.Work.{Work}
@@ -19,13 +21,7 @@ use Rattle.ports_core.proofs.InputsLemmas.{keeps_itself, sound_at}
 -- one input more
 
 pub last_source : (sources : List Source) (source : Source) → source_at (sources ++ source ∷ []) (length sources) ≡ source
-last_source [] source = refl
-last_source (first ∷ sources) source = last_source sources source
-
-front_source : (sources : List Source) (source : Source) (place : ℕ) → place < length sources → source_at (sources ++ source ∷ []) place ≡ source_at sources place
-front_source [] source place within = absurd (omega arith)
-front_source (first ∷ sources) source zero within = refl
-front_source (first ∷ sources) source (suc place) within = front_source sources source place (omega arith)
+last_source sources source = get_or-append_seam sources source [] no_source
 
 one_more : (sources : List Source) (source : Source) → length (sources ++ source ∷ []) ≡ length sources + 1
 one_more sources source = length-append sources (source ∷ [])
@@ -38,13 +34,10 @@ asks_more most [] source little asked (suc place) = asked place
 asks_more most (first ∷ sources) source little asked zero = asked 0
 asks_more most (first ∷ sources) source little asked (suc place) = asks_more most sources source little (λ those. asked (suc those)) place
 
-asks_there : (most slot : ℕ) (old new : List Source) → KeepsOthers slot old new → ((source_at old slot).asked ≤ most → (source_at new slot).asked ≤ most) → AsksAtMost most old → AsksAtMost most new
+pub asks_there : (most slot : ℕ) (old new : List Source) → KeepsOthers slot old new → ((source_at old slot).asked ≤ most → (source_at new slot).asked ≤ most) → AsksAtMost most old → AsksAtMost most new
 asks_there most slot old new keeps there asked place =
     dite (ℕ_discrete place slot) (λ is. subst (λ n. (source_at new n).asked ≤ most) (sym is) (there (asked slot)))
     (λ differs. subst (λ (source : Source). source.asked ≤ most) (sym (keeps.others place differs)) (asked place))
-
-pub asks_from : (most slot : ℕ) (source : Option ℕ) (old new : List Source) → source ≡ Some slot → KeepsOthers slot old new → ((source_at old slot).asked ≤ most → (source_at new slot).asked ≤ most) → AsksAtMost most old → AsksAtMost most new
-asks_from most slot source old new is keeps there = asks_there most slot old new keeps there
 
 -- what is left of the input of a source
 
@@ -71,10 +64,19 @@ left_of told work most slot there sources P stops within uses (content, is, hold
 pub nothing_taken : (sources : List Source) (slot : ℕ) (content : Content) → source_at sources slot ≡ source_of content → IsUnread (source_at sources slot)
 nothing_taken sources slot content is = (ap (λ (source : Source). source.taken) is, ap (λ (source : Source). source.reached) is)
 
+-- how many names there can be
+
+pub count_more : (count : ℕ) (names : List (List ℕ)) → count ≤ count_after count names
+count_more count [] = omega arith
+count_more count (name ∷ names) = let rest : next_slot count name ≤ count_after (next_slot count name) names = count_more (next_slot count name) names in at_least (is_dash name) (count_after (next_slot count name) names) rest where
+  at_least : (dash : Bool) (most : ℕ) → (if dash then count else count + 1) ≤ most → count ≤ most
+  at_least true most less = less
+  at_least false most less = omega (arith, less)
+
 -- what taking a name leaves
 
-takes_dash_at : (most : ℕ) (was : Bool) (name : List ℕ) (old new : List Source) → is_dash name ≡ true → KeepsOther (standard_source was) old new → (AsksAtMost most old → AsksAtMost most new) → TakesOne most was name old new
-takes_dash_at most true name old new dash same asked = record {
+pub takes_dash : (most : ℕ) (was_read : Bool) (name : List ℕ) (old new : List Source) → is_dash name ≡ true → KeepsOther (standard_source was_read) old new → (AsksAtMost most old → AsksAtMost most new) → TakesOne most was_read name old new
+takes_dash most true name old new dash same asked = record {
   grown = omega (arith, ap length same);
   within = let here : next_slot (length old) name ≡ length old = ap (λ (b : Bool). if b then length old else length old + 1) dash in omega (arith, here, ap length same);
   files = λ place some within. ap (λ those. source_at those place) same;
@@ -82,7 +84,7 @@ takes_dash_at most true name old new dash same asked = record {
   again = λ was. ap (λ those. source_at those 0) same;
   asked = asked;
 }
-takes_dash_at most false name old new dash keeps asked = record {
+takes_dash most false name old new dash keeps asked = record {
   grown = omega (arith, keeps.count);
   within = let here : next_slot (length old) name ≡ length old = ap (λ (b : Bool). if b then length old else length old + 1) dash in omega (arith, here, keeps.count);
   files = λ place some within. keeps.others place (λ is. omega (arith, some, is));
@@ -91,16 +93,13 @@ takes_dash_at most false name old new dash keeps asked = record {
   asked = asked;
 }
 
-pub takes_dash : (most : ℕ) (was_read : Bool) (source : Option ℕ) (name : List ℕ) (old new : List Source) → source ≡ standard_source was_read → is_dash name ≡ true → KeepsOther source old new → (AsksAtMost most old → AsksAtMost most new) → TakesOne most was_read name old new
-takes_dash most was_read source name old new is dash keeps asked = takes_dash_at most was_read name old new dash (subst (λ those. KeepsOther those old new) is keeps) asked
-
 -- another source stands after those that were there
 takes_more : (most : ℕ) (was_read : Bool) (name : List ℕ) (old mid new : List Source) (source : Source) → is_dash name ≡ false → 0 < length old → source.asked ≤ most → mid ≡ old ++ source ∷ [] → KeepsOthers (length old) mid new → (AsksAtMost most mid → AsksAtMost most new) → TakesOne most was_read name old new
 takes_more most was_read name old mid new source differs some little is keeps asked =
     let count : length new ≡ length old + 1 = keeps.count ∙ ap length is ∙ one_more old source in
     let here : next_slot (length old) name ≡ length old + 1 = ap (λ (b : Bool). if b then length old else length old + 1) differs in
     let front : (place : ℕ) → place < length old → source_at new place ≡ source_at old place
-    = λ place within. keeps.others place (λ same. omega (arith, within, same)) ∙ ap (λ those. source_at those place) is ∙ front_source old source place within in record {
+    = λ place within. keeps.others place (λ same. omega (arith, within, same)) ∙ ap (λ those. source_at those place) is ∙ get_or_append_left old (source ∷ []) no_source place within in record {
       grown = omega (arith, count);
       within = omega (arith, count, here);
       files = λ place _ within. front place within;
@@ -117,15 +116,12 @@ takes_file told laid most was_read name old mid new slot differs some opens keep
 takes_none : (most : ℕ) (was_read : Bool) (name : List ℕ) (old new : List Source) → new ≡ old → TakesOne most was_read name old new
 takes_none most was_read name old new same = record {
   grown = omega (arith, ap length same);
-  within = at_least (is_dash name);
+  within = let more : length old ≤ next_slot (length old) name = count_more (length old) (name ∷ []) in omega (arith, ap length same, more);
   files = λ place _ within. ap (λ those. source_at those place) same;
   unasked = λ _. ap (λ those. source_at those 0) same;
   again = λ _. ap (λ those. source_at those 0) same;
   asked = subst (AsksAtMost most) (sym same);
-} where
-  at_least : (d : Bool) → length new ≤ (if d then length old else length old + 1)
-  at_least true = omega (arith, ap length same)
-  at_least false = omega (arith, ap length same)
+}
 
 pub takes_missing : (told : Bool) (laid : ℕ → List ℕ → Option Content) (most : ℕ) (was_read : Bool) (name : List ℕ) (old new : List Source) (fault : Fault) → is_dash name ≡ false → 0 < length old → OpensNothing told laid old new name fault → TakesOne most was_read name old new
 takes_missing told laid most was_read name old new fault differs some (from.broke at number lies is) = takes_more most was_read name old new new missing differs some (omega arith) is (keeps_itself (length old) new) (λ asked. asked)
@@ -180,10 +176,6 @@ pub all_done : (told : Bool) (work : Work) (most : ℕ) (was_read : Bool) (input
 all_done told work most was_read [] sources done = tt
 all_done told work most was_read (input ∷ inputs) sources done = (done_at told work most was_read input.slot input.content sources done.0, all_done told work most was_read inputs sources done.1)
 
-pub all_done_nil : (told : Bool) (work : Work) (most : ℕ) (inputs : List Input) (sources : List Source) → AreDone told work most inputs sources → AreDone told work most (inputs ++ []) sources
-all_done_nil told work most [] sources done = tt
-all_done_nil told work most (input ∷ inputs) sources done = (done.0, all_done_nil told work most inputs sources done.1)
-
 -- the input of a name that was taken stays done
 done_for : (told : Bool) (work : Work) (most : ℕ) (world : World) (was_read : Bool) (count : ℕ) (name : List ℕ) (dash : Bool) (sources : List Source) → 0 < count
     → (let input = input_of world was_read count name dash in IsDone told work most input.slot input.content sources → StaysDone told work most (was_read || dash) input.slot input.content sources)
@@ -203,25 +195,8 @@ pub rest_untouched : (world : World) (was_read : Bool) (slot : ℕ) (names : Lis
     → AreUntouched (inputs_from world was_read slot names) sources
 rest_untouched world was_read slot [] sources unread few = tt
 rest_untouched world was_read slot (name ∷ names) sources unread few =
-    (by_name was_read (is_dash name) unread, rest_untouched world (was_read || is_dash name) (next_slot slot name) names sources (λ none. unread (or_left was_read (is_dash name) none)) (at_least (is_dash name))) where
+    (by_name was_read (is_dash name) unread, rest_untouched world (was_read || is_dash name) (next_slot slot name) names sources (λ none. unread (or_parts was_read (is_dash name) none).0) (let more : slot ≤ next_slot slot name = count_more slot (name ∷ []) in omega (arith, few, more))) where
       by_name : (was dash : Bool) → (was ≡ false → source_at sources 0 ≡ source_of world.standard) → (let input = input_of world was slot name dash in IsUntouched input.slot input.content sources)
       by_name true true at_first = tt
       by_name false true at_first = inr (world.standard, refl, at_first refl)
       by_name was false at_first = inl few
-
-      or_left : (a b : Bool) → (a || b) ≡ false → a ≡ false
-      or_left false b is = refl
-      or_left true b is = absurd (false≢true (sym is))
-
-      at_least : (dash : Bool) → length sources ≤ (if dash then slot else slot + 1)
-      at_least true = few
-      at_least false = omega (arith, few)
-
--- how many names there can be
-
-pub count_more : (count : ℕ) (names : List (List ℕ)) → count ≤ count_after count names
-count_more count [] = omega arith
-count_more count (name ∷ names) = let rest : next_slot count name ≤ count_after (next_slot count name) names = count_more (next_slot count name) names in at_least (is_dash name) (count_after (next_slot count name) names) rest where
-  at_least : (dash : Bool) (most : ℕ) → (if dash then count else count + 1) ≤ most → count ≤ most
-  at_least true most less = less
-  at_least false most less = omega (arith, less)

@@ -1,8 +1,7 @@
 -- Lemmas on how a run ends.
-use Rattle.std.proofs.Common.{◌≡◌, ℕ, Bool, true, false, if◌then◌else◌, List, [], ◌∷◌, ◌++◌, Ok, Err, refl, sym, ◌∙◌, ap, subst, lit≤}
+use Rattle.std.proofs.Common.{◌≡◌, ℕ, Bool, true, if◌then◌else◌, List, [], ◌∷◌, ◌++◌, Ok, Err, refl, sym, ◌∙◌, ap, subst, lit≤}
 use Rattle.ports_core.specs.Slot.{Slot, is_open, slot_at}
 use Rattle.ports_core.specs.Source.{Source}
-use Rattle.ports_core.specs.Swept.{Swept}
 use Rattle.ports_core.specs.Text.{message_of}
 use Rattle.ports_core.specs.Message.{SaysAll, SaysOn, output_named}
 use Rattle.ports_core.specs.declared.tool.Tool.{Tool}
@@ -13,6 +12,7 @@ use Rattle.run_core.specs.RunEnds.{EndsAs, as_defined, stopped, no_room, RunsOve
 use Rattle.ports_core.specs.Streams.{standard_output, standard_error}
 use Rattle.run_core.specs.inner.RunSteps.{TookAll, all, stopped_at, not_begun}
 use Rattle.run_core.specs.Task.{Task, made_by}
+use Rattle.run_core.proofs.InputLemmas.{swept_open}
 use Rattle.run_core.proofs.StopLemmas.{error_open, stop_error, stop_swept, message_some}
 
 pub over_too : (told_in : Bool) (world : World) (names : List (List ℕ)) (P Q : List Input → Type 0) → ((found : List Input) → P found → Q found) → RunsOver told_in world names P → RunsOver told_in world names Q
@@ -26,14 +26,10 @@ pub ran_through : (told_in told : Bool) (task : Task) (found : List Input) (sour
 ran_through told_in told task found sources new failed status is (all _ error reached same says at swept done) =
     as_defined error reached says at swept done (is ∙ ap (λ (b : Bool). if b then 1 else 0) same)
 
-swept_open : (clears : Bool) (reached new : List Slot) → is_open (slot_at reached 1).state ≡ true → Swept clears 2 reached new → is_open (slot_at new 1).state ≡ true
-swept_open false reached new opened same = ap (λ those. is_open (slot_at those 1).state) same ∙ opened
-swept_open true reached new opened swept = ap (λ (slot : Slot). is_open slot.state) (swept.before 1 (lit≤ tt)) ∙ opened
-
 -- standard error is there for the fault that stopped the run
 pub stop_open : (told_in told : Bool) (task : Task) (found : List Input) (sources : List Source) (new : List Slot) (fault : Fault) → TookAll told_in told task found sources new (Err fault) → is_open (slot_at new 1).state ≡ true
 stop_open told_in told task found sources new fault (stopped_at _ before input after error step reached among done untouched is_step stops says stop swept) =
-    swept_open task.work.clears reached new (error_open reached (stop_error told standard_output error step.low step.high fault reached (ap is_open (all_said_state told task.tool (made_by task before).messages standard_error error says)) stop)) swept
+    swept_open task.work.clears reached new 2 (lit≤ tt) (error_open reached (stop_error told standard_output error step.low step.high fault reached (ap is_open (all_said_state told task.tool (made_by task before).messages standard_error error says)) stop)) swept
 stop_open told_in told task found sources new _ (not_begun is untouched none) = ap (λ slots. is_open (slot_at slots 1).state) is
 
 -- the run that a fault stopped

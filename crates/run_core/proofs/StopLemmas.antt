@@ -1,6 +1,6 @@
 -- Lemmas on outputs that a fault stopped, and on the message that tells it: standard error is the slot after the first, and what
 -- was opened comes after both.
-use Rattle.std.proofs.Common.{◌≡◌, ℕ, ◌<◌, ◌≤◌, zero, suc, drop, get_or, Bool, true, false, List, [], ◌∷◌, ◌++◌, length, codes, arith, length-append, inl, refl, sym, ◌∙◌, ap, subst, lit<}
+use Rattle.std.proofs.Common.{◌≡◌, ℕ, ◌<◌, ◌≤◌, zero, suc, Bool, true, false, List, [], ◌∷◌, ◌++◌, length, codes, arith, length-append, inl, refl, sym, ◌∙◌, ap, subst, lit<}
 use Rattle.std.proofs.lemmas.List.{append-nil}
 use Rattle.std.proofs.lemmas.Bool.{false≢true}
 use Rattle.ports_core.specs.Slot.{Slot, is_open, slot_at, adds, breaks, told_of, unopened, with_broken}
@@ -8,7 +8,7 @@ use Rattle.ports_core.specs.Part.{Part, OutputsAt, IsNext, Marks, StoppedBetween
 use Rattle.ports_core.specs.Text.{message_of}
 use Rattle.ports_core.specs.declared.tool.Tool.{Tool}
 use Rattle.ports_core.specs.declared.fault.Fault.{Fault}
-use Rattle.ports_core.specs.declared.fault.Fault.TheVariants.{Memory, Write, Read, Open, Suffixes, NoMatch, Range, Usage, Failed, TooLong}
+use Rattle.ports_core.specs.declared.fault.Fault.TheVariants.{Write, Open}
 use Rattle.ports_core.proofs.WriteLemmas.{told_of-nil}
 use Rattle.ports_core.specs.Swept.{Swept, SweptFrom, Cleared}
 use Rattle.run_core.specs.Feeding.{Step, Stops}
@@ -42,14 +42,7 @@ marked_error IsName (Write zero) output error since now opened marks = shape_of 
 marked_error IsName (Write (suc zero)) output error since now opened marks = shape_of output (breaks error) since now opened marks.1
 marked_error IsName (Write (suc (suc place))) output error since now opened marks = shape_of output error (with_broken place since) now opened marks.1
 marked_error IsName (Open slot) output error since now opened marks = shape_of output error (since ++ unopened marks.1.1 ∷ []) now opened marks.1.4
-marked_error IsName Memory output error since now opened marks = shape_of output error since now opened marks
-marked_error IsName (Read slot) output error since now opened marks = shape_of output error since now opened marks
-marked_error IsName Suffixes output error since now opened marks = shape_of output error since now opened marks
-marked_error IsName (NoMatch operand repetition) output error since now opened marks = shape_of output error since now opened marks
-marked_error IsName (Range operand repetition) output error since now opened marks = shape_of output error since now opened marks
-marked_error IsName (Usage kind word) output error since now opened marks = shape_of output error since now opened marks
-marked_error IsName Failed output error since now opened marks = shape_of output error since now opened marks
-marked_error IsName TooLong output error since now opened marks = shape_of output error since now opened marks
+marked_error IsName fault output error since now opened marks = shape_of output error since now opened marks
 
 pub stop_error : (told : Bool) (output error : Slot) (low high : Part) (fault : Fault) (now : List Slot) → is_open error.state ≡ true → StoppedBetween told (output ∷ error ∷ []) low high fault now → HasError now
 stop_error told output error low high fault now opened stop =
@@ -107,21 +100,7 @@ module _ (told : Bool) (tool : Tool) (text : List ℕ) (some : 0 < length text) 
         ap (λ slots. (slot_at slots slot).name) said.2 ∙ ap (λ n. (slot_at (output ∷ said.0 ∷ (since ++ unopened marks.1.1 ∷ [])) n).name) marks.0
             ∙ sym (ap (λ slots. (slot_at slots slot).name) marks.1.4 ∙ ap (λ n. (slot_at (output ∷ error ∷ (since ++ unopened marks.1.1 ∷ [])) n).name) marks.0),
       )
-  told_marked IsName Memory output error since mid new marks says =
-      let said = says output error since marks in (said.0, said.1, said.2, refl)
-  told_marked IsName (Read slot) output error since mid new marks says =
-      let said = says output error since marks in (said.0, said.1, said.2, refl)
-  told_marked IsName Suffixes output error since mid new marks says =
-      let said = says output error since marks in (said.0, said.1, said.2, refl)
-  told_marked IsName (NoMatch operand repetition) output error since mid new marks says =
-      let said = says output error since marks in (said.0, said.1, said.2, refl)
-  told_marked IsName (Range operand repetition) output error since mid new marks says =
-      let said = says output error since marks in (said.0, said.1, said.2, refl)
-  told_marked IsName (Usage kind word) output error since mid new marks says =
-      let said = says output error since marks in (said.0, said.1, said.2, refl)
-  told_marked IsName Failed output error since mid new marks says =
-      let said = says output error since marks in (said.0, said.1, said.2, refl)
-  told_marked IsName TooLong output error since mid new marks says =
+  told_marked IsName fault output error since mid new marks says =
       let said = says output error since marks in (said.0, said.1, said.2, refl)
 
   pub stop_said : (output error : Slot) (low high : Part) (fault : Fault) (mid new : List Slot) → StoppedBetween told (output ∷ error ∷ []) low high fault mid → SaysOn told tool text mid new
@@ -166,15 +145,7 @@ still_broken told tool text mid new (suc (suc place)) has says broken =
 -- what stopped a step did so after the message too
 pub stops_still : (told : Bool) (tool : Tool) (text : List ℕ) (step : Step) (mid new : List Slot) (fault : Fault) → HasError mid → SaysOn told tool text mid new → Stops step mid fault → Stops step new fault
 stops_still told tool text step mid new (Write slot) has says stops = (stops.0, stops.1, still_broken told tool text mid new slot has says stops.2)
-stops_still told tool text step mid new Memory has says stops = stops
-stops_still told tool text step mid new (Open slot) has says stops = stops
-stops_still told tool text step mid new TooLong has says stops = stops
-stops_still told tool text step mid new (Read slot) has says stops = stops
-stops_still told tool text step mid new Suffixes has says stops = stops
-stops_still told tool text step mid new (NoMatch operand repetition) has says stops = stops
-stops_still told tool text step mid new (Range operand repetition) has says stops = stops
-stops_still told tool text step mid new (Usage kind word) has says stops = stops
-stops_still told tool text step mid new Failed has says stops = stops
+stops_still told tool text step mid new fault has says stops = stops
 
 -- what is said after files were removed
 
@@ -195,6 +166,10 @@ swept_streams output error after since now first past swept = record {
   cleared_still (suc (suc place)) above = swept.cleared (suc (suc place)) above
 
 -- outputs that were swept have the same streams
+pub swept_error : (clears : Bool) (first : ℕ) (old new : List Slot) → 2 ≤ first → Swept clears first old new → slot_at new 1 ≡ slot_at old 1
+swept_error false first old new past same = ap (λ slots. slot_at slots 1) same
+swept_error true first old new past swept = swept.before 1 (omega (arith, past))
+
 streams_left : (output error : Slot) (since mid : List Slot) (first : ℕ) → 2 ≤ first → SweptFrom first (output ∷ error ∷ since) mid → (now : List Slot) × (mid ≡ output ∷ error ∷ now)
 streams_left output error since [] first past swept = absurd (let none : 0 ≡ suc (suc (length since)) = swept.size in omega (arith, none))
 streams_left output error since (one ∷ []) first past swept = absurd (let few : 1 ≡ suc (suc (length since)) = swept.size in omega (arith, few))
@@ -202,12 +177,13 @@ streams_left output error since (one ∷ two ∷ now) first past swept =
     (now, ap (λ slot. slot ∷ two ∷ now) (swept.before 0 (omega (arith, past))) ∙ ap (λ slot. output ∷ slot ∷ now) (swept.before 1 (omega (arith, past))))
 
 module _ (told : Bool) (tool : Tool) (text : List ℕ) where
-  said_swept_by : (clears : Bool) (output error : Slot) (part : Part) (reached mid new : List Slot) (first : ℕ) → 2 ≤ first → OutputsAt told (output ∷ error ∷ []) part reached → Swept clears first reached mid → SaysOn told tool text mid new
+  -- a message after the files were removed changes standard error alone
+  pub said_swept : (clears : Bool) (output error : Slot) (part : Part) (reached mid new : List Slot) (first : ℕ) → 2 ≤ first → OutputsAt told (output ∷ error ∷ []) part reached → Swept clears first reached mid → SaysOn told tool text mid new
       → (after : Slot) × Says told tool text error after × ((now : List Slot) × OutputsAt told (output ∷ after ∷ []) part now × Swept clears first now new)
-  said_swept_by false output error part reached mid new first past at same says =
+  said_swept false output error part reached mid new first past at same says =
       let said = said_at told tool text output error part mid new (subst (OutputsAt told (output ∷ error ∷ []) part) (sym same) at) says in
       (said.0, said.1, (new, said.2, refl))
-  said_swept_by true output error part reached mid new first past at swept says =
+  said_swept true output error part reached mid new first past at swept says =
       let top = adds (told_of told part.out) output in
       let first_swept = subst (λ slots. SweptFrom first slots mid) at.slots swept in
       let left = streams_left top error at.since mid first past first_swept in
@@ -222,40 +198,17 @@ module _ (told : Bool) (tool : Tool) (text : List ℕ) where
         ),
       )
 
-  -- a message after the files were removed changes standard error alone
-  pub said_swept : (clears : Bool) (output error : Slot) (part : Part) (reached mid new : List Slot) (first : ℕ) → 2 ≤ first → OutputsAt told (output ∷ error ∷ []) part reached → Swept clears first reached mid → SaysOn told tool text mid new
-      → (after : Slot) × Says told tool text error after × ((now : List Slot) × OutputsAt told (output ∷ after ∷ []) part now × Swept clears first now new)
-  said_swept = said_swept_by
-
   -- the same text said of outputs with the same streams
   said_too : (output error after : Slot) (since reached : List Slot) → reached ≡ output ∷ error ∷ since → Says told tool text error after → SaysOn told tool text reached (output ∷ after ∷ since)
   said_too output error after since reached are said top other rest is =
       let same : output ∷ error ∷ since ≡ top ∷ other ∷ rest = sym are ∙ is in
-      (after, subst (λ from. Says told tool text from after) (second_same same) said, ap (λ slots. slots) (ap (λ slot. slot ∷ after ∷ since) (first_same same) ∙ ap (λ slots. top ∷ after ∷ slots) (rest_same same))) where
-        first_same : {a b c d : Slot} {xs ys : List Slot} → a ∷ b ∷ xs ≡ c ∷ d ∷ ys → a ≡ c
-        first_same {a = a} is = ap (λ slots. get_or slots 0 a) is
-
-        second_same : {a b c d : Slot} {xs ys : List Slot} → a ∷ b ∷ xs ≡ c ∷ d ∷ ys → b ≡ d
-        second_same {b = b} is = ap (λ slots. get_or slots 1 b) is
-
-        rest_same : {a b c d : Slot} {xs ys : List Slot} → a ∷ b ∷ xs ≡ c ∷ d ∷ ys → xs ≡ ys
-        rest_same is = ap (λ slots. drop 2 slots) is
+      let was : error ≡ other = cc in
+      (after, subst (λ from. Says told tool text from after) was said, cc)
 
 named_same : (fault : Fault) (output error after : Slot) (since : List Slot) → after.name ≡ error.name → output_named (output ∷ after ∷ since) fault ≡ output_named (output ∷ error ∷ since) fault
-named_same (Write zero) output error after since is = refl
 named_same (Write (suc zero)) output error after since is = is
-named_same (Write (suc (suc place))) output error after since is = refl
-named_same (Open zero) output error after since is = refl
 named_same (Open (suc zero)) output error after since is = is
-named_same (Open (suc (suc place))) output error after since is = refl
-named_same Memory output error after since is = refl
-named_same (Read slot) output error after since is = refl
-named_same Suffixes output error after since is = refl
-named_same (NoMatch operand repetition) output error after since is = refl
-named_same (Range operand repetition) output error after since is = refl
-named_same (Usage kind word) output error after since is = refl
-named_same Failed output error after since is = refl
-named_same TooLong output error after since is = refl
+named_same fault output error after since is = refl
 
 -- what a fault left, once its files were removed and its message was said
 pub record ToldStop (told : Bool) (tool : Tool) (text : List ℕ) (step : Step) (output error : Slot) (low high : Part) (fault : Fault) (clears : Bool) (first : ℕ) (mid new : List Slot) : Type 0 where

@@ -1,7 +1,5 @@
 -- Lemmas on what an engine uses of its input, and what is given back of it.
-use Rattle.std.proofs.Common.{◌≡◌, ℕ, ◌-◌, ◌<◌, ◌≤◌, max, ◌&&◌, not, Bool, true, false, IsTrue, List, [], ◌++◌, length, take, drop, Option, Some, None, append_assoc, length-append, inl, inr, refl, sym, ◌∙◌, ap, subst, arith}
-use Rattle.std.specs.Prelude.{is_some}
-use Rattle.std.proofs.lemmas.Bool.{false≢true}
+use Rattle.std.proofs.Common.{◌≡◌, ℕ, ◌-◌, ◌<◌, ◌≤◌, max, ◌&&◌, not, Bool, true, false, IsTrue, List, [], ◌++◌, length, take, drop, Some, append_assoc, length-append, inl, inr, refl, sym, ◌∙◌, ap, subst, arith}
 use Rattle.std.proofs.lemmas.List.{append-nil, take_at, drop_at, take-append-le, drop-append-le, take-append-drop, length-take, length-take-le}
 use Rattle.ports_core.specs.Slot.{Slot, changed_at}
 use Rattle.ports_core.specs.Source.{Content, Source, source_at, is_readable, gives, fails, gets_back, with_next, Gave}
@@ -123,11 +121,9 @@ uses_judged work most slot there x source fault joined needed complete verdict f
   joined = joined;
   enough = inr complete;
   needed = needed;
-  exact = λ well. absurd (none_some fault (sym well ∙ verdict));
+  exact = λ well. absurd (cc);
   few = λ standard. omega (arith, few);
-} where
-  none_some : (fault : Fault) → ◌≡◌ {A = Option Fault} None (Some fault) → ⊥
-  none_some fault is = false≢true (ap is_some is)
+}
 
 -- the output was complete, and what it doesn't use was given back
 pub uses_part : (work : Work) (most slot n : ℕ) (there : Content) (x : List ℕ) (start sources new : List Source) (spare : IsSpare work x n) → there.bytes ≡ spare.used ++ (source_at new slot).left.bytes → 0 < most → work.is_complete spare.used ≡ true → (slot ≡ 0 → n ≤ work.ahead) → HasTaken x slot start sources → IsUnread (source_at start slot) → IsTrue (is_readable sources slot) → new ≡ changed_at slot (gets_back n) sources

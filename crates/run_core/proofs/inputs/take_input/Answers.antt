@@ -1,7 +1,7 @@
-use Rattle.std.proofs.Common.{not, ap, sym, refl}
+use Rattle.std.proofs.Common.{not, ap, inl, inr, sym, refl}
 use Rattle.ports_core.specs.declared.fault.Fault.TheVariants as fault
 use Rattle.ports_core.proofs.HandedOn.{handed_on}
-use Rattle.run_core.proofs.InputLemmas.{of_source_too, from_source, part_writable, part_two, headed, headed_count, stopped_in_header, took_whole, took_enough, took_broken, took_verdict, took_stopped, fed_open, judged_open, keeps_all, said_as}
+use Rattle.run_core.proofs.InputLemmas.{of_source_too, from_source, part_writable, part_two, headed, headed_count, stopped_in_header, took_well, took_broken, took_verdict, took_stopped, fed_open, judged_open, keeps_all, said_as}
 use Rattle.run_core.proofs.ReadingLemmas.{unread_source}
 use Rattle.run_core.proofs.inputs.take_input.Goals as goal
 
@@ -33,11 +33,11 @@ say-requires-in-Err g c =
 
 pub returns-in-Ok-Whole-clause-took : goal.returns-in-Ok-Whole-clause-took
 returns-in-Ok-Whole-clause-took g c so_far error opened at =
-    of_source_too _ _ _ _ _ _ (λ content fed done. took_whole _ _ _ _ _ _ _ so_far error _ _ _ _ (headed_count g.O.Outs.told _ _ _ c.in_ok-put_header.ensures.ok) (part_two _ error so_far _ at) (headed _ _ so_far _ _ _ at c.in_ok-put_header.ensures.ok) content _ _ (done refl) c.in-Ok-Whole.field-0-is fed) c.in-Ok-Whole.ensures.fed
+    of_source_too _ _ _ _ _ _ (λ content fed done. took_well _ _ _ _ _ _ _ so_far error _ _ _ _ (headed_count g.O.Outs.told _ _ _ c.in_ok-put_header.ensures.ok) (part_two _ error so_far _ at) (headed _ _ so_far _ _ _ at c.in_ok-put_header.ensures.ok) content _ _ (done refl) (inl c.in-Ok-Whole.field-0-is) fed) c.in-Ok-Whole.ensures.fed
 
 pub returns-in-Ok-Enough-clause-took : goal.returns-in-Ok-Enough-clause-took
 returns-in-Ok-Enough-clause-took g c so_far error opened at =
-    of_source_too _ _ _ _ _ _ (λ content fed done. took_enough _ _ _ _ _ _ _ so_far error _ _ _ _ (headed_count g.O.Outs.told _ _ _ c.in_ok-put_header.ensures.ok) (part_two _ error so_far _ at) (headed _ _ so_far _ _ _ at c.in_ok-put_header.ensures.ok) content _ _ (done refl) c.in-Ok-Enough.field-0-is fed) c.in-Ok-Enough.ensures.fed
+    of_source_too _ _ _ _ _ _ (λ content fed done. took_well _ _ _ _ _ _ _ so_far error _ _ _ _ (headed_count g.O.Outs.told _ _ _ c.in_ok-put_header.ensures.ok) (part_two _ error so_far _ at) (headed _ _ so_far _ _ _ at c.in_ok-put_header.ensures.ok) content _ _ (done refl) (inr c.in-Ok-Enough.field-0-is) fed) c.in-Ok-Enough.ensures.fed
 
 pub returns-in-Ok-Broken-clause-took : goal.returns-in-Ok-Broken-clause-took
 returns-in-Ok-Broken-clause-took g c so_far error opened at =

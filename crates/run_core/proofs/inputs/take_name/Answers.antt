@@ -12,7 +12,7 @@ returns-then-is_dash-clause-took g c so_far error opened at =
     took_standard _ _ _ _ c.args.progress c.standard_source-source.result (g.I.Inputs.laid c.args.inputs.now) c.args.name.now (g.I.Inputs.sources c.args.inputs.now) _ so_far error _ _ _ c.standard_source-source.ensures (sym c.is_dash.ensures ∙ c.if-is_dash.true) (c.take_input.ensures.took so_far error opened at)
 
 pub returns-then-is_dash-clause-takes : goal.returns-then-is_dash-clause-takes
-returns-then-is_dash-clause-takes g c = takes_dash _ _ _ _ _ _ c.standard_source-source.ensures (sym c.is_dash.ensures ∙ c.if-is_dash.true) c.take_input.ensures.others c.take_input.ensures.asked
+returns-then-is_dash-clause-takes g c = takes_dash _ _ _ _ _ (sym c.is_dash.ensures ∙ c.if-is_dash.true) (rw c.standard_source-source.ensures at c.take_input.ensures.others) c.take_input.ensures.asked
 
 -- the file was opened
 

@@ -1,13 +1,14 @@
-use Rattle.std.proofs.Common.{◌∙◌}
+use Rattle.std.proofs.Common.{◌∙◌, arith, refl}
+use Rattle.std.proofs.lemmas.List.{length-map}
 use Rattle.ports_core.proofs.HandedOn.{handed_on}
-use Rattle.run_core.proofs.NamesLemmas.{walk_begins, walk_streams, walk_readable, walk_goes_on_at, walk_stops_at, walk_ends, walk_counts, walk_within_at, asks_on_at, untouched_at_first, untouched_on, untouched_by, none_left, some_left}
+use Rattle.run_core.proofs.NamesLemmas.{walk_begins, walk_streams, walk_readable, walk_goes_on_at, walk_stops_at, walk_ends, walk_counts, walk_within_at, asks_on_at, untouched_on, none_left}
 use Rattle.run_core.proofs.ReadingLemmas.{nothing_taken}
 use Rattle.run_core.proofs.inputs.take_names.Goals as goal
 
 pub loop-left-init : goal.loop-left-init
 loop-left-init g c = record {
   walked = walk_begins _ _ _ _ _ _ _ c.requires.fresh c.requires.outputs c.requires.alone;
-  untouched = untouched_at_first _ _;
+  untouched = record { none_left = λ none. none; same = λ none. refl };
   room = c.requires.room;
 }
 
@@ -21,7 +22,7 @@ pub take_name-requires-clause-unread : goal.take_name-requires-clause-unread
 take_name-requires-clause-unread g c = λ first. nothing_taken (g.I.Inputs.sources c.loop-left.inputs) 0 _ (c.loop-left.invariant.walked.standard first)
 
 pub take_name-requires-clause-outputs : goal.take_name-requires-clause-outputs
-take_name-requires-clause-outputs g c = walk_streams _ _ _ _ _ _ _ _ _ _ (some_left c.loop-left.left.now c.in-len1-up.len_at_least) c.loop-left.invariant.walked
+take_name-requires-clause-outputs g c = walk_streams _ _ _ _ _ _ _ _ _ _ (omega (arith, length-map c.loop-left.left.now (λ word. word.now), c.in-len1-up.len_at_least)) c.loop-left.invariant.walked
 
 pub returns-in_err-progress-clause-took : goal.returns-in_err-progress-clause-took
 returns-in_err-progress-clause-took g c =
@@ -38,7 +39,7 @@ pub returns-clause-took : goal.returns-clause-took
 returns-clause-took g c = walk_ends _ _ _ _ _ _ _ _ _ _ (none_left c.loop-left.left.now c.in_default.len_below) c.loop-left.invariant.walked
 
 pub returns-in_err-progress-clause-untouched : goal.returns-in_err-progress-clause-untouched
-returns-in_err-progress-clause-untouched g c = untouched_by _ _ c.loop-left.left.now (g.I.Inputs.sources c.args.inputs.now) (g.I.Inputs.sources c.loop-left.inputs) (g.I.Inputs.sources c.take_name.new.inputs) c.in-len1-up.len_at_least c.loop-left.invariant.untouched c.take_name.ensures.takes.unasked
+returns-in_err-progress-clause-untouched g c = (untouched_on _ _ c.loop-left.left.now (g.I.Inputs.sources c.args.inputs.now) (g.I.Inputs.sources c.loop-left.inputs) (g.I.Inputs.sources c.take_name.new.inputs) c.in-len1-up.len_at_least c.loop-left.invariant.untouched c.take_name.ensures.takes.unasked).same
 
 pub returns-clause-untouched : goal.returns-clause-untouched
 returns-clause-untouched g c = c.loop-left.invariant.untouched.same
