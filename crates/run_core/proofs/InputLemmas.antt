@@ -133,7 +133,7 @@ module _ (told_in told : Bool) (task : Task) (most : ℕ) (is_first : Bool) (nam
   pub took_well : (content : Content) (new : List Slot) (fed : Fed) → IsDone told_in task.work most source (Some content) sources → (fed ≡ Whole) ⊎ (fed ≡ Enough) → FedAs told mid task.work task.opening most content (Leaves told_in content source sources) new (Ok fed) → TookSo content new (Ok (record progress { is_first = false }))
   took_well content new _ done good (whole sound going well there) = went_well content new done (or_left _ _ (ap not sound)) well there
   took_well content new _ done good (had_enough complete well there) = went_well content new done (or_right _ _ complete) well there
-  took_well content new _ done good (broke_off breaks going reached there swept) = absurd (elim good [ | inl is ↦ cc | inr is ↦ cc ])
+  took_well content new _ done good (broke_off breaks going reached there swept) = absurd (elim good [ inl is ↦ cc | inr is ↦ cc ])
 
   pub took_broken : (content : Content) (old new : List Slot) (fed : Fed) → IsDone told_in task.work most source (Some content) sources → fed ≡ Broken → FedAs told mid task.work task.opening most content (Leaves told_in content source sources) old (Ok fed) → SaysOn told task.tool (message_of task.tool (Read 0) name) old new → TookSo content new (Ok (record progress { is_first = false; failed = true }))
   took_broken content old new _ done is (broke_off breaks going reached there swept) says = went_badly content _ _ reached old new done (made_short task is_first name content (breaks_short task.work content breaks going)) there swept says

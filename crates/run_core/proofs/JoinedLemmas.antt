@@ -3,7 +3,7 @@ use Rattle.std.proofs.Common.{◌≡◌, ℕ, ◌+◌, ◌<◌, ◌≤◌, suc, 
 use Rattle.std.proofs.lemmas.List.{map-append, append-nil}
 use Rattle.std.proofs.Math.Seq.{take-append-add, drop-append-add}
 use Rattle.ports_core.specs.Slot.{Slot, with_written, told_of}
-use Rattle.ports_core.specs.Part.{Part, File, only_out, OutputsAt, IsBeginning, FilesBegin, Begins, IsNext, IsAt, InOrder, StoppedBetween, file_of, told_file}
+use Rattle.ports_core.specs.Part.{nothing, Part, File, only_out, OutputsAt, IsBeginning, FilesBegin, Begins, IsNext, IsAt, InOrder, StoppedBetween, file_of, told_file}
 use Rattle.ports_core.specs.Swept.{Swept, SweptFrom}
 use Rattle.ports_core.specs.declared.fault.Fault.{Fault}
 use Rattle.ports_core.specs.declared.fault.Fault.TheVariants.{Write, Open}
@@ -25,6 +25,9 @@ begins_after first low high begins = record { out = out_after first.out low.out 
 
 pub after_assoc : (first next last : Part) → after_part (after_part first next) last ≡ after_part first (after_part next last)
 after_assoc first next last = simp append_assoc
+
+pub nothing_after : (part : Part) → after_part part nothing ≡ part
+nothing_after part = simp append-nil
 
 -- bytes on standard output, after a part
 pub out_on : (first : Part) (bytes : List ℕ) → record first { out = first.out ++ bytes } ≡ after_part first (only_out bytes)

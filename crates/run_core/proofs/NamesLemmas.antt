@@ -24,10 +24,10 @@ use Rattle.run_core.specs.RunEnds.{RunsOver, RunStep, unopened}
 use Rattle.ports_core.specs.Streams.{standard_output, standard_error, streams_with}
 use Rattle.run_core.specs.inner.RunSteps.{HasStreams, after_input, TookInput, took, cut_off, TookAll, all, stopped_at, not_begun, OfSource, OfName, is_unopened, standard_source}
 use Rattle.run_core.specs.RunSteps.{world_of}
-use Rattle.run_core.specs.Task.{Task, Outcome, no_outcome, joined, after_part, of_content, of_input, of_inputs, made_by, header_text, is_missing, are_missing, ends_badly}
+use Rattle.run_core.specs.Task.{Task, Outcome, no_outcome, joined, of_content, of_input, of_inputs, made_by, header_text, is_missing, are_missing, ends_badly}
 use Rattle.run_core.proofs.ReadingLemmas.{StayDone, all_done, count_more, done_more, done_with, last_source, missing_done, rest_untouched, still_done}
 use Rattle.ports_core.proofs.InputsLemmas.{fresh_asks}
-use Rattle.run_core.proofs.JoinedLemmas.{none_to_sweep, swept_from}
+use Rattle.run_core.proofs.JoinedLemmas.{none_to_sweep, nothing_after, swept_from}
 use Rattle.run_core.proofs.StopLemmas.{said_at}
 
 -- a list of words and its front
@@ -103,9 +103,6 @@ took_file told_in told task most outcome header slot content progress laid name 
     took_as told_in told task most outcome header (Some (length old)) content progress progress progress.was_read (progress.was_read || is_dash name) so_far error first sources new result
     (λ failed. ap (λ (b : Bool). record { was_read = b; is_first = progress.is_first && is_missing content; failed = progress.failed || failed }) (sym (ap (λ (b : Bool). progress.was_read || b) differs ∙ or-false progress.was_read)))
     (subst (λ n. TookInput told_in told task most outcome header (Some n) content progress progress.was_read so_far error first sources new result) opens.number one)
-
-nothing_after : (part : Part) → after_part part nothing ≡ part
-nothing_after part = simp append-nil
 
 took_missing : (told_in told : Bool) (task : Task) (most : ℕ) (progress : Progress) (name : List ℕ) (sources after : List Source) (slot : ℕ) (so_far : Part) (error : Slot) (old new : List Slot) → is_dash name ≡ false → after ≡ sources ++ missing ∷ [] → OutputsAt told (streams_with error) so_far old
     → SaysOn told task.tool (message_of task.tool (Open slot) name) old new

@@ -1,5 +1,5 @@
 -- Lemmas on opening a tool's engine.
-use Rattle.std.proofs.Common.{◌≡◌, ℕ, ◌-◌, ◌<◌, ◌≤◌, ◌^◌, zero, suc, Bool, true, false, not, if◌then◌else◌, List, [], length, inl, inr, Result, Ok, Err, IfOk, IfErr, OnOk, refl, sym, ◌∙◌, ap, subst, arith}
+use Rattle.std.proofs.Common.{◌≡◌, ℕ, ◌-◌, ◌<◌, ◌≤◌, ◌^◌, zero, Bool, true, false, not, if◌then◌else◌, List, [], length, inl, inr, Result, Ok, Err, IfOk, IfErr, OnOk, refl, sym, ◌∙◌, ap, subst, arith}
 use Rattle.ports_core.specs.Name.{Naming}
 use Rattle.ports_core.specs.Slot.{Slot}
 use Rattle.ports_core.specs.Part.{OutputsAt, StoppedBetween, nothing, only_out}
@@ -34,9 +34,8 @@ head_of-nil delim unit true n = first_of-nil delim unit (size delim unit [] - n)
 
 after_of-nil : (delim : ℕ) (unit : Counted) (n : ℕ) → after_of delim unit n [] ≡ []
 after_of-nil delim Lines zero = refl
-after_of-nil delim Lines (suc n) = refl
 after_of-nil delim Bytes zero = refl
-after_of-nil delim Bytes (suc n) = refl
+after_of-nil delim unit n = refl
 
 tail_begins : (delim : ℕ) (from_nth : Bool) (unit : Counted) (n : ℕ) → (if from_nth then only_out (tail_of delim unit true n []) else nothing) ≡ nothing
 tail_begins delim true unit n = ap only_out (after_of-nil delim unit (n - 1))

@@ -13,7 +13,7 @@ use Rattle.ports_core.specs.Swept as swept_so
 use Rattle.ports_core.specs.Work.{IsLawful, Needs, Work}
 use Rattle.ports_core.specs.Inputs.{largest_piece}
 use Rattle.ports_core.specs.declared.fault.Fault.{Fault}
-use Rattle.ports_core.specs.declared.fault.Fault.TheVariants.{Memory, Write, Read, Open, Suffixes, NoMatch, Range, Usage, Failed, TooLong}
+use Rattle.ports_core.specs.declared.fault.Fault.TheVariants.{Write, Open}
 use Rattle.ports_core.specs.Name.{Naming, name_count}
 use Rattle.ports_core.specs.declared.slot.State.TheVariants.{Closed}
 use Rattle.seg_core.specs.declared.cut.Cut.{Cut}
@@ -32,7 +32,7 @@ use Rattle.split_core.proofs.DealLaws.{opened_by-most}
 use Rattle.ports_core.proofs.PartLemmas.{begins_more, nothing_begins, nothing_begins_part, part_begins_itself, part_trans}
 use Rattle.run_core.specs.Feeding.{HasAll, IsCall, Step, enough, to_end, opens, feeds, closes}
 use Rattle.run_core.specs.Input.{Input}
-use Rattle.run_core.specs.RunEnds.{EndsAs, RunStep, as_defined, calling, heading, no_room, stopped, unheaded, unopened as unopened_input}
+use Rattle.run_core.specs.RunEnds.{EndsAs, RunStep, as_defined, calling, heading, no_room, stopped}
 use Rattle.run_core.specs.Task.{Task, header_text}
 use Rattle.run_core.proofs.JoinedLemmas.{begins_after}
 use Rattle.words_core.specs.SplitWords.{AreNamed}
@@ -64,15 +64,13 @@ alike_begins output old other alike begins = record {
 
 broken_alike : (slot place : ℕ) (slots : List Slot) → IsAlike (slot_at (changed_at slot breaks slots) place) (slot_at slots place)
 broken_alike slot place [] = record { name = refl; bytes = refl }
-broken_alike zero zero (first ∷ slots) = record { name = refl; bytes = refl }
-broken_alike zero (suc place) (first ∷ slots) = record { name = refl; bytes = refl }
-broken_alike (suc slot) zero (first ∷ slots) = record { name = refl; bytes = refl }
 broken_alike (suc slot) (suc place) (first ∷ slots) = broken_alike slot place slots
+broken_alike zero zero (first ∷ slots) = record { name = refl; bytes = refl }
+broken_alike slot place slots = record { name = refl; bytes = refl }
 
 cleared_alike : (old output : Slot) → Cleared old output → IsAlike output old
 cleared_alike old _ (swept_so.removed has) = record { name = refl; bytes = refl }
-cleared_alike old _ (swept_so.stuck has) = record { name = refl; bytes = refl }
-cleared_alike old _ (swept_so.none has) = record { name = refl; bytes = refl }
+cleared_alike old output cleared = record { name = refl; bytes = refl }
 
 pub swept_alike : (clears : Bool) (old new : List Slot) → Swept clears 2 old new → (place : ℕ) → IsAlike (slot_at new place) (slot_at old place)
 swept_alike false old new swept place = alike_itself _ _ (ap (λ slots. slot_at slots place) swept)
@@ -84,9 +82,8 @@ swept_alike true old new swept place = elim (cases_lt place 2) [
 -- a file that couldn't be opened has nothing
 unopened_begins : (slots : List Slot) (kept : List ℕ) (place : ℕ) (other : Slot) → BeginsAs (slot_at slots place) other → BeginsAs (slot_at (slots ++ unopened kept ∷ []) place) other
 unopened_begins [] kept zero other begins = empty_begins (unopened kept) other refl
-unopened_begins [] kept (suc place) other begins = begins
-unopened_begins (slot ∷ slots) kept zero other begins = begins
 unopened_begins (slot ∷ slots) kept (suc place) other begins = unopened_begins slots kept place other begins
+unopened_begins slots kept place other begins = begins
 
 pub still_begins : (before after : List Slot) (place : ℕ) (other : Slot) → after ≡ before → BeginsAs (slot_at before place) other → BeginsAs (slot_at after place) other
 still_begins before after place other same begins = subst (λ slots. BeginsAs (slot_at slots place) other) (sym same) begins
@@ -97,14 +94,7 @@ marked_begins IsDue (Write slot) before after place other marks begins =
     subst (λ slots. BeginsAs (slot_at slots place) other) (sym marks.1) (alike_begins _ _ other (broken_alike slot place before) begins)
 marked_begins IsDue (Open slot) before after place other (number, (name, kept, due, is, slots)) begins =
     subst (λ those. BeginsAs (slot_at those place) other) (sym slots) (unopened_begins before kept place other begins)
-marked_begins IsDue Memory before after place other marks begins = still_begins before after place other marks begins
-marked_begins IsDue (Read slot) before after place other marks begins = still_begins before after place other marks begins
-marked_begins IsDue Suffixes before after place other marks begins = still_begins before after place other marks begins
-marked_begins IsDue (NoMatch operand repetition) before after place other marks begins = still_begins before after place other marks begins
-marked_begins IsDue (Range operand repetition) before after place other marks begins = still_begins before after place other marks begins
-marked_begins IsDue (Usage kind word) before after place other marks begins = still_begins before after place other marks begins
-marked_begins IsDue Failed before after place other marks begins = still_begins before after place other marks begins
-marked_begins IsDue TooLong before after place other marks begins = still_begins before after place other marks begins
+marked_begins IsDue fault before after place other marks begins = still_begins before after place other marks begins
 
 -- The outputs of a part that begins another
 
@@ -136,11 +126,10 @@ call_begins work opening bytes _ grows (closes x has needed) = grows.closed x ha
 
 step_begins : (task : Task) (name bytes : List ℕ) (slot : Option ℕ) (sources : List Source) (step : Step) → IsGrowing task.work bytes
     → RunStep true task largest_piece nothing (header_text task.with_header true name) slot sources (Some (ending bytes)) step → Begins step.high (part_of task name bytes)
-step_begins task name bytes slot sources _ grows (unopened_input content place at past) = nothing_begins_part _
-step_begins task name bytes slot sources _ grows (unheaded content headed leaves) = nothing_begins_part _
 step_begins task name bytes slot sources _ grows (heading content headed leaves) = record { out = begins_more _ _; files = tt }
 step_begins task name bytes slot sources _ grows (calling content call is leaves) =
     begins_after (only_out (header_text task.with_header true name)) call.high (task.work.whole bytes) (call_begins task.work task.opening bytes call grows is)
+step_begins task name bytes slot sources step grows at = nothing_begins_part _
 
 -- A run over one input
 

@@ -6,7 +6,7 @@ use Rattle.ports_core.specs.Source.{Source}
 use Rattle.ports_core.specs.Streams.{standard_error, standard_output, streams_with}
 use Rattle.ports_core.specs.Swept.{Swept}
 use Rattle.run_core.specs.Input.{Input}
-use Rattle.run_core.specs.RunEnds.{EndsAs, as_defined, no_room, stopped}
+use Rattle.run_core.specs.RunEnds.{EndsAs, as_defined}
 use Rattle.run_core.specs.Task.{Task, made_by}
 use Rattle.ends_core.specs.laws.WorkLaws.{head_lawful, tail_lawful}
 use Rattle.csplit_core.specs.laws.InputLaws as csplit_law
@@ -51,8 +51,7 @@ ends_begin : (task : Task) (input : Input) (bytes : List ℕ) (these those : Lis
     → EndsAs true true task (input ∷ []) these new status → (two : EndsAs true true task (input ∷ []) those other status_too) → IsUnstopped two → BeginAt new other
 ends_begin task input bytes these those new other status status_too is grows one (as_defined error reached says outputs swept done ended) unstopped place differs =
     begins_alike (slot_at new place) (slot_at (slots_of (part_of task input.name bytes)) place) (slot_at other place) (left_alike task input bytes error _ reached other place is differs outputs swept) (begins_whole task input bytes these new status place is grows differs one)
-ends_begin task input bytes these those new other status status_too is grows one (stopped fault before at_input after error step reached are done untouched at stops between swept says ended) unstopped place differs = absurd unstopped
-ends_begin task input bytes these those new other status status_too is grows one (no_room error says slots untouched count ended) unstopped place differs = absurd unstopped
+ends_begin task input bytes these those new other status status_too is grows one two unstopped place differs = absurd unstopped
 
 refused_begin : (new other : List Slot) (error : Slot) → new ≡ streams_with error → BeginAt new other
 refused_begin new other error slots place differs = still_begins (streams_with error) new place (slot_at other place) slots (bare_begins error (slot_at other place) place differs)

@@ -1,7 +1,7 @@
 -- An output that is broken was told by its name, unless it is a file that was to be removed.
 use Rattle.std.proofs.Common.{◌≡◌, ℕ, ◌<◌, ◌≤◌, zero, suc, Bool, true, false, ◌||◌, ◌&&◌, cond, is_none, List, [], ◌∷◌, ◌++◌, length, map, Option, Some, None, inl, inr, ◌⊎◌, refl, sym, ◌∙◌, ap, subst, arith}
 use Rattle.std.specs.List.{concat}
-use Rattle.std.proofs.lemmas.Bool.{cases_lt, false≢true}
+use Rattle.std.proofs.lemmas.Bool.{and_parts, cases_lt, false≢true, or_left, or_right}
 use Rattle.ports_core.specs.Slot.{Slot, adds, breaks, changed_at, closes, has_file, opened, removes, slot_at, unopened}
 use Rattle.ports_core.specs.Source.{Content, Source}
 use Rattle.ports_core.specs.Streams.{standard_output, streams_with}
@@ -16,7 +16,7 @@ use Rattle.ports_core.specs.declared.slot.Mode.{Mode}
 use Rattle.ports_core.specs.declared.slot.State.{State}
 use Rattle.ports_core.specs.declared.slot.State.TheVariants as state
 use Rattle.ports_core.specs.declared.fault.Fault.{Fault}
-use Rattle.ports_core.specs.declared.fault.Fault.TheVariants.{Memory, Write, Read, Open, Suffixes, NoMatch, Range, Usage, Failed, TooLong}
+use Rattle.ports_core.specs.declared.fault.Fault.TheVariants.{Write, Open}
 use Rattle.run_core.specs.Input.{Input}
 use Rattle.run_core.specs.RunEnds.{EndsAs, as_defined, no_room, stopped}
 use Rattle.run_core.specs.Task.{Task, ends_badly, is_missing, made_by, of_content, of_inputs}
@@ -38,29 +38,20 @@ use Rattle.tools_core.proofs.ToldLemmas.{SaysLine, says_line, stop_says, stopped
 abbrev IsBlamed : Fault → Slot → ℕ → Type 0
 IsBlamed (Write slot) output place = (place ≡ slot) × (failing place output.state ≡ Write place)
 IsBlamed (Open slot) output place = (place ≡ slot) × (failing place output.state ≡ Open place)
-IsBlamed Memory output place = ⊥
-IsBlamed (Read slot) output place = ⊥
-IsBlamed Suffixes output place = ⊥
-IsBlamed (NoMatch operand repetition) output place = ⊥
-IsBlamed (Range operand repetition) output place = ⊥
-IsBlamed (Usage kind word) output place = ⊥
-IsBlamed Failed output place = ⊥
-IsBlamed TooLong output place = ⊥
+IsBlamed fault output place = ⊥
 
 failing_file : (place : ℕ) (which : State) → has_file which ≡ true → failing place which ≡ Write place
-failing_file place state.Open has = refl
-failing_file place state.Closed has = refl
 failing_file place state.Removed has = absurd (cc)
 failing_file place state.Unopened has = absurd (cc)
+failing_file place which has = refl
 
 broken_there : (slot place : ℕ) (slots : List Slot) → (slot_at slots place).is_broken ≡ false → (place < length slots → has_file (slot_at slots place).state ≡ true) → (slot_at (changed_at slot breaks slots) place).is_broken ≡ true
     → (place ≡ slot) × (has_file (slot_at (changed_at slot breaks slots) place).state ≡ true)
 broken_there slot place [] sound has broken = absurd (false≢true (sym sound ∙ broken))
 broken_there zero zero (first ∷ slots) sound has broken = (refl, has (omega arith))
-broken_there zero (suc place) (first ∷ slots) sound has broken = absurd (false≢true (sym sound ∙ broken))
-broken_there (suc slot) zero (first ∷ slots) sound has broken = absurd (false≢true (sym sound ∙ broken))
 broken_there (suc slot) (suc place) (first ∷ slots) sound has broken =
     let there = broken_there slot place slots sound (λ within. has (omega (arith, within))) broken in (ap suc there.0, there.1)
+broken_there slot place slots sound has broken = absurd (false≢true (sym sound ∙ broken))
 
 unopened_there : (kept : List ℕ) (place : ℕ) (slots : List Slot) → (slot_at slots place).is_broken ≡ false → (slot_at (slots ++ unopened kept ∷ []) place).is_broken ≡ true
     → (place ≡ length slots) × ((slot_at (slots ++ unopened kept ∷ []) place).state ≡ state.Unopened)
@@ -80,14 +71,7 @@ marked_there IsDue (Write slot) before after place marks sound has broken =
 marked_there IsDue (Open slot) before after place (number, (name, kept, due, is, slots)) sound has broken =
     let there = unopened_there kept place before sound (subst (λ those. (slot_at those place).is_broken ≡ true) slots broken) in
     (there.0 ∙ sym number, ap (failing place) (ap (λ those. (slot_at those place).state) slots ∙ there.1))
-marked_there IsDue Memory before after place marks sound has broken = still_sound before after place marks sound broken
-marked_there IsDue (Read slot) before after place marks sound has broken = still_sound before after place marks sound broken
-marked_there IsDue Suffixes before after place marks sound has broken = still_sound before after place marks sound broken
-marked_there IsDue (NoMatch operand repetition) before after place marks sound has broken = still_sound before after place marks sound broken
-marked_there IsDue (Range operand repetition) before after place marks sound has broken = still_sound before after place marks sound broken
-marked_there IsDue (Usage kind word) before after place marks sound has broken = still_sound before after place marks sound broken
-marked_there IsDue Failed before after place marks sound has broken = still_sound before after place marks sound broken
-marked_there IsDue TooLong before after place marks sound has broken = still_sound before after place marks sound broken
+marked_there IsDue fault before after place marks sound has broken = still_sound before after place marks sound broken
 
 -- the line that tells the fault speaks of that output
 blamed_line : (tool : Tool) (new : List Slot) (place : ℕ) (fault : Fault) → IsBlamed fault (slot_at new place) place → message_of tool fault (output_named new fault) ≡ message_of tool (failing place (slot_at new place).state) (slot_at new place).name
@@ -95,28 +79,14 @@ blamed_line tool new place (Write slot) (same, is) =
     ap (λ which. message_of tool (Write which) (slot_at new which).name) (sym same) ∙ sym (ap (λ (fault : Fault). message_of tool fault (slot_at new place).name) is)
 blamed_line tool new place (Open slot) (same, is) =
     ap (λ which. message_of tool (Open which) (slot_at new which).name) (sym same) ∙ sym (ap (λ (fault : Fault). message_of tool fault (slot_at new place).name) is)
-blamed_line tool new place Memory blamed = absurd blamed
-blamed_line tool new place (Read slot) blamed = absurd blamed
-blamed_line tool new place Suffixes blamed = absurd blamed
-blamed_line tool new place (NoMatch operand repetition) blamed = absurd blamed
-blamed_line tool new place (Range operand repetition) blamed = absurd blamed
-blamed_line tool new place (Usage kind word) blamed = absurd blamed
-blamed_line tool new place Failed blamed = absurd blamed
-blamed_line tool new place TooLong blamed = absurd blamed
+blamed_line tool new place fault blamed = absurd blamed
 
 -- Removing files breaks those that stay, and no others.
 
 removed_blamed : (fault : Fault) (old : Slot) (place : ℕ) → has_file old.state ≡ true → IsBlamed fault old place → IsBlamed fault (removes old) place
 removed_blamed (Write slot) old place has blamed = (blamed.0, refl)
 removed_blamed (Open slot) old place has blamed = absurd (let is = sym (failing_file place old.state has) ∙ blamed.1 in (cc))
-removed_blamed Memory old place has blamed = absurd blamed
-removed_blamed (Read slot) old place has blamed = absurd blamed
-removed_blamed Suffixes old place has blamed = absurd blamed
-removed_blamed (NoMatch operand repetition) old place has blamed = absurd blamed
-removed_blamed (Range operand repetition) old place has blamed = absurd blamed
-removed_blamed (Usage kind word) old place has blamed = absurd blamed
-removed_blamed Failed old place has blamed = absurd blamed
-removed_blamed TooLong old place has blamed = absurd blamed
+removed_blamed fault old place has blamed = absurd blamed
 
 -- it was broken before, by the same fault; or it was to be removed
 abbrev BrokeBefore : Slot → Slot → ℕ → Type 0
@@ -154,24 +124,13 @@ swept_broke true old new place swept broken = elim (cases_lt place 2) [
 
 -- files are removed only after a fault, and only if the work clears them
 
-both_true : (one other : Bool) → (one && other) ≡ true → (one ≡ true) × (other ≡ true)
-both_true true other is = (refl, is)
-both_true false other is = absurd (false≢true is)
-
 content_sweeps : (task : Task) (is_first : Bool) (name : List ℕ) (content : Option Content) → (of_content task is_first name content).sweeps ≡ true → (task.work.clears ≡ true) × ((of_content task is_first name content).failed ≡ true)
 content_sweeps task is_first name None sweeps = absurd (false≢true sweeps)
-content_sweeps task is_first name (Some content) sweeps = both_true task.work.clears (ends_badly task.work content) sweeps
-
-or_true : (failed other : Bool) → failed ≡ true → (failed || other) ≡ true
-or_true failed other is = ap (λ those. those || other) is
-
-or_true_too : (other failed : Bool) → failed ≡ true → (other || failed) ≡ true
-or_true_too true failed is = refl
-or_true_too false failed is = is
+content_sweeps task is_first name (Some content) sweeps = and_parts task.work.clears (ends_badly task.work content) sweeps
 
 either_sweeps : (clears one other failed failed_too : Bool) → (one || other) ≡ true → (one ≡ true → (clears ≡ true) × (failed ≡ true)) → (other ≡ true → (clears ≡ true) × (failed_too ≡ true)) → (clears ≡ true) × ((failed || failed_too) ≡ true)
-either_sweeps clears true other failed failed_too is first second = let why = first refl in (why.0, or_true failed failed_too why.1)
-either_sweeps clears false other failed failed_too is first second = let why = second is in (why.0, or_true_too failed failed_too why.1)
+either_sweeps clears true other failed failed_too is first second = let why = first refl in (why.0, or_left failed failed_too why.1)
+either_sweeps clears false other failed failed_too is first second = let why = second is in (why.0, or_right failed failed_too why.1)
 
 inputs_sweep : (task : Task) (is_first : Bool) (inputs : List Input) → (of_inputs task is_first inputs).sweeps ≡ true → (task.work.clears ≡ true) × ((of_inputs task is_first inputs).failed ≡ true)
 inputs_sweep task is_first [] sweeps = absurd (false≢true sweeps)
@@ -207,9 +166,8 @@ defined_due : (task : Task) (inputs : List Input) (new : List Slot) (status plac
 defined_due task inputs new status place is (sweeps, closed, gone) = let why = inputs_sweep task true inputs sweeps in (is ∙ ap (λ failed. cond failed 1 0) why.1, inr (why.0, closed, gone))
 
 streams_sound : (place : ℕ) (error : Slot) → (place ≡ 1 → ⊥) → (slot_at (streams_with error) place).is_broken ≡ false
-streams_sound zero error differs = refl
 streams_sound (suc zero) error differs = absurd (differs refl)
-streams_sound (suc (suc place)) error differs = refl
+streams_sound place error differs = refl
 
 blamed_told : (tool : Tool) (lines : List (List ℕ)) (new : List Slot) (place : ℕ) (fault : Fault) (error : Slot) → slot_at new 1 ≡ error → SaysLines tool (lines ++ message_of tool fault (output_named new fault) ∷ []) error
     → IsBlamed fault (slot_at new place) place → IsToldOf tool new place
@@ -243,9 +201,8 @@ ends_due task inputs sources new status place living differs broken (no_room err
 -- `tee`
 
 copies_sound : (mode : Mode) (bytes : List ℕ) (names : List (List ℕ)) (place : ℕ) → (slot_at (map (λ name. closes (adds bytes (opened name mode))) names) place).is_broken ≡ false
-copies_sound mode bytes [] place = refl
-copies_sound mode bytes (name ∷ names) zero = refl
 copies_sound mode bytes (name ∷ names) (suc place) = copies_sound mode bytes names place
+copies_sound mode bytes names place = refl
 
 all_sound : (mode : Mode) (bytes : List ℕ) (names : List (List ℕ)) (error : Slot) (place : ℕ) → (place ≡ 1 → ⊥) → (slot_at (adds bytes standard_output ∷ error ∷ map (λ name. closes (adds bytes (opened name mode))) names) place).is_broken ≡ false
 all_sound mode bytes names error zero differs = refl

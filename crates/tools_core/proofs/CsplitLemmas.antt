@@ -8,7 +8,7 @@ use Rattle.ports_core.specs.Swept.{HasNoFiles}
 use Rattle.ports_core.specs.Work.{Work, Needs}
 use Rattle.ports_core.specs.Engine.{is_verdict}
 use Rattle.ports_core.specs.declared.fault.Fault.{Fault}
-use Rattle.ports_core.specs.declared.fault.Fault.TheVariants.{Memory, Write, Read, Open, Suffixes, NoMatch, Range, Usage, Failed, TooLong}
+use Rattle.ports_core.specs.declared.fault.Fault.TheVariants.{Memory, Write, Open, Suffixes, NoMatch, Range}
 use Rattle.ports_core.proofs.PartLemmas.{nothing_out, nothing_begins_part, stopped_here}
 use Rattle.ports_core.proofs.SlotSteps.{none_past, swept_none}
 use Rattle.csplit_core.specs.Csplit.{csplit_work, settled_by}
@@ -25,25 +25,13 @@ stops_as : (style : Style) (operands : List Operand) (opening : Needs) (old new 
 stops_as style operands opening old new Memory may opens breaks = may
 stops_as style operands opening old new (Write slot) may opens breaks = (λ first. ap not (breaks.0 first), λ none. absurd (false≢true (sym none)), breaks.1.1)
 stops_as style operands opening old new (Open slot) may opens breaks = (refl, opens)
-stops_as style operands opening old new (Read slot) may opens breaks = breaks
-stops_as style operands opening old new Suffixes may opens breaks = breaks
-stops_as style operands opening old new (NoMatch operand repetition) may opens breaks = breaks
-stops_as style operands opening old new (Range operand repetition) may opens breaks = breaks
-stops_as style operands opening old new (Usage kind word) may opens breaks = breaks
-stops_as style operands opening old new Failed may opens breaks = breaks
-stops_as style operands opening old new TooLong may opens breaks = absurd breaks
+stops_as style operands opening old new fault may opens breaks = absurd breaks
 
 unjudged_by : (style : Style) (old new : List Slot) (fault : Fault) → Breaks style old new fault → is_verdict fault ≡ false
-unjudged_by style old new Memory breaks = refl
-unjudged_by style old new (Write slot) breaks = refl
-unjudged_by style old new (Open slot) breaks = refl
-unjudged_by style old new (Read slot) breaks = refl
 unjudged_by style old new Suffixes breaks = absurd breaks
 unjudged_by style old new (NoMatch operand repetition) breaks = absurd breaks
 unjudged_by style old new (Range operand repetition) breaks = absurd breaks
-unjudged_by style old new (Usage kind word) breaks = refl
-unjudged_by style old new Failed breaks = refl
-unjudged_by style old new TooLong breaks = refl
+unjudged_by style old new fault breaks = refl
 
 csplit_stops : (told : Bool) (style : Style) (operands : List Operand) (opening : Needs) (old new : List Slot) (fault : Fault) → opening.memory ≡ true → opening.files ≡ true → 2 ≤ length old
     → ((before : List Slot) → OutputsAt told before nothing old → StoppedBetween told before nothing (settled_by style operands []) fault new) → Breaks style old new fault → HasNoFiles (length old) new

@@ -18,7 +18,7 @@ use Rattle.csplit_core.specs.Input.{all_lines, marked, newline}
 use Rattle.operand_core.specs.declared.operand.Operand.{Operand}
 use Rattle.csplit_core.specs.Operand.{Line, has_more}
 use Rattle.csplit_core.specs.Output.{Contents, contents_of as contents_in, is_empty, makes_file, file_at, files_of as files_by}
-use Rattle.csplit_core.specs.Plan.{State, start, line_after, state_after, operands_after, step_of, Step, Ending, used_up, missed, above, below, Runs, is_used_up, misses, is_above, is_below, cuts}
+use Rattle.csplit_core.specs.Plan.{State, start, line_after, state_after, operands_after, step_of, Step, Ending, below, Runs, is_used_up, misses, is_above, is_below, cuts}
 use Rattle.csplit_core.specs.Planned.{plan}
 use Rattle.csplit_core.specs.Section.{Section, section_of, bytes_of, is_final, is_last_kept, lines_between, lines_in, whole_sections}
 use Rattle.csplit_core.specs.laws.PlanLaws.{plan_runs}
@@ -52,17 +52,13 @@ record Kept (lines : List Line) (steps : List Step) (ending : Ending) : Type 0 w
   pub sections : AllKept (map (section_of lines) steps)
   pub final : is_last_kept ending ≡ true
 
--- the run's operands are these
-front_keeps : (operands : List Operand) (operand : Operand) (rest : List Operand) → operands ≡ operand ∷ rest → KeepTargets operands → KeepTargets (operand ∷ rest)
-front_keeps operands operand rest is keep = subst KeepTargets is keep
-
 runs_keep : (suppress : Bool) (lines : List Line) (state : State) (steps : List Step) (last : State) (ending : Ending) → Runs suppress lines state steps last ending → KeepTargets state.operands → Kept lines steps ending
 runs_keep suppress lines _ _ _ _ (is_used_up state none) keep = record { sections = tt; final = refl }
-runs_keep suppress lines _ _ _ _ (misses state operand operands is none) keep = record { sections = tt; final = (front_keeps state.operands operand operands is keep).0 }
-runs_keep suppress lines _ _ _ _ (is_above state operand operands matched cut is at far) keep = record { sections = tt; final = (front_keeps state.operands operand operands is keep).0 }
-runs_keep suppress lines _ _ _ _ (is_below state operand operands matched cut is at within low) keep = record { sections = tt; final = (front_keeps state.operands operand operands is keep).0 }
+runs_keep suppress lines _ _ _ _ (misses state operand operands is none) keep = record { sections = tt; final = (subst KeepTargets is keep).0 }
+runs_keep suppress lines _ _ _ _ (is_above state operand operands matched cut is at far) keep = record { sections = tt; final = (subst KeepTargets is keep).0 }
+runs_keep suppress lines _ _ _ _ (is_below state operand operands matched cut is at within low) keep = record { sections = tt; final = (subst KeepTargets is keep).0 }
 runs_keep suppress lines _ _ _ _ (cuts state operand operands matched cut steps last ending is at from within rest) keep =
-    let these = front_keeps state.operands operand operands is keep in
+    let these = subst KeepTargets is keep in
     let past = runs_keep suppress lines (state_after suppress operand operands state.repetition matched cut) steps last ending rest (kept_after (has_more operand.times state.repetition) operand operands these) in
     record { sections = (these.0, past.sections); final = past.final }
 
@@ -146,10 +142,8 @@ all_sound style place (section ∷ sections) closed =
 
 -- a plan that ends well has no cut below the current line
 ends_well : (ending : Ending) → verdict_of ending ≡ None → is_final ending ≡ false
-ends_well used_up well = refl
-ends_well (missed operand repetition) well = refl
-ends_well (above operand repetition matched cut) well = refl
 ends_well (below operand repetition) well = absurd (cc)
+ends_well ending well = refl
 
 pub record IsCsplit (run : Run) (asked : CsplitAsked) (input : List ℕ) : Type 0 where
   pub operands : List Operand
@@ -213,16 +207,13 @@ past_cut false cut some = some
 
 all_in_turn : (suppress : Bool) (lines : List Line) (first : State) (steps : List Step) (last : State) (ending : Ending) → Runs suppress lines first steps last ending → 1 ≤ first.current
     → in_turn suppress lines steps (drop (last.current - 1) lines) ≡ drop (first.current - 1) lines
-all_in_turn suppress lines first steps last ending (is_used_up state none) some = refl
-all_in_turn suppress lines first steps last ending (misses state operand operands is none) some = refl
-all_in_turn suppress lines first steps last ending (is_above state operand operands matched cut is at far) some = refl
-all_in_turn suppress lines first steps last ending (is_below state operand operands matched cut is at within low) some = refl
 all_in_turn suppress lines first steps last ending (cuts state operand operands matched cut steps' last' ending' is at from within rest) some =
     let low : 1 ≤ cut = omega (arith, some, from) in
     let step = step_of state operand matched cut in
     ap (λ those. lines_between state.current cut lines ++ (left_out suppress lines step ++ those)) (all_in_turn suppress lines (state_after suppress operand operands state.repetition matched cut) steps' last' ending' rest (past_cut suppress cut low))
     ∙ ap (λ those. lines_between state.current cut lines ++ those) (cut_rest suppress lines step low)
     ∙ between_rest state.current cut lines some from
+all_in_turn suppress lines first steps last ending run some = refl
 
 rest_is_all : (lines : List Line) (current : ℕ) → 1 ≤ current → lines_between current (suc (length lines)) lines ≡ drop (current - 1) lines
 rest_is_all lines current some = take_all (suc (length lines) - current) (drop (current - 1) lines) (let e : length (drop (current - 1) lines) ≡ length lines - (current - 1) = length-drop (current - 1) lines in omega (arith, e, some))

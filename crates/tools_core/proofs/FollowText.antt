@@ -1,7 +1,8 @@
 -- What following one name writes, where no call fails, is the text of that name.
-use Rattle.std.proofs.Common.{◌≡◌, ℕ, Bool, true, false, ◌&&◌, ◌||◌, cond, is_some, List, [], ◌∷◌, ◌++◌, Option, None, refl, ◌∙◌, ap}
+use Rattle.std.proofs.lemmas.Bool.{or_parts}
+use Rattle.std.proofs.Common.{◌≡◌, ℕ, Bool, true, false, ◌&&◌, cond, is_some, List, [], ◌∷◌, ◌++◌, Option, None, refl, ◌∙◌, ap}
 use Rattle.follow_core.specs.Followed.{any_failed, text_from}
-use Rattle.follow_core.specs.Look.{Fate, Look, Ways, entries_in, failed_by, failed_in, fate_at, is_dropped, is_first, sound, unopened, unread}
+use Rattle.follow_core.specs.Look.{Fate, Look, Ways, entries_in, failed_by, failed_in, fate_at, is_dropped, is_first, sound}
 use Rattle.follow_core.specs.Notice.{is_missing}
 use Rattle.follow_core.specs.Run.{AreKept, name_text}
 use Rattle.follow_core.specs.Share.{Share, gain, gains_from, missing_share, no_share, share_by, share_of, shares_from}
@@ -20,17 +21,12 @@ fine_there ways name before look false other same well = same
 
 fine_by : (ways : Ways) (name : List ℕ) (before : List Look) (look : Look) (fate : Fate) → (share_by ways name before look fate).has_failed ≡ false → IsFine ways name before look fate (share_by ways name before look fate).bytes
 fine_by ways name before look sound well = record { came = refl; all = fine_there ways name before look (is_first before && is_missing (entries_in ways name (before ++ look ∷ []))) _ refl well }
-fine_by ways name before look (unopened notices bytes) well = absurd (cc)
-fine_by ways name before look (unread notices bytes) well = absurd (cc)
+fine_by ways name before look fate well = absurd (cc)
 
 fine_share : (ways : Ways) (name : List ℕ) (before : List Look) (look : Look) (dropped : Bool) → dropped ≡ false → (cond dropped (no_share name) (share_by ways name before look (fate_at ways.first look))).has_failed ≡ false
     → IsFine ways name before look (fate_at ways.first look) (cond dropped (no_share name) (share_by ways name before look (fate_at ways.first look))).bytes
 fine_share ways name before look true kept well = absurd (cc)
 fine_share ways name before look false kept well = fine_by ways name before look (fate_at ways.first look) well
-
-neither : (one other : Bool) → (one || other) ≡ false → (one ≡ false) × (other ≡ false)
-neither true other is = absurd (cc)
-neither false other is = (refl, is)
 
 -- so further looks wrote all that they give, and the name is still followed
 record WroteAll (ways : Ways) (name : List ℕ) (before looks : List Look) (text : List ℕ) : Type 0 where
@@ -42,7 +38,7 @@ wrote_all : (ways : Ways) (name : List ℕ) (before looks : List Look) (last : O
 wrote_all ways name before [] last kept well = record { is = refl; kept = refl }
 wrote_all ways name before (look ∷ looks) last kept well =
     let here = before ++ look ∷ [] in
-    let both = neither (share_of ways before look ways.first name).has_failed (any_failed (shares_from ways (name ∷ []) here looks)) well in
+    let both = or_parts (share_of ways before look ways.first name).has_failed (any_failed (shares_from ways (name ∷ []) here looks)) well in
     let fine = fine_share ways name before look (is_dropped ways.first before) kept both.0 in
     let rest = wrote_all ways name here looks last (ap is_some (failed_sound ways.first before look fine.came) ∙ kept) both.1 in record {
       is = ap (λ bytes. bytes ++ text_from false last (shares_from ways (name ∷ []) here looks)) fine.all ∙ ap (λ more. gain ways name before look ++ more) rest.is;

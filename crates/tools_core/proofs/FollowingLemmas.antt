@@ -1,5 +1,5 @@
 -- Lemmas on how a run that follows ends, by its words.
-use Rattle.std.proofs.Common.{◌≡◌, ℕ, Bool, List, Option, Some, None, [], Result, Ok, Err, inl, inr, ◌⊎◌, refl, sym, ◌∙◌, ap, subst}
+use Rattle.std.proofs.Common.{◌≡◌, ℕ, Bool, List, Option, Some, None, [], Result, Ok, Err, inl, inr, refl, sym, ◌∙◌, ap, subst}
 use Rattle.ports_core.specs.Slot.{Slot, changed_at, slot_at, streams}
 use Rattle.ports_core.specs.Message.{Says, SaysOn}
 use Rattle.ports_core.specs.Text.{message_of}
@@ -15,7 +15,7 @@ use Rattle.follow_core.specs.declared.start.Start.{Start}
 use Rattle.follow_core.specs.Ending.{FollowEndsAs, no_room}
 use Rattle.follow_core.specs.Look.{ways_of}
 use Rattle.words_core.specs.declared.settings.Settings.{Settings}
-use Rattle.words_core.specs.declared.settings.Settings.TheVariants.{Head, Tail, Split, Csplit, Tee}
+use Rattle.words_core.specs.declared.settings.Settings.TheVariants.{Tail, Csplit}
 use Rattle.words_core.specs.declared.value.Followed.{Followed}
 use Rattle.words_core.specs.EndsAsked.{EndsAsked}
 use Rattle.words_core.specs.Spelling.{IsRefused}
@@ -23,7 +23,7 @@ use Rattle.words_core.specs.Words.{HasBadOperands, settings_of}
 use Rattle.tools_core.specs.Following.{FollowingEnds, FollowingEndsAt, FollowsAs, FollowsTail, is_name, start_of}
 use Rattle.tools_core.specs.Outcome.{RefusesFor, speaker}
 use Rattle.tools_core.specs.Tasks.{has_headers}
-use Rattle.tools_core.proofs.RunLemmas.{lacks_memory}
+use Rattle.tools_core.proofs.RunLemmas.{lacks_memory, refused_memory}
 use Rattle.tools_core.proofs.SpeakerLemmas.{runs_as_named}
 
 -- what is followed is what the settings ask for
@@ -41,17 +41,6 @@ follows_as told_in told asked followed by_name start headers names looks shows f
 
 -- words that weren't read for want of memory, where they ask for this
 
-refused_memory : (told : Bool) (words : List (List ℕ)) (fault : Fault) (new : List Slot) (status : ℕ) → RefusesFor told words Memory new status → RefusesFor told words fault new status
-refused_memory told words fault new status refuses = record {
-  error = refuses.error;
-  says = record { said = refuses.says.said; is = inr (by_either refuses.says.is); printed = refuses.says.printed };
-  slots = refuses.slots;
-  failed = refuses.failed;
-} where
-  by_either : {text : List ℕ} → (refuses.says.said ≡ text) ⊎ (refuses.says.said ≡ text) → refuses.says.said ≡ text
-  by_either (inl is) = is
-  by_either (inr is) = is
-
 says_at : (told : Bool) (words : List (List ℕ)) (new : List Slot) (status : ℕ) → speaker words ≡ tool.Tail → RefusesFor told words Memory new status → SaysOn told tool.Tail (message_of tool.Tail Memory []) streams new
 says_at told words new status speaks refuses output error since are = (
   refuses.error,
@@ -66,19 +55,14 @@ unread told_in told words asked None looks shows seen watched new status speaks 
 
 unread_for : (told_in told : Bool) (words : List (List ℕ)) (meant : Result Settings Fault) (looks : ℕ) (shows : ℕ → Snapshot) (seen : List Snapshot) (watched : List Watched) (new : List Slot) (status : ℕ) → settings_of words ≡ meant → seen ≡ [] → watched ≡ [] → RefusesFor told words Memory new status → FollowingEndsAt told_in told words looks shows seen watched new status meant
 unread_for told_in told words (Ok (Tail asked)) looks shows seen watched new status is unseen unwatched refuses = unread told_in told words asked.ends asked.followed looks shows seen watched new status (runs_as_named words (Tail asked) is) unseen unwatched refuses
-unread_for told_in told words (Ok (Head asked)) looks shows seen watched new status is unseen unwatched refuses = inl (tt, (unseen, unwatched, refused_memory told words (Usage BadFollow 0) new status refuses))
-unread_for told_in told words (Ok (Split asked)) looks shows seen watched new status is unseen unwatched refuses = inl (tt, (unseen, unwatched, refused_memory told words (Usage BadFollow 0) new status refuses))
 unread_for told_in told words (Ok (Csplit asked)) looks shows seen watched new status is unseen unwatched refuses = inr (unseen, unwatched, (Memory, lacks_memory asked, refuses))
-unread_for told_in told words (Ok (Tee asked)) looks shows seen watched new status is unseen unwatched refuses = inl (tt, (unseen, unwatched, refused_memory told words (Usage BadFollow 0) new status refuses))
+unread_for told_in told words (Ok asked) looks shows seen watched new status is unseen unwatched refuses = inl (tt, (unseen, unwatched, refused_memory told words (Usage BadFollow 0) new status refuses))
 unread_for told_in told words (Err fault) looks shows seen watched new status is unseen unwatched refuses = (unseen, unwatched, refused_memory told words fault new status refuses)
 
 -- operands that can't be read
 operands_refused : (told_in told : Bool) (words : List (List ℕ)) (settings : Settings) (fault : Fault) (looks : ℕ) (shows : ℕ → Snapshot) (seen : List Snapshot) (watched : List Watched) (new : List Slot) (status : ℕ) → HasBadOperands settings fault → seen ≡ [] → watched ≡ [] → RefusesFor told words fault new status → FollowingEndsAt told_in told words looks shows seen watched new status (Ok settings)
 operands_refused told_in told words (Csplit asked) fault looks shows seen watched new status bad unseen unwatched refuses = inr (unseen, unwatched, (fault, bad, refuses))
-operands_refused told_in told words (Head asked) fault looks shows seen watched new status bad unseen unwatched refuses = absurd bad
-operands_refused told_in told words (Tail asked) fault looks shows seen watched new status bad unseen unwatched refuses = absurd bad
-operands_refused told_in told words (Split asked) fault looks shows seen watched new status bad unseen unwatched refuses = absurd bad
-operands_refused told_in told words (Tee asked) fault looks shows seen watched new status bad unseen unwatched refuses = absurd bad
+operands_refused told_in told words asked fault looks shows seen watched new status bad unseen unwatched refuses = absurd bad
 
 pub refused_words : (told_in told : Bool) (words : List (List ℕ)) (fault : Fault) (looks : ℕ) (shows : ℕ → Snapshot) (seen : List Snapshot) (watched : List Watched) (new : List Slot) (status : ℕ) → IsRefused HasBadOperands (settings_of words) fault → seen ≡ [] → watched ≡ [] → RefusesFor told words fault new status → FollowingEnds told_in told words looks shows seen watched new status
 refused_words told_in told words fault looks shows seen watched new status (inr (inl is)) unseen unwatched refuses = subst (λ (meant : Result Settings Fault). FollowingEndsAt told_in told words looks shows seen watched new status meant) (sym is) (unseen, unwatched, refuses)

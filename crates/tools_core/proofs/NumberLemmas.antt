@@ -110,9 +110,8 @@ names_below prefix (suc width) low high less small least =
     ∙ same_front prefix (digits_in (suc width) low) (digits_in (suc width) high) (digits_in_order (suc width) low high less small) [] []
 
 by_places : (names : List (List ℕ)) → ((k : ℕ) → k + 1 < length names → slice_cmp nat_cmp (text_at names k) (text_at names (suc k)) ≡ Less) → AreInOrder names
-by_places [] each = tt
-by_places (name ∷ []) each = tt
 by_places (name ∷ next ∷ names) each = (each 0 (omega arith), by_places (next ∷ names) (λ k within. each (suc k) (omega (arith, within))))
+by_places names each = tt
 
 pub numbered_in_order : (prefix : List ℕ) (digits : ℕ) (names : List (List ℕ)) → ((place : ℕ) → place < length names → text_at names place ≡ numbered_name prefix digits place)
     → length names ≤ 10 ^ digits → length names ≤ 2 ^ 64 → AreInOrder names

@@ -1,5 +1,7 @@
 -- What a run that met no fault leaves: just its part, as its definition says, and nothing on standard error.
-use Rattle.std.proofs.Common.{◌≡◌, ℕ, Bool, true, false, ◌||◌, ◌&&◌, is_some, cond, List, [], ◌∷◌, ◌++◌, map, Option, Some, None, Result, inl, inr, ◌⊎◌, refl, sym, ◌∙◌, ap, subst, arith, append-nil}
+use Rattle.std.proofs.Common.{◌≡◌, ℕ, Bool, true, false, ◌||◌, ◌&&◌, is_some, cond, List, [], ◌∷◌, ◌++◌, map, Option, Some, None, Result, inl, inr, ◌⊎◌, refl, sym, ◌∙◌, ap, subst, arith}
+use Rattle.std.proofs.lemmas.Bool.{or_parts}
+use Rattle.std.proofs.Math.Bool.{and-false}
 use Rattle.ports_core.specs.Slot.{Slot, adds}
 use Rattle.ports_core.specs.Source.{Content, Source, source_of}
 use Rattle.ports_core.specs.Streams.{standard_output, standard_error, streams_with}
@@ -12,6 +14,7 @@ use Rattle.run_core.specs.Feeding.{is_enough}
 use Rattle.run_core.specs.Input.{Input, World, input_of, inputs_at, is_dash}
 use Rattle.run_core.specs.RunEnds.{EndsAs, as_defined, stopped, no_room}
 use Rattle.run_core.specs.Task.{Task, Outcome, after_part, header_text, joined, made_by, of_content, of_inputs, is_missing, verdict_messages}
+use Rattle.run_core.proofs.JoinedLemmas.{nothing_after}
 use Rattle.words_core.specs.declared.settings.Settings.{Settings}
 use Rattle.words_core.specs.Words.{settings_of}
 use Rattle.tools_core.specs.Outcome.{DoesAsked, RunEndsAt, RefusesOperands, names_at}
@@ -54,23 +57,14 @@ pub unfailed : (failed : Bool) → ◌≡◌ {A = ℕ} 0 (cond failed 1 0) → f
 unfailed true is = absurd (not_one is)
 unfailed false is = refl
 
-neither : (one other : Bool) → (one || other) ≡ false → (one ≡ false) × (other ≡ false)
-neither true other is = (is, absurd (cc))
-neither false other is = (refl, is)
-
 -- it said nothing, and removes nothing
 abbrev IsQuiet : Outcome → Type 0
 IsQuiet outcome = (outcome.messages ≡ []) × (outcome.sweeps ≡ false)
 
-never : (clears : Bool) → (clears && false) ≡ false
-never true = refl
-never false = refl
-
 quiet_by : (task : Task) (clears enough : Bool) (verdict : Option Fault) (broken : List (List ℕ)) → cond enough (is_some verdict) true ≡ false
     → (cond enough (verdict_messages task verdict) broken ≡ []) × ((clears && cond enough (is_some verdict) true) ≡ false)
-quiet_by task clears true None broken sound = (refl, never clears)
-quiet_by task clears true (Some fault) broken sound = absurd (cc)
-quiet_by task clears false verdict broken sound = absurd (cc)
+quiet_by task clears true None broken sound = (refl, and-false clears)
+quiet_by task clears enough verdict broken sound = absurd (cc)
 
 quiet_content : (task : Task) (is_first : Bool) (name : List ℕ) (content : Option Content) → (of_content task is_first name content).failed ≡ false → IsQuiet (of_content task is_first name content)
 quiet_content task is_first name None sound = absurd (cc)
@@ -84,7 +78,7 @@ quiet_inputs task is_first [] sound = (refl, refl)
 quiet_inputs task is_first (input ∷ inputs) sound =
     let first = of_content task is_first input.name input.content in
     let next = of_inputs task (is_first && is_missing input.content) inputs in
-    let both = neither first.failed next.failed sound in
+    let both = or_parts first.failed next.failed sound in
     quiet_joined first next (quiet_content task is_first input.name input.content both.0) (quiet_inputs task (is_first && is_missing input.content) inputs both.1)
 
 pub record IsWhole (task : Task) (inputs : List Input) (new : List Slot) : Type 0 where
@@ -104,9 +98,6 @@ well_done task inputs sources new (no_room error says slots untouched count stat
 abbrev pub ending : List ℕ → Content
 ending bytes = record { bytes = bytes; breaks_off = false }
 
-after_nothing : (part : Part) → after_part part nothing ≡ part
-after_nothing part = ap (λ (out : List ℕ). record { out = out; files = part.files ++ [] }) (append-nil part.out) ∙ ap (λ (files : List File). record { out = part.out; files = files }) (append-nil part.files)
-
 not_judged : (verdict : Option Fault) → (is_some verdict || false) ≡ false → verdict ≡ None
 not_judged None sound = refl
 not_judged (Some fault) sound = absurd (cc)
@@ -116,7 +107,7 @@ abbrev pub part_of : Task → List ℕ → List ℕ → Part
 part_of task name bytes = after_part (only_out (header_text task.with_header true name)) (task.work.whole bytes)
 
 pub made_one : (task : Task) (input : Input) (bytes : List ℕ) → input.content ≡ Some (ending bytes) → (made_by task (input ∷ [])).part ≡ part_of task input.name bytes
-made_one task input bytes is = ap (λ content. after_part (of_content task true input.name content).part nothing) is ∙ after_nothing (part_of task input.name bytes)
+made_one task input bytes is = ap (λ content. after_part (of_content task true input.name content).part nothing) is ∙ nothing_after (part_of task input.name bytes)
 
 pub record IsMade (task : Task) (name bytes : List ℕ) (new : List Slot) : Type 0 where
   pub unjudged : task.work.verdict bytes ≡ None

@@ -1,5 +1,5 @@
 -- Lemmas on how a run ends, by its words.
-use Rattle.std.proofs.Common.{◌≡◌, ◌≤◌, ℕ, Bool, true, false, List, [], ◌∷◌, length, map, Bor, Result, Ok, Err, Option, inl, inr, ◌⊎◌, codes, refl, sym, ◌∙◌, ap, subst, arith}
+use Rattle.std.proofs.Common.{◌≡◌, ◌≤◌, ℕ, Bool, true, false, List, [], ◌∷◌, length, map, Bor, Result, Ok, Err, Option, inl, inr, codes, refl, sym, ◌∙◌, ap, subst, arith}
 use Rattle.std.proofs.lemmas.Bool.{false≢true}
 use Rattle.ports_core.specs.Slot.{Slot}
 use Rattle.ports_core.specs.Source.{Content, Source, source_at, IsFresh}
@@ -136,6 +136,14 @@ unread_settings told_in told laid sources words (Tee asked) new error fresh refu
 
 -- words that are refused, or weren't read for want of memory
 
+pub refused_memory : (told : Bool) (words : List (List ℕ)) (fault : Fault) (new : List Slot) (status : ℕ) → RefusesFor told words Memory new status → RefusesFor told words fault new status
+refused_memory told words fault new status refuses = record {
+  error = refuses.error;
+  says = record { said = refuses.says.said; is = inr (elim refuses.says.is [ inl is ↦ is | inr is ↦ is ]); printed = refuses.says.printed };
+  slots = refuses.slots;
+  failed = refuses.failed;
+}
+
 unread_for : (told_in told : Bool) (laid : ℕ → List ℕ → Option Content) (sources : List Source) (words : List (List ℕ)) (meant : Result Settings Fault) (new : List Slot) (error : Slot) → IsFresh sources → settings_of words ≡ meant
     → Says told (speaker words) (message_of (speaker words) Memory []) standard_error error → new ≡ streams_with error
     → RunsOver told_in (world_of laid sources) (names_at meant) (λ found. RunEndsAt told_in told words found sources sources new 1 meant)
@@ -145,11 +153,8 @@ unread_for told_in told laid sources words (Ok settings) new error fresh is says
 unread_for told_in told laid sources words (Err fault) new error fresh is says slots = (
   [],
   record { are = refl; there = λ t. refl },
-  (refl, record { error = error; says = record { said = says.said; is = inr (by_either says.is); printed = says.printed }; slots = slots; failed = refl }),
-) where
-  by_either : {text : List ℕ} → (says.said ≡ text) ⊎ (says.said ≡ text) → says.said ≡ text
-  by_either (inl is) = is
-  by_either (inr is) = is
+  (refl, refused_memory told words fault new 1 (record { error = error; says = says; slots = slots; failed = refl })),
+)
 
 -- the words ask for something whose operands can't be read
 operands_refused : (told_in told : Bool) (laid : ℕ → List ℕ → Option Content) (sources : List Source) (words : List (List ℕ)) (settings : Settings) (fault : Fault) (new : List Slot) (status : ℕ) → IsFresh sources → HasBadOperands settings fault

@@ -14,7 +14,7 @@ use Rattle.ports_core.specs.declared.slot.Mode.{Mode}
 use Rattle.ports_core.specs.declared.tool.Tool.{Tool}
 use Rattle.ports_core.specs.declared.tool.Tool.TheVariants as tool
 use Rattle.run_core.specs.Input.{Input, inputs_at}
-use Rattle.run_core.specs.RunEnds.{EndsAs, as_defined, no_room, stopped}
+use Rattle.run_core.specs.RunEnds.{EndsAs, as_defined}
 use Rattle.run_core.specs.Task.{Task, made_by}
 use Rattle.operand_core.proofs.OneReading.{asks_once}
 use Rattle.tee_core.specs.Run as tee
@@ -30,7 +30,8 @@ use Rattle.tools_core.specs.Promises.{Completes, Does, FindAlike, IsAlike, IsCop
 use Rattle.tools_core.proofs.BeginLemmas.{slots_at}
 use Rattle.tools_core.proofs.PromiseLemmas.{did, well_done}
 use Rattle.tools_core.proofs.TeePromises.{bytes_at}
-use Rattle.tools_core.proofs.ToldLemmas.{input_are, inputs_are, swept_error}
+use Rattle.tools_core.proofs.ToldLemmas.{input_are, inputs_are}
+use Rattle.run_core.proofs.StopLemmas.{swept_error}
 
 -- Runs that met no fault
 
@@ -97,9 +98,8 @@ swept_count false old new swept = ap length swept
 swept_count true old new swept = swept.size
 
 pub beside_error : (output error error_too : Slot) (files : List Slot) (place : ℕ) → (place ≡ 1 → ⊥) → slot_at (output ∷ error ∷ files) place ≡ slot_at (output ∷ error_too ∷ files) place
-beside_error output error error_too files zero differs = refl
 beside_error output error error_too files (suc zero) differs = absurd (differs refl)
-beside_error output error error_too files (suc (suc place)) differs = refl
+beside_error output error error_too files place differs = refl
 
 -- what is left alike, of the outputs and the status
 record AreAlike (which : Tool) (new other : List Slot) (one two : ℕ) : Type 0 where
@@ -121,13 +121,11 @@ ends_alike task inputs these those new other status status_too (as_defined error
       outputs = λ place differs. swept_alike made.sweeps reached reached_too new other place
           (ap (λ slots. slot_at slots place) at ∙ beside_error (adds made.part.out standard_output) error error_too _ place differs ∙ sym (ap (λ slots. slot_at slots place) at_too)) swept swept_too;
       lines = made.messages;
-      says = record { are = inputs_are task true inputs; said = subst (SaysAll true task.tool made.messages standard_error) (sym (swept_error made.sweeps reached new swept ∙ ap (λ slots. slot_at slots 1) at)) says };
-      says_too = record { are = inputs_are task true inputs; said = subst (SaysAll true task.tool made.messages standard_error) (sym (swept_error made.sweeps reached_too other swept_too ∙ ap (λ slots. slot_at slots 1) at_too)) says_too };
+      says = record { are = inputs_are task true inputs; said = subst (SaysAll true task.tool made.messages standard_error) (sym (swept_error made.sweeps 2 reached new (omega arith) swept ∙ ap (λ slots. slot_at slots 1) at)) says };
+      says_too = record { are = inputs_are task true inputs; said = subst (SaysAll true task.tool made.messages standard_error) (sym (swept_error made.sweeps 2 reached_too other (omega arith) swept_too ∙ ap (λ slots. slot_at slots 1) at_too)) says_too };
     }
-ends_alike task inputs these those new other status status_too (as_defined error reached says outputs swept done is) (stopped fault before input after error_too step reached_too are done_too untouched at stops between swept_too says_too is_too) one two = absurd two
-ends_alike task inputs these those new other status status_too (as_defined error reached says outputs swept done is) (no_room error_too says_too slots untouched count is_too) one two = absurd two
-ends_alike task inputs these those new other status status_too (stopped fault before input after error step reached are done untouched at stops between swept says is) ends_too one two = absurd one
-ends_alike task inputs these those new other status status_too (no_room error says slots untouched count is) ends_too one two = absurd one
+ends_alike task inputs these those new other status status_too (as_defined error reached says outputs swept done is) ends_too one two = absurd two
+ends_alike task inputs these those new other status status_too ends ends_too one two = absurd one
 
 -- `tee` where no output broke and all of the input was copied
 

@@ -8,15 +8,13 @@ use Rattle.operand_core.specs.declared.operand.Times.{Times}
 use Rattle.operand_core.specs.declared.operand.Times.TheVariants.{Count}
 use Rattle.operand_core.specs.declared.operand_fault.OperandFaultKind.TheVariants as kind
 use Rattle.operand_core.specs.Reading.{Aim, line, match, Spelled, Aimed, aims, fails, Words, AreRead, Asks, IsTarget, aim_of, failed, least_after, no_more, times_by, with_operand, words_from, words_of}
-use Rattle.operand_core.specs.Word.{Spelling, number, search, again, wrong, spelling, closed_at, closing, offset_of, repeated, numbered, number_of, searched, braced, before_brace}
+use Rattle.operand_core.specs.Word.{Spelling, number, search, wrong, spelling, closed_at, closing, offset_of, repeated, numbered, number_of, searched, braced, before_brace}
 use Rattle.csplit_core.specs.Operand.{is_kept}
 use Rattle.tools_core.specs.Promises.{SkipNothing, skips}
 
 abbrev KeepsSpelling : Spelling → Type 0
-KeepsSpelling (number n) = Unit {0}
 KeepsSpelling (search delimiter text offset) = eqb delimiter 47 ≡ true
-KeepsSpelling (again times) = Unit {0}
-KeepsSpelling (wrong fault) = Unit {0}
+KeepsSpelling spelling = Unit {0}
 
 searched_keeps : (delimiter : ℕ) (text : List ℕ) (offset : Option Offset) → eqb delimiter 47 ≡ true → KeepsSpelling (searched delimiter text offset)
 searched_keeps delimiter text None is = tt
@@ -67,8 +65,7 @@ in_order_keeps n false = tt
 aimed_keeps : (least : ℕ) (spelled : Spelling) → KeepsSpelling spelled → KeepsAimed (aim_of least spelled)
 aimed_keeps least (number n) keeps = in_order_keeps n (nat_lt n least)
 aimed_keeps least (search delimiter text offset) keeps = keeps
-aimed_keeps least (again times) keeps = tt
-aimed_keeps least (wrong fault) keeps = tt
+aimed_keeps least spelled keeps = tt
 
 abbrev KeepAims : List Spelled → Type 0
 KeepAims [] = Unit {0}
@@ -103,15 +100,13 @@ KeepTargets (operand ∷ operands) = (is_kept operand.target ≡ true) × KeepTa
 
 target_keeps : (aim : Aim) (target : Target) → KeepsAim aim → IsTarget aim target → is_kept target ≡ true
 target_keeps (line n) (Number m) keeps is = refl
-target_keeps (line n) (Search pattern kept moved) keeps is = absurd is
-target_keeps (match is_kept text offset) (Number m) keeps is = absurd is
 target_keeps (match is_kept text offset) (Search pattern kept moved) keeps is = is.1 ∙ keeps
+target_keeps aim target keeps is = absurd is
 
 read_keep : (spelled : List Spelled) (operands : List Operand) → KeepAims spelled → AreRead spelled operands → KeepTargets operands
 read_keep [] [] keep are = tt
-read_keep [] (operand ∷ operands) keep are = absurd are
-read_keep (spelled ∷ more) [] keep are = absurd are
 read_keep (spelled ∷ more) (operand ∷ operands) keep are = (target_keeps spelled.aim operand.target keep.0 are.0.target, read_keep more operands keep.1 are.1)
+read_keep spelled operands keep are = absurd are
 
 pub targets_keep : (words : List (List ℕ)) (operands : List Operand) → SkipNothing words → Asks words operands → KeepTargets operands
 targets_keep words operands none asks = read_keep (words_of words).operands operands (all_keep words none) asks.read

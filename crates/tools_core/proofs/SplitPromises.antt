@@ -56,9 +56,7 @@ pieces_of delim (Round n) elide x = dealt_files delim elide n x
 
 shares_are : (delim : ℕ) (cut : Cut) (elide : Bool) (x : List ℕ) → whole_shares delim cut elide x ≡ map (share Closed) (pieces_of delim cut elide x)
 shares_are delim (Lines n) elide x = refl
-shares_are delim (Bytes n) elide x = refl
-shares_are delim (LineBytes n) elide x = refl
-shares_are delim (Round n) elide x = refl
+shares_are delim cut elide x = refl
 
 -- a name for each
 pub not_short : (has : Bool) → cond (not has) (Some Suffixes) None ≡ None → has ≡ true
@@ -81,9 +79,8 @@ all_named names pieces are =
 name_step : (names : Naming) (place : ℕ) (one two : Share) (rest : List File) (has next : Bool) → (next ≡ true → slice_cmp nat_cmp (name_of names place) (name_of names (place + 1)) ≡ Less)
     → AreInOrder (map (λ (file : Slot). file.name) (map slot_of (cond next (file_at names (place + 1) two ∷ rest) [])))
     → AreInOrder (map (λ (file : Slot). file.name) (map slot_of (cond has (file_at names place one ∷ cond next (file_at names (place + 1) two ∷ rest) []) [])))
-name_step names place one two rest false next less ordered = tt
-name_step names place one two rest true false less ordered = tt
 name_step names place one two rest true true less ordered = (less refl, ordered)
+name_step names place one two rest has next less ordered = tt
 
 name_last : (names : Naming) (place : ℕ) (one : Share) (has : Bool) → AreInOrder (map (λ (file : Slot). file.name) (map slot_of (cond has (file_at names place one ∷ []) [])))
 name_last names place one true = tt
@@ -229,10 +226,9 @@ ends_line delim n bytes long = elim (cases_lt 0 (delimiters delim bytes)) [
 ]
 
 uncut : (delim n : ℕ) (x : List ℕ) (pieces : List (List ℕ)) → AreLineByteParts delim n x pieces → (place : ℕ) → place + 1 < length pieces → EndsLine delim n (text_at pieces place)
-uncut delim n _ _ piece.none place next = absurd (omega (arith, next))
-uncut delim n _ _ (piece.one x has short) place next = absurd (omega (arith, next))
 uncut delim n _ _ (piece.more x pieces enough past) zero next = ends_line delim n (take n x) (length-take-le n x enough)
 uncut delim n _ _ (piece.more x pieces enough past) (suc place) next = uncut delim n _ pieces past place (omega (arith, next))
+uncut delim n x pieces are place next = absurd (omega (arith, next))
 
 -- each piece has as many lines as fit
 
@@ -295,12 +291,11 @@ first_filled delim n part _ _ (piece.one rest has short) some filled = filled
 first_filled delim n part _ _ (piece.more rest pieces enough past) some filled = filled_by delim n part rest enough filled
 
 each_filled : (delim n : ℕ) (x : List ℕ) (pieces : List (List ℕ)) → AreLineByteParts delim n x pieces → (place : ℕ) → place + 1 < length pieces → IsFilled delim n (text_at pieces place) (text_at pieces (suc place))
-each_filled delim n _ _ piece.none place next = absurd (omega (arith, next))
-each_filled delim n _ _ (piece.one x has short) place next = absurd (omega (arith, next))
 each_filled delim n _ _ (piece.more x pieces enough past) zero next =
     let first = whole_lines delim (take n x) in
     first_filled delim n first (drop (length first) x) pieces past (omega (arith, next)) (line_past delim n x first (drop (length first) x) enough (sym (first_then_after (limit.LineBytes n delim) x)) (whole_count delim (take n x)))
 each_filled delim n _ _ (piece.more x pieces enough past) (suc place) next = each_filled delim n _ pieces past place (omega (arith, next))
+each_filled delim n x pieces are place next = absurd (omega (arith, next))
 
 pub line_byte_pieces : (delim n : ℕ) (x : List ℕ) → 0 < n → AreLinePieces delim n x (parts (limit.LineBytes n delim) x)
 line_byte_pieces delim n x some =
@@ -354,30 +349,8 @@ dealt_lines delim n elide x some = record {
 
 -- By the way to split
 
-cut_is : (run : Run) (asked : SplitAsked) (cut : Cut) (input : List ℕ) → asked.cut ≡ cut → IsSplit run asked input → contents_of run ≡ pieces_of asked.delim cut asked.elide input
-cut_is run asked cut input is split = split.contents ∙ ap (λ those. pieces_of asked.delim those asked.elide input) is
-
-pub by_lines : (run : Run) (asked : SplitAsked) (n : ℕ) (input : List ℕ) → Does run (Split asked) → HasInput run input → asked.cut ≡ Lines n → ArePieces (line_count asked.delim) n input (contents_of run)
-by_lines run asked n input does has is =
+-- what is true of the pieces, where they are within limits, is true of the files
+pub by_cut : (run : Run) (asked : SplitAsked) (cut : Cut) (input : List ℕ) (P : List (List ℕ) → Type 0) → (IsInLimits cut → P (pieces_of asked.delim cut asked.elide input)) → Does run (Split asked) → HasInput run input → asked.cut ≡ cut → P (contents_of run)
+by_cut run asked cut input P holds does has is =
     let split = is_split run asked input does has in
-    subst (ArePieces (line_count asked.delim) n input) (sym (cut_is run asked (Lines n) input is split)) (line_pieces asked.delim n input (subst IsInLimits is split.can.cut))
-
-pub by_whole_lines : (run : Run) (asked : SplitAsked) (n : ℕ) (input : List ℕ) → Does run (Split asked) → HasInput run input → asked.cut ≡ Lines n → AreUncut asked.delim (contents_of run)
-by_whole_lines run asked n input does has is =
-    let split = is_split run asked input does has in
-    subst (AreUncut asked.delim) (sym (cut_is run asked (Lines n) input is split)) (line_ends asked.delim n input (subst IsInLimits is split.can.cut))
-
-pub by_bytes : (run : Run) (asked : SplitAsked) (n : ℕ) (input : List ℕ) → Does run (Split asked) → HasInput run input → asked.cut ≡ Bytes n → ArePieces length n input (contents_of run)
-by_bytes run asked n input does has is =
-    let split = is_split run asked input does has in
-    subst (ArePieces length n input) (sym (cut_is run asked (Bytes n) input is split)) (byte_pieces n input (subst IsInLimits is split.can.cut))
-
-pub by_line_bytes : (run : Run) (asked : SplitAsked) (n : ℕ) (input : List ℕ) → Does run (Split asked) → HasInput run input → asked.cut ≡ LineBytes n → AreLinePieces asked.delim n input (contents_of run)
-by_line_bytes run asked n input does has is =
-    let split = is_split run asked input does has in
-    subst (AreLinePieces asked.delim n input) (sym (cut_is run asked (LineBytes n) input is split)) (line_byte_pieces asked.delim n input (subst IsInLimits is split.can.cut))
-
-pub by_turns : (run : Run) (asked : SplitAsked) (n : ℕ) (input : List ℕ) → Does run (Split asked) → HasInput run input → asked.cut ≡ Round n → AreDealt asked.delim n asked.elide input (contents_of run)
-by_turns run asked n input does has is =
-    let split = is_split run asked input does has in
-    subst (AreDealt asked.delim n asked.elide input) (sym (cut_is run asked (Round n) input is split)) (dealt_lines asked.delim n asked.elide input (subst IsInLimits is split.can.cut).0)
+    subst P (sym (split.contents ∙ ap (λ those. pieces_of asked.delim those asked.elide input) is)) (holds (subst IsInLimits is split.can.cut))

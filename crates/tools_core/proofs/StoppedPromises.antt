@@ -12,7 +12,7 @@ use Rattle.ports_core.specs.Swept.{Cleared, Swept}
 use Rattle.ports_core.specs.Swept as swept_so
 use Rattle.ports_core.specs.Text.{message_of}
 use Rattle.ports_core.specs.declared.fault.Fault.{Fault}
-use Rattle.ports_core.specs.declared.fault.Fault.TheVariants.{Memory, Write, Read, Open, Suffixes, NoMatch, Range, Usage, Failed, TooLong}
+use Rattle.ports_core.specs.declared.fault.Fault.TheVariants.{Memory, Write, Open, TooLong}
 use Rattle.ports_core.specs.declared.slot.Mode.{Mode}
 use Rattle.ports_core.specs.declared.slot.State.{State}
 use Rattle.ports_core.specs.declared.slot.State.TheVariants as state
@@ -23,7 +23,7 @@ use Rattle.operand_core.specs.declared.operand_fault.OperandFaultKind.TheVariant
 use Rattle.ports_core.specs.Work.{Needs, Work}
 use Rattle.run_core.specs.Feeding.{IsCall, Step, Stops, closes, enough, feeds, opens, to_end}
 use Rattle.run_core.specs.Input.{inputs_at, standard_input}
-use Rattle.run_core.specs.RunEnds.{EndsAs, RunStep, as_defined, calling, heading, no_room, stopped, unheaded, unopened}
+use Rattle.run_core.specs.RunEnds.{EndsAs, RunStep, as_defined, calling, no_room, stopped}
 use Rattle.run_core.specs.Task.{Task, made_by}
 use Rattle.tee_core.specs.Run as tee
 use Rattle.tee_core.specs.Run.{FilesLeft, IsRead, OutputLeft, are_sound, messages_of, output_names, said_before, said_in, said_of_input}
@@ -71,10 +71,8 @@ abbrev IsLong : Option Content → Type 0
 IsLong there = (content : Content) × (there ≡ Some content) × (2 ^ 63 ≤ length content.bytes)
 
 step_long : (task : Task) (most : ℕ) (so_far : Part) (header : List ℕ) (slot : Option ℕ) (sources : List Source) (there : Option Content) (step : Step) → RunStep true task most so_far header slot sources there step → 2 ^ 63 ≤ length step.read → IsLong there
-step_long task most so_far header slot sources _ _ (unopened content place is past) long = absurd (omega (arith, long))
-step_long task most so_far header slot sources _ _ (unheaded content with leaves) long = absurd (omega (arith, long))
-step_long task most so_far header slot sources _ _ (heading content with leaves) long = absurd (omega (arith, long))
 step_long task most so_far header slot sources _ _ (calling content call is leaves) long = (content, refl, call_long task.work task.opening most content call is long)
+step_long task most so_far header slot sources there step at long = absurd (omega (arith, long))
 
 beside : (slot place : ℕ) → (slot ≡ 0) ⊎ (slot ≡ 2 + place) → slot ≡ 1 → ⊥
 beside slot place (inl is) one = omega (arith, is, one)
@@ -90,12 +88,7 @@ stops_run run asked IsDue step clears place count before reached (Open slot) lon
 )
 stops_run run asked IsDue step clears place count before reached Memory long two from stops marks swept = tt
 stops_run run asked IsDue step clears place count before reached TooLong long two from stops marks swept = long stops
-stops_run run asked IsDue step clears place count before reached (Usage kind word) long two from stops marks swept = absurd stops
-stops_run run asked IsDue step clears place count before reached (Read slot) long two from stops marks swept = absurd stops
-stops_run run asked IsDue step clears place count before reached Suffixes long two from stops marks swept = absurd stops
-stops_run run asked IsDue step clears place count before reached (NoMatch operand repetition) long two from stops marks swept = absurd stops
-stops_run run asked IsDue step clears place count before reached (Range operand repetition) long two from stops marks swept = absurd stops
-stops_run run asked IsDue step clears place count before reached Failed long two from stops marks swept = absurd stops
+stops_run run asked IsDue step clears place count before reached fault long two from stops marks swept = absurd stops
 
 -- the fault that stopped a run
 record IsStop (which : Tool) (run : Run) (asked : Settings) : Type 0 where
@@ -134,9 +127,7 @@ read_or content Leaves _ _ _ left (tee.to_last_output x rest is leaves) = absurd
 
 failing_stops : (run : Run) (asked : Settings) (name : List ℕ) (place : ℕ) (which : State) → BrokeAt run place name → StopsRun run asked name (failing place which)
 failing_stops run asked name place state.Open broke = broke
-failing_stops run asked name place state.Closed broke = broke
-failing_stops run asked name place state.Removed broke = broke
-failing_stops run asked name place state.Unopened broke = broke
+failing_stops run asked name place which broke = broke
 
 broke_stop : (run : Run) (asked : Settings) (mode : Mode) (pieces names : List (List ℕ)) (first : Option ℕ) (broke : List (Option ℕ)) (output error : Slot) (files : List Slot) (fault : Option Fault) → are_sound (first ∷ broke) ≡ false → OutputLeft true pieces first output
     → FilesLeft true mode pieces names broke files → SaysAll true tool.Tee (messages_of names (first ∷ broke) (length pieces) fault) standard_error error → run.outputs ≡ output ∷ error ∷ files → run.status ≡ cond (are_sound (first ∷ broke) && is_none fault) 0 1 → IsStop tool.Tee run asked
@@ -198,24 +189,13 @@ does_or run (Tee asked) does = tee_or run (Tee asked) asked.mode asked.names doe
 
 operand_stops : (run : Run) (asked : Settings) (word : ℕ) (which : OperandFaultKind) → HasBadOperands asked (fault_in word which) → StopsRun run asked (word_of run.words (fault_in word which)) (fault_in word which)
 operand_stops run asked word kind.Memory bad = tt
-operand_stops run asked word (kind.Bre fault) bad = (bad, refl)
-operand_stops run asked word kind.Missing bad = (bad, refl)
-operand_stops run asked word kind.Unclosed bad = (bad, refl)
-operand_stops run asked word kind.Offset bad = (bad, refl)
-operand_stops run asked word kind.LineZero bad = (bad, refl)
-operand_stops run asked word kind.RepeatFirst bad = (bad, refl)
-operand_stops run asked word kind.RepeatText bad = (bad, refl)
-operand_stops run asked word kind.LineOrder bad = (bad, refl)
-operand_stops run asked word kind.Number bad = (bad, refl)
+operand_stops run asked word which bad = (bad, refl)
 
 bad_stops : (run : Run) (asked : Settings) (fault : Fault) → HasBadOperands asked fault → StopsRun run asked (word_of run.words fault) fault
-bad_stops run (Head asked) fault bad = absurd bad
-bad_stops run (Tail asked) fault bad = absurd bad
-bad_stops run (Split asked) fault bad = absurd bad
 bad_stops run (Csplit asked) fault bad =
     let (found, is, same) = bad in
     subst (λ why. HasBadOperands (Csplit asked) why → StopsRun run (Csplit asked) (word_of run.words why) why) (sym same) (operand_stops run (Csplit asked) _ found.kind) bad
-bad_stops run (Tee asked) fault bad = absurd bad
+bad_stops run asked fault bad = absurd bad
 
 refused_stop : (run : Run) (asked : Settings) → Ran run asked → RefusesOperands true run.words asked run.outputs run.status → IsStop (tool_of asked) run asked
 refused_stop run asked ran (fault, bad, refuses) = record {

@@ -15,11 +15,12 @@ use Rattle.ports_core.specs.declared.tool.Tool.TheVariants as tool
 use Rattle.ports_core.specs.declared.slot.Mode.{Mode}
 use Rattle.ports_core.specs.declared.slot.State.TheVariants as state
 use Rattle.ports_core.specs.declared.fault.Fault.{Fault}
-use Rattle.ports_core.specs.declared.fault.Fault.TheVariants.{Memory, Write, Read, Open, Suffixes, NoMatch, Range, Usage, Failed, TooLong}
+use Rattle.ports_core.specs.declared.fault.Fault.TheVariants.{Memory, Write, Read, Open}
 use Rattle.run_core.specs.Feeding.{is_enough}
 use Rattle.run_core.specs.Input.{Input}
 use Rattle.run_core.specs.RunEnds.{EndsAs, as_defined, no_room, stopped}
 use Rattle.run_core.specs.Task.{Task, is_missing, made_by, of_content, of_inputs, verdict_messages}
+use Rattle.run_core.proofs.StopLemmas.{swept_error}
 use Rattle.tee_core.specs.Run as tee
 use Rattle.tee_core.specs.Run.{FilesLeft, OutputLeft, are_sound, fault_in, messages_of, output_names, said_before, said_in, said_of_input}
 use Rattle.words_core.specs.declared.settings.Settings.{Settings}
@@ -98,9 +99,8 @@ call_are true call name lines are = more_messages tool.Tee (message_of tool.Tee 
 call_are false call name lines are = are
 
 in_call_are : (call : ℕ) (names : List (List ℕ)) (broke : List (Option ℕ)) → AreMessages tool.Tee (said_in call names broke)
-in_call_are call [] broke = no_message tool.Tee
-in_call_are call (name ∷ names) [] = no_message tool.Tee
 in_call_are call (name ∷ names) (first ∷ broke) = call_are (tee.broke_in call first) call name (said_in call names broke) (in_call_are call names broke)
+in_call_are call names broke = no_message tool.Tee
 
 before_are : (call : ℕ) (names : List (List ℕ)) (broke : List (Option ℕ)) → AreMessages tool.Tee (said_before call names broke)
 before_are zero names broke = no_message tool.Tee
@@ -161,32 +161,20 @@ inputs_fault task is_first (input ∷ inputs) failed =
 
 -- Standard error stays the slot after the first.
 
-pub swept_error : (clears : Bool) (old new : List Slot) → Swept clears 2 old new → slot_at new 1 ≡ slot_at old 1
-swept_error false old new swept = ap (λ slots. slot_at slots 1) swept
-swept_error true old new swept = swept.before 1 (omega arith)
-
 broken_other : (slot place : ℕ) (output error : Slot) (since : List Slot) → (slot ≡ 0) ⊎ (slot ≡ 2 + place) → slot_at (changed_at slot breaks (output ∷ error ∷ since)) 1 ≡ error
-broken_other zero place output error since from = refl
 broken_other (suc zero) place output error since (inl from) = absurd (omega (arith, from))
 broken_other (suc zero) place output error since (inr from) = absurd (omega (arith, from))
-broken_other (suc (suc slot)) place output error since from = refl
+broken_other slot place output error since from = refl
 
 marked_error : (IsDue : List ℕ → Type 0) (fault : Fault) (place count : ℕ) (output error : Slot) (since after : List Slot) → IsAt fault 2 place count → Marks IsDue fault (output ∷ error ∷ since) after → slot_at after 1 ≡ error
 marked_error IsDue (Write slot) place count output error since after from marks = ap (λ slots. slot_at slots 1) marks.1 ∙ broken_other slot place output error since from
 marked_error IsDue (Open slot) place count output error since after from (number, (name, kept, due, is, slots)) = ap (λ those. slot_at those 1) slots
-marked_error IsDue Memory place count output error since after from marks = ap (λ slots. slot_at slots 1) marks
-marked_error IsDue (Read slot) place count output error since after from marks = ap (λ slots. slot_at slots 1) marks
-marked_error IsDue Suffixes place count output error since after from marks = ap (λ slots. slot_at slots 1) marks
-marked_error IsDue (NoMatch operand repetition) place count output error since after from marks = ap (λ slots. slot_at slots 1) marks
-marked_error IsDue (Range operand repetition) place count output error since after from marks = ap (λ slots. slot_at slots 1) marks
-marked_error IsDue (Usage kind word) place count output error since after from marks = ap (λ slots. slot_at slots 1) marks
-marked_error IsDue Failed place count output error since after from marks = ap (λ slots. slot_at slots 1) marks
-marked_error IsDue TooLong place count output error since after from marks = ap (λ slots. slot_at slots 1) marks
+marked_error IsDue fault place count output error since after from marks = ap (λ slots. slot_at slots 1) marks
 
 -- that of a run which was stopped
 pub stopped_error : (clears : Bool) (error : Slot) (low high : Part) (fault : Fault) (reached new : List Slot) → StoppedBetween true (streams_with error) low high fault reached → Swept clears 2 reached new → slot_at new 1 ≡ error
 stopped_error clears error low high fault reached new between swept =
-    swept_error clears reached new swept
+    swept_error clears 2 reached new (omega arith) swept
     ∙ marked_error (IsNext between.part high) fault between.place (length between.part.files) _ error between.outputs.since reached between.from
     (subst (λ slots. Marks (IsNext between.part high) fault slots reached) between.outputs.slots between.marks)
 
@@ -198,7 +186,7 @@ has_failed false status is one = absurd (omega (arith, is, one))
 
 ends_told : (task : Task) (inputs : List Input) (sources : List Source) (new : List Slot) (status : ℕ) → status ≡ 1 → EndsAs true true task inputs sources new status → TellsFault task.tool (slot_at new 1)
 ends_told task inputs sources new status one (as_defined error reached says outputs swept done is) =
-    subst (TellsFault task.tool) (sym (swept_error _ reached new swept ∙ ap (λ slots. slot_at slots 1) outputs.slots))
+    subst (TellsFault task.tool) (sym (swept_error _ 2 reached new (omega arith) swept ∙ ap (λ slots. slot_at slots 1) outputs.slots))
     (tells_fault task.tool _ error (inputs_fault task true inputs (has_failed _ status is one)) (made_says task inputs error says))
 ends_told task inputs sources new status one (stopped fault before input after error step reached are done untouched at stops between swept says is) =
     subst (TellsFault task.tool) (sym (stopped_error task.work.clears error step.low step.high fault reached new between swept))
@@ -289,9 +277,7 @@ next_broke file files (at, broken) = (suc at, broken)
 files_broke : (mode : Mode) (pieces names : List (List ℕ)) (broke : List (Option ℕ)) (files : List Slot) → FilesLeft true mode pieces names broke files → are_sound broke ≡ false → SomeBroke files
 files_broke mode pieces _ _ _ tee.no_file sound = absurd (cc)
 files_broke mode pieces _ _ _ (tee.one_file name names _ broke _ files tee.file_whole rest) sound = next_broke _ files (files_broke mode pieces names broke files rest sound)
-files_broke mode pieces _ _ _ (tee.one_file name names _ broke _ files (tee.file_unopened kept is) rest) sound = (0, refl)
-files_broke mode pieces _ _ _ (tee.one_file name names _ broke _ files (tee.file_cut before piece after n is few) rest) sound = (0, refl)
-files_broke mode pieces _ _ _ (tee.one_file name names _ broke _ files tee.file_unclosed rest) sound = (0, refl)
+files_broke mode pieces _ _ _ (tee.one_file name names _ broke _ files left rest) sound = (0, refl)
 
 pub unsound_broke : (mode : Mode) (pieces names : List (List ℕ)) (first : Option ℕ) (broke : List (Option ℕ)) (output error : Slot) (files : List Slot) → OutputLeft true pieces first output → FilesLeft true mode pieces names broke files → are_sound (first ∷ broke) ≡ false
     → (place : ℕ) × (place ≡ 1 → ⊥) × ((slot_at (output ∷ error ∷ files) place).is_broken ≡ true)

@@ -1,20 +1,16 @@
-use Rattle.tools_core.proofs.SplitPromises.{by_bytes, by_line_bytes, by_lines, by_turns, by_whole_lines, is_split}
+use Rattle.std.proofs.Common.{length}
+use Rattle.seg_core.specs.Line.{line_count}
+use Rattle.seg_core.specs.declared.cut.Cut.TheVariants.{Lines, Bytes, LineBytes, Round}
+use Rattle.tools_core.specs.Promises.{AreDealt, AreLinePieces, ArePieces, AreUncut}
+use Rattle.tools_core.proofs.SplitPromises.{by_cut, byte_pieces, dealt_lines, is_split, line_byte_pieces, line_ends, line_pieces}
 use Rattle.tools_core.proofs.promises.split_loses_nothing.Goals as goal
 
-pub returns-clause-listed : goal.returns-clause-listed
-returns-clause-listed c split asked input does has = (is_split split asked input does has).listed
-
-pub returns-clause-lines : goal.returns-clause-lines
-returns-clause-lines c = by_lines
-
-pub returns-clause-uncut : goal.returns-clause-uncut
-returns-clause-uncut c = by_whole_lines
-
-pub returns-clause-bytes : goal.returns-clause-bytes
-returns-clause-bytes c = by_bytes
-
-pub returns-clause-line_bytes : goal.returns-clause-line_bytes
-returns-clause-line_bytes c = by_line_bytes
-
-pub returns-clause-dealt : goal.returns-clause-dealt
-returns-clause-dealt c = by_turns
+pub returns : goal.returns
+returns c = record {
+  listed = λ split asked input does has. (is_split split asked input does has).listed;
+  lines = λ split asked n input. by_cut split asked (Lines n) input (ArePieces (line_count asked.delim) n input) (line_pieces asked.delim n input);
+  uncut = λ split asked n input. by_cut split asked (Lines n) input (AreUncut asked.delim) (line_ends asked.delim n input);
+  bytes = λ split asked n input. by_cut split asked (Bytes n) input (ArePieces length n input) (byte_pieces n input);
+  line_bytes = λ split asked n input. by_cut split asked (LineBytes n) input (AreLinePieces asked.delim n input) (line_byte_pieces asked.delim n input);
+  dealt = λ split asked n input. by_cut split asked (Round n) input (AreDealt asked.delim n asked.elide input) (λ some. dealt_lines asked.delim n asked.elide input some.0);
+}
