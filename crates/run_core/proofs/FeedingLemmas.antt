@@ -1,5 +1,5 @@
 -- Lemmas on the loop that feeds an engine.
-use Rattle.std.proofs.Common.{◌≡◌, ℕ, ◌+◌, ◌<◌, ◌≤◌, ◌^◌, Bool, true, false, not, List, [], ◌++◌, length, take, Result, Ok, Err, IfOk, None, arith, length-append, length-take, inl, inr, refl, sym, ◌∙◌, ap, subst}
+use Rattle.std.proofs.Common.{◌⊎◌, ◌≡◌, ℕ, ◌+◌, ◌<◌, ◌≤◌, ◌^◌, Bool, true, false, not, List, [], ◌++◌, length, take, Result, Ok, Err, IfOk, None, arith, length-append, length-take, inl, inr, refl, sym, ◌∙◌, ap, subst}
 use Rattle.std.proofs.lemmas.List.{append-nil}
 use Rattle.std.proofs.lemmas.Bool.{false≢true, not-false, or_left, or_right}
 use Rattle.ports_core.specs.Slot.{Slot}
@@ -200,9 +200,9 @@ module _ {S : Type 0} (Holds : S → List ℕ → Type 0) (Owns : S → ℕ → 
       ended laws told opening most start start empty (λ read. Unit {0}) [] [] old old new before fed result (begins told start old holds bound) own at got (got_all (work start.stage) empty [] fed got) (alike_itself (work start.stage) []) (inl refl) tt ends
 
   -- an input that ended, or was enough, didn't break off
-  pub ends_sound : (told : Bool) (engine : GuardState S) (fed : Fed) (old new : List Slot) (result : Result Fed Fault) (P : Type 0) → (fed ≡ Broken → ⊥) → EndsSo Holds Owns work told engine fed old new result → IfOk result (λ found. found ≡ Broken → P)
-  ends_sound told engine fed old new result P differs (finished finishes) = λ is. absurd (differs is)
-  ends_sound told engine fed old new result P differs (fell_short fault reached short caused kept cleared) = tt
+  pub ends_sound : (told : Bool) (engine : GuardState S) (fed : Fed) (old new : List Slot) (result : Result Fed Fault) (P : Type 0) → (fed ≡ Whole) ⊎ (fed ≡ Enough) → EndsSo Holds Owns work told engine fed old new result → IfOk result (λ found. found ≡ Broken → P)
+  ends_sound told engine fed old new result P sound (finished finishes) = λ is. absurd (elim sound [ inl one ↦ cc | inr other ↦ cc ])
+  ends_sound told engine fed old new result P sound (fell_short fault reached short caused kept cleared) = tt
 
   -- how a close ended, where what it gave up is known
   pub close_short : (told : Bool) (engine mid : GuardState S) (fed : Fed) (old reached new : List Slot) (fault : Fault) → EndsShort Holds Owns work engine.stage told old reached fault

@@ -261,14 +261,18 @@ Takes told_in told task most progress laid sources new_sources name so_far error
     OfName told_in (world_of laid sources) progress.was_read (length sources) name
     (λ input. TookInput told_in told task most (of_input task progress.is_first input) (header_text task.with_header progress.is_first input.name) input.slot input.content progress (progress.was_read || is_dash name) so_far error (length slots) new_sources new result)
 
+-- no read asked for more
+pub asks_on : (most : ℕ) (was_read : Bool) (name : List ℕ) (sources new_sources : List Source) → most ≡ largest_piece → TakesOne most was_read name sources new_sources → AsksAtMost largest_piece sources → AsksAtMost largest_piece new_sources
+asks_on most was_read name sources new_sources at_most leaves = subst (λ n. AsksAtMost n sources → AsksAtMost n new_sources) at_most leaves.asked
+
 -- one more name was taken
-pub walk_goes_on : (told_in told : Bool) (task : Task) (world : World) (names : List (List ℕ)) (name : List ℕ) (left : List (List ℕ)) (progress next : Progress) (laid new_laid : ℕ → List ℕ → Option Content) (sources new_sources : List Source) (slots new : List Slot)
-    → Walked told_in told task world names (name ∷ left) progress laid sources slots
-    → ((so_far : Part) (error : Slot) → is_open error.state ≡ true → OutputsAt told (streams_with error) so_far slots → Takes told_in told task largest_piece progress laid sources new_sources name so_far error slots new (Ok next))
-    → TakesOne largest_piece progress.was_read name sources new_sources → length new_sources ≡ next_slot (length sources) name → new_laid ≡ laid
+pub walk_goes_on : (told_in told : Bool) (task : Task) (most : ℕ) (world : World) (names : List (List ℕ)) (name : List ℕ) (left : List (List ℕ)) (progress next : Progress) (laid new_laid : ℕ → List ℕ → Option Content) (sources new_sources : List Source) (slots new : List Slot)
+    → most ≡ largest_piece → Walked told_in told task world names (name ∷ left) progress laid sources slots
+    → ((so_far : Part) (error : Slot) → is_open error.state ≡ true → OutputsAt told (streams_with error) so_far slots → Takes told_in told task most progress laid sources new_sources name so_far error slots new (Ok next))
+    → TakesOne most progress.was_read name sources new_sources → length new_sources ≡ next_slot (length sources) name → new_laid ≡ laid
     → Walked told_in told task world names left next new_laid new_sources new
-walk_goes_on told_in told task world names name left progress next laid new_laid sources new_sources slots new walked takes leaves opens same =
-    goes_with (takes walked.made.part walked.error (error_open told_in told task world names (name ∷ left) progress laid sources slots walked) (slots_at told_in told task world names (name ∷ left) progress laid sources slots (omega arith) walked)) where
+walk_goes_on told_in told task most world names name left progress next laid new_laid sources new_sources slots new at_most walked takes leaves opens same =
+    goes_with (subst (λ n. Takes told_in told task n progress laid sources new_sources name walked.made.part walked.error slots new (Ok next)) at_most (takes walked.made.part walked.error (error_open told_in told task world names (name ∷ left) progress laid sources slots walked) (slots_at told_in told task world names (name ∷ left) progress laid sources slots (omega arith) walked))) where
       goes_with : Takes told_in told task largest_piece progress laid sources new_sources name walked.made.part walked.error slots new (Ok next) → Walked told_in told task world names left next new_laid new_sources new
       goes_with (input, is_for, there, took _ after reached is is_done says at swept) =
           let one = of_input task progress.is_first input in
@@ -304,20 +308,20 @@ walk_goes_on told_in told task world names name left progress next laid new_laid
             some = omega (arith, walked.some, leaves.grown);
             known = subst (λ (b : Bool). StayDone told_in task.work largest_piece b (walked.done ++ input ∷ []) new_sources) (sym was)
                 (done_more told_in task.work largest_piece (progress.was_read || is_dash name) walked.done input new_sources
-                (still_done told_in task.work largest_piece largest_piece progress.was_read (progress.was_read || is_dash name) name walked.done sources new_sources (λ had. ap (λ (b : Bool). b || is_dash name) had) leaves walked.known)
+                (still_done told_in task.work largest_piece most progress.was_read (progress.was_read || is_dash name) name walked.done sources new_sources (λ had. ap (λ (b : Bool). b || is_dash name) had) leaves walked.known)
                 (done_with told_in task.work largest_piece progress.was_read (length sources) name input new_sources is_for walked.some is_done));
-            asked = leaves.asked walked.asked;
+            asked = asks_on most progress.was_read name sources new_sources at_most leaves walked.asked;
             count = sym (ap (λ n. count_after n left) (sym opens)) ∙ walked.count;
           }
 
 -- a fault stopped the run at a name
-pub walk_stops : (told_in told : Bool) (task : Task) (world : World) (names : List (List ℕ)) (name : List ℕ) (left : List (List ℕ)) (progress : Progress) (laid : ℕ → List ℕ → Option Content) (sources new_sources : List Source) (slots new : List Slot) (fault : Fault)
-    → Walked told_in told task world names (name ∷ left) progress laid sources slots
-    → ((so_far : Part) (error : Slot) → is_open error.state ≡ true → OutputsAt told (streams_with error) so_far slots → Takes told_in told task largest_piece progress laid sources new_sources name so_far error slots new (Err fault))
-    → TakesOne largest_piece progress.was_read name sources new_sources
+pub walk_stops : (told_in told : Bool) (task : Task) (most : ℕ) (world : World) (names : List (List ℕ)) (name : List ℕ) (left : List (List ℕ)) (progress : Progress) (laid : ℕ → List ℕ → Option Content) (sources new_sources : List Source) (slots new : List Slot) (fault : Fault)
+    → most ≡ largest_piece → Walked told_in told task world names (name ∷ left) progress laid sources slots
+    → ((so_far : Part) (error : Slot) → is_open error.state ≡ true → OutputsAt told (streams_with error) so_far slots → Takes told_in told task most progress laid sources new_sources name so_far error slots new (Err fault))
+    → TakesOne most progress.was_read name sources new_sources
     → RunsOver told_in world names (λ found. TookAll told_in told task found new_sources new (Err fault))
-walk_stops told_in told task world names name left progress laid sources new_sources slots new fault walked takes leaves =
-    stops_with (takes walked.made.part walked.error (error_open told_in told task world names (name ∷ left) progress laid sources slots walked) (slots_at told_in told task world names (name ∷ left) progress laid sources slots (omega arith) walked)) where
+walk_stops told_in told task most world names name left progress laid sources new_sources slots new fault at_most walked takes leaves =
+    stops_with (subst (λ n. Takes told_in told task n progress laid sources new_sources name walked.made.part walked.error slots new (Err fault)) at_most (takes walked.made.part walked.error (error_open told_in told task world names (name ∷ left) progress laid sources slots walked) (slots_at told_in told task world names (name ∷ left) progress laid sources slots (omega arith) walked))) where
       stops_with : Takes told_in told task largest_piece progress laid sources new_sources name walked.made.part walked.error slots new (Err fault) → RunsOver told_in world names (λ found. TookAll told_in told task found new_sources new (Err fault))
       stops_with (input, is_for, there, cut_off _ step reached is_step stops stop swept) =
           let rest = inputs_from world (progress.was_read || is_dash name) (next_slot (length sources) name) left in
@@ -330,7 +334,7 @@ walk_stops told_in told task world names name left progress laid sources new_sou
             },
             stopped_at fault walked.done input rest walked.error step reached refl
                 (all_done told_in task.work largest_piece (progress.was_read || is_dash name) walked.done new_sources
-                (still_done told_in task.work largest_piece largest_piece progress.was_read (progress.was_read || is_dash name) name walked.done sources new_sources (λ had. ap (λ (b : Bool). b || is_dash name) had) leaves walked.known))
+                (still_done told_in task.work largest_piece most progress.was_read (progress.was_read || is_dash name) name walked.done sources new_sources (λ had. ap (λ (b : Bool). b || is_dash name) had) leaves walked.known))
                 (rest_untouched world (progress.was_read || is_dash name) (next_slot (length sources) name) left new_sources
                 (λ unread. let both = or_parts progress.was_read (is_dash name) unread in leaves.unasked both.1 ∙ walked.standard both.0) leaves.within)
                 (subst (λ (outcome : Outcome). RunStep told_in task largest_piece outcome.part (header_text task.with_header (are_missing walked.done) input.name) input.slot new_sources input.content step) (sym before)
@@ -341,9 +345,9 @@ walk_stops told_in told task world names name left progress laid sources new_sou
                 (swept_from task.work.clears (length slots) 2 reached new (λ clears. (taken_alone task.work.clears name left slots walked.alone clears).1) swept),
           )
 
-pub walk_within : (told_in told : Bool) (task : Task) (world : World) (names : List (List ℕ)) (name : List ℕ) (left : List (List ℕ)) (progress : Progress) (laid : ℕ → List ℕ → Option Content) (sources new_sources : List Source) (slots : List Slot)
-    → Walked told_in told task world names (name ∷ left) progress laid sources slots → TakesOne largest_piece progress.was_read name sources new_sources → length new_sources ≤ count_after 1 names
-walk_within told_in told task world names name left progress laid sources new_sources slots walked leaves =
+pub walk_within : (told_in told : Bool) (task : Task) (most : ℕ) (world : World) (names : List (List ℕ)) (name : List ℕ) (left : List (List ℕ)) (progress : Progress) (laid : ℕ → List ℕ → Option Content) (sources new_sources : List Source) (slots : List Slot)
+    → Walked told_in told task world names (name ∷ left) progress laid sources slots → TakesOne most progress.was_read name sources new_sources → length new_sources ≤ count_after 1 names
+walk_within told_in told task most world names name left progress laid sources new_sources slots walked leaves =
     let within : length new_sources ≤ next_slot (length sources) name = leaves.within in
     let more : next_slot (length sources) name ≤ count_after (next_slot (length sources) name) left = count_more (next_slot (length sources) name) left in
     omega (arith, within, more, walked.count)
@@ -370,41 +374,10 @@ pub walk_counts : (told_in told : Bool) (task : Task) (world : World) (names lef
     → Walked told_in told task world names left progress laid sources slots → length sources ≤ count_after 1 names
 walk_counts told_in told task world names left progress laid sources slots none walked = let all_taken : count_after (length sources) left ≡ length sources = ap (count_after (length sources)) none in omega (arith, all_taken, walked.count)
 
--- the same over the words that a loop has left
-
-pub walk_goes_on_at : (told_in told : Bool) (task : Task) (room : ℕ) (world : World) (names : List (List ℕ)) (none : Bor (List ℕ)) (left : List (Bor (List ℕ))) (progress next : Progress) (laid new_laid : ℕ → List ℕ → Option Content) (sources new_sources : List Source) (slots new : List Slot)
-    → room ≡ largest_piece → 1 ≤ length left → Walked told_in told task world names (map (λ word. word.now) left) progress laid sources slots
-    → ((so_far : Part) (error : Slot) → is_open error.state ≡ true → OutputsAt told (streams_with error) so_far slots → Takes told_in told task room progress laid sources new_sources (get_or left 0 none).now so_far error slots new (Ok next))
-    → TakesOne room progress.was_read (get_or left 0 none).now sources new_sources → length new_sources ≡ next_slot (length sources) (get_or left 0 none).now → new_laid ≡ laid
-    → Walked told_in told task world names (map (λ word. word.now) (take (length left - 1) (drop 1 left))) next new_laid new_sources new
-walk_goes_on_at told_in told task room world names none left progress next laid new_laid sources new_sources slots new at_most some walked takes leaves opens same =
-    walk_goes_on told_in told task world names (get_or left 0 none).now (map (λ word. word.now) (take (length left - 1) (drop 1 left))) progress next laid new_laid sources new_sources slots new
-    (subst (λ those. Walked told_in told task world names those progress laid sources slots) (front_and_rest none left some) walked)
-    (subst (λ n. (so_far : Part) (error : Slot) → is_open error.state ≡ true → OutputsAt told (streams_with error) so_far slots → Takes told_in told task n progress laid sources new_sources (get_or left 0 none).now so_far error slots new (Ok next)) at_most takes)
-    (subst (λ n. TakesOne n progress.was_read (get_or left 0 none).now sources new_sources) at_most leaves) opens same
-
-pub walk_stops_at : (told_in told : Bool) (task : Task) (room : ℕ) (world : World) (names : List (List ℕ)) (none : Bor (List ℕ)) (left : List (Bor (List ℕ))) (progress : Progress) (laid : ℕ → List ℕ → Option Content) (sources new_sources : List Source) (slots new : List Slot) (fault : Fault)
-    → room ≡ largest_piece → 1 ≤ length left → Walked told_in told task world names (map (λ word. word.now) left) progress laid sources slots
-    → ((so_far : Part) (error : Slot) → is_open error.state ≡ true → OutputsAt told (streams_with error) so_far slots → Takes told_in told task room progress laid sources new_sources (get_or left 0 none).now so_far error slots new (Err fault))
-    → TakesOne room progress.was_read (get_or left 0 none).now sources new_sources
-    → RunsOver told_in world names (λ found. TookAll told_in told task found new_sources new (Err fault))
-walk_stops_at told_in told task room world names none left progress laid sources new_sources slots new fault at_most some walked takes leaves =
-    walk_stops told_in told task world names (get_or left 0 none).now (map (λ word. word.now) (take (length left - 1) (drop 1 left))) progress laid sources new_sources slots new fault
-    (subst (λ those. Walked told_in told task world names those progress laid sources slots) (front_and_rest none left some) walked)
-    (subst (λ n. (so_far : Part) (error : Slot) → is_open error.state ≡ true → OutputsAt told (streams_with error) so_far slots → Takes told_in told task n progress laid sources new_sources (get_or left 0 none).now so_far error slots new (Err fault)) at_most takes)
-    (subst (λ n. TakesOne n progress.was_read (get_or left 0 none).now sources new_sources) at_most leaves)
-
-pub walk_within_at : (told_in told : Bool) (task : Task) (room : ℕ) (world : World) (names : List (List ℕ)) (none : Bor (List ℕ)) (left : List (Bor (List ℕ))) (progress : Progress) (laid : ℕ → List ℕ → Option Content) (sources new_sources : List Source) (slots : List Slot)
-    → room ≡ largest_piece → 1 ≤ length left → Walked told_in told task world names (map (λ word. word.now) left) progress laid sources slots
-    → TakesOne room progress.was_read (get_or left 0 none).now sources new_sources → length new_sources ≤ count_after 1 names
-walk_within_at told_in told task room world names none left progress laid sources new_sources slots at_most some walked leaves =
-    walk_within told_in told task world names (get_or left 0 none).now (map (λ word. word.now) (take (length left - 1) (drop 1 left))) progress laid sources new_sources slots
-    (subst (λ those. Walked told_in told task world names those progress laid sources slots) (front_and_rest none left some) walked)
-    (subst (λ n. TakesOne n progress.was_read (get_or left 0 none).now sources new_sources) at_most leaves)
-
--- no read asked for more
-pub asks_on_at : (room : ℕ) (was_read : Bool) (name : List ℕ) (sources new_sources : List Source) → room ≡ largest_piece → AsksAtMost largest_piece sources → TakesOne room was_read name sources new_sources → AsksAtMost largest_piece new_sources
-asks_on_at room was_read name sources new_sources at_most asked leaves = subst (λ n. AsksAtMost n new_sources) at_most (leaves.asked (subst (λ n. AsksAtMost n sources) (sym at_most) asked))
+-- the words that a loop has left are the first of them and the rest
+pub walked_at : (told_in told : Bool) (task : Task) (world : World) (names : List (List ℕ)) (none : Bor (List ℕ)) (left : List (Bor (List ℕ))) (progress : Progress) (laid : ℕ → List ℕ → Option Content) (sources : List Source) (slots : List Slot) → 1 ≤ length left
+    → Walked told_in told task world names (map (λ word. word.now) left) progress laid sources slots → Walked told_in told task world names ((get_or left 0 none).now ∷ map (λ word. word.now) (take (length left - 1) (drop 1 left))) progress laid sources slots
+walked_at told_in told task world names none left progress laid sources slots some walked = subst (λ those. Walked told_in told task world names those progress laid sources slots) (front_and_rest none left some) walked
 
 -- a run that touched no input
 pub none_touched : (told_in : Bool) (laid : ℕ → List ℕ → Option Content) (sources : List Source) (names : List (List ℕ)) → IsFresh sources → RunsOver told_in (world_of laid sources) names (λ found. AreUntouched found sources)

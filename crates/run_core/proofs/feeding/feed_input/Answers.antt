@@ -1,4 +1,4 @@
-use Rattle.std.proofs.Common.{◌≡◌, ◌≤◌, drop, length, ◌++◌, ◌∙◌, [], true, false, sym, ap, refl, subst, take, arith}
+use Rattle.std.proofs.Common.{inl, inr, ◌≡◌, ◌≤◌, drop, length, ◌++◌, ◌∙◌, [], true, false, sym, ap, refl, subst, take, arith}
 use Rattle.std.proofs.lemmas.List.{append-nil}
 use Rattle.std.proofs.lemmas.Bool.{false≢true}
 use Rattle.ports_core.specs.Source.{Source, source_at}
@@ -49,87 +49,65 @@ read_part-requires-clause-input g c = c.pieces.invariant.readable
 pub abandon-requires : goal.abandon-requires
 abandon-requires g c = g.met.S.Stage.there _ c.requires.owns.0 _ (c.pieces.invariant.feeds.owns c.requires.owns.0 c.requires.owns.1)
 
-pub returns-in-Err-clause-ends : goal.returns-in-Err-clause-ends
-returns-in-Err-clause-ends g c before opening own at =
+pub returns-in-Err : goal.returns-in-Err
+returns-in-Err g c =
     let so_far = c.pieces.invariant in
-    let going : (g.S.Stage.work c.pieces.engine.stage).is_complete so_far.fed ≡ false = sym (c.done.ensures.complete so_far.fed so_far.feeds.holds) ∙ c.pieces-test.true in
-    of_content g.I.Inputs.told _ (record { bytes = so_far.fed; breaks_off = true }) (source_at (g.I.Inputs.sources c.read_part.new.inputs) c.args.slot) _
-    (λ told. let broke = read_broken _ _ _ _ (so_far.read told) (c.in-Err.ensures.break_off told) in
-    broken_off _ _ _ _ opening _ _ _ _ _ so_far.fed _ _ _ before so_far.feeds own at broke.0 broke.1 going c.abandon.ensures.swept)
-    (λ _. broken_off _ _ _ _ opening _ _ _ _ _ so_far.fed _ _ _ before so_far.feeds own at refl refl going c.abandon.ensures.swept)
-    (λ _. broken_now _ _ _ _ so_far.readable c.in-Err.ensures.err)
-
-pub returns-in-Err-clause-others : goal.returns-in-Err-clause-others
-returns-in-Err-clause-others g c = keeps_again _ _ _ _ c.pieces.invariant.others (keeps_others _ _ _ _ c.in-Err.ensures.err)
-
-pub returns-in-Err-clause-reads : goal.returns-in-Err-clause-reads
-returns-in-Err-clause-reads g c told =
-    let so_far = c.pieces.invariant in (so_far.fed, so_far.needed, read_failed _ _ _ _ _ _ (so_far.read told) so_far.readable c.in-Err.ensures.err)
-
-pub returns-in-Err-clause-used : goal.returns-in-Err-clause-used
-returns-in-Err-clause-used g c told ends unread =
-    let so_far = c.pieces.invariant in
-    let failed = c.in-Err.ensures.err in
-    uses_all _ _ _ _ so_far.fed _ (read_failed _ _ _ _ _ _ (so_far.read told) so_far.readable failed)
-    (ap (λ (source : Source). source.left.bytes) (changed_source _ _ _ _ so_far.readable failed) ∙ (c.in-Err.ensures.break_off told).no_more)
-    so_far.needed (ap (λ (work : Work). work.is_complete so_far.fed) (sym so_far.feeds.same) ∙ sym (c.done.ensures.complete so_far.fed so_far.feeds.holds) ∙ c.pieces-test.true)
-    ((takes_none _ _ _ _ _ _ (so_far.took told) so_far.readable failed).far unread)
-
-pub returns-in-Err-clause-asked : goal.returns-in-Err-clause-asked
-returns-in-Err-clause-asked g c within = asked_at_end _ _ _ _ _ c.pieces.invariant.readable c.in-Err.ensures.err (omega (arith, c.piece_size-size.ensures.within, c.pieces.invariant.room)) (c.pieces.invariant.asked within)
-
-pub returns-in-Err-clause-broke : goal.returns-in-Err-clause-broke
-returns-in-Err-clause-broke g c is = broken_now _ _ _ _ c.pieces.invariant.readable c.in-Err.ensures.err
+    let going : (g.S.Stage.work c.pieces.engine.stage).is_complete so_far.fed ≡ false = sym (c.done.ensures.complete so_far.fed so_far.feeds.holds) ∙ c.pieces-test.true in record {
+      ends = λ before opening own at.
+          of_content g.I.Inputs.told _ (record { bytes = so_far.fed; breaks_off = true }) (source_at (g.I.Inputs.sources c.read_part.new.inputs) c.args.slot) _
+          (λ told. let broke = read_broken _ _ _ _ (so_far.read told) (c.in-Err.ensures.break_off told) in
+          broken_off _ _ _ _ opening _ _ _ _ _ so_far.fed _ _ _ before so_far.feeds own at broke.0 broke.1 going c.abandon.ensures.swept)
+          (λ _. broken_off _ _ _ _ opening _ _ _ _ _ so_far.fed _ _ _ before so_far.feeds own at refl refl going c.abandon.ensures.swept)
+          (λ _. broken_now _ _ _ _ so_far.readable c.in-Err.ensures.err);
+      others = keeps_again _ _ _ _ so_far.others (keeps_others _ _ _ _ c.in-Err.ensures.err);
+      reads = λ told. (so_far.fed, so_far.needed, read_failed _ _ _ _ _ _ (so_far.read told) so_far.readable c.in-Err.ensures.err);
+      used = λ told ends unread.
+          let failed = c.in-Err.ensures.err in
+          uses_all _ _ _ _ so_far.fed _ (read_failed _ _ _ _ _ _ (so_far.read told) so_far.readable failed)
+          (ap (λ (source : Source). source.left.bytes) (changed_source _ _ _ _ so_far.readable failed) ∙ (c.in-Err.ensures.break_off told).no_more)
+          so_far.needed (ap (λ (work : Work). work.is_complete so_far.fed) (sym so_far.feeds.same) ∙ going)
+          ((takes_none _ _ _ _ _ _ (so_far.took told) so_far.readable failed).far unread);
+      asked = λ within. asked_at_end _ _ _ _ _ so_far.readable c.in-Err.ensures.err (omega (arith, c.piece_size-size.ensures.within, so_far.room)) (so_far.asked within);
+      broke = λ is. broken_now _ _ _ _ so_far.readable c.in-Err.ensures.err;
+      laid = c.read_part.ensures.kept ∙ so_far.laid;
+    }
 
 -- where the input ended
 
 pub end-requires-clause-owns : goal.end-requires-clause-owns
 end-requires-clause-owns g c = (c.requires.owns.0, c.pieces.invariant.feeds.owns c.requires.owns.0 c.requires.owns.1)
 
-pub returns-then-n-eq0-clause-ends : goal.returns-then-n-eq0-clause-ends
-returns-then-n-eq0-clause-ends g c before opening own at =
+pub returns-then-n-eq0 : goal.returns-then-n-eq0
+returns-then-n-eq0 g c =
     let so_far = c.pieces.invariant in
-    let going : (g.S.Stage.work c.pieces.engine.stage).is_complete so_far.fed ≡ false = sym (c.done.ensures.complete so_far.fed so_far.feeds.holds) ∙ c.pieces-test.true in
-    of_content g.I.Inputs.told _ (record { bytes = so_far.fed; breaks_off = false }) (source_at (g.I.Inputs.sources c.read_part.new.inputs) c.args.slot) _
-    (λ told. let at_end = (c.in-Ok.ensures.bytes told).ended c.if-n-eq0.true (omega (arith, c.requires.room, so_far.room)) in
-    ended _ _ _ g.met.S.Stage.lawful _ opening _ _ _ _ _ so_far.fed so_far.fed _ _ _ before _ c.end.result so_far.feeds own at
-    (let all = read_to_end _ _ _ _ (so_far.read told) at_end.0 at_end.1 in (all.0, going, all.1))
-    (let all = read_to_end _ _ _ _ (so_far.read told) at_end.0 at_end.1 in to_end all.0 all.1) (alike_itself _ so_far.fed)
-    (subst (λ (those : Work). IsNeeded those.is_complete (length c.args.buffer.now) so_far.fed) (sym so_far.feeds.same) so_far.needed)
-    (sound_at (g.I.Inputs.sources c.read_part.new.inputs) c.args.slot (still_readable _ _ _ _ c.in-Ok.n c.in-Ok.ensures.rest so_far.readable), λ _. read_none_more _ _ _ _ _ _ c.in-Ok.n (so_far.read told) so_far.readable c.if-n-eq0.true c.in-Ok.ensures.rest)
-    c.end.ensures)
-    (λ untold. ended _ _ _ g.met.S.Stage.lawful _ opening _ _ _ _ _ so_far.fed so_far.fed _ _ _ before _ c.end.result so_far.feeds own at (refl, going, refl) (to_end refl refl) (alike_itself _ so_far.fed) (subst (λ (those : Work). IsNeeded those.is_complete (length c.args.buffer.now) so_far.fed) (sym so_far.feeds.same) so_far.needed) (sound_at (g.I.Inputs.sources c.read_part.new.inputs) c.args.slot (still_readable _ _ _ _ c.in-Ok.n c.in-Ok.ensures.rest so_far.readable), λ told. absurd (false≢true (sym untold ∙ told))) c.end.ensures)
-    (λ breaks. absurd (false≢true breaks))
-
-pub returns-then-n-eq0-clause-others : goal.returns-then-n-eq0-clause-others
-returns-then-n-eq0-clause-others g c = keeps_again _ _ _ _ c.pieces.invariant.others (keeps_others _ _ _ _ c.in-Ok.ensures.rest)
-
-pub returns-then-n-eq0-clause-reads : goal.returns-then-n-eq0-clause-reads
-returns-then-n-eq0-clause-reads g c told =
-    let so_far = c.pieces.invariant in (
-      so_far.fed ++ take c.in-Ok.n c.read_part.new.buffer,
-      needed_more _ _ c.in-Ok.n so_far.fed c.read_part.new.buffer (ap (λ (work : Work). work.is_complete so_far.fed) (sym so_far.feeds.same) ∙ sym (c.done.ensures.complete so_far.fed so_far.feeds.holds) ∙ c.pieces-test.true) (omega (arith, c.in-Ok.ensures.bound, c.piece_size-size.ensures.within, c.pieces.invariant.room)),
-      (read_more _ _ _ _ _ _ _ _ _ (so_far.read told) so_far.readable (c.in-Ok.ensures.bytes told) c.in-Ok.ensures.rest).bytes,
-    )
-
-pub returns-then-n-eq0-clause-used : goal.returns-then-n-eq0-clause-used
-returns-then-n-eq0-clause-used g c told ends unread =
-    let so_far = c.pieces.invariant in
-    let gave = c.in-Ok.ensures.bytes told in
-    let none = (gave.ended c.if-n-eq0.true (omega (arith, c.requires.room, so_far.room))).0 in
-    let after = changed_source _ _ _ _ so_far.readable c.in-Ok.ensures.rest in
-    let nothing : take c.in-Ok.n c.read_part.new.buffer ≡ [] = ap (λ k. take k c.read_part.new.buffer) c.if-n-eq0.true in
-    uses_all _ _ _ _ so_far.fed _ (read_none_more _ _ _ _ _ _ c.in-Ok.n (so_far.read told) so_far.readable c.if-n-eq0.true c.in-Ok.ensures.rest)
-    (ap (λ (source : Source). source.left.bytes) after ∙ ap (drop c.in-Ok.n) none ∙ ap (λ k. drop k []) c.if-n-eq0.true)
-    so_far.needed (ap (λ (work : Work). work.is_complete so_far.fed) (sym so_far.feeds.same) ∙ sym (c.done.ensures.complete so_far.fed so_far.feeds.holds) ∙ c.pieces-test.true)
-    (subst (λ x. (source_at (g.I.Inputs.sources c.read_part.new.inputs) c.args.slot).reached ≤ length x) (ap (λ more. so_far.fed ++ more) nothing ∙ append-nil so_far.fed)
-    ((takes_more _ _ _ _ _ c.in-Ok.n _ _ _ (so_far.took told) so_far.readable gave c.in-Ok.ensures.rest).far unread))
-
-pub returns-then-n-eq0-clause-asked : goal.returns-then-n-eq0-clause-asked
-returns-then-n-eq0-clause-asked g c within = asked_again _ _ _ _ _ _ c.pieces.invariant.readable c.in-Ok.ensures.rest (omega (arith, c.piece_size-size.ensures.within, c.pieces.invariant.room)) (c.pieces.invariant.asked within)
-
-pub returns-then-n-eq0-clause-broke : goal.returns-then-n-eq0-clause-broke
-returns-then-n-eq0-clause-broke g c = ends_sound _ _ _ _ _ _ _ _ c.end.result _ (λ is. cc) c.end.ensures
+    let going : (g.S.Stage.work c.pieces.engine.stage).is_complete so_far.fed ≡ false = sym (c.done.ensures.complete so_far.fed so_far.feeds.holds) ∙ c.pieces-test.true in record {
+      ends = λ before opening own at.
+          of_content g.I.Inputs.told _ (record { bytes = so_far.fed; breaks_off = false }) (source_at (g.I.Inputs.sources c.read_part.new.inputs) c.args.slot) _
+          (λ told. let at_end = (c.in-Ok.ensures.bytes told).ended c.if-n-eq0.true (omega (arith, c.requires.room, so_far.room)) in
+          ended _ _ _ g.met.S.Stage.lawful _ opening _ _ _ _ _ so_far.fed so_far.fed _ _ _ before _ c.end.result so_far.feeds own at
+          (let all = read_to_end _ _ _ _ (so_far.read told) at_end.0 at_end.1 in (all.0, going, all.1))
+          (let all = read_to_end _ _ _ _ (so_far.read told) at_end.0 at_end.1 in to_end all.0 all.1) (alike_itself _ so_far.fed)
+          (subst (λ (those : Work). IsNeeded those.is_complete (length c.args.buffer.now) so_far.fed) (sym so_far.feeds.same) so_far.needed)
+          (sound_at (g.I.Inputs.sources c.read_part.new.inputs) c.args.slot (still_readable _ _ _ _ c.in-Ok.n c.in-Ok.ensures.rest so_far.readable), λ _. read_none_more _ _ _ _ _ _ c.in-Ok.n (so_far.read told) so_far.readable c.if-n-eq0.true c.in-Ok.ensures.rest)
+          c.end.ensures)
+          (λ untold. ended _ _ _ g.met.S.Stage.lawful _ opening _ _ _ _ _ so_far.fed so_far.fed _ _ _ before _ c.end.result so_far.feeds own at (refl, going, refl) (to_end refl refl) (alike_itself _ so_far.fed) (subst (λ (those : Work). IsNeeded those.is_complete (length c.args.buffer.now) so_far.fed) (sym so_far.feeds.same) so_far.needed) (sound_at (g.I.Inputs.sources c.read_part.new.inputs) c.args.slot (still_readable _ _ _ _ c.in-Ok.n c.in-Ok.ensures.rest so_far.readable), λ told. absurd (false≢true (sym untold ∙ told))) c.end.ensures)
+          (λ breaks. absurd (false≢true breaks));
+      others = keeps_again _ _ _ _ so_far.others (keeps_others _ _ _ _ c.in-Ok.ensures.rest);
+      reads = λ told. (so_far.fed, so_far.needed, read_none_more _ _ _ _ _ _ c.in-Ok.n (so_far.read told) so_far.readable c.if-n-eq0.true c.in-Ok.ensures.rest);
+      used = λ told ends unread.
+          let gave = c.in-Ok.ensures.bytes told in
+          let none = (gave.ended c.if-n-eq0.true (omega (arith, c.requires.room, so_far.room))).0 in
+          let after = changed_source _ _ _ _ so_far.readable c.in-Ok.ensures.rest in
+          let nothing : take c.in-Ok.n c.read_part.new.buffer ≡ [] = ap (λ k. take k c.read_part.new.buffer) c.if-n-eq0.true in
+          uses_all _ _ _ _ so_far.fed _ (read_none_more _ _ _ _ _ _ c.in-Ok.n (so_far.read told) so_far.readable c.if-n-eq0.true c.in-Ok.ensures.rest)
+          (ap (λ (source : Source). source.left.bytes) after ∙ ap (drop c.in-Ok.n) none ∙ ap (λ k. drop k []) c.if-n-eq0.true)
+          so_far.needed (ap (λ (work : Work). work.is_complete so_far.fed) (sym so_far.feeds.same) ∙ going)
+          (subst (λ x. (source_at (g.I.Inputs.sources c.read_part.new.inputs) c.args.slot).reached ≤ length x) (ap (λ more. so_far.fed ++ more) nothing ∙ append-nil so_far.fed)
+          ((takes_more _ _ _ _ _ c.in-Ok.n _ _ _ (so_far.took told) so_far.readable gave c.in-Ok.ensures.rest).far unread));
+      asked = λ within. asked_again _ _ _ _ _ _ so_far.readable c.in-Ok.ensures.rest (omega (arith, c.piece_size-size.ensures.within, so_far.room)) (so_far.asked within);
+      broke = ends_sound _ _ _ _ _ _ _ _ c.end.result _ (inl refl) c.end.ensures;
+      laid = c.read_part.ensures.kept ∙ so_far.laid;
+    }
 
 -- where the engine took the piece
 
@@ -163,47 +141,41 @@ pieces-preserved g c =
 pub given_up-requires : goal.given_up-requires
 given_up-requires g c unjudged = (c.requires.owns.0, c.feed.ensures.owns c.requires.owns.0 (c.pieces.invariant.feeds.owns c.requires.owns.0 c.requires.owns.1))
 
-pub returns-in-Err-feed-clause-ends : goal.returns-in-Err-feed-clause-ends
-returns-in-Err-feed-clause-ends g c before opening own at =
+pub returns-in-Err-feed : goal.returns-in-Err-feed
+returns-in-Err-feed g c =
     let so_far = c.pieces.invariant in
-    let within : length (take c.in-Ok.n c.read_part.new.buffer) ≤ length c.args.buffer.now = piece_within c.in-Ok.n _ c.read_part.new.buffer (omega (arith, c.in-Ok.ensures.bound, c.piece_size-size.ensures.within, c.pieces.invariant.room)) in
-    let going : (g.S.Stage.work c.pieces.engine.stage).is_complete so_far.fed ≡ false = sym (c.done.ensures.complete so_far.fed so_far.feeds.holds) ∙ c.pieces-test.true in
-    of_content g.I.Inputs.told _ (record { bytes = so_far.fed ++ take c.in-Ok.n c.read_part.new.buffer; breaks_off = false }) (source_at (g.I.Inputs.sources c.read_part.new.inputs) c.args.slot) _
-    (λ told. let more = (read_more _ _ _ _ _ _ _ _ _ (so_far.read told) so_far.readable (c.in-Ok.ensures.bytes told) c.in-Ok.ensures.rest).bytes in
-    given_so _ _ _ _ opening _ _ _ _ _ c.given_up.ensures.same (stopped_feeding _ _ _ g.met.S.Stage.lawful _ opening _ _ _ _ c.feed.new.self _ _ so_far.fed (take c.in-Ok.n c.read_part.new.buffer) _ _ _ _ _ before c.in-Err-feed.fault so_far.feeds own at
-    more within going (sound_at (g.I.Inputs.sources c.read_part.new.inputs) c.args.slot (still_readable _ _ _ _ c.in-Ok.n c.in-Ok.ensures.rest so_far.readable), λ _. more)
-    c.in-Err-feed.ensures.cut c.in-Err-feed.ensures.refused c.feed.ensures.same (λ unjudged. c.feed.ensures.owns) c.given_up.ensures.judged c.given_up.ensures.swept))
-    (λ untold. given_so _ _ _ _ opening _ _ _ _ _ c.given_up.ensures.same (stopped_feeding _ _ _ g.met.S.Stage.lawful _ opening _ _ _ _ c.feed.new.self _ _ so_far.fed (take c.in-Ok.n c.read_part.new.buffer) [] _ _ _ _ before c.in-Err-feed.fault so_far.feeds own at
-    (sym (append-nil _)) within going (sound_at (g.I.Inputs.sources c.read_part.new.inputs) c.args.slot (still_readable _ _ _ _ c.in-Ok.n c.in-Ok.ensures.rest so_far.readable), λ told. absurd (false≢true (sym untold ∙ told))) c.in-Err-feed.ensures.cut c.in-Err-feed.ensures.refused c.feed.ensures.same (λ unjudged. c.feed.ensures.owns) c.given_up.ensures.judged c.given_up.ensures.swept))
-    (λ breaks. absurd (false≢true breaks))
-
-pub returns-in-Err-feed-clause-others : goal.returns-in-Err-feed-clause-others
-returns-in-Err-feed-clause-others g c = keeps_again _ _ _ _ c.pieces.invariant.others (keeps_others _ _ _ _ c.in-Ok.ensures.rest)
-
-pub returns-in-Err-feed-clause-reads : goal.returns-in-Err-feed-clause-reads
-returns-in-Err-feed-clause-reads g c told =
-    let so_far = c.pieces.invariant in (
-      so_far.fed ++ take c.in-Ok.n c.read_part.new.buffer,
-      needed_more _ _ c.in-Ok.n so_far.fed c.read_part.new.buffer (ap (λ (work : Work). work.is_complete so_far.fed) (sym so_far.feeds.same) ∙ sym (c.done.ensures.complete so_far.fed so_far.feeds.holds) ∙ c.pieces-test.true) (omega (arith, c.in-Ok.ensures.bound, c.piece_size-size.ensures.within, c.pieces.invariant.room)),
-      (read_more _ _ _ _ _ _ _ _ _ (so_far.read told) so_far.readable (c.in-Ok.ensures.bytes told) c.in-Ok.ensures.rest).bytes,
-    )
-
-pub returns-in-Err-feed-clause-used : goal.returns-in-Err-feed-clause-used
-returns-in-Err-feed-clause-used g c told ends unread =
-    let so_far = c.pieces.invariant in
-    let gave = c.in-Ok.ensures.bytes told in
-    let judging = judging_of _ _ c.given_up.ensures.same ends in
-    let settles : IsSettled (g.S.Stage.work c.pieces.engine.stage) (so_far.fed ++ take c.in-Ok.n c.read_part.new.buffer) c.in-Err-feed.fault
-    = judges (g.S.Stage.work c.pieces.engine.stage).means (g.S.Stage.work c.pieces.engine.stage).means.feeding _ (EndsWith g.S.Stage.Holds g.S.Stage.work c.pieces.engine.stage (take c.in-Ok.n c.read_part.new.buffer)) c.in-Err-feed.fault _ _ _ _ _ judging c.in-Err-feed.ensures.refused so_far.fed so_far.feeds.holds.within in
-    subst (λ (those : Work). Uses those (length c.args.buffer.now) c.args.slot (source_at (g.I.Inputs.sources c.args.inputs.now) c.args.slot).left (source_at (g.I.Inputs.sources c.read_part.new.inputs) c.args.slot)) so_far.feeds.same
-    (uses_judged _ _ _ _ (so_far.fed ++ take c.in-Ok.n c.read_part.new.buffer) _ c.in-Err-feed.fault
-    (read_more _ _ _ _ _ _ _ _ _ (so_far.read told) so_far.readable gave c.in-Ok.ensures.rest).bytes
-    (needed_more _ _ c.in-Ok.n so_far.fed c.read_part.new.buffer (sym (c.done.ensures.complete so_far.fed so_far.feeds.holds) ∙ c.pieces-test.true) (omega (arith, c.in-Ok.ensures.bound, c.piece_size-size.ensures.within, so_far.room)))
-    settles.0 settles.1
-    ((takes_more _ _ _ _ _ c.in-Ok.n _ _ _ (so_far.took told) so_far.readable gave c.in-Ok.ensures.rest).far unread))
-
-pub returns-in-Err-feed-clause-asked : goal.returns-in-Err-feed-clause-asked
-returns-in-Err-feed-clause-asked g c within = asked_again _ _ _ _ _ _ c.pieces.invariant.readable c.in-Ok.ensures.rest (omega (arith, c.piece_size-size.ensures.within, c.pieces.invariant.room)) (c.pieces.invariant.asked within)
+    let going : (g.S.Stage.work c.pieces.engine.stage).is_complete so_far.fed ≡ false = sym (c.done.ensures.complete so_far.fed so_far.feeds.holds) ∙ c.pieces-test.true in record {
+      ends = λ before opening own at.
+          let within : length (take c.in-Ok.n c.read_part.new.buffer) ≤ length c.args.buffer.now = piece_within c.in-Ok.n _ c.read_part.new.buffer (omega (arith, c.in-Ok.ensures.bound, c.piece_size-size.ensures.within, so_far.room)) in
+          of_content g.I.Inputs.told _ (record { bytes = so_far.fed ++ take c.in-Ok.n c.read_part.new.buffer; breaks_off = false }) (source_at (g.I.Inputs.sources c.read_part.new.inputs) c.args.slot) _
+          (λ told. let more = (read_more _ _ _ _ _ _ _ _ _ (so_far.read told) so_far.readable (c.in-Ok.ensures.bytes told) c.in-Ok.ensures.rest).bytes in
+          given_so _ _ _ _ opening _ _ _ _ _ c.given_up.ensures.same (stopped_feeding _ _ _ g.met.S.Stage.lawful _ opening _ _ _ _ c.feed.new.self _ _ so_far.fed (take c.in-Ok.n c.read_part.new.buffer) _ _ _ _ _ before c.in-Err-feed.fault so_far.feeds own at
+          more within going (sound_at (g.I.Inputs.sources c.read_part.new.inputs) c.args.slot (still_readable _ _ _ _ c.in-Ok.n c.in-Ok.ensures.rest so_far.readable), λ _. more)
+          c.in-Err-feed.ensures.cut c.in-Err-feed.ensures.refused c.feed.ensures.same (λ unjudged. c.feed.ensures.owns) c.given_up.ensures.judged c.given_up.ensures.swept))
+          (λ untold. given_so _ _ _ _ opening _ _ _ _ _ c.given_up.ensures.same (stopped_feeding _ _ _ g.met.S.Stage.lawful _ opening _ _ _ _ c.feed.new.self _ _ so_far.fed (take c.in-Ok.n c.read_part.new.buffer) [] _ _ _ _ before c.in-Err-feed.fault so_far.feeds own at
+          (sym (append-nil _)) within going (sound_at (g.I.Inputs.sources c.read_part.new.inputs) c.args.slot (still_readable _ _ _ _ c.in-Ok.n c.in-Ok.ensures.rest so_far.readable), λ told. absurd (false≢true (sym untold ∙ told))) c.in-Err-feed.ensures.cut c.in-Err-feed.ensures.refused c.feed.ensures.same (λ unjudged. c.feed.ensures.owns) c.given_up.ensures.judged c.given_up.ensures.swept))
+          (λ breaks. absurd (false≢true breaks));
+      others = keeps_again _ _ _ _ so_far.others (keeps_others _ _ _ _ c.in-Ok.ensures.rest);
+      reads = λ told. (
+        so_far.fed ++ take c.in-Ok.n c.read_part.new.buffer,
+        needed_more _ _ c.in-Ok.n so_far.fed c.read_part.new.buffer (ap (λ (work : Work). work.is_complete so_far.fed) (sym so_far.feeds.same) ∙ going) (omega (arith, c.in-Ok.ensures.bound, c.piece_size-size.ensures.within, so_far.room)),
+        (read_more _ _ _ _ _ _ _ _ _ (so_far.read told) so_far.readable (c.in-Ok.ensures.bytes told) c.in-Ok.ensures.rest).bytes,
+      );
+      used = λ told ends unread.
+          let gave = c.in-Ok.ensures.bytes told in
+          let judging = judging_of _ _ c.given_up.ensures.same ends in
+          let settles : IsSettled (g.S.Stage.work c.pieces.engine.stage) (so_far.fed ++ take c.in-Ok.n c.read_part.new.buffer) c.in-Err-feed.fault
+          = judges (g.S.Stage.work c.pieces.engine.stage).means (g.S.Stage.work c.pieces.engine.stage).means.feeding _ (EndsWith g.S.Stage.Holds g.S.Stage.work c.pieces.engine.stage (take c.in-Ok.n c.read_part.new.buffer)) c.in-Err-feed.fault _ _ _ _ _ judging c.in-Err-feed.ensures.refused so_far.fed so_far.feeds.holds.within in
+          subst (λ (those : Work). Uses those (length c.args.buffer.now) c.args.slot (source_at (g.I.Inputs.sources c.args.inputs.now) c.args.slot).left (source_at (g.I.Inputs.sources c.read_part.new.inputs) c.args.slot)) so_far.feeds.same
+          (uses_judged _ _ _ _ (so_far.fed ++ take c.in-Ok.n c.read_part.new.buffer) _ c.in-Err-feed.fault
+          (read_more _ _ _ _ _ _ _ _ _ (so_far.read told) so_far.readable gave c.in-Ok.ensures.rest).bytes
+          (needed_more _ _ c.in-Ok.n so_far.fed c.read_part.new.buffer going (omega (arith, c.in-Ok.ensures.bound, c.piece_size-size.ensures.within, so_far.room)))
+          settles.0 settles.1
+          ((takes_more _ _ _ _ _ c.in-Ok.n _ _ _ (so_far.took told) so_far.readable gave c.in-Ok.ensures.rest).far unread));
+      asked = λ within. asked_again _ _ _ _ _ _ so_far.readable c.in-Ok.ensures.rest (omega (arith, c.piece_size-size.ensures.within, so_far.room)) (so_far.asked within);
+      broke = tt;
+      laid = c.read_part.ensures.kept ∙ so_far.laid;
+    }
 
 -- where nothing more can follow
 
@@ -218,50 +190,34 @@ give_back-requires-clause-within g c told =
 pub end-requires-2-clause-owns : goal.end-requires-2-clause-owns
 end-requires-2-clause-owns g c = (c.requires.owns.0, c.pieces.invariant.feeds.owns c.requires.owns.0 c.requires.owns.1)
 
-pub returns-clause-broke : goal.returns-clause-broke
-returns-clause-broke g c = ends_sound _ _ _ _ _ _ _ _ c.end-2.result _ (λ is. cc) c.end-2.ensures
-
-pub returns-clause-ends : goal.returns-clause-ends
-returns-clause-ends g c before opening own at =
+pub returns : goal.returns
+returns g c =
     let so_far = c.pieces.invariant in
     let done : (g.S.Stage.work c.pieces.engine.stage).is_complete so_far.fed ≡ true = sym (c.done.ensures.complete so_far.fed so_far.feeds.holds) ∙ c.pieces-test.false in
     let spare = c.unused-unused.ensures so_far.fed so_far.feeds.holds in
-    let used = complete_used _ so_far.fed _ spare done in
-    let back = c.give_back.ensures.rest in
-    let sound = sound_at (g.I.Inputs.sources c.give_back.new.self) c.args.slot (back_readable _ _ _ _ back so_far.readable) in
-    of_content g.I.Inputs.told _ (record { bytes = so_far.fed; breaks_off = false }) (source_at (g.I.Inputs.sources c.give_back.new.self) c.args.slot) _
-    (λ told. let left = read_used _ _ so_far.fed _ _ _ _ _ spare (so_far.read told) (so_far.took told) so_far.readable back in
-    ended _ _ _ g.met.S.Stage.lawful _ opening _ _ _ _ _ so_far.fed spare.used _ _ _ before _ c.end-2.result so_far.feeds own at (done, (_, (so_far.read told).bytes)) (enough _ left used) (alike_used _ so_far.fed _ spare (g.met.S.Stage.lawful _) used)
-    (needed_within _ _ spare.used c.requires.room spare.needed) (sound, λ _. left) c.end-2.ensures)
-    (λ untold. ended _ _ _ g.met.S.Stage.lawful _ opening _ _ _ _ _ so_far.fed so_far.fed _ _ _ before _ c.end-2.result so_far.feeds own at (done, ([], sym (append-nil so_far.fed))) (enough [] (sym (append-nil so_far.fed)) done) (alike_itself _ so_far.fed)
-    (subst (λ (those : Work). IsNeeded those.is_complete (length c.args.buffer.now) so_far.fed) (sym so_far.feeds.same) so_far.needed) (sound, λ told. absurd (false≢true (sym untold ∙ told))) c.end-2.ensures)
-    (λ breaks. absurd (false≢true breaks))
-
-pub returns-clause-reads : goal.returns-clause-reads
-returns-clause-reads g c told =
-    let so_far = c.pieces.invariant in
-    let spare = c.unused-unused.ensures so_far.fed so_far.feeds.holds in (
-      spare.used,
-      subst (λ (those : Work). IsNeeded those.is_complete (length c.args.buffer.now) spare.used) so_far.feeds.same (needed_within _ _ spare.used c.requires.room spare.needed),
-      read_used _ _ so_far.fed _ _ _ _ _ spare (so_far.read told) (so_far.took told) so_far.readable c.give_back.ensures.rest,
-    )
-
-pub returns-clause-used : goal.returns-clause-used
-returns-clause-used g c told ends unread =
-    let so_far = c.pieces.invariant in
-    let done : (g.S.Stage.work c.pieces.engine.stage).is_complete so_far.fed ≡ true = sym (c.done.ensures.complete so_far.fed so_far.feeds.holds) ∙ c.pieces-test.false in
-    let spare = c.unused-unused.ensures so_far.fed so_far.feeds.holds in
-    let back = c.give_back.ensures.rest in
-    subst (λ (those : Work). Uses those (length c.args.buffer.now) c.args.slot (source_at (g.I.Inputs.sources c.args.inputs.now) c.args.slot).left (source_at (g.I.Inputs.sources c.give_back.new.self) c.args.slot)) so_far.feeds.same
-    (uses_part _ _ _ _ _ so_far.fed _ _ _ spare (read_used _ _ so_far.fed _ _ _ _ _ spare (so_far.read told) (so_far.took told) so_far.readable back) c.requires.room (complete_used _ so_far.fed _ spare done)
-    (λ standard. subst (λ (those : Work). c.unused-unused.result ≤ those.ahead) (sym so_far.feeds.same) (so_far.few standard _ (subst (λ (those : Work). IsSpare those so_far.fed c.unused-unused.result) so_far.feeds.same spare)))
-    (so_far.took told) unread so_far.readable back)
-
-pub returns-clause-others : goal.returns-clause-others
-returns-clause-others g c = keeps_again _ _ _ _ c.pieces.invariant.others (keeps_others _ _ _ _ c.give_back.ensures.rest)
-
-pub returns-clause-asked : goal.returns-clause-asked
-returns-clause-asked g c within = subst (λ asked. asked ≤ length c.args.buffer.now) (sym (ap (λ (source : Source). source.asked) (changed_source _ _ _ _ c.pieces.invariant.readable c.give_back.ensures.rest))) (c.pieces.invariant.asked within)
-
-pub returns-clause-laid : goal.returns-clause-laid
-returns-clause-laid g c = c.give_back.ensures.kept ∙ c.pieces.invariant.laid
+    let back = c.give_back.ensures.rest in record {
+      broke = ends_sound _ _ _ _ _ _ _ _ c.end-2.result _ (inr refl) c.end-2.ensures;
+      ends = λ before opening own at.
+          let used = complete_used _ so_far.fed _ spare done in
+          let sound = sound_at (g.I.Inputs.sources c.give_back.new.self) c.args.slot (back_readable _ _ _ _ back so_far.readable) in
+          of_content g.I.Inputs.told _ (record { bytes = so_far.fed; breaks_off = false }) (source_at (g.I.Inputs.sources c.give_back.new.self) c.args.slot) _
+          (λ told. let left = read_used _ _ so_far.fed _ _ _ _ _ spare (so_far.read told) (so_far.took told) so_far.readable back in
+          ended _ _ _ g.met.S.Stage.lawful _ opening _ _ _ _ _ so_far.fed spare.used _ _ _ before _ c.end-2.result so_far.feeds own at (done, (_, (so_far.read told).bytes)) (enough _ left used) (alike_used _ so_far.fed _ spare (g.met.S.Stage.lawful _) used)
+          (needed_within _ _ spare.used c.requires.room spare.needed) (sound, λ _. left) c.end-2.ensures)
+          (λ untold. ended _ _ _ g.met.S.Stage.lawful _ opening _ _ _ _ _ so_far.fed so_far.fed _ _ _ before _ c.end-2.result so_far.feeds own at (done, ([], sym (append-nil so_far.fed))) (enough [] (sym (append-nil so_far.fed)) done) (alike_itself _ so_far.fed)
+          (subst (λ (those : Work). IsNeeded those.is_complete (length c.args.buffer.now) so_far.fed) (sym so_far.feeds.same) so_far.needed) (sound, λ told. absurd (false≢true (sym untold ∙ told))) c.end-2.ensures)
+          (λ breaks. absurd (false≢true breaks));
+      reads = λ told. (
+        spare.used,
+        subst (λ (those : Work). IsNeeded those.is_complete (length c.args.buffer.now) spare.used) so_far.feeds.same (needed_within _ _ spare.used c.requires.room spare.needed),
+        read_used _ _ so_far.fed _ _ _ _ _ spare (so_far.read told) (so_far.took told) so_far.readable back,
+      );
+      used = λ told ends unread.
+          subst (λ (those : Work). Uses those (length c.args.buffer.now) c.args.slot (source_at (g.I.Inputs.sources c.args.inputs.now) c.args.slot).left (source_at (g.I.Inputs.sources c.give_back.new.self) c.args.slot)) so_far.feeds.same
+          (uses_part _ _ _ _ _ so_far.fed _ _ _ spare (read_used _ _ so_far.fed _ _ _ _ _ spare (so_far.read told) (so_far.took told) so_far.readable back) c.requires.room (complete_used _ so_far.fed _ spare done)
+          (λ standard. subst (λ (those : Work). c.unused-unused.result ≤ those.ahead) (sym so_far.feeds.same) (so_far.few standard _ (subst (λ (those : Work). IsSpare those so_far.fed c.unused-unused.result) so_far.feeds.same spare)))
+          (so_far.took told) unread so_far.readable back);
+      others = keeps_again _ _ _ _ so_far.others (keeps_others _ _ _ _ back);
+      asked = λ within. subst (λ asked. asked ≤ length c.args.buffer.now) (sym (ap (λ (source : Source). source.asked) (changed_source _ _ _ _ so_far.readable back))) (so_far.asked within);
+      laid = c.give_back.ensures.kept ∙ so_far.laid;
+    }
