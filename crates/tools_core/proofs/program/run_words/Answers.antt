@@ -22,19 +22,15 @@ returns-then-follows-clause-opened g c = fresh_counts _ (names_read (map (λ wor
 
 -- a tool runs over its inputs
 
-pub returns-in-Ok-clause-ends : goal.returns-in-Ok-clause-ends
-returns-in-Ok-clause-ends g c =
-    program_runs g.I.Inputs.told g.W.Watch.told g.O.Outs.told (map (λ word. word.now) c.args.words.now) c.in-Ok.settings (g.I.Inputs.laid c.args.inputs.now) (g.I.Inputs.sources c.args.inputs.now) (g.I.Inputs.sources c.run_tool.new.inputs) (g.W.Watch.shows c.args.watch.now) (g.W.Watch.seen c.args.watch.now) (g.W.Watch.watched c.args.watch.now) (g.O.Outs.slots c.run_tool.new.outs) c.run_tool.result
-    c.in-Ok.ensures.ok (sym c.follows.ensures ∙ c.if-follows.false) c.requires.unseen c.requires.unwatched c.run_tool.ensures.ends
-
-pub returns-in-Ok-clause-opened : goal.returns-in-Ok-clause-opened
-returns-in-Ok-clause-opened g c = counts_by _ (map (λ word. word.now) c.args.words.now) c.in-Ok.settings c.in-Ok.ensures.ok c.run_tool.ensures.opened
-
-pub returns-in-Ok-clause-unopened : goal.returns-in-Ok-clause-unopened
-returns-in-Ok-clause-unopened g c none = absurd (asked_or_none (map (λ word. word.now) c.args.words.now) c.in-Ok.settings none.0 c.in-Ok.ensures.ok none.1)
-
-pub returns-in-Ok-clause-untouched : goal.returns-in-Ok-clause-untouched
-returns-in-Ok-clause-untouched g c none = c.run_tool.ensures.untouched (sym (ap (λ (meant : Result Settings Fault). has_dash (names_at meant)) c.in-Ok.ensures.ok) ∙ none)
+pub returns-in-Ok : goal.returns-in-Ok
+returns-in-Ok g c = record {
+  ends = program_runs g.I.Inputs.told g.W.Watch.told g.O.Outs.told (map (λ word. word.now) c.args.words.now) c.in-Ok.settings (g.I.Inputs.laid c.args.inputs.now) (g.I.Inputs.sources c.args.inputs.now) (g.I.Inputs.sources c.run_tool.new.inputs) (g.W.Watch.shows c.args.watch.now) (g.W.Watch.seen c.args.watch.now) (g.W.Watch.watched c.args.watch.now) (g.O.Outs.slots c.run_tool.new.outs) c.run_tool.result
+      c.in-Ok.ensures.ok (sym c.follows.ensures ∙ c.if-follows.false) c.requires.unseen c.requires.unwatched c.run_tool.ensures.ends;
+  opened = counts_by _ (map (λ word. word.now) c.args.words.now) c.in-Ok.settings c.in-Ok.ensures.ok c.run_tool.ensures.opened;
+  asked = c.run_tool.ensures.asked;
+  unopened = λ none. absurd (asked_or_none (map (λ word. word.now) c.args.words.now) c.in-Ok.settings none.0 c.in-Ok.ensures.ok none.1);
+  untouched = λ none. c.run_tool.ensures.untouched (sym (ap (λ (meant : Result Settings Fault). has_dash (names_at meant)) c.in-Ok.ensures.ok) ∙ none);
+}
 
 -- words that are refused
 

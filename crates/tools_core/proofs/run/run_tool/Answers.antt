@@ -8,59 +8,40 @@ use Rattle.tools_core.specs.Tasks.{names_of}
 use Rattle.tools_core.proofs.RunLemmas.{ends_names, for_settings, runs_names, counts_for, csplit_runs, tee_counts, tee_runs}
 use Rattle.tools_core.proofs.run.run_tool.Goals as goal
 
-pub returns-in-Head-clause-ends : goal.returns-in-Head-clause-ends
-returns-in-Head-clause-ends g c =
-    let names = ends_names _ _ _ _ _ _ _ c.deref.ensures.value c.settings.view_is in
-    for_settings _ _ _ _ (Head c.in-Head.settings) _ _ _ c.in-Head.is (runs_names _ _ _ _ _ names c.run_inputs.ensures.ends)
+pub returns-in-Head : goal.returns-in-Head
+returns-in-Head g c =
+    let names = ends_names _ _ _ _ _ _ _ c.deref.ensures.value c.settings.view_is in record {
+      ends = for_settings _ _ _ _ (Head c.in-Head.settings) _ _ _ c.in-Head.is (runs_names _ _ _ _ _ names c.run_inputs.ensures.ends);
+      opened = counts_for _ _ (Head c.in-Head.settings) _ c.in-Head.is names c.run_inputs.ensures.opened;
+      asked = c.run_inputs.ensures.asked;
+      untouched = λ none. c.run_inputs.ensures.untouched (ap has_dash names ∙ sym (ap (λ (those : Settings). has_dash (names_of those)) c.in-Head.is) ∙ none);
+    }
 
-pub returns-in-Head-clause-opened : goal.returns-in-Head-clause-opened
-returns-in-Head-clause-opened g c =
-    let names = ends_names _ _ _ _ _ _ _ c.deref.ensures.value c.settings.view_is in
-    counts_for _ _ (Head c.in-Head.settings) _ c.in-Head.is names c.run_inputs.ensures.opened
+pub returns-in-Tail : goal.returns-in-Tail
+returns-in-Tail g c =
+    let names = ends_names _ _ _ _ _ _ _ c.deref-in-Tail.ensures.value c.ends.view_is in record {
+      ends = for_settings _ _ _ _ (Tail c.in-Tail.settings) _ _ _ c.in-Tail.is (runs_names _ _ _ _ _ names c.run_inputs-in-Tail.ensures.ends);
+      opened = counts_for _ _ (Tail c.in-Tail.settings) _ c.in-Tail.is names c.run_inputs-in-Tail.ensures.opened;
+      asked = c.run_inputs-in-Tail.ensures.asked;
+      untouched = λ none. c.run_inputs-in-Tail.ensures.untouched (ap has_dash names ∙ sym (ap (λ (those : Settings). has_dash (names_of those)) c.in-Tail.is) ∙ none);
+    }
 
-pub returns-in-Head-clause-untouched : goal.returns-in-Head-clause-untouched
-returns-in-Head-clause-untouched g c none =
-    let names = ends_names _ _ _ _ _ _ _ c.deref.ensures.value c.settings.view_is in
-    c.run_inputs.ensures.untouched (ap has_dash names ∙ sym (ap (λ (those : Settings). has_dash (names_of those)) c.in-Head.is) ∙ none)
+pub returns-in-Split : goal.returns-in-Split
+returns-in-Split g c =
+    let names = ap (λ (asked : SplitAsked). asked.input ∷ []) c.settings-in-Split.view_is in record {
+      ends = for_settings _ _ _ _ (Split c.in-Split.settings) _ _ _ c.in-Split.is (runs_names _ _ _ _ _ names c.run_inputs-in-Split.ensures.ends);
+      opened = counts_for _ _ (Split c.in-Split.settings) _ c.in-Split.is names c.run_inputs-in-Split.ensures.opened;
+      asked = c.run_inputs-in-Split.ensures.asked;
+      untouched = λ none. c.run_inputs-in-Split.ensures.untouched (ap has_dash names ∙ sym (ap (λ (those : Settings). has_dash (names_of those)) c.in-Split.is) ∙ none);
+    }
 
-pub returns-in-Tail-clause-ends : goal.returns-in-Tail-clause-ends
-returns-in-Tail-clause-ends g c =
-    let names = ends_names _ _ _ _ _ _ _ c.deref-in-Tail.ensures.value c.ends.view_is in
-    for_settings _ _ _ _ (Tail c.in-Tail.settings) _ _ _ c.in-Tail.is (runs_names _ _ _ _ _ names c.run_inputs-in-Tail.ensures.ends)
-
-pub returns-in-Tail-clause-opened : goal.returns-in-Tail-clause-opened
-returns-in-Tail-clause-opened g c =
-    let names = ends_names _ _ _ _ _ _ _ c.deref-in-Tail.ensures.value c.ends.view_is in
-    counts_for _ _ (Tail c.in-Tail.settings) _ c.in-Tail.is names c.run_inputs-in-Tail.ensures.opened
-
-pub returns-in-Tail-clause-untouched : goal.returns-in-Tail-clause-untouched
-returns-in-Tail-clause-untouched g c none =
-    let names = ends_names _ _ _ _ _ _ _ c.deref-in-Tail.ensures.value c.ends.view_is in
-    c.run_inputs-in-Tail.ensures.untouched (ap has_dash names ∙ sym (ap (λ (those : Settings). has_dash (names_of those)) c.in-Tail.is) ∙ none)
-
-pub returns-in-Split-clause-ends : goal.returns-in-Split-clause-ends
-returns-in-Split-clause-ends g c =
-    for_settings _ _ _ _ (Split c.in-Split.settings) _ _ _ c.in-Split.is (runs_names _ _ _ _ _ (ap (λ (asked : SplitAsked). asked.input ∷ []) c.settings-in-Split.view_is) c.run_inputs-in-Split.ensures.ends)
-
-pub returns-in-Split-clause-opened : goal.returns-in-Split-clause-opened
-returns-in-Split-clause-opened g c =
-    counts_for _ _ (Split c.in-Split.settings) _ c.in-Split.is (ap (λ (asked : SplitAsked). asked.input ∷ []) c.settings-in-Split.view_is) c.run_inputs-in-Split.ensures.opened
-
-pub returns-in-Split-clause-untouched : goal.returns-in-Split-clause-untouched
-returns-in-Split-clause-untouched g c none =
-    c.run_inputs-in-Split.ensures.untouched (ap (λ (asked : SplitAsked). has_dash (asked.input ∷ [])) c.settings-in-Split.view_is ∙ sym (ap (λ (those : Settings). has_dash (names_of those)) c.in-Split.is) ∙ none)
-
-pub returns-in-Csplit-clause-ends : goal.returns-in-Csplit-clause-ends
-returns-in-Csplit-clause-ends g c =
-    for_settings _ _ _ _ (Csplit c.in-Csplit.asked) _ _ _ c.in-Csplit.is (csplit_runs _ _ _ _ _ _ _ _ _ (ap (λ (asked : CsplitAsked). asked.input) c.asked.view_is) c.operands.ensures c.run_inputs-in-Csplit.ensures.ends)
-
-pub returns-in-Csplit-clause-opened : goal.returns-in-Csplit-clause-opened
-returns-in-Csplit-clause-opened g c =
-    counts_for _ _ (Csplit c.in-Csplit.asked) _ c.in-Csplit.is (ap (λ (asked : CsplitAsked). asked.input ∷ []) c.asked.view_is) c.run_inputs-in-Csplit.ensures.opened
-
-pub returns-in-Csplit-clause-untouched : goal.returns-in-Csplit-clause-untouched
-returns-in-Csplit-clause-untouched g c none =
-    c.run_inputs-in-Csplit.ensures.untouched (ap (λ (asked : CsplitAsked). has_dash (asked.input ∷ [])) c.asked.view_is ∙ sym (ap (λ (those : Settings). has_dash (names_of those)) c.in-Csplit.is) ∙ none)
+pub returns-in-Csplit : goal.returns-in-Csplit
+returns-in-Csplit g c = record {
+  ends = for_settings _ _ _ _ (Csplit c.in-Csplit.asked) _ _ _ c.in-Csplit.is (csplit_runs _ _ _ _ _ _ _ _ _ (ap (λ (asked : CsplitAsked). asked.input) c.asked.view_is) c.operands.ensures c.run_inputs-in-Csplit.ensures.ends);
+  opened = counts_for _ _ (Csplit c.in-Csplit.asked) _ c.in-Csplit.is (ap (λ (asked : CsplitAsked). asked.input ∷ []) c.asked.view_is) c.run_inputs-in-Csplit.ensures.opened;
+  asked = c.run_inputs-in-Csplit.ensures.asked;
+  untouched = λ none. c.run_inputs-in-Csplit.ensures.untouched (ap (λ (asked : CsplitAsked). has_dash (asked.input ∷ [])) c.asked.view_is ∙ sym (ap (λ (those : Settings). has_dash (names_of those)) c.in-Csplit.is) ∙ none);
+}
 
 pub returns-in-Tee-clause-ends : goal.returns-in-Tee-clause-ends
 returns-in-Tee-clause-ends g c =
