@@ -3,7 +3,6 @@ use Rattle.std.proofs.Common.{◌≡◌, ℕ, ◌-◌, ◌<◌, ◌≤◌, ◌^�
 use Rattle.ports_core.specs.Name.{Naming}
 use Rattle.ports_core.specs.Slot.{Slot}
 use Rattle.ports_core.specs.Part.{OutputsAt, StoppedBetween, nothing, only_out}
-use Rattle.ports_core.specs.Swept.{Swept}
 use Rattle.ports_core.specs.Work.{Work, Needs}
 use Rattle.ports_core.specs.Guard.{GuardState, HoldsIn}
 use Rattle.ports_core.specs.Engine.{is_verdict}
@@ -11,6 +10,7 @@ use Rattle.ports_core.specs.declared.alphabet.Alphabet.{Alphabet}
 use Rattle.ports_core.specs.declared.fault.Fault.{Fault}
 use Rattle.ports_core.specs.declared.fault.Fault.TheVariants.{Memory}
 use Rattle.ports_core.proofs.PartLemmas.{nothing_out, nothing_begins_part, stopped_here}
+use Rattle.ports_core.proofs.SlotSteps.{none_past, swept_none}
 use Rattle.seg_core.specs.declared.unit.Unit.{Unit as Counted}
 use Rattle.seg_core.specs.declared.unit.Unit.TheVariants.{Lines, Bytes}
 use Rattle.ends_core.specs.Ends.{size, after_of, head_of, tail_of}
@@ -43,7 +43,7 @@ tail_begins delim false unit n = refl
 
 -- nothing is written before a byte came in
 
-some_there : (slots : List Slot) → 2 ≤ length slots → 0 < length slots
+pub some_there : (slots : List Slot) → 2 ≤ length slots → 0 < length slots
 some_there slots two = omega (arith, two)
 
 pub head_begins : (delim : ℕ) (told : Bool) (unit : Counted) (but_last : Bool) (n : ℕ) (slots : List Slot) → 2 ≤ length slots → OutputsAt told slots ((head_work delim unit but_last n).settled []) slots
@@ -52,17 +52,15 @@ head_begins delim told unit but_last n slots two = subst (λ bytes. OutputsAt to
 pub tail_starts : (delim : ℕ) (told : Bool) (unit : Counted) (from_nth : Bool) (n : ℕ) (slots : List Slot) → 2 ≤ length slots → OutputsAt told slots ((tail_work delim unit from_nth n).settled []) slots
 tail_starts delim told unit from_nth n slots two = subst (λ part. OutputsAt told slots part slots) (sym (tail_begins delim from_nth unit n)) (nothing_out told slots (some_there slots two))
 
--- an engine without files for which there was no memory
-pub no_memory : (told : Bool) (work : Work) (opening : Needs) (slots : List Slot) (fault : Fault) → work.clears ≡ false → opening.memory ≡ true → 2 ≤ length slots → fault ≡ Memory → OpensShort work opening told slots slots fault
-no_memory told work opening slots fault keeps may two is = subst (OpensShort work opening told slots slots) (sym is) (record {
+-- an engine for which there was no memory
+pub no_memory : (told : Bool) (work : Work) (opening : Needs) (slots : List Slot) (fault : Fault) → opening.memory ≡ true → 2 ≤ length slots → fault ≡ Memory → OpensShort work opening told slots slots fault
+no_memory told work opening slots fault may two is = subst (OpensShort work opening told slots slots) (sym is) (record {
   unjudged = refl;
   reached = slots;
   why = may;
   stop = stopped_here told slots nothing _ Memory slots slots (nothing_out told slots (some_there slots two)) (nothing_begins_part _) refl tt;
-  swept = none_swept work.clears keeps;
-}) where
-  none_swept : (clears : Bool) → clears ≡ false → Swept clears (length slots) slots slots
-  none_swept clears is = subst (λ b. Swept b (length slots) slots slots) (sym is) refl
+  swept = swept_none work.clears (length slots) slots (none_past slots);
+})
 
 -- the names that were made are those of the plan
 pub plan_is : (asked : SplitAsked) (cut : Cut) (alphabet : Alphabet) (width : ℕ) (auto elide : Bool) (input prefix ending : List ℕ) (delim : ℕ) (names : Naming)
@@ -71,9 +69,6 @@ pub plan_is : (asked : SplitAsked) (cut : Cut) (alphabet : Alphabet) (width : �
     → record { delim = delim; cut = cut; elide = elide; names = names } ≡ plan_of asked
 plan_is asked cut alphabet width auto elide input prefix ending delim names made is =
     ap (λ (those : Naming). record { delim = delim; cut = cut; elide = elide; names = those }) made ∙ ap plan_of is
-
-pub split_starts : (told : Bool) (plan : Plan) (old new : List Slot) → 2 ≤ length old → ((before : List Slot) → OutputsAt told before nothing old → OutputsAt told before (settled_by plan []) new) → OutputsAt told old ((split_work plan).settled []) new
-split_starts told plan old new two puts = puts old (nothing_out told old (some_there old two))
 
 split_stops : (told : Bool) (plan : Plan) (opening : Needs) (old new : List Slot) (fault : Fault) → opening.memory ≡ true → opening.files ≡ true → 2 ≤ length old → ((before : List Slot) → OutputsAt told before nothing old → StoppedBetween told before nothing (settled_by plan []) fault new) → CannotOpen old new fault → OpensShort (split_work plan) opening told old new fault
 split_stops told plan opening old new fault may opens two stop (inl is) = record {
@@ -91,9 +86,6 @@ split_stops told plan opening old new fault may opens two stop (inr (slot, is, r
   swept = refl;
 }
 
-pub split_short : (told : Bool) (plan asked : Plan) (opening : Needs) (old new : List Slot) (fault : Fault) → opening.memory ≡ true → opening.files ≡ true → plan ≡ asked → 2 ≤ length old → ((before : List Slot) → OutputsAt told before nothing old → StoppedBetween told before nothing (settled_by plan []) fault new) → CannotOpen old new fault → OpensShort (split_work asked) opening told old new fault
-split_short told plan asked opening old new fault may opens is two stop why = subst (λ those. OpensShort (split_work those) opening told old new fault) is (split_stops told plan opening old new fault may opens two stop why)
-
 -- an engine that was opened, and left the outputs as they were
 
 pub if_does : {E : Type 0} (work : E → Work) (first asked : Work) (result : Result E Fault) → IfOk result (λ e. work e ≡ first) → first ≡ asked → IfOk result (λ e. work e ≡ asked)
@@ -110,9 +102,9 @@ pub whatever : {E : Type 0} (P : E → Type 0) (result : Result E Fault) → ((e
 whatever P (Ok e) all = all e
 whatever P (Err fault) all = tt
 
-pub no_memory_for : {E : Type 0} (told : Bool) (work : Work) (opening : Needs) (slots : List Slot) (result : Result E Fault) (P : Type 0) → work.clears ≡ false → (P → opening.memory ≡ true) → 2 ≤ length slots → IfErr result (λ fault. (fault ≡ Memory) × P) → IfErr result (OpensShort work opening told slots slots)
-no_memory_for told work opening slots (Ok e) P keeps may two err = tt
-no_memory_for told work opening slots (Err fault) P keeps may two err = no_memory told work opening slots fault keeps (may err.1) two err.0
+pub no_memory_for : {E : Type 0} (told : Bool) (work : Work) (opening : Needs) (slots : List Slot) (result : Result E Fault) (P : Type 0) → (P → opening.memory ≡ true) → 2 ≤ length slots → IfErr result (λ fault. (fault ≡ Memory) × P) → IfErr result (OpensShort work opening told slots slots)
+no_memory_for told work opening slots (Ok e) P may two err = tt
+no_memory_for told work opening slots (Err fault) P may two err = no_memory told work opening slots fault (may err.1) two err.0
 
 -- what opening may need
 
@@ -137,10 +129,11 @@ pub split_opened : {S : Type 0} (Holds : S → List ℕ → Type 0) (Owns : S �
     → IfOk result (Opens Holds Owns work Ready (split_work asked) told old new)
 split_opened Holds Owns work Ready plan asked told old new (Ok e) is two fresh does bound ready owns puts =
     subst (λ those. Opens Holds Owns work Ready (split_work those) told old new e) is
-    (record { fresh = fresh; does = does; bound = bound; ready = ready; owns = owns; outputs = split_starts told plan old new two puts })
+    (record { fresh = fresh; does = does; bound = bound; ready = ready; owns = owns; outputs = puts old (nothing_out told old (some_there old two)) })
 split_opened Holds Owns work Ready plan asked told old new (Err fault) is two fresh does bound ready owns puts = tt
 
 pub split_short_if : {E : Type 0} (told : Bool) (plan asked : Plan) (opening : Needs) (old new : List Slot) (result : Result E Fault) → opening.memory ≡ true → opening.files ≡ true → plan ≡ asked → 2 ≤ length old
     → IfErr result (λ fault. (before : List Slot) → OutputsAt told before nothing old → StoppedBetween told before nothing (settled_by plan []) fault new) → IfErr result (CannotOpen old new) → IfErr result (OpensShort (split_work asked) opening told old new)
 split_short_if told plan asked opening old new (Ok e) may opens is two stop why = tt
-split_short_if told plan asked opening old new (Err fault) may opens is two stop why = split_short told plan asked opening old new fault may opens is two stop why
+split_short_if told plan asked opening old new (Err fault) may opens is two stop why =
+    subst (λ those. OpensShort (split_work those) opening told old new fault) is (split_stops told plan opening old new fault may opens two stop why)

@@ -238,13 +238,11 @@ does_due (Csplit asked) inputs sources new status place differs broken does =
     ends_due (csplit_task asked does.operands) inputs sources new status place (csplit_living asked.style does.operands) differs broken does.ends
 does_due (Tee asked) inputs sources new status place differs broken does = tee_due asked.mode asked.names does.content _ new status place differs broken does.ends
 
-refused_due : (new : List Slot) (status place : ℕ) (error : Slot) (asked : Settings) → new ≡ streams_with error → (place ≡ 1 → ⊥) → (slot_at new place).is_broken ≡ true → IsDueTo (tool_of asked) (removes_files asked) new status place
-refused_due new status place error asked slots differs broken = still_sound (streams_with error) new place slots (streams_sound place error differs) broken
-
 by_either : (run : Run) (asked : Settings) (found : List Input) (place : ℕ) → (place ≡ 1 → ⊥) → (slot_at run.outputs place).is_broken ≡ true → DoesAsked true true asked found run.inputs run.outputs run.status ⊎ RefusesOperands true run.words asked run.outputs run.status
     → IsDueTo (tool_of asked) (removes_files asked) run.outputs run.status place
 by_either run asked found place differs broken (inl does) = does_due asked found run.inputs run.outputs run.status place differs broken does
-by_either run asked found place differs broken (inr (fault, bad, refuses)) = refused_due run.outputs run.status place refuses.error asked refuses.slots differs broken
+by_either run asked found place differs broken (inr (fault, bad, refuses)) =
+    still_sound (streams_with refuses.error) run.outputs place refuses.slots (streams_sound place refuses.error differs) broken
 
 why_broken : (run : Run) (asked : Settings) (place : ℕ) → IsToldOf (tool_of asked) run.outputs place ⊎ IsStuck (removes_files asked) run.outputs place → WhyBroken run asked place
 why_broken run asked place (inl (name, called, line)) = told name called line

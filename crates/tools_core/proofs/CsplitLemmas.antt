@@ -1,5 +1,5 @@
 -- Lemmas on opening the engine of `csplit`.
-use Rattle.std.proofs.Common.{◌≡◌, ℕ, ◌<◌, ◌≤◌, ◌^◌, Bool, true, false, not, List, [], length, Result, Ok, Err, IfOk, IfErr, OnOk, refl, sym, ap, subst, arith}
+use Rattle.std.proofs.Common.{◌≡◌, ℕ, ◌<◌, ◌≤◌, ◌^◌, Bool, true, false, not, List, [], length, Result, Ok, Err, IfOk, IfErr, OnOk, refl, sym, ap, subst}
 use Rattle.std.proofs.lemmas.Bool.{false≢true}
 use Rattle.ports_core.specs.Guard.{GuardState, HoldsIn}
 use Rattle.ports_core.specs.Slot.{Slot}
@@ -9,17 +9,15 @@ use Rattle.ports_core.specs.Work.{Work, Needs}
 use Rattle.ports_core.specs.Engine.{is_verdict}
 use Rattle.ports_core.specs.declared.fault.Fault.{Fault}
 use Rattle.ports_core.specs.declared.fault.Fault.TheVariants.{Memory, Write, Open, Suffixes, NoMatch, Range}
-use Rattle.ports_core.proofs.PartLemmas.{nothing_out, nothing_begins_part, stopped_here}
-use Rattle.ports_core.proofs.SlotSteps.{none_past, swept_none}
+use Rattle.ports_core.proofs.PartLemmas.{nothing_out}
+use Rattle.ports_core.proofs.SlotSteps.{swept_none}
 use Rattle.csplit_core.specs.Csplit.{csplit_work, settled_by}
 use Rattle.operand_core.specs.Style.{Style}
 use Rattle.csplit_core.specs.Writer.{Breaks}
 use Rattle.operand_core.specs.declared.operand.Operand.{Operand}
 use Rattle.run_core.specs.Feeding.{Stops, call_of}
 use Rattle.run_core.specs.RunSteps.{Opens, OpensShort}
-
-some_there : (slots : List Slot) → 2 ≤ length slots → 0 < length slots
-some_there slots two = omega (arith, two)
+use Rattle.tools_core.proofs.AdapterLemmas.{some_there}
 
 stops_as : (style : Style) (operands : List Operand) (opening : Needs) (old new : List Slot) (fault : Fault) → opening.memory ≡ true → opening.files ≡ true → Breaks style old new fault → Stops (call_of (csplit_work style operands) opening [] nothing (settled_by style operands [])) new fault
 stops_as style operands opening old new Memory may opens breaks = may
@@ -60,13 +58,3 @@ csplit_opened Holds Owns work Ready style asked operands told old new (Ok e) is 
     subst (λ those. Opens Holds Owns work Ready (csplit_work those operands) told old new e) is
     (record { fresh = fresh; does = does; bound = bound; ready = ready; owns = owns; outputs = puts old (nothing_out told old (some_there old two)) })
 csplit_opened Holds Owns work Ready style asked operands told old new (Err fault) is two fresh does bound ready owns puts = tt
-
--- there was no memory for a copy of the style
-pub csplit_unstyled : (told : Bool) (style : Style) (operands : List Operand) (opening : Needs) (slots : List Slot) (fault : Fault) → opening.memory ≡ true → 2 ≤ length slots → fault ≡ Memory → OpensShort (csplit_work style operands) opening told slots slots fault
-csplit_unstyled told style operands opening slots fault may two is = subst (OpensShort (csplit_work style operands) opening told slots slots) (sym is) (record {
-  unjudged = refl;
-  reached = slots;
-  why = may;
-  stop = stopped_here told slots nothing _ Memory slots slots (nothing_out told slots (some_there slots two)) (nothing_begins_part _) refl tt;
-  swept = swept_none (not style.keep) (length slots) slots (none_past slots);
-})

@@ -1,5 +1,5 @@
 -- A run that no fault stopped, or one that told the fault which stopped it
-use Rattle.std.proofs.Common.{◌≡◌, ℕ, ◌+◌, ◌^◌, ◌≤◌, suc, Bool, true, false, ◌&&◌, cond, is_none, List, [], ◌∷◌, ◌++◌, length, length-append, Option, Some, None, codes, inl, inr, ◌⊎◌, refl, sym, ◌∙◌, ap, subst, arith}
+use Rattle.std.proofs.Common.{◌≡◌, ℕ, ◌^◌, ◌≤◌, suc, Bool, true, false, ◌&&◌, cond, is_none, List, [], ◌∷◌, ◌++◌, length, length-append, Option, Some, None, codes, inl, inr, ◌⊎◌, refl, sym, ◌∙◌, ap, subst, arith}
 use Rattle.std.specs.List.{concat}
 use Rattle.std.proofs.lemmas.Bool.{cases_lt, false≢true}
 use Rattle.ports_core.specs.Message.{SaysAll, output_named}
@@ -74,13 +74,9 @@ step_long : (task : Task) (most : ℕ) (so_far : Part) (header : List ℕ) (slot
 step_long task most so_far header slot sources _ _ (calling content call is leaves) long = (content, refl, call_long task.work task.opening most content call is long)
 step_long task most so_far header slot sources there step at long = absurd (omega (arith, long))
 
-beside : (slot place : ℕ) → (slot ≡ 0) ⊎ (slot ≡ 2 + place) → slot ≡ 1 → ⊥
-beside slot place (inl is) one = omega (arith, is, one)
-beside slot place (inr is) one = omega (arith, is, one)
-
 stops_run : (run : Run) (asked : Settings) (IsDue : List ℕ → Type 0) (step : Step) (clears : Bool) (place count : ℕ) (before reached : List Slot) (fault : Fault) → (2 ^ 63 ≤ length step.read → HasLong run asked) → 2 ≤ length before → IsAt fault 2 place count
     → Stops step reached fault → Marks IsDue fault before reached → Swept clears 2 reached run.outputs → StopsRun run asked (output_named run.outputs fault) fault
-stops_run run asked IsDue step clears place count before reached (Write slot) long two from stops marks swept = (beside slot place from, inl refl, swept_still clears reached run.outputs slot swept stops.2)
+stops_run run asked IsDue step clears place count before reached (Write slot) long two from stops marks swept = (λ one. elim from [ inl is ↦ omega (arith, is, one) | inr is ↦ omega (arith, is, one) ], inl refl, swept_still clears reached run.outputs slot swept stops.2)
 stops_run run asked IsDue step clears place count before reached (Open slot) long two from stops (number, (name, kept, due, is, slots)) swept = (
   λ one. omega (arith, number, two, one),
   inl refl,

@@ -86,9 +86,6 @@ pub inputs_are : (task : Task) (is_first : Bool) (inputs : List Input) → AreMe
 inputs_are task is_first [] = no_message task.tool
 inputs_are task is_first (input ∷ inputs) = more_messages task.tool _ _ (content_are task is_first input.name input.content) (inputs_are task (is_first && is_missing input.content) inputs)
 
-made_says : (task : Task) (inputs : List Input) (error : Slot) → SaysAll true task.tool (made_by task inputs).messages standard_error error → SaysLines task.tool (made_by task inputs).messages error
-made_says task inputs error says = record { are = inputs_are task true inputs; said = says }
-
 -- of a run that a fault stopped
 pub stop_says : (task : Task) (before : List Input) (fault : Fault) (name : List ℕ) (error : Slot) → SaysAll true task.tool ((made_by task before).messages ++ message_of task.tool fault name ∷ []) standard_error error
     → SaysLines task.tool ((made_by task before).messages ++ message_of task.tool fault name ∷ []) error
@@ -187,7 +184,7 @@ has_failed false status is one = absurd (omega (arith, is, one))
 ends_told : (task : Task) (inputs : List Input) (sources : List Source) (new : List Slot) (status : ℕ) → status ≡ 1 → EndsAs true true task inputs sources new status → TellsFault task.tool (slot_at new 1)
 ends_told task inputs sources new status one (as_defined error reached says outputs swept done is) =
     subst (TellsFault task.tool) (sym (swept_error _ 2 reached new (omega arith) swept ∙ ap (λ slots. slot_at slots 1) outputs.slots))
-    (tells_fault task.tool _ error (inputs_fault task true inputs (has_failed _ status is one)) (made_says task inputs error says))
+    (tells_fault task.tool _ error (inputs_fault task true inputs (has_failed _ status is one)) (record { are = inputs_are task true inputs; said = says }))
 ends_told task inputs sources new status one (stopped fault before input after error step reached are done untouched at stops between swept says is) =
     subst (TellsFault task.tool) (sym (stopped_error task.work.clears error step.low step.high fault reached new between swept))
     (tells_fault task.tool _ error (fault_after task.tool (made_by task before).messages _ (only_fault task.tool fault (output_named new fault))) (stop_says task before fault (output_named new fault) error says))

@@ -1,11 +1,12 @@
 use Rattle.std.proofs.Common.{◌∙◌, refl, ap}
 use Rattle.ports_core.proofs.HandedOn.{fault_is}
 use Rattle.words_core.specs.CsplitAsked.{CsplitAsked}
-use Rattle.tools_core.proofs.CsplitLemmas.{csplit_opened, csplit_short, csplit_unstyled}
+use Rattle.tools_core.proofs.CsplitLemmas.{csplit_opened, csplit_short}
+use Rattle.tools_core.proofs.AdapterLemmas.{no_memory}
 use Rattle.tools_core.proofs.csplit.CsplitAdapterAdapter.open.Goals as goal
 
 pub returns-in_err-style-clause-err : goal.returns-in_err-style-clause-err
-returns-in_err-style-clause-err g c = fault_is _ _ _ c.from_residual.ensures.1 (csplit_unstyled _ _ _ _ _ _ refl c.requires.streams refl)
+returns-in_err-style-clause-err g c = fault_is _ _ _ c.from_residual.ensures.1 (no_memory _ _ _ _ _ refl c.requires.streams refl)
 
 pub returns-clause-ok : goal.returns-clause-ok
 returns-clause-ok g c =

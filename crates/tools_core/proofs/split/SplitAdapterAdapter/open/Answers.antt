@@ -4,7 +4,7 @@ use Rattle.tools_core.proofs.AdapterLemmas.{no_memory, plan_is, split_opened, sp
 use Rattle.tools_core.proofs.split.SplitAdapterAdapter.open.Goals as goal
 
 pub returns-in_err-names-clause-err : goal.returns-in_err-names-clause-err
-returns-in_err-names-clause-err g c = fault_is _ _ _ c.from_residual.ensures.1 (no_memory _ _ _ _ c.in_err-names.field-0.0 refl refl c.requires.streams c.in_err-names.ensures.err)
+returns-in_err-names-clause-err g c = fault_is _ _ _ c.from_residual.ensures.1 (no_memory _ _ _ _ c.in_err-names.field-0.0 refl c.requires.streams c.in_err-names.ensures.err)
 
 pub returns-clause-ok : goal.returns-clause-ok
 returns-clause-ok g c =
