@@ -151,19 +151,17 @@ stops_still told tool text step mid new fault has says stops = stops
 
 swept_streams : (output error after : Slot) (since now : List Slot) (first : ℕ) → 2 ≤ first → SweptFrom first (output ∷ error ∷ since) (output ∷ error ∷ now) → SweptFrom first (output ∷ after ∷ since) (output ∷ after ∷ now)
 swept_streams output error after since now first past swept = record {
-  size = let same : suc (suc (length now)) ≡ suc (suc (length since)) = swept.size in ap (λ n. n) same;
+  size = swept.size;
   before = same_before;
   cleared = cleared_still;
 } where
   same_before : (place : ℕ) → place < first → slot_at (output ∷ after ∷ now) place ≡ slot_at (output ∷ after ∷ since) place
-  same_before zero within = refl
-  same_before (suc zero) within = refl
   same_before (suc (suc place)) within = swept.before (suc (suc place)) within
+  same_before place within = refl
 
   cleared_still : (place : ℕ) → first ≤ place → Cleared (slot_at (output ∷ after ∷ since) place) (slot_at (output ∷ after ∷ now) place)
-  cleared_still zero above = absurd (omega (arith, past, above))
-  cleared_still (suc zero) above = absurd (omega (arith, past, above))
   cleared_still (suc (suc place)) above = swept.cleared (suc (suc place)) above
+  cleared_still place above = absurd (omega (arith, past, above))
 
 -- outputs that were swept have the same streams
 pub swept_error : (clears : Bool) (first : ℕ) (old new : List Slot) → 2 ≤ first → Swept clears first old new → slot_at new 1 ≡ slot_at old 1

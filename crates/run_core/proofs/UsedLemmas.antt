@@ -1,5 +1,5 @@
 -- Lemmas on what an engine uses of its input, and what is given back of it.
-use Rattle.std.proofs.Common.{◌≡◌, ℕ, ◌-◌, ◌<◌, ◌≤◌, max, ◌&&◌, not, Bool, true, false, IsTrue, List, [], ◌++◌, length, take, drop, Some, append_assoc, length-append, inl, inr, refl, sym, ◌∙◌, ap, subst, arith}
+use Rattle.std.proofs.Common.{◌≡◌, ℕ, ◌-◌, ◌<◌, ◌≤◌, ◌&&◌, not, Bool, true, false, IsTrue, List, [], ◌++◌, length, take, drop, Some, append_assoc, length-append, inl, inr, refl, sym, ◌∙◌, ap, subst, arith}
 use Rattle.std.proofs.lemmas.List.{append-nil, take_at, drop_at, take-append-le, drop-append-le, take-append-drop, length-take, length-take-le}
 use Rattle.ports_core.specs.Slot.{Slot, changed_at}
 use Rattle.ports_core.specs.Source.{Content, Source, source_at, is_readable, gives, fails, gets_back, with_next, Gave}
@@ -31,9 +31,6 @@ taken_next x buffer old_buffer slot size n start sources new took can gave is =
     ap (λ those. those ++ take n (source_at sources slot).left.bytes) took.taken ∙ append_assoc (source_at start slot).taken x (take n (source_at sources slot).left.bytes)
     ∙ ap (λ those. (source_at start slot).taken ++ (x ++ those)) (sym gave.front)
 
-greatest : (a b most : ℕ) → a ≤ most → b ≤ most → max a b ≤ most
-greatest a b most first second = omega (arith, first, second)
-
 pub takes_more : (x buffer old_buffer : List ℕ) (slot size n : ℕ) (start sources new : List Source) → HasTaken x slot start sources → IsTrue (is_readable sources slot) → Gave (source_at sources slot).left old_buffer buffer n → new ≡ changed_at slot (gives size n) sources → HasTaken (x ++ take n buffer) slot start new
 takes_more x buffer old_buffer slot size n start sources new took can gave is =
     let next = taken_next x buffer old_buffer slot size n start sources new took can gave is in
@@ -43,7 +40,7 @@ takes_more x buffer old_buffer slot size n start sources new took can gave is =
           let none : length (source_at start slot).taken ≡ 0 = ap length unread.0 in
           let all = ap length next ∙ length-append (source_at start slot).taken (x ++ take n buffer) in
           subst (λ far. far ≤ length (x ++ take n buffer)) (sym (ap (λ (source : Source). source.reached) after))
-          (greatest _ _ _ (omega (arith, took.far unread, length-append x (take n buffer))) (omega (arith, all, none)));
+          (omega (arith, took.far unread, length-append x (take n buffer), all, none));
     }
 
 -- a read gave as many as it says
