@@ -1,15 +1,17 @@
 -- Lemmas on what outputs have got.
-use Rattle.std.proofs.Common.{◌≡◌, ℕ, ◌+◌, ◌<◌, ◌≤◌, zero, suc, List, [], ◌∷◌, ◌++◌, length, map, take, drop, Bool, true, false, not, ◌&&◌, IsTrue, ◌⊎◌, inl, inr, refl, sym, ◌∙◌, ap, subst, arith, append_assoc, length-append}
-use Rattle.std.proofs.lemmas.List.{append-nil, take-append-drop}
+use Rattle.std.proofs.Common.{◌≡◌, ℕ, ◌+◌, ◌<◌, ◌≤◌, zero, suc, List, [], ◌∷◌, ◌++◌, length, map, take, drop, Bool, true, false, IsTrue, ◌⊎◌, inl, inr, refl, sym, ◌∙◌, ap, subst, arith, append_assoc, length-append}
+use Rattle.std.proofs.Math.Seq.{take-length, take-append_seam}
+use Rattle.std.proofs.lemmas.List.{append-nil, take-append-drop, drop_all, length-map}
 use Rattle.std.proofs.lemmas.Bool.{false≢true}
-use Rattle.ports_core.specs.Slot.{Slot, is_open, slot_at, is_writable, with_written, with_broken, told_of}
+use Rattle.std.proofs.lemmas.Grind.{common_steps}
+use Rattle.ports_core.specs.Slot.{Slot, slot_at, is_writable, with_written, with_broken, told_of}
 use Rattle.ports_core.specs.Write.{BrokeAfter}
 use Rattle.ports_core.specs.Part.{File, Part, nothing, only_out, OutputsAt, IsBeginning, FilesBegin, Begins, IsNext, Marks, IsAt, InOrder, StoppedBetween, file_of, told_file}
 use Rattle.ports_core.specs.inner.Part.{AllClosed, InTurn, StoppedInTurn}
 use Rattle.ports_core.specs.declared.slot.State.{State}
 use Rattle.ports_core.specs.declared.slot.State.TheVariants as state
 use Rattle.ports_core.specs.declared.fault.Fault.{Fault}
-use Rattle.ports_core.specs.declared.fault.Fault.TheVariants.{Memory, Write, Read, Open, Suffixes, NoMatch, Range, Usage, Failed, TooLong}
+use Rattle.ports_core.specs.declared.fault.Fault.TheVariants.{Write, Open}
 use Rattle.ports_core.proofs.SlotLemmas.{changed_at-append, length-changed_at, with_written-nil}
 use Rattle.ports_core.proofs.WriteLemmas.{told_of-append, told_of-nil, with_written-append}
 
@@ -78,6 +80,16 @@ nothing_out told before standard = record {
   files = refl;
 }
 
+count_of : (change : File → File) (slots : List Slot) (files : List File) → map file_of slots ≡ map change files → length files ≡ length slots
+count_of change slots files is = sym (length-map files change) ∙ ap length (sym is) ∙ length-map slots file_of
+
+-- how many slots there are
+pub outputs_count : (told : Bool) (before : List Slot) (part : Part) (now : List Slot) → OutputsAt told before part now → length now ≡ length before + length part.files
+outputs_count told before part now at =
+    let all : length now ≡ length (with_written 0 (told_of told part.out) before) + length at.since = ap length at.slots ∙ length-append (with_written 0 (told_of told part.out) before) at.since in
+    let front : length (with_written 0 (told_of told part.out) before) ≡ length before = length-changed_at 0 _ before in
+    let since : length at.since ≡ length part.files = sym (count_of (told_file told) at.since part.files at.files) in omega arith
+
 -- no file is touched
 pub still_in_order : (files : List File) → InOrder files files files 0
 still_in_order files = record { done = refl; untouched = refl }
@@ -96,11 +108,7 @@ out_cut told before part old new more n at broke = record {
   from = inl refl;
 } where
   there : 0 < length (with_written 0 (told_of told (take n more)) old)
-  there =
-      let same : length (with_written 0 (told_of told (take n more)) old) ≡ length old = length-changed_at 0 _ old in
-      let some : 0 < length before = at.standard in
-      let all : length old ≡ length (with_written 0 (told_of told part.out) before) + length at.since = ap length at.slots ∙ length-append (with_written 0 (told_of told part.out) before) at.since in
-      let front : length (with_written 0 (told_of told part.out) before) ≡ length before = length-changed_at 0 _ before in omega arith
+  there = subst (λ n. 0 < n) (sym (length-changed_at 0 _ old)) (omega (arith, at.standard, outputs_count told before part old at))
 
 -- a fault that came before anything was written, and from no output
 pub stopped_here : (told : Bool) (before : List Slot) (low high : Part) (fault : Fault) (old new : List Slot) → OutputsAt told before low old → Begins low high → Marks (IsNext low high) fault old new → IsAt fault (length before) 0 (length low.files) → StoppedBetween told before low high fault new
@@ -122,29 +130,16 @@ broken_at place [] can = absurd (false≢true can)
 broken_at zero (slot ∷ slots) can = refl
 broken_at (suc place) (slot ∷ slots) can = broken_at place slots can
 
-both : (first second : Bool) → (first && not second) ≡ true → second ≡ false
-both true false is = refl
-both true true is = absurd (false≢true is)
-both false second is = absurd (false≢true is)
-
 pub sound_at : (place : ℕ) (slots : List Slot) → IsTrue (is_writable slots place) → (slot_at slots place).is_broken ≡ false
-sound_at place slots can = both (is_open (slot_at slots place).state) (slot_at slots place).is_broken can
+sound_at place slots can = grind (arith, common_steps)
 
 pub nothing_begins_part : (part : Part) → Begins nothing part
 nothing_begins_part part = record { out = nothing_begins part.out; files = tt }
 
 -- the mark of a fault, where the next file is known by another sentence
 pub marks_by : (IsName IsOther : List ℕ → Type 0) (fault : Fault) (before after : List Slot) → ((name : List ℕ) → IsName name → IsOther name) → Marks IsName fault before after → Marks IsOther fault before after
-marks_by IsName IsOther (Write slot) before after also is = is
 marks_by IsName IsOther (Open slot) before after also is = (is.0, (is.1.0, is.1.1, also is.1.0 is.1.2, is.1.3, is.1.4))
-marks_by IsName IsOther Memory before after also is = is
-marks_by IsName IsOther (Read slot) before after also is = is
-marks_by IsName IsOther Suffixes before after also is = is
-marks_by IsName IsOther (NoMatch operand repetition) before after also is = is
-marks_by IsName IsOther (Range operand repetition) before after also is = is
-marks_by IsName IsOther (Usage kind word) before after also is = is
-marks_by IsName IsOther Failed before after also is = is
-marks_by IsName IsOther TooLong before after also is = is
+marks_by IsName IsOther fault before after also is = is
 
 -- the files of a part are at their places in what it begins
 next_in : (part : Part) (name : List ℕ) (front : List File) (file : File) (rest files : List File) → FilesBegin (front ++ file ∷ rest) files → (count : ℕ) → length front ≡ count → file.name ≡ name
@@ -175,11 +170,8 @@ turn_between told before less low high more fault now lower stop wider = record 
   from = stop.from;
 }
 
-open_differs : state.Open ≡ state.Closed → ⊥
-open_differs is = false≢true (sym (ap is_open is))
-
 closed_stays : (file whole : File) → file.state ≡ state.Closed → (file.state ≡ state.Open) ⊎ (file ≡ whole) → file ≡ whole
-closed_stays file whole closed (inl is) = absurd (open_differs (sym is ∙ closed))
+closed_stays file whole closed (inl is) = cc
 closed_stays file whole closed (inr same) = same
 
 done_by : (place : ℕ) (part high : List File) → FilesBegin part high → AllClosed (take place part) → place ≤ length part → take place part ≡ take place high
@@ -188,12 +180,6 @@ done_by (suc place) [] high begins closed within = absurd (omega arith)
 done_by (suc place) (file ∷ part) [] begins closed within = absurd begins
 done_by (suc place) (file ∷ part) (whole ∷ high) begins closed within =
     ap (λ one. one ∷ take place part) (closed_stays file whole closed.0 begins.3) ∙ ap (λ rest. whole ∷ rest) (done_by place part high begins.5 closed.1 (omega arith))
-
-drop_past : {X : Type 0} (n : ℕ) (xs : List X) → length xs ≤ n → drop n xs ≡ []
-drop_past zero [] within = refl
-drop_past (suc n) [] within = refl
-drop_past zero (x ∷ xs) within = absurd (omega arith)
-drop_past (suc n) (x ∷ xs) within = drop_past n xs (omega arith)
 
 no_fewer : (low part : List File) → FilesBegin low part → length low ≤ length part
 no_fewer [] part begins = omega arith
@@ -204,7 +190,7 @@ no_fewer (file ∷ low) (whole ∷ part) begins = let fewer : length low ≤ len
 pub in_order : (low part high : List File) (place : ℕ) → FilesBegin low part → FilesBegin part high → InTurn part place → InOrder low part high place
 in_order low part high place above below turn = record {
   done = done_by place part high below turn.closed turn.within;
-  untouched = drop_past (suc place) part turn.last ∙ sym (drop_past (suc place) low (let fewer : length low ≤ length part = no_fewer low part above in let last : length part ≤ suc place = turn.last in omega arith));
+  untouched = drop_all (suc place) part turn.last ∙ sym (drop_all (suc place) low (let fewer : length low ≤ length part = no_fewer low part above in let last : length part ≤ suc place = turn.last in omega arith));
 }
 
 pub stopped_in_turn : (told : Bool) (before : List Slot) (low high : Part) (fault : Fault) (now : List Slot) → StoppedInTurn told before low high fault now → StoppedBetween told before low high fault now
@@ -221,34 +207,12 @@ stopped_in_turn told before low high fault now stop = record {
 }
 
 -- closed files, and one more
-pub all_before : {X : Type 0} (front : List X) (x : X) → take (length front) (front ++ x ∷ []) ≡ front
-all_before [] x = refl
-all_before (y ∷ front) x = ap (λ rest. y ∷ rest) (all_before front x)
-
-pub take_all : {X : Type 0} (xs : List X) → take (length xs) xs ≡ xs
-take_all [] = refl
-take_all (x ∷ xs) = ap (λ rest. x ∷ rest) (take_all xs)
-
 pub turn_last : (files : List File) (file : File) (place : ℕ) → length files ≡ place → AllClosed files → InTurn (files ++ file ∷ []) place
 turn_last files file place count closed = record {
-  closed = subst (λ n. AllClosed (take n (files ++ file ∷ []))) count (subst AllClosed (sym (all_before files file)) closed);
+  closed = subst (λ n. AllClosed (take n (files ++ file ∷ []))) count (subst AllClosed (sym (take-append_seam files (file ∷ []))) closed);
   within = let all : length (files ++ file ∷ []) ≡ length files + 1 = length-append files (file ∷ []) in omega arith;
   last = let all : length (files ++ file ∷ []) ≡ length files + 1 = length-append files (file ∷ []) in omega arith;
 }
 
 pub turn_next : (files : List File) → AllClosed files → InTurn files (length files)
-turn_next files closed = record { closed = subst AllClosed (sym (take_all files)) closed; within = omega arith; last = omega arith }
-
-map_count : {X Y : Type 0} (f : X → Y) (xs : List X) → length (map f xs) ≡ length xs
-map_count f [] = refl
-map_count f (x ∷ xs) = ap suc (map_count f xs)
-
-count_of : (change : File → File) (slots : List Slot) (files : List File) → map file_of slots ≡ map change files → length files ≡ length slots
-count_of change slots files is = sym (map_count change files) ∙ ap length (sym is) ∙ map_count file_of slots
-
--- how many slots there are
-pub outputs_count : (told : Bool) (before : List Slot) (part : Part) (now : List Slot) → OutputsAt told before part now → length now ≡ length before + length part.files
-outputs_count told before part now at =
-    let all : length now ≡ length (with_written 0 (told_of told part.out) before) + length at.since = ap length at.slots ∙ length-append (with_written 0 (told_of told part.out) before) at.since in
-    let front : length (with_written 0 (told_of told part.out) before) ≡ length before = length-changed_at 0 _ before in
-    let since : length at.since ≡ length part.files = sym (count_of (told_file told) at.since part.files at.files) in omega arith
+turn_next files closed = record { closed = subst AllClosed (sym (take-length files)) closed; within = omega arith; last = omega arith }
