@@ -20,7 +20,7 @@ use Rattle.ends_core.specs.declared.kept.Kept.{Kept}
 use Rattle.ends_core.specs.Ends.{measure, first_of, after_of, last_of, but_last_of}
 use Rattle.ends_core.specs.Head.{head_work}
 use Rattle.ends_core.specs.Head.{IsDone}
-use Rattle.ends_core.specs.Stage.{Stretch, the_first, all_but_last, from_the_nth, the_last, keeps, work_in, front_in, stretch_of, delim_of, unit_of, count_of, left_of, waiting_of, waiting, past_in, past_of, may_lack, work, Holds}
+use Rattle.ends_core.specs.Stage.{Stretch, the_first, from_the_nth, the_last, keeps, work_in, front_in, stretch_of, delim_of, unit_of, count_of, left_of, waiting_of, waiting, past_in, past_of, may_lack, work, Holds}
 use Rattle.ends_core.specs.inner.Stage.{is_last, due, due_at_end, left_waiting, is_full, unused_of, FullLacksNone, SameAsked}
 use Rattle.ends_core.specs.Stage.{is_done}
 use Rattle.ends_core.specs.Kept.{most_of, may_lack_of, delim_of as kept_delim, unit_of as kept_unit}
@@ -44,15 +44,11 @@ same_work old new same = same_for work_in old new same
 -- it writes to standard output alone, and may want memory where the last are kept
 pub on_means : (s : Stretch) (delim : ℕ) (unit : Counted) (n : ℕ) → (work_in s delim unit n).means ≡ on_output (keeps s)
 on_means the_first delim unit n = refl
-on_means all_but_last delim unit n = refl
-on_means from_the_nth delim unit n = refl
-on_means the_last delim unit n = refl
+on_means s delim unit n = refl
 
 pub always_well : (s : Stretch) (delim : ℕ) (unit : Counted) (n : ℕ) (x : List ℕ) → (work_in s delim unit n).verdict x ≡ None
 always_well the_first delim unit n x = refl
-always_well all_but_last delim unit n x = refl
-always_well from_the_nth delim unit n x = refl
-always_well the_last delim unit n x = refl
+always_well s delim unit n x = refl
 
 -- what is written with a piece is what the output gains by it
 went_out : (ends : Ends) (x piece : List ℕ) → Holds ends x → record ((work ends).settled x) { out = ((work ends).settled x).out ++ due ends piece } ≡ (work ends).settled (x ++ piece)
@@ -67,10 +63,8 @@ went_out (Last kept) x piece holds = refl
 
 -- and at the end
 rest_out : (ends : Ends) (x : List ℕ) → Holds ends x → record ((work ends).settled x) { out = ((work ends).settled x).out ++ due_at_end ends } ≡ (work ends).whole x
-rest_out (First count front) x holds = ap only_out (append-nil (first_of front.delim front.unit count x))
-rest_out (ButLast kept) x holds = ap only_out (append-nil (but_last_of (kept_delim kept) (kept_unit kept) (most_of kept) x))
-rest_out (FromNth count front) x holds = ap only_out (append-nil (after_of front.delim front.unit (count - 1) x))
 rest_out (Last kept) x holds = ap only_out holds.waits
+rest_out ends x holds = ap only_out (append-nil ((work ends).settled x).out)
 
 pub puts_out : (told : Bool) (ends : Ends) (piece : List ℕ) (old new : List Slot) → new ≡ with_written 0 (told_of told (due ends piece)) old → PutsOut Holds OwnsNone work ends piece told old new
 puts_out told ends piece old new wrote = stop.puts_out Holds OwnsNone work told ends piece (due ends piece) old new (λ x holds. went_out ends x piece holds) wrote
@@ -90,27 +84,23 @@ minus_both n a b = omega arith
 
 -- what waits after the piece
 waits_next : (ends : Ends) (x piece : List ℕ) → Holds ends x → left_waiting ends piece ≡ waiting ends (x ++ piece)
-waits_next (First count front) x piece holds = refl
 waits_next (ButLast kept) x piece holds =
     ap (λ held. last_of (kept_delim kept) (kept_unit kept) (most_of kept) (held ++ piece)) holds.waits ∙ sym (last_of-append (kept_delim kept) (kept_unit kept) (most_of kept) x piece)
-waits_next (FromNth count front) x piece holds = refl
 waits_next (Last kept) x piece holds =
     ap (λ held. last_of (kept_delim kept) (kept_unit kept) (most_of kept) (held ++ piece)) holds.waits ∙ sym (last_of-append (kept_delim kept) (kept_unit kept) (most_of kept) x piece)
+waits_next ends x piece holds = refl
 
 waits_now : (ends next : Ends) (x piece : List ℕ) → SameAsked ends next → waiting_of next ≡ left_waiting ends piece → Holds ends x → waiting_of next ≡ waiting next (x ++ piece)
 waits_now ends next x piece same waits holds = waits ∙ waits_next ends x piece holds ∙ sym (same_for (λ s d u n. (work_in s d u n).waiting (x ++ piece)) ends next same)
 
 none_lacks : (ends : Ends) → keeps (stretch_of ends) ≡ false → may_lack ends ≡ false
-none_lacks (First count front) none = refl
-none_lacks (ButLast kept) none = absurd (false≢true (sym none))
-none_lacks (FromNth count front) none = refl
-none_lacks (Last kept) none = absurd (false≢true (sym none))
+none_lacks (First count front) none = cc
+none_lacks ends none = cc
 
 full_lacks : (ends : Ends) (x : List ℕ) → waiting_of ends ≡ waiting ends x → FullLacksNone ends → unit_of ends ≡ Bytes → count_of ends ≤ length x → may_lack ends ≡ false
-full_lacks (First count front) x waits full bytes enough = refl
 full_lacks (ButLast kept) x waits full bytes enough = full bytes (full_once kept x waits bytes enough)
-full_lacks (FromNth count front) x waits full bytes enough = refl
 full_lacks (Last kept) x waits full bytes enough = full bytes (full_once kept x waits bytes enough)
+full_lacks ends x waits full bytes enough = refl
 
 -- how many bytes come in after a head
 
@@ -123,9 +113,7 @@ past_next (First count front) x piece holds =
     let all : length (after_of front.delim front.unit count (x ++ piece)) ≡ length (after_of front.delim front.unit count x) + length (after_of front.delim front.unit (count - measure front.delim front.unit x) piece)
     = ap length (after_of-append front.delim front.unit count x piece) ∙ length-append (after_of front.delim front.unit count x) (after_of front.delim front.unit (count - measure front.delim front.unit x) piece) in
     omega (arith, holds.past, past_after front.delim front.unit count x, more, all, past_after front.delim front.unit count (x ++ piece))
-past_next (ButLast kept) x piece holds = refl
-past_next (FromNth count front) x piece holds = refl
-past_next (Last kept) x piece holds = refl
+past_next ends x piece holds = refl
 
 pub takes_in : (ends next : Ends) (piece : List ℕ) → SameAsked ends next → past_of next ≡ past_of ends + length (unused_of ends piece)
     → left_of next ≡ left_of ends - measure (delim_of ends) (unit_of ends) piece → waiting_of next ≡ left_waiting ends piece → FullLacksNone next → TakesIn Holds piece ends next
@@ -159,23 +147,18 @@ head_exact delim unit but_last n x false byte is = (λ yes. absurd (false≢true
 pub done_is_exact : (ends : Ends) (x : List ℕ) (full : Bool) → Holds ends x → full ≡ (work ends).is_complete x → IsTrue full ↔ is_done ends x
 done_is_exact (First count front) x full holds is = head_exact front.delim front.unit false count x full holds.byte is
 done_is_exact (ButLast kept) x full holds is = head_exact (kept_delim kept) (kept_unit kept) true (most_of kept) x full holds.byte is
-done_is_exact (FromNth count front) x full holds is = (λ yes. absurd (false≢true (sym is ∙ yes)), λ never. absurd never)
-done_is_exact (Last kept) x full holds is = (λ yes. absurd (false≢true (sym is ∙ yes)), λ never. absurd never)
+done_is_exact ends x full holds is = (λ yes. absurd (false≢true (sym is ∙ yes)), λ never. absurd never)
 
 pub full_is : (ends : Ends) (x : List ℕ) → Holds ends x → is_full ends ≡ (work ends).is_complete x
 full_is (First count front) x holds = ap (λ left. left == 0) (holds.left refl) ∙ none_left count (measure front.delim front.unit x) where
   none_left : (n m : ℕ) → (n - m == 0) ≡ nat_le n m
   none_left n m = grind (arith, nat_tests)
-full_is (ButLast kept) x holds = refl
-full_is (FromNth count front) x holds = refl
-full_is (Last kept) x holds = refl
+full_is ends x holds = refl
 
 -- where memory may be wanted, something is kept
 lacks_kept : (ends : Ends) → may_lack ends ≡ true → keeps (stretch_of ends) ≡ true
-lacks_kept (First count front) lacking = absurd (false≢true lacking)
-lacks_kept (ButLast kept) lacking = refl
-lacks_kept (FromNth count front) lacking = absurd (false≢true lacking)
-lacks_kept (Last kept) lacking = refl
+lacks_kept (First count front) lacking = cc
+lacks_kept ends lacking = cc
 
 pub met : (told : Bool) (ends : Ends) (piece bytes : List ℕ) (old new : List Slot) (f : Fault) → IsTrue (is_writable old 0)
     → Stops told (may_lack ends) bytes old new f → IsMet (work ends).means (work ends).means.feeding (may_lack ends ≡ true) (EndsWith Holds work ends piece) old new f
@@ -197,26 +180,17 @@ no_room told ends kept piece slots result is err =
 
 -- what a call owes for its result, from what the call within it gave
 
-pub on_ok : {P Q : Type 0} (result : Result (Unit {0}) Fault) → (P → Q) → OnOk result P → OnOk result Q
-on_ok (Ok u) also is = also is
-on_ok (Err f) also is = tt
-
 pub on_ok_each : {P P2 P3 Q : Type 0} (result : Result (Unit {0}) Fault) → (P → P2 → P3 → Q) → OnOk result P → OnOk result P2 → OnOk result P3 → OnOk result Q
 on_ok_each (Ok u) also is too three = also is too three
 on_ok_each (Err f) also is too three = tt
-
-pub if_err : {P Q : Fault → Type 0} (result : Result (Unit {0}) Fault) → ((f : Fault) → P f → Q f) → IfErr result P → IfErr result Q
-if_err (Ok u) also is = tt
-if_err (Err f) also is = also f is
 
 -- what is taken in of an input before any piece
 
 -- nothing waits before anything came in
 pub waits_none : (s : Stretch) (delim : ℕ) (unit : Counted) (n : ℕ) → (work_in s delim unit n).waiting [] ≡ []
 waits_none the_first delim unit n = refl
-waits_none all_but_last delim unit n = last_none delim unit n
 waits_none from_the_nth delim unit n = refl
-waits_none the_last delim unit n = last_none delim unit n
+waits_none s delim unit n = last_none delim unit n
 
 last_within : (delim : ℕ) (unit : Counted) (n : ℕ) (x : List ℕ) → length (last_of delim unit n x) ≤ length x
 last_within delim unit n x = omega (arith, sym (length-append (but_last_of delim unit n x) (last_of delim unit n x)) ∙ ap length (ends_together delim unit n x))
@@ -224,35 +198,26 @@ last_within delim unit n x = omega (arith, sym (length-append (but_last_of delim
 -- no more waits than came in
 pub waits_within : (s : Stretch) (delim : ℕ) (unit : Counted) (n : ℕ) (x : List ℕ) → length ((work_in s delim unit n).waiting x) ≤ length x
 waits_within the_first delim unit n x = omega arith
-waits_within all_but_last delim unit n x = last_within delim unit n x
 waits_within from_the_nth delim unit n x = omega arith
-waits_within the_last delim unit n x = last_within delim unit n x
+waits_within s delim unit n x = last_within delim unit n x
 
 -- only where the last are asked for is a front taken in, and of these nothing is written before the end
 
 settled_same : (s : Stretch) (delim : ℕ) (unit : Counted) (n : ℕ) (x : List ℕ) → (is_last s ≡ false → x ≡ []) → (work_in s delim unit n).settled x ≡ (work_in s delim unit n).settled []
-settled_same the_first delim unit n x none = ap (work_in the_first delim unit n).settled (none refl)
-settled_same all_but_last delim unit n x none = ap (work_in all_but_last delim unit n).settled (none refl)
-settled_same from_the_nth delim unit n x none = ap (work_in from_the_nth delim unit n).settled (none refl)
 settled_same the_last delim unit n x none = refl
+settled_same s delim unit n x none = ap (work_in s delim unit n).settled (none refl)
 
 goes_on : (s : Stretch) (delim : ℕ) (unit : Counted) (n : ℕ) (x : List ℕ) → (is_last s ≡ false → x ≡ []) → (x ≡ []) ⊎ ((work_in s delim unit n).is_complete x ≡ false)
-goes_on the_first delim unit n x none = inl (none refl)
-goes_on all_but_last delim unit n x none = inl (none refl)
-goes_on from_the_nth delim unit n x none = inl (none refl)
 goes_on the_last delim unit n x none = inr refl
+goes_on s delim unit n x none = inl (none refl)
 
 not_last : (s : Stretch) → keeps s ≡ false → is_last s ≡ false
-not_last the_first none = refl
-not_last all_but_last none = refl
-not_last from_the_nth none = refl
-not_last the_last none = absurd (false≢true (sym none))
+not_last the_last none = cc
+not_last s none = refl
 
 past_same : (s : Stretch) (delim : ℕ) (unit : Counted) (n : ℕ) (x : List ℕ) → (is_last s ≡ false → x ≡ []) → past_in s delim unit n [] ≡ past_in s delim unit n x
 past_same the_first delim unit n x none = ap (past_in the_first delim unit n) (sym (none refl))
-past_same all_but_last delim unit n x none = refl
-past_same from_the_nth delim unit n x none = refl
-past_same the_last delim unit n x none = refl
+past_same s delim unit n x none = refl
 
 pub loads : (told : Bool) (slot count : ℕ) (ends next : Ends) (old new : List Source) → Holds ends [] → SameAsked ends next → left_of next ≡ left_of ends → past_of next ≡ past_of ends → (is_last (stretch_of ends) ≡ false → count ≡ 0)
     → Passes told slot count (λ x. waiting_of next ≡ waiting ends x) old new → FullLacksNone next → Loads Holds (λ (those : Ends) slots. IsTrue (is_writable slots 0)) OwnsNone work told slot count ends next old new

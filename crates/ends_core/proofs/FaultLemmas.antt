@@ -7,7 +7,7 @@ use Rattle.ports_core.specs.Work.{Means, on_output}
 use Rattle.ports_core.specs.Engine.{EndsWith, IsCaused, IsMet, over, long, met}
 use Rattle.ports_core.specs.Guard.{GuardState, HoldsIn}
 use Rattle.ports_core.specs.declared.fault.Fault.{Fault}
-use Rattle.ports_core.specs.declared.fault.Fault.TheVariants.{Memory, Write, Read, Open, Suffixes, NoMatch, Range, Usage, Failed, TooLong}
+use Rattle.ports_core.specs.declared.fault.Fault.TheVariants.{Memory, Write, Read, Open, Usage, Failed, TooLong}
 use Rattle.ends_core.specs.declared.ends.Ends.{Ends}
 use Rattle.ends_core.specs.Stage.{Holds, IsRefused, count_of, delim_of, keeps, may_lack, stretch_of, unit_of, work}
 use Rattle.ends_core.proofs.EndsLemmas.{always_well, on_means}
@@ -18,13 +18,11 @@ only_writes : (memory lacks : Bool) (Ends : Fault → Type 0) (old new : List Sl
 only_writes memory lacks Ends old new Memory enough well cause = absurd (false≢true (sym enough ∙ cause.1))
 only_writes memory lacks Ends old new (Write slot) enough well cause = inl (ap Write (cause.1 refl))
 only_writes memory lacks Ends old new (Open slot) enough well cause = absurd (false≢true cause.0)
-only_writes memory lacks Ends old new Suffixes enough well cause = absurd (well Suffixes cause)
-only_writes memory lacks Ends old new (NoMatch operand repetition) enough well cause = absurd (well (NoMatch operand repetition) cause)
-only_writes memory lacks Ends old new (Range operand repetition) enough well cause = absurd (well (Range operand repetition) cause)
 only_writes memory lacks Ends old new Failed enough well cause = absurd cause
 only_writes memory lacks Ends old new TooLong enough well cause = absurd cause
 only_writes memory lacks Ends old new (Read slot) enough well cause = absurd cause
 only_writes memory lacks Ends old new (Usage kind word) enough well cause = absurd cause
+only_writes memory lacks Ends old new verdict enough well cause = absurd (well verdict cause)
 
 only_these : (memory lacks is_over : Bool) (Ends : Fault → Type 0) (fed size : ℕ) (old new : List Slot) (fault : Fault) → is_over ≡ false → lacks ≡ false → ((other : Fault) → Ends other → ⊥)
     → IsCaused (IsMet (on_output memory) (on_output memory).feeding (lacks ≡ true) Ends old new) is_over fed size old new fault → (fault ≡ Write 0) ⊎ (fault ≡ TooLong)

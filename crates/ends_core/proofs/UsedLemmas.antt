@@ -147,9 +147,7 @@ may_get (First count front) x piece after n holds going within same later spare 
   | inl none ↦ omega (arith, spare.long, ap length none)
   | inr complete ↦ few_spare front.delim front.unit count front.left n x piece spare (holds.left refl) (leb-false count (measure front.delim front.unit x) going) (leb-true count (measure front.delim front.unit spare.used) complete) within
 ]
-may_get (ButLast kept) x piece after n holds going within same later spare = omega (arith, none_spare (work (ButLast kept)) (x ++ piece) n (lawful (ButLast kept)) refl spare)
-may_get (FromNth count front) x piece after n holds going within same later spare = omega (arith, none_spare (work (FromNth count front)) (x ++ piece) n (lawful (FromNth count front)) refl spare)
-may_get (Last kept) x piece after n holds going within same later spare = omega (arith, none_spare (work (Last kept)) (x ++ piece) n (lawful (Last kept)) refl spare)
+may_get ends x piece after n holds going within same later spare = omega (arith, none_spare (work ends) (x ++ piece) n (lawful ends) refl spare)
 
 some_wanted : (unit : Counted) (left : ℕ) → 0 < left → 0 < piece_for unit left
 some_wanted Lines left some = omega (arith, some)
@@ -157,6 +155,4 @@ some_wanted Bytes left some = some
 
 pub wants_some : (ends : Ends) (x : List ℕ) → Holds ends x → (work ends).is_complete x ≡ false → 0 < wanted_by ends
 wants_some (First count front) x holds going = some_wanted front.unit front.left (omega (arith, holds.left refl, leb-false count (measure front.delim front.unit x) going))
-wants_some (ButLast kept) x holds going = omega arith
-wants_some (FromNth count front) x holds going = omega arith
-wants_some (Last kept) x holds going = omega arith
+wants_some ends x holds going = omega arith

@@ -1,10 +1,11 @@
 use Rattle.std.proofs.Common.{◌<◌, ◌∙◌, sym, ap, subst, length, arith}
+use Rattle.std.proofs.lemmas.Result.{on_ok_weaker, IfErr-weaker}
 use Rattle.ports_core.specs.Work.{IsSpare}
 use Rattle.ports_core.specs.Engine.{MayGet}
 use Rattle.ends_core.specs.Stage.{Holds, work, count_of, delim_of, stretch_of, unit_of}
 use Rattle.ends_core.specs.inner.Stage.{due, due_at_end}
 use Rattle.ends_core.proofs.StopLemmas.{writable_still}
-use Rattle.ends_core.proofs.EndsLemmas.{on_ok, on_ok_each, if_err, same_work, takes_in, puts_out, cuts_off, met, finishes, ends_short, end_met, loads, waits_within, full_is, done_is_exact}
+use Rattle.ends_core.proofs.EndsLemmas.{on_ok_each, same_work, takes_in, puts_out, cuts_off, met, finishes, ends_short, end_met, loads, waits_within, full_is, done_is_exact}
 use Rattle.ends_core.proofs.UsedLemmas.{may_get, spare_here, wants_some}
 use Rattle.ends_core.proofs.ends.EndsStage.TheImpl.Goals as goal
 
@@ -15,12 +16,12 @@ pass-tells g c =
       same = same_work ends c.new.self.now c.ensures.same;
       size = c.ensures.bound;
       holds = on_ok_each c.result (λ left waits full. takes_in ends c.new.self.now piece c.ensures.same c.ensures.past left waits full) c.ensures.left c.ensures.waits c.ensures.full;
-      outputs = on_ok c.result (λ wrote. puts_out g.O.Outs.told ends piece _ _ wrote) c.ensures.out;
-      ready = on_ok c.result (λ wrote. writable_still g.O.Outs.told _ _ (due ends piece) c.requires.ready wrote) c.ensures.out;
+      outputs = on_ok_weaker c.result (λ wrote. puts_out g.O.Outs.told ends piece _ _ wrote) c.ensures.out;
+      ready = on_ok_weaker c.result (λ wrote. writable_still g.O.Outs.told _ _ (due ends piece) c.requires.ready wrote) c.ensures.out;
       owns = λ first own. tt;
       there = λ are. tt;
-      cut = if_err c.result (λ fault stops. cuts_off g.O.Outs.told _ ends piece _ _ fault stops) c.ensures.cut;
-      met = if_err c.result (λ fault stops. met g.O.Outs.told ends piece _ _ _ fault c.requires.ready stops) c.ensures.cut;
+      cut = IfErr-weaker c.result _ _ (λ fault stops. cuts_off g.O.Outs.told _ ends piece _ _ fault stops) c.ensures.cut;
+      met = IfErr-weaker c.result _ _ (λ fault stops. met g.O.Outs.told ends piece _ _ _ fault c.requires.ready stops) c.ensures.cut;
     }
 
 pub finish-tells : goal.finish-tells
@@ -28,12 +29,12 @@ finish-tells g c =
     let ends = c.args.self.now in record {
       same = same_work ends c.new.self.now c.ensures.same;
       size = c.ensures.bound;
-      outputs = on_ok c.result (λ wrote. finishes g.O.Outs.told ends _ _ wrote) c.ensures.out;
-      writable = on_ok c.result (λ wrote output. writable_still g.O.Outs.told _ _ (due_at_end ends) c.requires.ready wrote) c.ensures.out;
+      outputs = on_ok_weaker c.result (λ wrote. finishes g.O.Outs.told ends _ _ wrote) c.ensures.out;
+      writable = on_ok_weaker c.result (λ wrote output. writable_still g.O.Outs.told _ _ (due_at_end ends) c.requires.ready wrote) c.ensures.out;
       owns = λ first own. tt;
       there = λ are. tt;
-      cut = if_err c.result (λ fault stops. ends_short g.O.Outs.told _ ends _ _ fault stops) c.ensures.cut;
-      met = if_err c.result (λ fault stops. end_met g.O.Outs.told ends _ _ _ fault c.requires.ready stops) c.ensures.cut;
+      cut = IfErr-weaker c.result _ _ (λ fault stops. ends_short g.O.Outs.told _ ends _ _ fault stops) c.ensures.cut;
+      met = IfErr-weaker c.result _ _ (λ fault stops. end_met g.O.Outs.told ends _ _ _ fault c.requires.ready stops) c.ensures.cut;
     }
 
 pub load-tells : goal.load-tells
