@@ -5,7 +5,7 @@ use Rattle.std.specs.List.{list_all}
 use Rattle.std.proofs.lemmas.Bool.{cond-true, cond-false, cond_both, cases_Bool, and_parts, and_from, eqb-true, leb-true, le-leb, false≢true}
 use Rattle.std.proofs.lemmas.Option.{none-some, same_Some, cond_some, option_and_then_some}
 use Rattle.bre_core.specs.declared.token.Context.{Context}
-use Rattle.bre_core.specs.declared.token.Context.TheVariants.{Opening, Anchored, Inner}
+use Rattle.bre_core.specs.declared.token.Context.TheVariants.{Inner}
 use Rattle.bre_core.specs.declared.token.Token.{Token}
 use Rattle.bre_core.specs.declared.token.Token.TheVariants.{Repeat}
 use Rattle.bre_core.specs.Bracket.{begins_with}
@@ -70,8 +70,6 @@ number_found text number rest e =
     front_some text number rest tests.0 found.1 (omega (arith, within, ap (λ f. f.0) found.1))
 
 closed : (text rest : List ℕ) → after_close text ≡ Some rest → text ≡ close rest
-closed [] rest e = absurd (none-some _ e)
-closed (byte ∷ []) rest e = absurd (none-some _ e)
 closed (byte ∷ brace ∷ text) rest e =
     let inner = cond_some (eqb byte 92 && eqb brace 125) text rest e in
     let tests = and_parts (eqb byte 92) (eqb brace 125) inner.0 in
@@ -79,6 +77,7 @@ closed (byte ∷ brace ∷ text) rest e =
     let g : brace ≡ 125 = eqb-true brace 125 tests.1 in
     let h : text ≡ rest = inner.1 in
     cc (f, g, h)
+closed text rest e = absurd (none-some _ e)
 
 -- bounds that are spelled are read
 pub bounds_read : (text rest : List ℕ) (low : ℕ) (high : Option ℕ) → AreBounds text low high → interval_at (text ++ close rest) ≡ Some ((low, high), rest)
@@ -174,12 +173,11 @@ bounds_found text low high rest e =
     subst (λ t. Found t low high rest) (sym first.2) (after_number first.0 found.0 first.1 found.1 low high rest ends))
 
 interval_found : (context : Context) (text rest : List ℕ) (token : Token) → BeginsWithToken context (92 ∷ 123 ∷ text) token rest → (context ≡ Inner) × IsInterval text token rest
-interval_found Opening text rest token e = absurd (none-some _ e)
-interval_found Anchored text rest token e = absurd (none-some _ e)
 interval_found Inner text rest token e =
     let read = mapped {B = Token × List ℕ} (λ found. (Repeat found.0.0 found.0.1, found.1)) (interval_at text) (token, rest) e in
     let found = bounds_found text read.0.0.0 read.0.0.1 rest (read.1 ∙ ap (λ p. Some (read.0.0, p.1)) read.2) in
     (refl, record { inner = found.inner; low = read.0.0.0; high = read.0.0.1; bounds = found.bounds; whole = found.whole; repeats = sym (ap (λ p. p.0) read.2) })
+interval_found context text rest token e = absurd (none-some _ e)
 
 -- after `\{`
 pub interval_read : (context : Context) (text rest : List ℕ) (token : Token) → BeginsWithToken context (92 ∷ 123 ∷ text) token rest ↔ ((context ≡ Inner) × IsInterval text token rest)

@@ -141,7 +141,6 @@ contains_tells pattern line = let t = tells pattern line in (
 
 -- two truth values of one fact are the same
 pub one_truth : (a b : Bool) (Fact : Type 0) → IsTrue a ↔ Fact → IsTrue b ↔ Fact → a ≡ b
-one_truth true true Fact f g = refl
-one_truth false false Fact f g = refl
 one_truth true false Fact f g = sym (g.1 (f.0 refl))
 one_truth false true Fact f g = f.1 (g.0 refl)
+one_truth a b Fact f g = refl

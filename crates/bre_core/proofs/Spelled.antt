@@ -47,17 +47,7 @@ no_opening (symbol byte) text = refl
 
 named_read : (name : Class) (text : List ℕ) → element_at (part_before (class name) text) ≡ Some (Named name, text)
 named_read Upper text = refl
-named_read Lower text = refl
-named_read Alpha text = refl
-named_read Digit text = refl
-named_read Alnum text = refl
-named_read Xdigit text = refl
-named_read Blank text = refl
-named_read Space text = refl
-named_read Cntrl text = refl
-named_read Graph text = refl
-named_read Print text = refl
-named_read Punct text = refl
+named_read name text = refl
 
 part_read : (part : Part) (text : List ℕ) → IsItself part text → option_and_then (λ found. member_from found.0 found.1) (element_at (part_before part text)) ≡ Some (member_of part, text)
 part_read (single spelling) text itself = ap (option_and_then (λ found. member_from found.0 found.1)) (element_read spelling text itself.0) ∙ cond-false _ _ _ itself.1
@@ -119,10 +109,9 @@ symbols_stand first (InClass name ∷ members) rest ordered = (may first, tt, sy
     may false = (refl, refl)
 
 no_caret : (complemented : Bool) (members : List Member) (rest : List ℕ) → members ≢ [] → begins_with 94 (list_before complemented (map in_symbols members) rest) ≡ complemented
-no_caret true members rest some = refl
 no_caret false [] rest some = absurd (some refl)
 no_caret false (Range low high ∷ members) rest some = refl
-no_caret false (InClass name ∷ members) rest some = refl
+no_caret complemented members rest some = refl
 
 some_parts : (members : List Member) → members ≢ [] → map in_symbols members ≢ []
 some_parts [] some e = some refl
@@ -150,9 +139,6 @@ ElementIs (Same byte) text rest = text ≡ part_before (equivalents byte) rest
 ElementIs (Named name) text rest = text ≡ part_before (class name) rest
 
 enclosed_found : (mark : ℕ) (text : List ℕ) (byte : ℕ) (rest : List ℕ) → enclosed mark text ≡ Some (byte, rest) → text ≡ byte ∷ mark ∷ 93 ∷ rest
-enclosed_found mark [] byte rest e = absurd (none-some _ e)
-enclosed_found mark (first ∷ []) byte rest e = absurd (none-some _ e)
-enclosed_found mark (first ∷ second ∷ []) byte rest e = absurd (none-some _ e)
 enclosed_found mark (first ∷ second ∷ third ∷ text) byte rest e =
     let found = cond_some (eqb second mark && eqb third 93) (first, text) (byte, rest) e in
     let tests = and_parts (eqb second mark) (eqb third 93) found.0 in
@@ -161,6 +147,7 @@ enclosed_found mark (first ∷ second ∷ third ∷ text) byte rest e =
     let h : third ≡ 93 = eqb-true third 93 tests.1 in
     let k : text ≡ rest = ap (λ p. p.1) found.1 in
     cc (f, g, h, k)
+enclosed_found mark text byte rest e = absurd (none-some _ e)
 
 name_found : (text name rest : List ℕ) → name_at text ≡ Some (name, rest) → text ≡ name ++ (58 ∷ 93 ∷ rest)
 name_found [] name rest e = absurd (none-some _ e)
@@ -254,8 +241,6 @@ dash_inside (byte ∷ text) e =
 
 range_found : (text : List ℕ) (low : Spelling) (after : List ℕ) (element : Element) (member : Member) (left rest : List ℕ)
     → text ≡ byte_before low (45 ∷ after) → begins_with 93 after ≡ false → ElementIs element after left → range_to (byte_of low) element left ≡ Some (member, rest) → Spells text member rest
-range_found text low after (Same byte) member left rest whole unclosed high e = absurd (none-some _ e)
-range_found text low after (Named name) member left rest whole unclosed high e = absurd (none-some _ e)
 range_found text low after (Point byte) member left rest whole unclosed high e =
     let found = cond_some (nat_le (byte_of low) byte) (Range (byte_of low) byte, left) (member, rest) e in
     let ends : left ≡ rest = ap (λ p. p.1) found.1 in
@@ -270,6 +255,7 @@ range_found text low after (Point byte) member left rest whole unclosed high e =
       whole = whole ∙ ap (λ t. byte_before low (45 ∷ t)) spelled;
       same = sym (ap (λ p. p.0) found.1) ∙ ap (λ b. Range (byte_of low) b) (sym high.1);
     }
+range_found text low after element member left rest whole unclosed high e = absurd (none-some _ e)
 
 from_found : (text : List ℕ) (element : Element) (after : List ℕ) (member : Member) (rest : List ℕ) → ElementIs element text after → member_from element after ≡ Some (member, rest) → Spells text member rest
 from_found text (Same byte) after member rest is e =
@@ -339,29 +325,26 @@ has_parts text members parts end way same none =
 pub list_found : (text : List ℕ) (set : List Bool) (rest : List ℕ) (found : IsBracket text set rest) → IsSpelled text found.members set rest
 list_found text set rest found = go (cases_Bool (begins_with 94 text))
   where
-    go : (begins_with 94 text ≡ true) ⊎ (begins_with 94 text ≡ false) → IsSpelled text found.members set rest
-    go (inl caret) =
-        let way = subst (λ t. Steps ReadsMember (true, t) found.members (false, 93 ∷ rest)) (cond-true _ _ _ caret) found.way in
-        let all = members_found true (drop 1 text) found.members (93 ∷ rest) way in
+    spelled : (complemented : Bool) (after : List ℕ) → begins_with 94 text ≡ complemented → Steps ReadsMember (true, after) found.members (false, 93 ∷ rest)
+        → ((parts : List Part) → after ≡ parts_before parts (93 ∷ rest) → text ≡ list_before complemented parts rest) → IsSpelled text found.members set rest
+    spelled complemented after caret way whole =
+        let all = members_found true after found.members (93 ∷ rest) way in
+        let is = whole all.parts all.whole in
         record {
-          complemented = true;
+          complemented = complemented;
           parts = all.parts;
-          list = record { some = has_parts (drop 1 text) found.members all.parts (93 ∷ rest) way all.same; stand = all.stand; caret = refl };
-          whole = begun 94 text caret ∙ ap (λ t. 94 ∷ t) all.whole;
+          list = record { some = has_parts after found.members all.parts (93 ∷ rest) way all.same; stand = all.stand; caret = subst (λ t. begins_with 94 t ≡ complemented) is caret };
+          whole = is;
           same = all.same;
           bytes = found.bytes ∙ ap (λ b. matched_bytes b found.members) caret;
         }
-    go (inr other) =
-        let way = subst (λ t. Steps ReadsMember (true, t) found.members (false, 93 ∷ rest)) (cond-false _ _ _ other) found.way in
-        let all = members_found true text found.members (93 ∷ rest) way in
-        record {
-          complemented = false;
-          parts = all.parts;
-          list = record { some = has_parts text found.members all.parts (93 ∷ rest) way all.same; stand = all.stand; caret = subst (λ t. begins_with 94 t ≡ false) all.whole other };
-          whole = all.whole;
-          same = all.same;
-          bytes = found.bytes ∙ ap (λ b. matched_bytes b found.members) other;
-        }
+
+    way_from : (after : List ℕ) → after_complement text ≡ after → Steps ReadsMember (true, after) found.members (false, 93 ∷ rest)
+    way_from after is = subst (λ t. Steps ReadsMember (true, t) found.members (false, 93 ∷ rest)) is found.way
+
+    go : (begins_with 94 text ≡ true) ⊎ (begins_with 94 text ≡ false) → IsSpelled text found.members set rest
+    go (inl caret) = spelled true (drop 1 text) caret (way_from (drop 1 text) (cond-true _ _ _ caret)) (λ parts whole. begun 94 text caret ∙ ap (λ t. 94 ∷ t) whole)
+    go (inr other) = spelled false text other (way_from text (cond-false _ _ _ other)) (λ parts whole. whole)
 
 -- two readings of one text have the same members
 pub same_list : (text : List ℕ) (one other : List Bool) (rest end : List ℕ) (found : IsBracket text one rest) (again : IsBracket text other end) → (found.members ≡ again.members) × (one ≡ other) × (rest ≡ end)
