@@ -76,9 +76,7 @@ pub spot_past : (place i : ℕ) (bytes : List ℕ) (outputs : List (List ℕ)) �
 spot_past place i bytes outputs past = ap (λ in_it. cond in_it (spot place i ∷ []) (spots_from (place + 1) outputs (i - length bytes))) (le-ltb i (length bytes) past)
 
 pub some_spot : (one : Spot) (spots : List Spot) → one ∷ spots ≡ [] → ⊥
-some_spot one spots is = none_of (ap length is) where
-  none_of : {n : ℕ} → suc n ≡ 0 → ⊥
-  none_of e = omega (arith, e)
+some_spot one spots is = cc
 
 pub same_spot : (one two : Spot) → one ∷ [] ≡ two ∷ [] → one ≡ two
 same_spot one two is = ap (λ those. get_or those 0 one) is

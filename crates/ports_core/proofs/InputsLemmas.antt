@@ -1,12 +1,11 @@
 -- Lemmas on what reads leave of the inputs of a run.
 use Rattle.std.proofs.Common.{◌≡◌, ℕ, ◌≤◌, max, zero, suc, Bool, true, false, not, ◌&&◌, IsTrue, List, [], ◌∷◌, ◌++◌, length, take, drop, slice_index_or, arith, append_assoc, refl, sym, ◌∙◌, ap, subst}
 use Rattle.std.proofs.lemmas.List.{append-nil, take-append-drop}
-use Rattle.std.proofs.lemmas.Bool.{false≢true}
+use Rattle.std.proofs.lemmas.Bool.{false≢true, and_parts, not-true}
 use Rattle.ports_core.specs.Inputs.{AsksAtMost, BreaksOnly, KeepsOthers, OfContent}
 use Rattle.ports_core.specs.Slot.{changed_at}
 use Rattle.ports_core.specs.Source.{Content, Source, source_at, source_of, is_readable, gives, fails, without, Gave, BrokeOff, IsFresh}
-use Rattle.ports_core.proofs.LoadLemmas.{changed_there}
-use Rattle.ports_core.proofs.SlotLemmas.{length-changed_at}
+use Rattle.ports_core.proofs.SlotLemmas.{changed_there, length-changed_at}
 use Rattle.ports_core.proofs.SourceLemmas.{readable_within}
 
 -- what was read of the input with this number so far, and what is left of it
@@ -22,9 +21,8 @@ nothing_read slot sources = record { bytes = refl; breaks_off = refl }
 pub changed_elsewhere : {X : Type 0} (default : X) (place other : ℕ) (change : X → X) (xs : List X) → (other ≡ place → ⊥) → slice_index_or (changed_at place change xs) other default ≡ slice_index_or xs other default
 changed_elsewhere default place other change [] differs = refl
 changed_elsewhere default zero zero change (x ∷ xs) differs = absurd (differs refl)
-changed_elsewhere default zero (suc other) change (x ∷ xs) differs = refl
-changed_elsewhere default (suc place) zero change (x ∷ xs) differs = refl
 changed_elsewhere default (suc place) (suc other) change (x ∷ xs) differs = changed_elsewhere default place other change xs (λ same. differs (ap suc same))
+changed_elsewhere default place other change xs differs = refl
 
 pub keeps_others : (slot : ℕ) (change : Source → Source) (old new : List Source) → new ≡ changed_at slot change old → KeepsOthers slot old new
 keeps_others slot change old new is = record {
@@ -47,11 +45,7 @@ changed_source slot change sources new can is = ap (λ those. source_at those sl
 
 -- an input that can be read didn't break
 pub sound_at : (sources : List Source) (slot : ℕ) → IsTrue (is_readable sources slot) → (source_at sources slot).is_broken ≡ false
-sound_at sources slot can = by_flags (source_at sources slot).is_open (source_at sources slot).is_broken can where
-  by_flags : (opened broken : Bool) → (opened && not broken) ≡ true → broken ≡ false
-  by_flags true false is = refl
-  by_flags true true is = absurd (false≢true is)
-  by_flags false broken is = absurd (false≢true is)
+sound_at sources slot can = not-true _ (and_parts (source_at sources slot).is_open _ can).1
 
 -- a read changes no flag
 pub still_readable : (slot : ℕ) (sources new : List Source) (size n : ℕ) → new ≡ changed_at slot (gives size n) sources → IsTrue (is_readable sources slot) → IsTrue (is_readable new slot)

@@ -1,10 +1,11 @@
 -- Lemmas on what an engine takes in without a read.
-use Rattle.std.proofs.Common.{◌≡◌, ℕ, zero, suc, ◌<◌, Bool, IsTrue, List, [], ◌∷◌, length, slice_index_or, inl, refl, sym, ◌∙◌, ap, arith}
+use Rattle.std.proofs.Common.{◌≡◌, ℕ, zero, suc, Bool, IsTrue, List, [], ◌∷◌, inl, refl, sym, ◌∙◌, ap}
 use Rattle.std.proofs.lemmas.List.{append-nil}
 use Rattle.ports_core.specs.Slot.{Slot, changed_at}
 use Rattle.ports_core.specs.Source.{Source, source_at, is_readable, skips}
 use Rattle.ports_core.specs.Work.{Work}
 use Rattle.ports_core.specs.Engine.{Loads}
+use Rattle.ports_core.proofs.SlotLemmas.{changed_there}
 use Rattle.ports_core.proofs.SourceLemmas.{readable_within}
 
 -- an input of which nothing is passed over is as it was
@@ -12,11 +13,6 @@ pub none_passed : (slot : ℕ) (sources : List Source) → sources ≡ changed_a
 none_passed slot [] = refl
 none_passed zero (source ∷ sources) = ap (λ (taken : List ℕ). record source { taken = taken } ∷ sources) (sym (append-nil source.taken))
 none_passed (suc slot) (source ∷ sources) = ap (λ those. source ∷ those) (none_passed slot sources)
-
-pub changed_there : {X : Type 0} (default : X) (place : ℕ) (change : X → X) (xs : List X) → place < length xs → slice_index_or (changed_at place change xs) place default ≡ change (slice_index_or xs place default)
-changed_there default place change [] within = absurd (omega arith)
-changed_there default zero change (x ∷ xs) within = refl
-changed_there default (suc place) change (x ∷ xs) within = changed_there default place change xs (omega arith)
 
 -- of an input that can be read a front was passed over
 pub passed_at : (slot count : ℕ) (old new : List Source) → IsTrue (is_readable old slot) → new ≡ changed_at slot (skips count) old → source_at new slot ≡ skips count (source_at old slot)

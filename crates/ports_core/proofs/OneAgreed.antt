@@ -2,10 +2,12 @@
 use Rattle.std.proofs.Common.{◌≡◌, ℕ, ◌+◌, ◌<◌, ◌≤◌, zero, suc, List, [], ◌∷◌, ◌++◌, length, map, take, drop, get_or, inl, inr, refl, sym, ◌∙◌, ap, subst, arith, length-append}
 use Rattle.std.proofs.Math.Seq.{drop-append_seam, take-append_seam}
 use Rattle.std.proofs.lemmas.Bool.{cases_lt}
+use Rattle.std.proofs.lemmas.List.{length-map}
 use Rattle.ports_core.specs.Part.{File, Part, IsBeginning, FilesBegin, Begins}
 use Rattle.ports_core.specs.Work.{Work}
 use Rattle.ports_core.specs.Agreed.{outputs_of, output_at, IsAgreed, Spot, IsUndecided}
 use Rattle.ports_core.proofs.AgreedLemmas.{none_comes}
+use Rattle.ports_core.proofs.PartLemmas.{no_fewer}
 
 -- beginnings of one text that are as long as each other are the same
 beginnings_same : (one other whole : List ℕ) → IsBeginning one whole → IsBeginning other whole → length one ≡ length other → one ≡ other
@@ -14,15 +16,9 @@ beginnings_same one other whole (rest, is) (more, are) same =
 
 lists_same : (one other : List (List ℕ)) → length one ≡ length other → ((place : ℕ) → place < length one → get_or one place [] ≡ get_or other place []) → one ≡ other
 lists_same [] [] count same = refl
-lists_same [] (bytes ∷ other) count same = absurd (omega (arith, count))
-lists_same (bytes ∷ one) [] count same = absurd (omega (arith, count))
 lists_same (bytes ∷ one) (those ∷ other) count same =
     ap (λ first. first ∷ one) (same zero (omega arith)) ∙ ap (λ rest. those ∷ rest) (lists_same one other (omega (arith, count)) (λ place less. same (suc place) (omega (arith, less))))
-
-files_fewer : (low high : List File) → FilesBegin low high → length (map (λ (file : File). file.bytes) low) ≤ length (map (λ (file : File). file.bytes) high)
-files_fewer [] high begins = omega arith
-files_fewer (file ∷ low) [] begins = absurd begins
-files_fewer (file ∷ low) (whole ∷ high) begins = (let rest = files_fewer low high begins.5 in omega (arith, rest))
+lists_same one other count same = absurd (omega (arith, count))
 
 files_at : (low high : List File) (place : ℕ) → FilesBegin low high → place < length (map (λ (file : File). file.bytes) low)
     → IsBeginning (get_or (map (λ (file : File). file.bytes) low) place []) (get_or (map (λ (file : File). file.bytes) high) place [])
@@ -32,7 +28,7 @@ files_at (file ∷ low) (whole ∷ high) zero begins less = begins.4
 files_at (file ∷ low) (whole ∷ high) (suc place) begins less = files_at low high place begins.5 (omega (arith, less))
 
 outputs_fewer : (low high : Part) → Begins low high → length (outputs_of low) ≤ length (outputs_of high)
-outputs_fewer low high begins = (let rest = files_fewer low.files high.files begins.files in omega (arith, rest))
+outputs_fewer low high begins = omega (arith, no_fewer low.files high.files begins.files, length-map low.files (λ (file : File). file.bytes), length-map high.files (λ (file : File). file.bytes))
 
 begins_at : (low high : Part) (place : ℕ) → Begins low high → place < length (outputs_of low) → IsBeginning (output_at low place) (output_at high place)
 begins_at low high zero begins less = begins.out

@@ -2,9 +2,8 @@
 use Rattle.std.proofs.Common.{◌≡◌, ℕ, ◌+◌, ◌<◌, ◌≤◌, zero, suc, List, [], ◌∷◌, ◌++◌, length, map, take, drop, Bool, true, false, IsTrue, ◌⊎◌, inl, inr, refl, sym, ◌∙◌, ap, subst, arith, append_assoc, length-append}
 use Rattle.std.proofs.Math.Seq.{take-length, take-append_seam}
 use Rattle.std.proofs.lemmas.List.{append-nil, take-append-drop, drop_all, length-map}
-use Rattle.std.proofs.lemmas.Bool.{false≢true}
-use Rattle.std.proofs.lemmas.Grind.{common_steps}
-use Rattle.ports_core.specs.Slot.{Slot, slot_at, is_writable, with_written, with_broken, told_of}
+use Rattle.std.proofs.lemmas.Bool.{false≢true, and_parts, not-true}
+use Rattle.ports_core.specs.Slot.{Slot, is_open, slot_at, is_writable, with_written, with_broken, told_of}
 use Rattle.ports_core.specs.Write.{BrokeAfter}
 use Rattle.ports_core.specs.Part.{File, Part, nothing, only_out, OutputsAt, IsBeginning, FilesBegin, Begins, IsNext, Marks, IsAt, InOrder, StoppedBetween, file_of, told_file}
 use Rattle.ports_core.specs.inner.Part.{AllClosed, InTurn, StoppedInTurn}
@@ -131,7 +130,7 @@ broken_at zero (slot ∷ slots) can = refl
 broken_at (suc place) (slot ∷ slots) can = broken_at place slots can
 
 pub sound_at : (place : ℕ) (slots : List Slot) → IsTrue (is_writable slots place) → (slot_at slots place).is_broken ≡ false
-sound_at place slots can = grind (arith, common_steps)
+sound_at place slots can = not-true _ (and_parts (is_open (slot_at slots place).state) _ can).1
 
 pub nothing_begins_part : (part : Part) → Begins nothing part
 nothing_begins_part part = record { out = nothing_begins part.out; files = tt }
@@ -144,12 +143,11 @@ marks_by IsName IsOther fault before after also is = is
 -- the files of a part are at their places in what it begins
 next_in : (part : Part) (name : List ℕ) (front : List File) (file : File) (rest files : List File) → FilesBegin (front ++ file ∷ rest) files → (count : ℕ) → length front ≡ count → file.name ≡ name
     → (these : List File) × (one : File) × (more : List File) × (files ≡ these ++ one ∷ more) × (length these ≡ count) × (one.name ≡ name)
-next_in part name [] file rest [] begins count place named = absurd begins
 next_in part name [] file rest (one ∷ more) begins count place named = ([], one, more, refl, place, sym begins.0 ∙ named)
-next_in part name (first ∷ front) file rest [] begins count place named = absurd begins
 next_in part name (first ∷ front) file rest (one ∷ more) begins count place named =
     let past = next_in part name front file rest more begins.5 (length front) refl named in
     (one ∷ past.0, past.1, past.2, ap (λ files. one ∷ files) past.3, ap suc past.4 ∙ place, past.5)
+next_in part name front file rest files begins count place named = absurd begins
 
 next_wider : (part high more : Part) → Begins high more → (name : List ℕ) → IsNext part high name → IsNext part more name
 next_wider part high more begins name next =
@@ -181,7 +179,7 @@ done_by (suc place) (file ∷ part) [] begins closed within = absurd begins
 done_by (suc place) (file ∷ part) (whole ∷ high) begins closed within =
     ap (λ one. one ∷ take place part) (closed_stays file whole closed.0 begins.3) ∙ ap (λ rest. whole ∷ rest) (done_by place part high begins.5 closed.1 (omega arith))
 
-no_fewer : (low part : List File) → FilesBegin low part → length low ≤ length part
+pub no_fewer : (low part : List File) → FilesBegin low part → length low ≤ length part
 no_fewer [] part begins = omega arith
 no_fewer (file ∷ low) [] begins = absurd begins
 no_fewer (file ∷ low) (whole ∷ part) begins = let fewer : length low ≤ length part = no_fewer low part begins.5 in omega arith

@@ -10,7 +10,7 @@ use Rattle.ports_core.specs.inner.Write.{WritesShort, broke}
 use Rattle.ports_core.specs.declared.fault.Fault.{Fault}
 use Rattle.ports_core.specs.declared.slot.Mode.{Mode}
 use Rattle.ports_core.specs.declared.slot.State.{State}
-use Rattle.ports_core.specs.declared.slot.State.TheVariants.{Open, Closed, Removed, Unopened}
+use Rattle.ports_core.specs.declared.slot.State.TheVariants.{Open}
 use Rattle.ports_core.proofs.PartLemmas.{sound_at, broken_at}
 use Rattle.ports_core.proofs.SlotLemmas.{length-changed_at, slot_at-elsewhere}
 use Rattle.ports_core.proofs.WriteLemmas.{writable-written}
@@ -20,9 +20,8 @@ use Rattle.ports_core.proofs.WriteLemmas.{writable-written}
 flag_stays : (change : Slot → Slot) → ((slot : Slot) → (change slot).is_broken ≡ slot.is_broken) → (place other : ℕ) (slots : List Slot) → (slot_at (changed_at place change slots) other).is_broken ≡ (slot_at slots other).is_broken
 flag_stays change same place other [] = refl
 flag_stays change same zero zero (slot ∷ slots) = same slot
-flag_stays change same zero (suc other) (slot ∷ slots) = refl
-flag_stays change same (suc place) zero (slot ∷ slots) = refl
 flag_stays change same (suc place) (suc other) (slot ∷ slots) = flag_stays change same place other slots
+flag_stays change same place other slots = refl
 
 pub keeps_same : (old new : List Slot) → new ≡ old → KeepsBroken old new
 keeps_same old new is place sound = ap (λ those. (slot_at those place).is_broken) (sym is) ∙ sound
@@ -126,9 +125,7 @@ writable_elsewhere old new slot place change differs is can = ap (λ those. is_w
 
 pub open_has_file : (state : State) (broken : Bool) → (is_open state && not broken) ≡ true → has_file state ≡ true
 open_has_file Open broken can = refl
-open_has_file Closed broken can = absurd (false≢true can)
-open_has_file Removed broken can = absurd (false≢true can)
-open_has_file Unopened broken can = absurd (false≢true can)
+open_has_file state broken can = absurd (false≢true can)
 
 pub none_past : (slots : List Slot) (place : ℕ) → length slots ≤ place → has_file (slot_at slots place).state ≡ false
 none_past slots place past = ap (λ (one : Slot). has_file one.state) (get_or_past slots place no_slot past)
@@ -161,9 +158,8 @@ made_again old mid new first second = record { size = second.size ∙ first.size
 file_stays : (change : Slot → Slot) (place other : ℕ) (slots : List Slot) → has_file (change (slot_at slots place)).state ≡ has_file (slot_at slots place).state → has_file (slot_at (changed_at place change slots) other).state ≡ has_file (slot_at slots other).state
 file_stays change place other [] same = refl
 file_stays change zero zero (slot ∷ slots) same = same
-file_stays change zero (suc other) (slot ∷ slots) same = refl
-file_stays change (suc place) zero (slot ∷ slots) same = refl
 file_stays change (suc place) (suc other) (slot ∷ slots) same = file_stays change place other slots same
+file_stays change place other slots same = refl
 
 made_change : (change : Slot → Slot) (slot : ℕ) (old new : List Slot) → has_file (change (slot_at old slot)).state ≡ has_file (slot_at old slot).state → new ≡ changed_at slot change old → KeepsMade old new
 made_change change slot old new same is = record {

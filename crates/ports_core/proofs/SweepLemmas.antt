@@ -1,6 +1,6 @@
 -- Lemmas on removing many files.
 use Rattle.std.proofs.Common.{◌≡◌, ℕ, ◌+◌, ◌<◌, ◌≤◌, zero, suc, eqb, eqb-true, eq-eqb, Bool, true, false, ◌||◌, List, [], ◌∷◌, ◌++◌, length, get_or, set, take, drop, Result, Ok, Err, is_ok, OnOk, IfErr, IsTrue, refl, sym, ◌∙◌, ap, subst, arith, length-set, take-suc, take-suc-set, drop-cons, drop-set-lt}
-use Rattle.std.proofs.lemmas.Bool.{false≢true}
+use Rattle.std.proofs.lemmas.Bool.{false≢true, or_parts}
 use Rattle.ports_core.specs.Slot.{Slot, has_file, slot_at, changed_at, with_broken, removes, closes, breaks, is_removable}
 use Rattle.ports_core.specs.Swept.{Cleared, SweptFrom, removed, stuck, none, is_among, AreThere, Removes, all_tried, goes, stays}
 use Rattle.ports_core.specs.declared.fault.Fault.{Fault}
@@ -8,10 +8,6 @@ use Rattle.ports_core.specs.declared.fault.Fault.TheVariants as fault
 use Rattle.ports_core.proofs.SlotLemmas.{length-changed_at, changed_at-again, slot_at-elsewhere}
 
 -- Among others
-
-both_false : (a b : Bool) → (a || b) ≡ false → (a ≡ false) × (b ≡ false)
-both_false true b is = absurd (false≢true (sym is))
-both_false false b is = (refl, is)
 
 differs : (place one : ℕ) → eqb place one ≡ false → place ≡ one → ⊥
 differs place one is same = false≢true (sym is ∙ eq-eqb place one same)
@@ -33,14 +29,10 @@ there place change [] has = absurd (false≢true has)
 there zero change (slot ∷ slots) has = refl
 there (suc place) change (slot ∷ slots) has = there place change slots has
 
--- the file of an output that can be removed
-has_one : (place : ℕ) (slots : List Slot) → is_removable slots place → has_file (slot_at slots place).state ≡ true
-has_one place slots can = can.1
-
 still_there : (files : List ℕ) (place : ℕ) (change : Slot → Slot) (slots : List Slot) → is_among place files ≡ false → AreThere files slots → AreThere files (changed_at place change slots)
 still_there [] place change slots apart are = tt
 still_there (one ∷ files) place change slots apart are =
-    let both = both_false (eqb place one) (is_among place files) apart in (
+    let both = or_parts (eqb place one) (is_among place files) apart in (
       (are.0.0, subst (λ (slot : Slot). IsTrue (has_file slot.state)) (sym (slot_at-elsewhere place one change slots (λ same. differs place one both.0 (sym same)))) are.0.1),
       are.1,
       still_there files place change slots both.1 are.2,
@@ -144,23 +136,23 @@ stuck_at place one slots is = elsewhere place one breaks (changed_at one closes 
 pub others_same : (files left : List ℕ) (old new : List Slot) (place : ℕ) → Removes files old left new → is_among place files ≡ false → slot_at new place ≡ slot_at old place
 others_same files left old new place (all_tried slots) apart = refl
 others_same files left old new place (goes one places left' old' new' rest) apart =
-    let both = both_false (eqb place one) (is_among place places) apart in others_same places left' (changed_at one removes old') new' place rest both.1 ∙ elsewhere place one removes old' both.0
+    let both = or_parts (eqb place one) (is_among place places) apart in others_same places left' (changed_at one removes old') new' place rest both.1 ∙ elsewhere place one removes old' both.0
 others_same files left old new place (stays one places left' old' new' rest) apart =
-    let both = both_false (eqb place one) (is_among place places) apart in others_same places left' (with_broken one (changed_at one closes old')) new' place rest both.1 ∙ stuck_at place one old' both.0
+    let both = or_parts (eqb place one) (is_among place places) apart in others_same places left' (with_broken one (changed_at one closes old')) new' place rest both.1 ∙ stuck_at place one old' both.0
 
 -- those that are left are some of them
 pub left_apart : (files left : List ℕ) (old new : List Slot) (place : ℕ) → Removes files old left new → is_among place files ≡ false → is_among place left ≡ false
 left_apart files left old new place (all_tried slots) apart = refl
-left_apart files left old new place (goes one places left' old' new' rest) apart = left_apart places left' (changed_at one removes old') new' place rest (both_false (eqb place one) (is_among place places) apart).1
+left_apart files left old new place (goes one places left' old' new' rest) apart = left_apart places left' (changed_at one removes old') new' place rest (or_parts (eqb place one) (is_among place places) apart).1
 left_apart files left old new place (stays one places left' old' new' rest) apart =
-    let both = both_false (eqb place one) (is_among place places) apart in
+    let both = or_parts (eqb place one) (is_among place places) apart in
     ap (λ b. b || is_among place left') both.0 ∙ left_apart places left' (with_broken one (changed_at one closes old')) new' place rest both.1
 
 gone_at : (one : ℕ) (slots : List Slot) → is_removable slots one → slot_at (changed_at one removes slots) one ≡ removes (slot_at slots one)
-gone_at one slots can = there one removes slots (has_one one slots can)
+gone_at one slots can = there one removes slots can.1
 
 stuck_here : (one : ℕ) (slots : List Slot) → is_removable slots one → slot_at (with_broken one (changed_at one closes slots)) one ≡ breaks (closes (slot_at slots one))
-stuck_here one slots can = ap (λ those. slot_at those one) (changed_at-again one closes breaks slots) ∙ there one (λ slot. breaks (closes slot)) slots (has_one one slots can)
+stuck_here one slots can = ap (λ those. slot_at those one) (changed_at-again one closes breaks slots) ∙ there one (λ slot. breaks (closes slot)) slots can.1
 
 after_gone : (one : ℕ) (places : List ℕ) (slots : List Slot) → AreThere (one ∷ places) slots → AreThere places (changed_at one removes slots)
 after_gone one places slots are = still_there places one removes slots are.1 are.2
@@ -173,12 +165,12 @@ pub each_cleared : (files left : List ℕ) (old new : List Slot) (place : ℕ) �
 each_cleared files left old new place (all_tried slots) are has = none has
 each_cleared files left old new place (goes one places left' old' new' rest) are has = by_place place one
     (λ same. subst (λ at. Cleared (slot_at old' at) (slot_at new' at)) (sym same)
-    (subst (Cleared (slot_at old' one)) (sym (others_same places left' (changed_at one removes old') new' one rest are.1 ∙ gone_at one old' are.0)) (removed (has_one one old' are.0))))
+    (subst (Cleared (slot_at old' one)) (sym (others_same places left' (changed_at one removes old') new' one rest are.1 ∙ gone_at one old' are.0)) (removed are.0.1)))
     (λ other. subst (λ slot. Cleared slot (slot_at new' place)) (elsewhere place one removes old' other)
     (each_cleared places left' (changed_at one removes old') new' place rest (after_gone one places old' are) (ap (λ (slot : Slot). has_file slot.state) (elsewhere place one removes old' other) ∙ has ∙ among_rest place one places other)))
 each_cleared files left old new place (stays one places left' old' new' rest) are has = by_place place one
     (λ same. subst (λ at. Cleared (slot_at old' at) (slot_at new' at)) (sym same)
-    (subst (Cleared (slot_at old' one)) (sym (others_same places left' (with_broken one (changed_at one closes old')) new' one rest are.1 ∙ stuck_here one old' are.0)) (stuck (has_one one old' are.0))))
+    (subst (Cleared (slot_at old' one)) (sym (others_same places left' (with_broken one (changed_at one closes old')) new' one rest are.1 ∙ stuck_here one old' are.0)) (stuck are.0.1)))
     (λ other. subst (λ slot. Cleared slot (slot_at new' place)) (stuck_at place one old' other)
     (each_cleared places left' (with_broken one (changed_at one closes old')) new' place rest (after_stuck one places old' are) (ap (λ (slot : Slot). has_file slot.state) (stuck_at place one old' other) ∙ has ∙ among_rest place one places other)))
 
