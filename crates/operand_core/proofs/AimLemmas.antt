@@ -1,13 +1,12 @@
 -- What a word aims at.
-use Rattle.std.proofs.Common.{◌≡◌, ℕ, ◌<◌, ◌≤◌, Bool, true, false, cond, List, refl, sym, ◌∙◌, ap, subst, arith, Result, Ok, Err}
-use Rattle.std.proofs.lemmas.Bool.Decides.{nat_tests}
-use Rattle.std.specs.Prelude.{nat_lt}
+use Rattle.std.proofs.Common.{◌≡◌, ℕ, ◌<◌, ◌≤◌, Bool, cond, List, refl, sym, ◌∙◌, ap, subst, Result, Ok, Err}
+use Rattle.std.proofs.lemmas.Bool.{lt-ltb, le-ltb}
 use Rattle.std.specs.Result.{IsErrAnd}
 use Rattle.std.proofs.lemmas.Result.{err_from_is_err_and}
 use Rattle.bre_core.specs.Pattern.{Pattern, Reads, depth_of, positions_of}
 use Rattle.bre_core.specs.Refusal.{IsOfText, IsTooLarge}
 use Rattle.bre_core.specs.declared.fault.BreFault.{BreFault}
-use Rattle.bre_core.specs.declared.fault.BreFault.TheVariants.{Empty, BackReference, Escape, OpenGroup, CloseGroup, Interval, Bracket, Range, Class, TooLarge, Memory}
+use Rattle.bre_core.specs.declared.fault.BreFault.TheVariants.{TooLarge, Memory}
 use Rattle.operand_core.specs.Operand.{Offset, Target, Number, Search, Times}
 use Rattle.operand_core.specs.Word.{number, spelling}
 use Rattle.operand_core.specs.inner.Seen.{seen}
@@ -19,17 +18,11 @@ use Rattle.operand_core.specs.declared.word.Word.TheVariants as word_is
 use Rattle.operand_core.specs.declared.operand_fault.OperandFaultKind.{OperandFaultKind}
 use Rattle.operand_core.specs.declared.operand_fault.OperandFaultKind.TheVariants as kind
 
-pub less_test : (a b : ℕ) → a < b → nat_lt a b ≡ true
-less_test a b less = grind (arith, nat_tests, less)
-
-pub not_less_test : (a b : ℕ) → b ≤ a → nat_lt a b ≡ false
-not_less_test a b less = grind (arith, nat_tests, less)
-
 pub below_last : (least n : ℕ) → n < least → IsAimed (aim_of least (number n)) (Err kind.LineOrder)
-below_last least n less = is_wrong kind.LineOrder (ap (λ b. cond b (fails kind.LineOrder) (aims (line n))) (less_test n least less))
+below_last least n less = is_wrong kind.LineOrder (ap (λ b. cond b (fails kind.LineOrder) (aims (line n))) (lt-ltb n least less))
 
 pub not_below : (least n : ℕ) → least ≤ n → IsAimed (aim_of least (number n)) (Ok (Number n))
-not_below least n more = is_target (line n) (Number n) (ap (λ b. cond b (fails kind.LineOrder) (aims (line n))) (not_less_test n least more)) refl
+not_below least n more = is_target (line n) (Number n) (ap (λ b. cond b (fails kind.LineOrder) (aims (line n))) (le-ltb n least more)) refl
 
 -- how a `?` ends
 
@@ -41,17 +34,9 @@ goes_wrong aimed what result is ends = let at = err_from_is_err_and result ends 
 
 refused_so : (kept : Bool) (text : List ℕ) (offset : Offset) (fault : BreFault) → (IsOfText fault → (pattern : Pattern) → Reads text pattern → ⊥) → (fault ≡ TooLarge → IsTooLarge text)
     → IsAimed (aims (match kept text offset)) (Err (refusal_of fault))
-refused_so kept text offset (Empty at) none large = is_refused (match kept text offset) (Empty at) refl (none tt)
-refused_so kept text offset (BackReference at) none large = is_refused (match kept text offset) (BackReference at) refl (none tt)
-refused_so kept text offset (Escape at) none large = is_refused (match kept text offset) (Escape at) refl (none tt)
-refused_so kept text offset (OpenGroup at) none large = is_refused (match kept text offset) (OpenGroup at) refl (none tt)
-refused_so kept text offset (CloseGroup at) none large = is_refused (match kept text offset) (CloseGroup at) refl (none tt)
-refused_so kept text offset (Interval at) none large = is_refused (match kept text offset) (Interval at) refl (none tt)
-refused_so kept text offset (Bracket at) none large = is_refused (match kept text offset) (Bracket at) refl (none tt)
-refused_so kept text offset (Range at) none large = is_refused (match kept text offset) (Range at) refl (none tt)
-refused_so kept text offset (Class at) none large = is_refused (match kept text offset) (Class at) refl (none tt)
 refused_so kept text offset TooLarge none large = is_refused (match kept text offset) TooLarge refl (large refl)
 refused_so kept text offset Memory none large = no_memory
+refused_so kept text offset fault none large = is_refused (match kept text offset) fault refl (none tt)
 
 pub is_refused_so : (kept : Bool) (text plain : List ℕ) (offset : Offset) (fault : BreFault) (result : Result Target OperandFaultKind) → plain ≡ text
     → (IsOfText fault → (pattern : Pattern) → Reads plain pattern → ⊥) → (fault ≡ TooLarge → IsTooLarge plain) → IsErrAnd result (λ e. e ≡ refusal_of fault)

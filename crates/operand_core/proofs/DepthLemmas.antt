@@ -1,12 +1,12 @@
 -- A pattern that is too large is none that is read: no more groups are open after any of its first tokens than its tree has
 -- within one another.
-use Rattle.std.proofs.Common.{◌≡◌, ◌≤◌, ℕ, zero, suc, ◌+◌, List, [], ◌∷◌, ◌++◌, Option, Some, None, inl, inr, sym, ap, subst, arith, append_assoc, append-nil}
+use Rattle.std.proofs.Common.{◌≡◌, ◌≤◌, ℕ, zero, suc, ◌+◌, List, [], ◌∷◌, ◌++◌, Some, inl, inr, sym, ap, subst, arith, append_assoc, append-nil}
 use Rattle.bre_core.specs.Pattern.{Pattern, nothing, append, Item, set, front, end, group, repeat, written, written_item, depth_after, depth_of, depth_of_item, positions_of}
-use Rattle.bre_core.specs.Refusal.{IsTooLarge, OpensTooMany}
+use Rattle.bre_core.specs.Refusal.{IsTooLarge}
 use Rattle.bre_core.specs.Token.{ReadsToken}
 use Rattle.bre_core.specs.declared.token.Context.TheVariants.{Opening}
 use Rattle.bre_core.specs.declared.token.Token.{Token}
-use Rattle.bre_core.specs.declared.token.Token.TheVariants.{Set, Front, End, Open, Close, Repeat}
+use Rattle.bre_core.specs.declared.token.Token.TheVariants.{Open, Close, Repeat}
 use Rattle.bre_core.proofs.Chains.{left_of_way}
 use Rattle.bre_core.proofs.Existence.{one_tree_alone}
 use Rattle.bre_core.proofs.Tokens.{tokens_decided, end_stuck}
@@ -25,23 +25,14 @@ stays_now most depth [] stays = stays
 stays_now most depth (Open ∷ tokens) stays = stays.0
 stays_now most zero (Close ∷ tokens) stays = omega arith
 stays_now most (suc depth) (Close ∷ tokens) stays = stays.0
-stays_now most depth (Set bytes ∷ tokens) stays = stays_now most depth tokens stays
-stays_now most depth (Front ∷ tokens) stays = stays_now most depth tokens stays
-stays_now most depth (End ∷ tokens) stays = stays_now most depth tokens stays
-stays_now most depth (Repeat low high ∷ tokens) stays = stays_now most depth tokens stays
-
-none_some : (n : ℕ) → ◌≡◌ {A = Option ℕ} None (Some n) → ⊥
-none_some n is = cc
+stays_now most depth (token ∷ tokens) stays = stays_now most depth tokens stays
 
 within : (most depth n : ℕ) (first rest : List Token) → Stays most depth (first ++ rest) → depth_after depth first ≡ Some n → n ≤ most
 within most depth n [] rest stays is = let now = stays_now most depth rest stays in let e : depth ≡ n = cc in omega (arith, now, e)
 within most depth n (Open ∷ first) rest stays is = within most (suc depth) n first rest stays.1 is
-within most zero n (Close ∷ first) rest stays is = absurd (none_some n is)
+within most zero n (Close ∷ first) rest stays is = cc
 within most (suc depth) n (Close ∷ first) rest stays is = within most depth n first rest stays.1 is
-within most depth n (Set bytes ∷ first) rest stays is = within most depth n first rest stays is
-within most depth n (Front ∷ first) rest stays is = within most depth n first rest stays is
-within most depth n (End ∷ first) rest stays is = within most depth n first rest stays is
-within most depth n (Repeat low high ∷ first) rest stays is = within most depth n first rest stays is
+within most depth n (token ∷ first) rest stays is = within most depth n first rest stays is
 
 mutual
   stays_written : (pattern : Pattern) (most depth : ℕ) (tokens : List Token) → depth + depth_of pattern ≤ most → Stays most depth tokens → Stays most depth (written pattern ++ tokens)
@@ -63,14 +54,11 @@ mutual
       subst (Stays most depth) (sym (append_assoc (written_item item) (Repeat low high ∷ []) tokens))
       (stays_written_item item most depth (Repeat low high ∷ tokens) few stays)
 
-opens_few : (text : List ℕ) (pattern : Pattern) → IsPattern text pattern → OpensTooMany text → ⊥
-opens_few text pattern is opens =
+pub read_or_too_large : (text : List ℕ) (pattern : Pattern) → IsPattern text pattern → IsTooLarge text → ⊥
+read_or_too_large text pattern is (inl large) =
+    let same = ap positions_of (one_tree_alone text pattern large.pattern is.reads large.reads) in omega (arith, same, large.positions, is.size)
+read_or_too_large text pattern is (inr opens) =
     let left = left_of_way ReadsToken tokens_decided (Opening, text) (opens.context, opens.rest) (is.reads.tokens.0, []) opens.tokens (written pattern) opens.way is.reads.tokens.1 (end_stuck is.reads.tokens.0) in
     let all : Stays 255 0 (written pattern ++ []) = stays_written pattern 255 0 [] (let few = is.groups in omega (arith, few)) (omega arith) in
     let many : 256 ≤ 255 = within 255 0 256 opens.tokens left.0 (subst (Stays 255 0) left.1 (subst (Stays 255 0) (append-nil (written pattern)) all)) opens.depth in
     omega (arith, many)
-
-pub read_or_too_large : (text : List ℕ) (pattern : Pattern) → IsPattern text pattern → IsTooLarge text → ⊥
-read_or_too_large text pattern is (inl large) =
-    let same = ap positions_of (one_tree_alone text pattern large.pattern is.reads large.reads) in omega (arith, same, large.positions, is.size)
-read_or_too_large text pattern is (inr opens) = opens_few text pattern is opens

@@ -1,11 +1,11 @@
 -- Reading a list of words.
-use Rattle.std.proofs.Common.{◌≡◌, ℕ, suc, ◌+◌, ◌-◌, ◌<◌, ◌≤◌, Bor, get_or, List, [], ◌∷◌, ◌++◌, map, length, take, drop, length-drop, Option, Some, None, Result, Ok, Err, refl, sym, ◌∙◌, ap, subst, arith, append_assoc}
-use Rattle.std.proofs.lemmas.List.{append-nil, take_all, drop-map}
-use Rattle.std.proofs.lemmas.Bool.Decides.{nat_tests}
+use Rattle.std.proofs.Common.{◌≡◌, ℕ, suc, ◌+◌, ◌-◌, ◌<◌, ◌≤◌, Bor, get_or, List, [], ◌∷◌, ◌++◌, map, length, drop, length-drop, Option, Some, None, Result, Ok, Err, refl, sym, ◌∙◌, ap, subst, arith, append_assoc}
+use Rattle.std.proofs.lemmas.List.{append-nil, drop-map}
+use Rattle.std.proofs.lemmas.Bool.{eqb-true}
 use Rattle.std.specs.Prelude.{◌==◌, true}
 use Rattle.operand_core.specs.Operand.{Target, Number, Search, Times, Count, Operand}
 use Rattle.operand_core.specs.Word.{spelling}
-use Rattle.operand_core.specs.Reading.{Aim, line, match, Spelled, aims, fails, aim_of, least_after, times_by, Words, no_more, failed, with_operand, words_from, words_of, IsTarget, IsRead, AreRead, IsFault}
+use Rattle.operand_core.specs.Reading.{Aim, line, match, Spelled, aims, fails, aim_of, least_after, times_by, Words, failed, with_operand, words_from, words_of, IsTarget, IsRead, AreRead, IsFault}
 use Rattle.operand_core.specs.Reading as reading
 use Rattle.operand_core.specs.inner.Aiming.{IsAimed, is_target, is_wrong, is_refused, no_memory}
 use Rattle.operand_core.specs.inner.Repeating.{least_by, SayTimes, no_word, again, other}
@@ -16,44 +16,17 @@ use Rattle.operand_core.specs.declared.operand_fault.OperandFaultKind.TheVariant
 abbrev pub after_front : List Spelled → Words → Words
 after_front front words = record { operands = front ++ words.operands; fault = words.fault }
 
--- an operand with another word after it, of which it is known whether it says how often the operand is performed again
-step_to : (index least : ℕ) (word next : List ℕ) (rest : List (List ℕ)) (aim : Aim) (found : Option Times) → aim_of least (spelling word) ≡ aims aim → times_by (spelling next) ≡ found
-    → words_from index least (word ∷ next ∷ rest) ≡ elim found [
-      | Some times ↦ with_operand index aim times (words_from (index + 2) (least_after least aim) rest)
-      | None ↦ with_operand index aim (Count 0) (words_from (index + 1) (least_after least aim) (next ∷ rest))
-    ]
-step_to index least word next rest aim found is says =
-    ap (λ a. elim a [
-      | fails what ↦ failed what index
-      | aims aim ↦ elim (times_by (spelling next)) [
-        | Some times ↦ with_operand index aim times (words_from (index + 2) (least_after least aim) rest)
-        | None ↦ with_operand index aim (Count 0) (words_from (index + 1) (least_after least aim) (next ∷ rest))
-      ]
-    ]) is
-    ∙ ap (λ t. elim t [
-      | Some times ↦ with_operand index aim times (words_from (index + 2) (least_after least aim) rest)
-      | None ↦ with_operand index aim (Count 0) (words_from (index + 1) (least_after least aim) (next ∷ rest))
-    ]) says
-
 -- a step over an operand and the words that say how often it is performed again
 pub step_over : (index least : ℕ) (word : List ℕ) (words : List (List ℕ)) (aim : Aim) (times : Times) (said : ℕ) → aim_of least (spelling word) ≡ aims aim → SayTimes words times said
     → words_from index least (word ∷ words) ≡ with_operand index aim times (words_from (index + (1 + said)) (least_after least aim) (drop said words))
-step_over index least word words aim times said is no_word =
-    ap (λ a. elim a [ fails what ↦ failed what index | aims aim ↦ with_operand index aim (Count 0) no_more ]) is
-step_over index least word words aim times said is (again next rest times' says) = step_to index least word next rest aim (Some times') is says
-step_over index least word words aim times said is (other next rest says) = step_to index least word next rest aim None is says
+step_over index least word words aim times said is no_word = rw (is, words_from) refl
+step_over index least word words aim times said is (again next rest times' says) = rw (is, says, words_from) refl
+step_over index least word words aim times said is (other next rest says) = rw (is, says, words_from) refl
 
 -- a word that is wrong ends the list
 pub stop_at : (index least : ℕ) (word : List ℕ) (words : List (List ℕ)) (what : OperandFaultKind) → aim_of least (spelling word) ≡ fails what → words_from index least (word ∷ words) ≡ failed what index
-stop_at index least word [] what is = ap (λ a. elim a [ fails what ↦ failed what index | aims aim ↦ with_operand index aim (Count 0) no_more ]) is
-stop_at index least word (next ∷ words) what is =
-    ap (λ a. elim a [
-      | fails what ↦ failed what index
-      | aims aim ↦ elim (times_by (spelling next)) [
-        | Some times ↦ with_operand index aim times (words_from (index + 2) (least_after least aim) words)
-        | None ↦ with_operand index aim (Count 0) (words_from (index + 1) (least_after least aim) (next ∷ words))
-      ]
-    ]) is
+stop_at index least word [] what is = rw (is, words_from) refl
+stop_at index least word (next ∷ words) what is = rw (is, words_from) refl
 
 -- the words as texts
 abbrev pub texts : List (Bor (List ℕ)) → List (List ℕ)
@@ -116,30 +89,19 @@ ends_at words read least (word ∷ left) text default result what reads some is 
     ends_by (texts words) read reads.front (length words - length (word ∷ left)) least word.now (texts left) what reads.are reads.asks
     (subst (IsAimed (aim_of least (spelling word.now))) at (subst (λ those. IsAimed (aim_of least (spelling those)) result) is aimed))
 
-pub lacks_room : (words : List (List ℕ)) (index : ℕ) (what : OperandFaultKind) → what ≡ kind.Memory → IsFault words (record { kind = what; index = index })
-lacks_room words index what is = subst (λ k. IsFault words (record { kind = k; index = index })) (sym is) (reading.no_memory index)
-
 pub no_operand : (words : List (Bor (List ℕ))) → (length words == 0) ≡ true → IsFault (texts words) (record { kind = kind.Missing; index = 0 })
 no_operand [] none = reading.is_wrong (record { kind = kind.Missing; index = 0 }) [] refl tt
-no_operand (word ∷ words) none = absurd (some (length words) none) where
-  some : (n : ℕ) → (suc n == 0) ≡ true → ⊥
-  some n is = grind (arith, nat_tests, is)
+no_operand (word ∷ words) none = absurd (omega (arith, eqb-true (length (word ∷ words)) 0 none))
 
 are_more : (front : List Spelled) (read : List Operand) (spelled : Spelled) (operand : Operand) → AreRead front read → IsRead spelled operand → AreRead (front ++ spelled ∷ []) (read ++ operand ∷ [])
 are_more [] [] spelled operand are is = (is, tt)
-are_more [] (one ∷ read) spelled operand are is = absurd are
-are_more (first ∷ front) [] spelled operand are is = absurd are
 are_more (first ∷ front) (one ∷ read) spelled operand are is = (are.0, are_more front read spelled operand are.1 is)
+are_more front read spelled operand are is = absurd are
 
 least_same : (least : ℕ) (aim : Aim) (target : Target) → IsTarget aim target → least_after least aim ≡ least_by least target
 least_same least (line n) (Number m) is = sym is
-least_same least (line n) (Search pattern kept offset) is = absurd is
-least_same least (match kept text offset) (Number m) is = absurd is
 least_same least (match kept text offset) (Search pattern kept' offset') is = refl
-
--- the rest of a slice
-pub slice_rest : {X : Type 0} (n : ℕ) (xs : List X) → take (length xs - n) (drop n xs) ≡ drop n xs
-slice_rest n xs = take_all (length xs - n) (drop n xs) (let e : length (drop n xs) ≡ length xs - n = length-drop n xs in omega (arith, e))
+least_same least aim target is = absurd is
 
 next_by : (words : List (List ℕ)) (read : List Operand) (front : List Spelled) (index least : ℕ) (word : List ℕ) (left : List (List ℕ)) (target : Target) (times : Times) (said : ℕ)
     → AreRead front read → words_of words ≡ after_front front (words_from index least (word ∷ left)) → IsAimed (aim_of least (spelling word)) (Ok target) → SayTimes left times said

@@ -1,6 +1,8 @@
 use Rattle.std.proofs.Common.{arith, sym}
 use Rattle.std.proofs.lemmas.Grind.{common_steps}
-use Rattle.operand_core.proofs.ReadingLemmas.{texts, no_operand, ends_at, lacks_room, reads_next, slice_rest}
+use Rattle.std.proofs.lemmas.List.{take_rest}
+use Rattle.operand_core.specs.Reading.{no_memory}
+use Rattle.operand_core.proofs.ReadingLemmas.{no_operand, ends_at, reads_next}
 use Rattle.operand_core.proofs.operands.read_operands.Goals as goal
 
 pub returns-then-is_empty-clause-err : goal.returns-then-is_empty-clause-err
@@ -11,13 +13,13 @@ returns-in-Err-clause-err c =
     ends_at c.args.words.now c.loop-left.list.items c.loop-left.least c.loop-left.left.now c.as_bytes.result.now _ c.read_target.result c.in-Err.kind c.loop-left.invariant c.in-len1-up.len_at_least c.as_bytes.ensures.value c.read_target.ensures c.in-Err.is
 
 pub returns-in-Err-keep-clause-err : goal.returns-in-Err-keep-clause-err
-returns-in-Err-keep-clause-err c = lacks_room (texts c.args.words.now) _ c.in-Err-keep.kind c.in-Err-keep.ensures.err
+returns-in-Err-keep-clause-err c = rw c.in-Err-keep.ensures.err (no_memory _)
 
 pub loop-left-preserved : goal.loop-left-preserved
 loop-left-preserved c =
     reads_next c.args.words.now c.loop-left.list.items c.loop-left.least c.loop-left.left.now c.as_bytes.result.now _ c.read_target.result c.in-Ok.target _ c.times_before-times.result.0 c.times_before-times.result.1 c.keep.new.list.items _ c.least_after-least.result
-    c.loop-left.invariant c.in-len1-up.len_at_least c.as_bytes.ensures.value c.read_target.ensures c.in-Ok.is (slice_rest 1 c.loop-left.left.now) c.times_before-times.ensures.says c.times_before-times.ensures.within
-    c.in_default-keep.ensures.ok (slice_rest c.times_before-times.result.1 _) c.least_after-least.ensures
+    c.loop-left.invariant c.in-len1-up.len_at_least c.as_bytes.ensures.value c.read_target.ensures c.in-Ok.is (take_rest c.loop-left.left.now 1) c.times_before-times.ensures.says c.times_before-times.ensures.within
+    c.in_default-keep.ensures.ok (take_rest _ c.times_before-times.result.1) c.least_after-least.ensures
 
 pub loop-left-init : goal.loop-left-init
 loop-left-init c = grind (arith, common_steps)
