@@ -1,22 +1,11 @@
 -- The last lines of a text that goes on: what stood before them is never needed again.
-use Rattle.std.proofs.Common.{◌≡◌, ℕ, zero, suc, ◌+◌, ◌-◌, ◌≤◌, min, List, [], ◌∷◌, ◌++◌, length, drop, refl, sym, ap, ◌∙◌, arith}
-use Rattle.std.proofs.lemmas.List.{length-append, length-drop, drop_at, drop-append-le}
+use Rattle.std.proofs.Common.{◌≡◌, ℕ, ◌+◌, ◌-◌, ◌≤◌, min, List, [], ◌++◌, length, drop, sym, ap, ◌∙◌, arith}
+use Rattle.std.proofs.lemmas.List.{length-append, length-drop, drop-append-le}
 use Rattle.std.proofs.Math.Seq.{drop-append-add}
-use Rattle.seg_core.specs.Line.{lines_of, AreLines, after_lines, line_count, last_lines, but_last_lines}
-use Rattle.seg_core.proofs.LinesOf.{AreLines-lines_of, lines_of-joined}
-use Rattle.seg_core.proofs.FirstLines.{length-first_lines-le}
-use Rattle.seg_core.proofs.LastLines.{but_last_then_last, but_last_lines-few}
-
-AreLines-drop : (delim k : ℕ) (lines : List (List ℕ)) → AreLines delim lines → AreLines delim (drop k lines)
-AreLines-drop delim zero lines each = each
-AreLines-drop delim (suc k) [] each = tt
-AreLines-drop delim (suc zero) (line ∷ []) each = tt
-AreLines-drop delim (suc (suc k)) (line ∷ []) each = tt
-AreLines-drop delim (suc k) (line ∷ next ∷ lines) (complete, each) = AreLines-drop delim k (next ∷ lines) each
-
--- the lines of what stands after the first lines
-pub lines_of-after_lines : (delim k : ℕ) (x : List ℕ) → lines_of delim (after_lines delim k x) ≡ drop k (lines_of delim x)
-lines_of-after_lines delim k x = lines_of-joined delim (drop k (lines_of delim x)) (AreLines-drop delim k (lines_of delim x) (AreLines-lines_of delim x))
+use Rattle.seg_core.specs.Line.{lines_of, line_count, last_lines, but_last_lines}
+use Rattle.seg_core.proofs.FirstLines.{length-first_lines-le, after_lines-is_drop}
+pub use Rattle.seg_core.proofs.FirstLines.{lines_of-after_lines}
+use Rattle.seg_core.proofs.LastLines.{but_last_lines-few}
 
 -- the last n lines are n lines, or all there are
 pub line_count-last : (delim n : ℕ) (x : List ℕ) → line_count delim (last_lines delim n x) ≡ min n (line_count delim x)
@@ -26,9 +15,7 @@ line_count-last delim n x =
 
 -- they are the end of the text
 pub last_lines-is_drop : (delim n : ℕ) (x : List ℕ) → drop (length (but_last_lines delim n x)) x ≡ last_lines delim n x
-last_lines-is_drop delim n x =
-    sym (ap (drop (length (but_last_lines delim n x))) (but_last_then_last delim n x))
-    ∙ drop_at (but_last_lines delim n x) (last_lines delim n x) (length (but_last_lines delim n x)) refl
+last_lines-is_drop delim n x = sym (after_lines-is_drop delim (line_count delim x - n) x)
 
 -- nothing stands before the last n lines of the last n lines
 pub but_last_lines-last : (delim n : ℕ) (x : List ℕ) → but_last_lines delim n (last_lines delim n x) ≡ []

@@ -1,14 +1,12 @@
 -- The first lines of a text, and of a text that goes on.
-use Rattle.std.proofs.Common.{◌≡◌, ℕ, zero, suc, ◌+◌, ◌-◌, ◌<◌, ◌≤◌, Bool, true, false, cond, eqb, List, [], ◌∷◌, ◌++◌, length, take, drop, get_or, refl, sym, ap, ◌∙◌, arith}
+use Rattle.std.proofs.Common.{◌≡◌, ℕ, zero, suc, ◌+◌, ◌-◌, ◌<◌, ◌≤◌, Bool, true, false, cond, eqb, inl, List, [], ◌∷◌, ◌++◌, length, take, drop, get_or, refl, sym, ap, ◌∙◌, arith}
 use Rattle.std.specs.List.{onto_first}
-use Rattle.std.proofs.lemmas.List.{take_more, take-append-drop, take_at, length-take-le, append-nil, append_assoc, length-append}
-use Rattle.seg_core.specs.Line.{joined, lines_of, delimiters, first_lines, EndsAt}
+use Rattle.std.proofs.lemmas.List.{take_more, take-append-drop, take_at, drop_at, take_all, length-take-le, append-nil, append_assoc, length-append}
+use Rattle.std.proofs.Math.Seq.{take-nil}
+use Rattle.seg_core.specs.Line.{AreLines, joined, lines_of, line_count, delimiters, first_lines, after_lines, EndsAt}
 use Rattle.seg_core.proofs.Delimiters.{delimiters-take-le}
-use Rattle.seg_core.proofs.LinesOf.{joined-lines_of}
-
-take-nil : {A : Type 0} (n : ℕ) → take n (let none : List A = [] in none) ≡ []
-take-nil zero = refl
-take-nil (suc n) = refl
+use Rattle.seg_core.proofs.LinesOf.{joined-lines_of, lines_of-joined, AreLines-lines_of}
+use Rattle.seg_core.proofs.LineCounts.{line_count_near, line_count-le-length}
 
 pub first_lines-nil : (delim n : ℕ) → first_lines delim n [] ≡ []
 first_lines-nil delim zero = refl
@@ -51,19 +49,13 @@ first_lines-append delim (suc n) (byte ∷ x) y =
     ∙ ap (λ z. byte ∷ z) (append_step delim (eqb byte delim) n x y (first_lines-append delim n x y) (first_lines-append delim (suc n) x y))
     ∙ ap (λ z. z ++ first_lines delim (suc n - delimiters delim (byte ∷ x)) y) (sym (first_lines-cons delim byte n x))
 
-short_step : (delim : ℕ) (is_delim : Bool) (n : ℕ) (x : List ℕ) → cond is_delim (delimiters delim x + 1) (delimiters delim x) < suc n
-    → (delimiters delim x < n → first_lines delim n x ≡ x) → (delimiters delim x < suc n → first_lines delim (suc n) x ≡ x)
-    → cond is_delim (first_lines delim n x) (first_lines delim (suc n) x) ≡ x
-short_step delim true n x h here there = here (omega arith)
-short_step delim false n x h here there = there h
+-- a text has no more than its lines
+pub first_lines-all : (delim n : ℕ) (x : List ℕ) → line_count delim x ≤ n → first_lines delim n x ≡ x
+first_lines-all delim n x h = ap joined (take_all n (lines_of delim x) h) ∙ joined-lines_of delim x
 
 -- a text with fewer delimiters than n has no more than n lines
 pub first_lines-short : (delim n : ℕ) (x : List ℕ) → delimiters delim x < n → first_lines delim n x ≡ x
-first_lines-short delim n [] h = first_lines-nil delim n
-first_lines-short delim zero (byte ∷ x) h = absurd (omega arith)
-first_lines-short delim (suc n) (byte ∷ x) h =
-    first_lines-cons delim byte n x
-    ∙ ap (λ z. byte ∷ z) (short_step delim (eqb byte delim) n x h (first_lines-short delim n x) (first_lines-short delim (suc n) x))
+first_lines-short delim n x h = first_lines-all delim n x (omega (arith, (line_count_near delim x).1))
 
 -- once n lines are complete, what follows adds nothing
 pub first_lines-full : (delim n : ℕ) (x y : List ℕ) → n ≤ delimiters delim x → first_lines delim n (x ++ y) ≡ first_lines delim n x
@@ -73,21 +65,13 @@ first_lines-full delim n x y h =
     ∙ ap (λ k. first_lines delim n x ++ first_lines delim k y) none
     ∙ append-nil (first_lines delim n x)
 
-either_nil : (delim : ℕ) (is_delim : Bool) (n : ℕ) → cond is_delim (first_lines delim n []) (first_lines delim (suc n) []) ≡ []
-either_nil delim true n = first_lines-nil delim n
-either_nil delim false n = refl
-
-one_byte : (delim byte n : ℕ) → first_lines delim (suc n) (byte ∷ []) ≡ byte ∷ []
-one_byte delim byte n = first_lines-cons delim byte n [] ∙ ap (λ z. byte ∷ z) (either_nil delim (eqb byte delim) n)
-
 -- while n lines aren't complete, the next byte belongs to them
 pub first_lines-more : (delim n : ℕ) (x : List ℕ) (byte : ℕ) → delimiters delim x < n → first_lines delim n (x ++ byte ∷ []) ≡ x ++ byte ∷ []
 first_lines-more delim n x byte h =
-    let some : n - delimiters delim x ≡ suc (n - delimiters delim x - 1) = omega arith in
+    let one = line_count-le-length delim (byte ∷ []) in
     first_lines-append delim n x (byte ∷ [])
     ∙ ap (λ z. z ++ first_lines delim (n - delimiters delim x) (byte ∷ [])) (first_lines-short delim n x h)
-    ∙ ap (λ k. x ++ first_lines delim k (byte ∷ [])) some
-    ∙ ap (λ z. x ++ z) (one_byte delim byte (n - delimiters delim x - 1))
+    ∙ ap (λ z. x ++ z) (first_lines-all delim (n - delimiters delim x) (byte ∷ []) (omega arith))
 
 pub joined-append : (front back : List (List ℕ)) → joined (front ++ back) ≡ joined front ++ joined back
 joined-append [] back = refl
@@ -110,6 +94,12 @@ first_lines-is_take delim n x =
     let rest = joined (drop n (lines_of delim x)) in
     sym (take_at (first_lines delim n x) rest (length (first_lines delim n x)) refl)
     ∙ ap (take (length (first_lines delim n x))) (first_lines_then_rest delim n x)
+
+-- what stands after the first lines is what is left once their bytes are dropped
+pub after_lines-is_drop : (delim n : ℕ) (x : List ℕ) → after_lines delim n x ≡ drop (length (first_lines delim n x)) x
+after_lines-is_drop delim n x =
+    sym (drop_at (first_lines delim n x) (after_lines delim n x) (length (first_lines delim n x)) refl)
+    ∙ ap (drop (length (first_lines delim n x))) (first_lines_then_rest delim n x)
 
 full_step : (delim : ℕ) (is_delim : Bool) (n : ℕ) (x : List ℕ) → suc n ≤ cond is_delim (delimiters delim x + 1) (delimiters delim x)
     → (n ≤ delimiters delim x → delimiters delim (first_lines delim n x) ≡ n) → (suc n ≤ delimiters delim x → delimiters delim (first_lines delim (suc n) x) ≡ suc n)
@@ -144,46 +134,32 @@ EndsAt_counted delim n x i h few counted =
 pub EndsAt-enough : (delim n : ℕ) (x : List ℕ) (end : ℕ) → EndsAt delim n x end → n ≤ delimiters delim x
 EndsAt-enough delim n x end ends = omega (arith, ends.complete, delimiters-take-le delim end x)
 
-take_onto : (byte n : ℕ) (lines : List (List ℕ)) → onto_first byte (take (suc n) lines) ≡ take (suc n) (onto_first byte lines)
-take_onto byte n [] = ap (λ (ls : List (List ℕ)). (byte ∷ []) ∷ ls) (sym (take-nil n))
-take_onto byte n (line ∷ lines) = refl
-
-lines_step : (delim : ℕ) (is_delim : Bool) (byte n : ℕ) (x : List ℕ) → lines_of delim (first_lines delim n x) ≡ take n (lines_of delim x) → lines_of delim (first_lines delim (suc n) x) ≡ take (suc n) (lines_of delim x)
-    → cond is_delim ((byte ∷ []) ∷ lines_of delim (cond is_delim (first_lines delim n x) (first_lines delim (suc n) x))) (onto_first byte (lines_of delim (cond is_delim (first_lines delim n x) (first_lines delim (suc n) x))))
-    ≡ take (suc n) (cond is_delim ((byte ∷ []) ∷ lines_of delim x) (onto_first byte (lines_of delim x)))
-lines_step delim true byte n x here there = ap (λ (ls : List (List ℕ)). (byte ∷ []) ∷ ls) here
-lines_step delim false byte n x here there = ap (onto_first byte) there ∙ take_onto byte n (lines_of delim x)
+AreLines-take : (delim k : ℕ) (lines : List (List ℕ)) → AreLines delim lines → AreLines delim (take k lines)
+AreLines-take delim zero lines each = tt
+AreLines-take delim (suc k) [] each = tt
+AreLines-take delim (suc zero) (line ∷ []) each = each
+AreLines-take delim (suc (suc k)) (line ∷ []) each = each
+AreLines-take delim (suc zero) (line ∷ next ∷ lines) (complete, each) = inl complete
+AreLines-take delim (suc (suc k)) (line ∷ next ∷ lines) (complete, each) = (complete, AreLines-take delim (suc k) (next ∷ lines) each)
 
 -- the lines of the first lines
 pub lines_of-first_lines : (delim n : ℕ) (x : List ℕ) → lines_of delim (first_lines delim n x) ≡ take n (lines_of delim x)
-lines_of-first_lines delim zero x = refl
-lines_of-first_lines delim (suc n) [] = refl
-lines_of-first_lines delim (suc n) (byte ∷ x) =
-    ap (lines_of delim) (first_lines-cons delim byte n x)
-    ∙ lines_step delim (eqb byte delim) byte n x (lines_of-first_lines delim n x) (lines_of-first_lines delim (suc n) x)
+lines_of-first_lines delim n x = lines_of-joined delim (take n (lines_of delim x)) (AreLines-take delim n (lines_of delim x) (AreLines-lines_of delim x))
 
-drop-nil : {A : Type 0} (n : ℕ) → drop n (let none : List A = [] in none) ≡ []
-drop-nil zero = refl
-drop-nil (suc n) = refl
+AreLines-drop : (delim k : ℕ) (lines : List (List ℕ)) → AreLines delim lines → AreLines delim (drop k lines)
+AreLines-drop delim zero lines each = each
+AreLines-drop delim (suc k) [] each = tt
+AreLines-drop delim (suc zero) (line ∷ []) each = tt
+AreLines-drop delim (suc (suc k)) (line ∷ []) each = tt
+AreLines-drop delim (suc k) (line ∷ next ∷ lines) (complete, each) = AreLines-drop delim k (next ∷ lines) each
 
-drop_onto : (byte n : ℕ) (lines : List (List ℕ)) → drop (suc n) (onto_first byte lines) ≡ drop (suc n) lines
-drop_onto byte n [] = drop-nil n
-drop_onto byte n (line ∷ lines) = refl
+-- the lines of what stands after the first lines
+pub lines_of-after_lines : (delim k : ℕ) (x : List ℕ) → lines_of delim (after_lines delim k x) ≡ drop k (lines_of delim x)
+lines_of-after_lines delim k x = lines_of-joined delim (drop k (lines_of delim x)) (AreLines-drop delim k (lines_of delim x) (AreLines-lines_of delim x))
 
-rest_step : (delim : ℕ) (is_delim : Bool) (byte n : ℕ) (x : List ℕ) → suc n ≤ cond is_delim (delimiters delim x + 1) (delimiters delim x)
-    → (n ≤ delimiters delim x → lines_of delim (drop (length (first_lines delim n x)) x) ≡ drop n (lines_of delim x))
-    → (suc n ≤ delimiters delim x → lines_of delim (drop (length (first_lines delim (suc n) x)) x) ≡ drop (suc n) (lines_of delim x))
-    → lines_of delim (drop (length (cond is_delim (first_lines delim n x) (first_lines delim (suc n) x))) x) ≡ drop (suc n) (cond is_delim ((byte ∷ []) ∷ lines_of delim x) (onto_first byte (lines_of delim x)))
-rest_step delim true byte n x h here there = here (omega arith)
-rest_step delim false byte n x h here there = there h ∙ sym (drop_onto byte n (lines_of delim x))
-
--- the lines of what follows them, where they are complete
+-- the same, by their bytes
 pub lines_of-after : (delim n : ℕ) (x : List ℕ) → n ≤ delimiters delim x → lines_of delim (drop (length (first_lines delim n x)) x) ≡ drop n (lines_of delim x)
-lines_of-after delim zero x h = refl
-lines_of-after delim (suc n) [] h = absurd (omega arith)
-lines_of-after delim (suc n) (byte ∷ x) h =
-    ap (λ z. lines_of delim (drop (length z) (byte ∷ x))) (first_lines-cons delim byte n x)
-    ∙ rest_step delim (eqb byte delim) byte n x h (lines_of-after delim n x) (lines_of-after delim (suc n) x)
+lines_of-after delim n x h = ap (lines_of delim) (sym (after_lines-is_drop delim n x)) ∙ lines_of-after_lines delim n x
 
 -- the same, with the place where they end
 pub EndsAt-rest : (delim n : ℕ) (x : List ℕ) (end : ℕ) → EndsAt delim n x end → lines_of delim (drop end x) ≡ drop n (lines_of delim x)

@@ -1,18 +1,13 @@
 -- The last lines of a text before which a block stands.
-use Rattle.std.proofs.Common.{◌≡◌, ℕ, ◌+◌, ◌-◌, ◌<◌, ◌≤◌, Bool, true, false, not, eqb, List, [], ◌∷◌, ◌++◌, length, drop, get_or, refl, sym, ap, ◌∙◌, arith}
+use Rattle.std.proofs.Common.{◌≡◌, ℕ, ◌+◌, ◌-◌, ◌<◌, ◌≤◌, Bool, not, eqb, List, [], ◌∷◌, ◌++◌, length, get_or, sym, ap, ◌∙◌, arith}
 use mir.Val.{bool_byte}
-use Rattle.std.proofs.lemmas.List.{append-nil, drop_at, length-append}
+use Rattle.std.proofs.lemmas.List.{append-nil, length-append}
 use Rattle.seg_core.specs.Line.{delimiters, ends_with, line_count, first_lines, after_lines, last_lines}
 use Rattle.seg_core.proofs.Delimiters.{delimiters-append, delimiters-le-length}
 use Rattle.seg_core.proofs.FirstLines.{first_lines_then_rest}
-use Rattle.seg_core.proofs.LineCounts.{line_count-closed, line_count-open, ends_with-append, ends_with-last}
+use Rattle.seg_core.proofs.LineCounts.{ends_with-last, line_count-by_end}
+pub use Rattle.seg_core.proofs.LineCounts.{line_count-front}
 use Rattle.seg_core.proofs.EndLines.{after_lines-append}
-
--- what stands after the first lines is what is left once their bytes are dropped
-pub after_lines-is_drop : (delim n : ℕ) (x : List ℕ) → after_lines delim n x ≡ drop (length (first_lines delim n x)) x
-after_lines-is_drop delim n x =
-    sym (drop_at (first_lines delim n x) (after_lines delim n x) (length (first_lines delim n x)) refl)
-    ∙ ap (drop (length (first_lines delim n x))) (first_lines_then_rest delim n x)
 
 -- and so it is no longer than the text
 pub length-after_lines-le : (delim n : ℕ) (x : List ℕ) → length (after_lines delim n x) ≤ length x
@@ -21,11 +16,6 @@ length-after_lines-le delim n x = omega (arith, sym (length-append (first_lines 
 -- two texts have no more delimiters than bytes
 pub delimiters_fit : (here there : ℕ) (block held : List ℕ) (more count bound : ℕ) → more ≡ delimiters here block → count ≡ delimiters there held → length block + length held < bound → count + more < bound
 delimiters_fit here there block held more count bound of_block of_held fits = omega (arith, delimiters-le-length here block, delimiters-le-length there held)
-
--- a text has as many lines as delimiters, and one more where its end is open
-line_count-by_end : (delim : ℕ) (x : List ℕ) (closed : Bool) → 0 < length x → closed ≡ ends_with delim x → line_count delim x ≡ delimiters delim x + bool_byte (not closed)
-line_count-by_end delim x true some is = line_count-closed delim x (sym is) ∙ omega arith
-line_count-by_end delim x false some is = line_count-open delim x some (sym is)
 
 -- and so has a block with the text after it
 pub line_count-both : (delim : ℕ) (block held : List ℕ) (closed : Bool) (count more one : ℕ) → 0 < length block → count ≡ delimiters delim held → more ≡ delimiters delim block → closed ≡ ends_with delim (block ++ held) → one ≡ bool_byte (not closed)
@@ -42,16 +32,6 @@ ends_with-alone delim block [] none some =
     let last : length block - 1 + 1 ≡ length block = omega arith in
     sym (ap (ends_with delim) (append-nil block) ∙ ends_with-last delim block (length block - 1) last)
 ends_with-alone delim block (byte ∷ held) none some = absurd (omega arith)
-
--- a block before a text that isn't empty adds as many lines as it has delimiters
-pub line_count-front : (delim : ℕ) (block x : List ℕ) → 0 < length x → line_count delim (block ++ x) ≡ delimiters delim block + line_count delim x
-line_count-front delim block x some =
-    let closed = ends_with delim x in
-    let long : 0 < length (block ++ x) = omega (arith, length-append block x) in
-    let both = line_count-by_end delim (block ++ x) closed long (sym (ends_with-append delim block x some)) in
-    let here = line_count-by_end delim x closed some refl in
-    let all = delimiters-append delim block x in
-    omega arith
 
 -- the last lines of a text before which a block stands: all of the text, where it has no more, and what stands in the block after the lines that are too many
 pub last_lines-front : (delim most : ℕ) (block held : List ℕ) → line_count delim held ≤ most

@@ -1,57 +1,37 @@
 -- How many lines a text has.
-use Rattle.std.proofs.Common.{◌≡◌, ◌≢◌, ℕ, zero, suc, ◌+◌, ◌-◌, ◌<◌, ◌≤◌, Bool, true, false, cond, eqb, List, [], ◌∷◌, ◌++◌, length, take, drop, get_or, refl, sym, ap, ◌∙◌, arith}
+use Rattle.std.proofs.Common.{◌≡◌, ◌≢◌, ℕ, zero, suc, ◌+◌, ◌-◌, ◌<◌, ◌≤◌, Bool, true, false, not, cond, eqb, List, [], ◌∷◌, ◌++◌, length, take, drop, get_or, refl, sym, ap, ◌∙◌, arith}
+use mir.Val.{bool_byte}
 use Rattle.std.specs.List.{onto_first}
 use Rattle.std.proofs.lemmas.Bool.{eq-eqb, ne_eqb, false≢true}
 use Rattle.std.proofs.lemmas.List.{take_all, length-append, length-take-le}
 use Rattle.seg_core.specs.Line.{lines_of, delimiters, ends_with, line_count}
 use Rattle.seg_core.proofs.Delimiters.{delimiters-append, delimiters-one_yes, delimiters_more}
 
-onto_some : (byte : ℕ) (lines : List (List ℕ)) → 0 < length lines → length (onto_first byte lines) ≡ length lines
-onto_some byte [] some = absurd (omega arith)
-onto_some byte (line ∷ lines) some = refl
-
-onto_le : (byte : ℕ) (lines : List (List ℕ)) → length lines ≤ length (onto_first byte lines)
-onto_le byte [] = omega arith
-onto_le byte (line ∷ lines) = omega arith
-
-onto_first_some : (byte : ℕ) (lines : List (List ℕ)) → 0 < length (onto_first byte lines)
-onto_first_some byte [] = omega arith
-onto_first_some byte (line ∷ lines) = omega arith
-
-onto_short : (byte n : ℕ) (lines : List (List ℕ)) → length lines ≤ n → length (onto_first byte lines) ≤ suc n
-onto_short byte n [] h = omega arith
-onto_short byte n (line ∷ lines) h = omega arith
-
-some_step : (is_delim : Bool) (byte : ℕ) (lines : List (List ℕ)) → 0 < length (cond is_delim ((byte ∷ []) ∷ lines) (onto_first byte lines))
-some_step true byte lines = omega arith
-some_step false byte lines = onto_first_some byte lines
+-- a byte before lines makes a line more, or none; at least one is there then
+cons_step : (is_delim : Bool) (byte : ℕ) (lines : List (List ℕ)) → let now = length (cond is_delim ((byte ∷ []) ∷ lines) (onto_first byte lines)) in (length lines ≤ now) × (now ≤ suc (length lines)) × (0 < now)
+cons_step true byte lines = (omega arith, omega arith, omega arith)
+cons_step false byte [] = (omega arith, omega arith, omega arith)
+cons_step false byte (line ∷ lines) = (omega arith, omega arith, omega arith)
 
 pub line_count-some : (delim : ℕ) (x : List ℕ) → 0 < length x → 0 < line_count delim x
 line_count-some delim [] some = absurd (omega arith)
-line_count-some delim (byte ∷ x) some = some_step (eqb byte delim) byte (lines_of delim x)
-
-length_step : (is_delim : Bool) (byte n : ℕ) (lines : List (List ℕ)) → length lines ≤ n → length (cond is_delim ((byte ∷ []) ∷ lines) (onto_first byte lines)) ≤ suc n
-length_step true byte n lines h = omega arith
-length_step false byte n lines h = onto_short byte n lines h
+line_count-some delim (byte ∷ x) some = (cons_step (eqb byte delim) byte (lines_of delim x)).2
 
 pub line_count-le-length : (delim : ℕ) (x : List ℕ) → line_count delim x ≤ length x
 line_count-le-length delim [] = omega arith
-line_count-le-length delim (byte ∷ x) = length_step (eqb byte delim) byte (length x) (lines_of delim x) (line_count-le-length delim x)
-
-drop_step : (is_delim : Bool) (byte : ℕ) (lines : List (List ℕ)) → length lines ≤ length (cond is_delim ((byte ∷ []) ∷ lines) (onto_first byte lines))
-drop_step true byte lines = omega arith
-drop_step false byte lines = onto_le byte lines
+line_count-le-length delim (byte ∷ x) = let here = cons_step (eqb byte delim) byte (lines_of delim x) in let rest = line_count-le-length delim x in omega arith
 
 -- what is left of a text has no more lines
 pub line_count-drop : (delim k : ℕ) (x : List ℕ) → line_count delim (drop k x) ≤ line_count delim x
 line_count-drop delim zero x = omega arith
 line_count-drop delim (suc k) [] = omega arith
-line_count-drop delim (suc k) (byte ∷ x) = let here = drop_step (eqb byte delim) byte (lines_of delim x) in let rest = line_count-drop delim k x in omega arith
+line_count-drop delim (suc k) (byte ∷ x) = let here = cons_step (eqb byte delim) byte (lines_of delim x) in let rest = line_count-drop delim k x in omega arith
 
 count_step : (is_delim : Bool) (byte : ℕ) (lines : List (List ℕ)) → 0 < length lines
     → length (cond is_delim ((byte ∷ []) ∷ lines) (onto_first byte lines)) ≡ cond is_delim (length lines + 1) (length lines)
 count_step true byte lines some = omega arith
-count_step false byte lines some = onto_some byte lines some
+count_step false byte [] some = absurd (omega arith)
+count_step false byte (line ∷ lines) some = refl
 
 line_count-cons : (delim byte : ℕ) (x : List ℕ) → 0 < length x → line_count delim (byte ∷ x) ≡ cond (eqb byte delim) (line_count delim x + 1) (line_count delim x)
 line_count-cons delim byte x some = count_step (eqb byte delim) byte (lines_of delim x) (line_count-some delim x some)
@@ -100,6 +80,34 @@ ends_with-last delim (byte ∷ []) (suc n) last = absurd (omega arith)
 ends_with-last delim (byte ∷ next ∷ x) zero last = absurd (omega arith)
 ends_with-last delim (byte ∷ next ∷ x) (suc n) last = ends_with-last delim (next ∷ x) n (omega arith)
 
+-- how many lines a byte adds
+near_step : (is_delim : Bool) (byte n : ℕ) (lines : List (List ℕ)) → n ≤ length lines → length lines ≤ n + 1
+    → (cond is_delim (n + 1) n ≤ length (cond is_delim ((byte ∷ []) ∷ lines) (onto_first byte lines)))
+    × (length (cond is_delim ((byte ∷ []) ∷ lines) (onto_first byte lines)) ≤ cond is_delim (n + 1) n + 1)
+near_step true byte n lines low high = (omega arith, omega arith)
+near_step false byte n [] low high = (omega arith, omega arith)
+near_step false byte n (line ∷ lines) low high = (omega arith, omega arith)
+
+-- a text has as many lines as delimiters, or one more
+pub line_count_near : (delim : ℕ) (x : List ℕ) → (delimiters delim x ≤ line_count delim x) × (line_count delim x ≤ delimiters delim x + 1)
+line_count_near delim [] = (omega arith, omega arith)
+line_count_near delim (byte ∷ x) = let near = line_count_near delim x in near_step (eqb byte delim) byte (delimiters delim x) (lines_of delim x) near.0 near.1
+
+-- a text has as many lines as delimiters, and one more where its end is open
+pub line_count-by_end : (delim : ℕ) (x : List ℕ) (closed : Bool) → 0 < length x → closed ≡ ends_with delim x → line_count delim x ≡ delimiters delim x + bool_byte (not closed)
+line_count-by_end delim x true some is = line_count-closed delim x (sym is) ∙ omega arith
+line_count-by_end delim x false some is = line_count-open delim x some (sym is)
+
+-- a block before a text that isn't empty adds as many lines as it has delimiters
+pub line_count-front : (delim : ℕ) (block x : List ℕ) → 0 < length x → line_count delim (block ++ x) ≡ delimiters delim block + line_count delim x
+line_count-front delim block x some =
+    let closed = ends_with delim x in
+    let long : 0 < length (block ++ x) = omega (arith, length-append block x) in
+    let both = line_count-by_end delim (block ++ x) closed long (sym (ends_with-append delim block x some)) in
+    let here = line_count-by_end delim x closed some refl in
+    let all = delimiters-append delim block x in
+    omega arith
+
 -- without its last delimiter a text has one delimiter less
 pub closed_delimiters : (delim : ℕ) (x : List ℕ) (n : ℕ) → n + 1 ≡ length x → get_or x n 0 ≡ delim → delimiters delim x ≡ delimiters delim (take n x) + (length x - length (take n x))
 closed_delimiters delim x n last is =
@@ -114,9 +122,8 @@ pub closed_text : (delim : ℕ) (before x : List ℕ) (n : ℕ) → n + 1 ≡ le
 closed_text delim before x n last is =
     let ends : ends_with delim (before ++ x) ≡ true =
     ends_with-append delim before x (omega arith) ∙ ends_with-last delim x n last ∙ eq-eqb (get_or x n 0) delim is in
-    let one = delimiters-one_yes delim (get_or x n 0) (eq-eqb (get_or x n 0) delim is) in
-    let more = delimiters_more delim x n (omega arith) in
-    let whole : delimiters delim (take (n + 1) x) ≡ delimiters delim x = ap (delimiters delim) (take_all (n + 1) x (omega arith)) in
+    let here = closed_delimiters delim x n last is in
+    let short = length-take-le n x (omega arith) in
     let both = delimiters-append delim before x in
     line_count-closed delim (before ++ x) ends ∙ omega arith
 

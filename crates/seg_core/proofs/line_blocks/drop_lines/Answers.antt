@@ -2,8 +2,7 @@ use Rattle.std.proofs.Common.{◌∙◌, ap, sym, drop, arith}
 use Rattle.seg_core.specs.Line.{delimiters}
 use Rattle.seg_core.specs.Blocks.{BlockState}
 use Rattle.seg_core.proofs.Delimiters.{delimiters-take-drop}
-use Rattle.seg_core.proofs.FirstLines.{length-first_lines-le}
-use Rattle.seg_core.proofs.FrontLines.{after_lines-is_drop}
+use Rattle.seg_core.proofs.FirstLines.{after_lines-is_drop, length-first_lines-le}
 use Rattle.seg_core.proofs.line_blocks.drop_lines.Goals as goal
 
 pub drop_front-requires-clause-within : goal.drop_front-requires-clause-within
