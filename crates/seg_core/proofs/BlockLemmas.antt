@@ -129,7 +129,6 @@ first_few (block ∷ blocks) first some is = let same = ap (λ (b : BlockState).
 -- the count so far and that of the first block are no more than that of all blocks
 pub gone_fits : (n : ℕ) (blocks : List BlockState) (first : BlockState) (left : List BlockState) (bytes count : ℕ) → 0 < length left → first ≡ get_or left 0 first → Gone n blocks left bytes count → count + first.count ≤ count_of blocks
 gone_fits n blocks first left bytes count some is so_far =
-    let counted = so_far.counted in
     let all = ap count_of so_far.whole ∙ count_of-append so_far.gone left in
     let few = first_few left first some is in
     omega arith

@@ -49,7 +49,6 @@ over_begins delim n held piece front at is lines begins =
     let ends = ends_with-append delim held (take at front) some ∙ begins.after in
     let cut = delimiters-take-drop delim at front in
     let both = delimiters-append delim held (take at front) in
-    let after = begins.counted in
     let count : line_count delim (held ++ piece) - n ≡ delimiters delim (held ++ take at front) = omega arith in
     sym (
     ap (λ x. length (first_lines delim (line_count delim (held ++ piece) - n) x)) split

@@ -6,22 +6,16 @@ use Rattle.seg_core.proofs.line.count_delimiters.Goals as goal
 pub overflow_add-count : goal.overflow_add-count
 overflow_add-count c =
     let cut = ap (delimiters c.args.delim) c.split_at.ensures.by_index.0 ∙ delimiters-append c.args.delim c.split_at.result.0.now c.split_at.result.1.now in
-    let so_far = c.loop-left.invariant in
-    let here = c.count_in_run-count.ensures in
     let few = delimiters-le-length c.args.delim c.args.bytes.now in
     record { fits = omega arith }
 
 pub loop-left-preserved : goal.loop-left-preserved
 loop-left-preserved c =
     let cut = ap (delimiters c.args.delim) c.split_at.ensures.by_index.0 ∙ delimiters-append c.args.delim c.split_at.result.0.now c.split_at.result.1.now in
-    let so_far = c.loop-left.invariant in
-    let here = c.count_in_run-count.ensures in
     omega arith
 
 pub overflow_add-result : goal.overflow_add-result
 overflow_add-result c =
-    let so_far = c.loop-left.invariant in
-    let rest = c.count_one_by_one.ensures in
     let few = delimiters-le-length c.args.delim c.args.bytes.now in
     record { fits = omega arith }
 

@@ -25,8 +25,6 @@ loop-left-preserved c =
     let left = c.loop-left.left.now in
     let lanes = c.loop-left.lanes in
     let step = c.delimiters_in_step-lanes.result in
-    let so_far = c.loop-left.invariant.counted in
-    let here = c.delimiters_in_step-lanes.ensures.sum in
     let added = sum-zip2 lanes step (c.loop-left.auto.lanes.0 ∙ sym c.delimiters_in_step-lanes.ensures.long) in
     let split = delimiters-take-drop c.args.delim STEP left in
     let rest = ap (delimiters c.args.delim) (take_rest left STEP) in
@@ -38,11 +36,7 @@ loop-left-preserved c =
 
 pub overflow_add-result : goal.overflow_add-result
 overflow_add-result c =
-    let all = c.loop-left.invariant.counted in
-    let lanes = c.sum_of.ensures in
-    let rest = c.count_one_by_one.ensures in
     let few = delimiters-le-length c.args.delim c.args.run.now in
-    let short = c.requires in
     record { fits = omega arith }
 
 pub returns : goal.returns

@@ -10,7 +10,6 @@ count_first-near_count-requires c = split_counted c.args.delim c.loop-left.left.
 
 pub holding-requires : goal.holding-requires
 holding-requires c =
-    let near = c.count_first-near_count.ensures in
     omega (arith, delimiters-le-length c.args.delim c.split_at.result.0.now)
 
 pub overflow_sub-count : goal.overflow_sub-count

@@ -8,7 +8,6 @@ pub drop_whole-left-requires : goal.drop_whole-left-requires
 drop_whole-left-requires c =
     let items = c.args.queue.now.items in
     let few = delimiters-le-length c.args.delim (text_of items) in
-    let fits = c.requires.fits in
     omega (arith, all_counted c.args.delim items c.requires.each)
 
 pub drop_within-requires-clause-each : goal.drop_within-requires-clause-each
@@ -26,8 +25,6 @@ pub overflow_add-result : goal.overflow_add-result
 overflow_add-result c =
     let text = text_of c.args.queue.now.items in
     let all = rest_counted c.args.delim c.args.n c.args.queue.now.items _ _ _ c.drop_whole-left.ensures.gone c.requires.each in
-    let this = c.drop_within.ensures.delimiters in
     let part = delimiters-take-le c.args.delim c.args.n text in
     let few = delimiters-le-length c.args.delim text in
-    let fits = c.requires.fits in
     omega arith

@@ -7,7 +7,6 @@ use Rattle.seg_core.proofs.line_blocks.drop_lines.Goals as goal
 
 pub drop_front-requires-clause-within : goal.drop_front-requires-clause-within
 drop_front-requires-clause-within c =
-    let end = c.end_of-end.ensures in
     omega (arith, length-first_lines-le c.args.delim c.args.lines c.args.block.now.bytes)
 
 pub returns-clause-left : goal.returns-clause-left
@@ -20,8 +19,6 @@ returns-clause-left c =
 pub returns-clause-counted : goal.returns-clause-counted
 returns-clause-counted c =
     let cut = delimiters-take-drop c.args.delim c.end_of-end.result c.args.block.now.bytes in
-    let gone = c.drop_front.ensures.delimiters in
-    let counted = c.requires.counted in
     let left = ap (λ (b : BlockState). b.count) c.drop_front.ensures.left in
     let rest = ap (λ (b : BlockState). delimiters c.args.delim b.bytes) c.drop_front.ensures.left in
     omega arith

@@ -7,8 +7,6 @@ pub overflow_add-left : goal.overflow_add-left
 overflow_add-left c =
     let items = c.loop-first.queue.items in
     let some : 0 < length items = let v = c.in-Some.ensures.variant.0 refl in let o = c.loop-first.queue.ok in omega arith in
-    let counted = c.delimiters.ensures in
-    let fits = c.requires in
     omega (arith, gone_fits c.args.n c.args.queue.now.items c.in-Some.first.now items c.loop-first.left.bytes c.loop-first.left.delimiters some c.in-Some.ensures.lookup c.loop-first.invariant)
 
 pub loop-first-preserved-else-left-len : goal.loop-first-preserved-else-left-len

@@ -16,7 +16,6 @@ blocks_of-requires c = (back_counted c.args.delim c.args.piece.now c.split_at.re
 
 pub fill-requires-clause-few : goal.fill-requires-clause-few
 fill-requires-clause-few c =
-    let near = c.count_first-near_count.ensures in
     omega (arith, delimiters-le-length c.args.delim c.split_at.result.0.now)
 
 pub returns-clause-ok : goal.returns-clause-ok

@@ -20,10 +20,7 @@ overflow_add-result c =
     let here : c.loop-i.i < length items = let t = c.loop-i-test.true in let e = c.len-i-end.ensures in let o = c.args.queue.now.ok in omega arith in
     let block = c.index-block.result.now in
     let is = ap length (text_from items c.loop-i.i block here c.index-block.ensures) ∙ length-append block.bytes (text_of (drop (c.loop-i.i + 1) items)) in
-    let end = c.end_of.ensures in
     let short = length-first_lines-le c.args.delim c.loop-i.left block.bytes in
-    let so_far = c.loop-i.invariant.fits in
-    let fits = c.requires.fits in
     omega arith
 
 pub returns-then-left-delimiters : goal.returns-then-left-delimiters
@@ -45,7 +42,6 @@ loop-i-preserved c =
     let count = c.delimiters-in-loop-i.ensures ∙ counted_at c.args.delim items c.loop-i.i block here c.index-block.ensures c.requires.each in
     let counted = counted_at c.args.delim items c.loop-i.i block here c.index-block.ensures c.requires.each in
     let fewer : delimiters c.args.delim block.bytes < left = let t = c.if-left-delimiters.false in let e = c.delimiters.ensures in omega arith in
-    let long = c.len.ensures in
     let lines = ap (delimiters c.args.delim) is ∙ delimiters-append c.args.delim block.bytes after in
     let whole = ap length is ∙ length-append block.bytes after in
     let enough = c.loop-i.invariant.enough in

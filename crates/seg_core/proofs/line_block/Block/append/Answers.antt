@@ -7,13 +7,10 @@ pub overflow_add-self : goal.overflow_add-self
 overflow_add-self c =
     let old = c.self.inside.bytes in
     let new = c.extend_from_slice.new.self in
-    let few = c.self.invariant.1 in
     let short = length-drop c.self.inside.start old.items in
-    let long = c.in_ok-extend_from_slice.ensures.len in
     let old_ok = old.ok in
     let ok = new.ok in
     let small = new.small in
-    let part = c.requires in
     omega arith
 
 pub invariant_of-self-2 : goal.invariant_of-self-2

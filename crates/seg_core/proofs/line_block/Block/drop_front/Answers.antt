@@ -25,8 +25,6 @@ invariant_of-self c =
     let gone = c.count_first-gone.ensures ∙ ap (delimiters c.args.delim) (c.split_at.ensures.front ∙ ap (take c.args.n) (c.bytes.ensures ∙ sym bytes)) in
     let rest = part_counted c.args.delim c.self.inside.bytes.items c.self.inside.start c.args.n c.self.inside.count c.count_first-gone.result counted gone in
     let few = delimiters-le-length c.args.delim (drop (c.self.inside.start + c.args.n) c.self.inside.bytes.items) in
-    let fits = c.requires.within in
     let long = ap length bytes in
     let short = length-drop c.self.inside.start c.self.inside.bytes.items in
-    let within = c.self.invariant.0 in
     (omega arith, omega arith)

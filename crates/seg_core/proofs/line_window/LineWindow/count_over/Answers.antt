@@ -30,8 +30,6 @@ overflow_add-lines-in-Short c =
     let long = length-append held c.args.piece.now in
     let is = ap (λ (w : Window). length w.held) c.self.view_is in
     let count = c.in-Short.ensures.counted in
-    let all = c.self.invariant.counted in
-    let fits = c.self.invariant.fits in
     omega arith
 
 pub overflow_add-lines : goal.overflow_add-lines
@@ -42,8 +40,6 @@ overflow_add-lines c =
     let long = length-append held c.args.piece.now in
     let is = ap (λ (w : Window). length w.held) c.self.view_is in
     let count = c.in-Short.ensures.counted in
-    let all = c.self.invariant.counted in
-    let fits = c.self.invariant.fits in
     omega arith
 
 pub returns-in-Short-clause-bytes : goal.returns-in-Short-clause-bytes
@@ -51,7 +47,6 @@ returns-in-Short-clause-bytes c =
     let held = text_of c.self.inside.blocks.items in
     let most = c.self.inside.most in
     let lines = c.self.inside.delimiters + c.in-Short.count + 1 in
-    let counted = c.self.invariant.counted in
     let count = c.in-Short.ensures.counted in
     let fewer = c.in-Short.ensures.fewer in
     let is : line_count c.self.inside.delim (held ++ c.args.piece.now) ≡ lines = let all = c.last_delimiter_off-text.ensures.count held in omega arith in
@@ -63,8 +58,6 @@ returns-in-Short-clause-bytes c =
 
 pub overflow_add-result : goal.overflow_add-result
 overflow_add-result c =
-    let all = c.last_delimiter_off-text.ensures.delimiters in
     let few = delimiters-le-length c.self.inside.delim c.args.piece.now in
     let count = c.in-Short.ensures.counted in
-    let fits = c.type_inv.piece in
     omega arith

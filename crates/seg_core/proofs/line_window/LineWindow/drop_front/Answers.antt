@@ -7,8 +7,6 @@ use Rattle.seg_core.proofs.line_window.LineWindow.drop_front.Goals as goal
 
 pub overflow_sub-self : goal.overflow_sub-self
 overflow_sub-self c =
-    let gone = c.drop_front.ensures.delimiters in
-    let counted = c.self.invariant.counted in
     omega (arith, delimiters-take-le c.self.inside.delim c.args.n (text_of c.self.inside.blocks.items))
 
 pub invariant_of-self : goal.invariant_of-self

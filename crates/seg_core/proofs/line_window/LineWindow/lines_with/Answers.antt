@@ -24,7 +24,6 @@ returns c =
     let inside = c.self.inside in
     let block = c.args.block.now in
     let held = text_of inside.blocks.items in
-    let long = c.self.invariant.long in
     let is : c.if-self-eq0.is_closed ≡ ends_with inside.delim (block ++ held) =
     elim c.if-self-eq0.branch [
       | then-self-eq0 w ↦ let none : length held ≡ 0 = let empty = w.if-self-eq0.true in omega arith in w.is_closed-is ∙ ends_with-alone inside.delim block held none c.requires.some

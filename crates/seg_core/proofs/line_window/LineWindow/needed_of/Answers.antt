@@ -4,6 +4,5 @@ use Rattle.seg_core.proofs.line_window.LineWindow.needed_of.Goals as goal
 
 pub of-block-requires : goal.of-block-requires
 of-block-requires c =
-    let count = c.count_delimiters-count.ensures in
     let long = ap length c.deref.ensures.value in
     omega (arith, delimiters-le-length c.self.inside.delim c.deref.result.now)

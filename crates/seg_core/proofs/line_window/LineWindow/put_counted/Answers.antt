@@ -9,18 +9,13 @@ use Rattle.seg_core.proofs.line_window.LineWindow.put_counted.Goals as goal
 pub overflow_add-self-2 : goal.overflow_add-self-2
 overflow_add-self-2 c =
     let held = ap (λ (w : Window). length w.held) c.self.view_is in
-    let counted = c.self.invariant.counted in
     let few = delimiters-le-length c.self.inside.delim (text_of c.self.inside.blocks.items) in
     let more = delimiters-le-length c.self.inside.delim c.args.piece.now in
     let of = subst (λ (w : Window). c.args.count ≡ delimiters w.delim c.args.piece.now) (sym c.self.view_is) c.requires.counted in
-    let fits = c.self.invariant.fits in
     omega arith
 
 pub invariant_of-self-2 : goal.invariant_of-self-2
 invariant_of-self-2 c =
-    let fits = c.self.invariant.fits in
-    let long = c.self.invariant.long in
-    let room = c.if-piece-self.false in
     let counted = subst (λ (w : Window). c.args.count ≡ delimiters w.delim c.args.piece.now) (sym c.self.view_is) c.requires.counted in
     counted_put c.self.inside.delim c.self.inside.most c.self.inside.blocks.items c.extend.new.queue.items c.args.piece.now c.self.inside.len c.self.inside.delimiters c.args.count
     c.self.invariant (omega arith)

@@ -19,15 +19,7 @@ overflow_add-self-2 c =
     let left = ap length c.needed_of-block.ensures.left in
     let short = length-after_lines-le window.delim over bytes in
     let few = delimiters-le-length window.delim c.needed_of-block.result.bytes in
-    let count = c.needed_of-block.ensures.counted in
-    let more = c.delimiters-delimiters.ensures in
-    let counted = c.self.invariant.counted in
     let here = delimiters-le-length c.self.inside.delim (text_of c.self.inside.blocks.items) in
-    let fits = c.self.invariant.fits in
-    let long = c.len.ensures in
-    let room = c.if-len-self.false in
-    let of = c.self.invariant.long in
-    let ok = c.args.block.ok in
     omega arith
 
 pub invariant_of-self-2 : goal.invariant_of-self-2

@@ -13,7 +13,6 @@ loop-at-preserved c =
     let next = sym was.held ∙ c.front.ensures.front.1 in
     let long = ap length next ∙ length-append c.front.result.now c.front.ensures.front.0 in
     let left = length-drop at held in
-    let of = c.copy_front-count.ensures.count in
     let fits : count ≤ length c.front.result.now = omega arith in
     let there = was.there in
     let within = was.within in
