@@ -1,7 +1,7 @@
 -- A text in blocks.
 use Rattle.std.proofs.Common.{◌≡◌, ℕ, zero, suc, ◌+◌, ◌-◌, ◌^◌, ◌<◌, ◌≤◌, List, [], ◌∷◌, ◌++◌, length, take, drop, get_or, set, refl, sym, ap, subst, ◌∙◌, arith, drop-cons, add-one}
 use Rattle.std.proofs.lemmas.List.{append-nil, append_assoc, length-append, length-drop, drop-drop, take-append-drop, take_at, drop_at}
-use Rattle.std.proofs.lemmas.List.Elements.{All-get_or, All-set, All-append, All-take, All-drop}
+use Rattle.std.proofs.lemmas.List.Elements.{All-get_or, All-set, All-cons, All-take, All-drop}
 use Rattle.std.proofs.Math.Seq.{drop-append-add, take-append-add}
 use Rattle.seg_core.specs.Line.{delimiters, ends_with, first_lines, line_count, after_lines, last_lines, but_last_lines}
 use Rattle.seg_core.specs.Blocks.{BlockState, text_of, HasCount, HaveCounts, IsCounted}
@@ -9,7 +9,7 @@ use Rattle.seg_core.specs.inner.Blocks.{count_of, Gone}
 use Rattle.seg_core.proofs.Delimiters.{delimiters-append, delimiters-take-drop}
 use Rattle.seg_core.proofs.LineCounts.{line_count-drop, ends_with-append}
 use Rattle.seg_core.proofs.LastLines.{few_from_nothing}
-use Rattle.seg_core.proofs.FirstLines.{first_lines-append, first_lines-full, first_lines-short}
+use Rattle.seg_core.proofs.FirstLines.{first_lines-append, first_lines-short}
 use Rattle.seg_core.proofs.EndLines.{count_last}
 use Rattle.seg_core.proofs.FrontLines.{last_lines-front, length-after_lines-le}
 
@@ -24,20 +24,15 @@ count_of-append (block ∷ front) back = let rest = count_of-append front back i
 
 -- one more block at the end
 pub text_push : (blocks : List BlockState) (block : BlockState) (rest : List ℕ) → text_of (blocks ++ block ∷ []) ++ rest ≡ text_of blocks ++ (block.bytes ++ rest)
-text_push blocks block rest =
-    ap (λ x. x ++ rest) (text_of-append blocks (block ∷ []) ∙ ap (λ x. text_of blocks ++ x) (append-nil block.bytes))
-    ∙ append_assoc (text_of blocks) block.bytes rest
+text_push blocks block rest = simp (text_of-append, append-nil, append_assoc)
 
 -- bytes appended to those of the last block
 pub text_set : (blocks : List BlockState) (n : ℕ) (last new : BlockState) (part : List ℕ) → n + 1 ≡ length blocks → last ≡ get_or blocks n last → new.bytes ≡ last.bytes ++ part → text_of (set blocks n new) ≡ text_of blocks ++ part
-text_set [] n last new part is was now = absurd (omega arith)
-text_set (block ∷ []) zero last new part is was now =
-    append-nil new.bytes ∙ now ∙ ap (λ x. x ++ part) (ap (λ (b : BlockState). b.bytes) was ∙ sym (append-nil block.bytes))
-text_set (block ∷ []) (suc n) last new part is was now = absurd (omega arith)
-text_set (block ∷ next ∷ blocks) zero last new part is was now = absurd (omega arith)
+text_set (block ∷ []) zero last new part is was now = cc (append-nil new.bytes, append-nil block.bytes)
 text_set (block ∷ next ∷ blocks) (suc n) last new part is was now =
     ap (λ x. block.bytes ++ x) (text_set (next ∷ blocks) n last new part (omega arith) was now)
     ∙ sym (append_assoc block.bytes (text_of (next ∷ blocks)) part)
+text_set blocks n last new part is was now = absurd (omega arith)
 
 -- from the i-th block on
 pub text_from : (blocks : List BlockState) (i : ℕ) (block : BlockState) → i < length blocks → block ≡ get_or blocks i block → text_of (drop i blocks) ≡ block.bytes ++ text_of (drop (i + 1) blocks)
@@ -67,7 +62,7 @@ all_counted delim (block ∷ blocks) each =
     let both = delimiters-append delim block.bytes (text_of blocks) in
     omega arith
 
--- the counts stay right, once bytes went at the front of the first block, once some came to the last, and once there is one block more at the end
+-- the counts stay right, once bytes went at the front of the first block, and once some came to the last
 pub dropped_counts : (delim n gone : ℕ) (blocks : List BlockState) (first new : BlockState) → 0 < length blocks → first ≡ get_or blocks 0 first → new ≡ record { bytes = drop n first.bytes; count = first.count - gone } → gone ≡ delimiters delim (take n first.bytes) → HaveCounts delim blocks
     → HaveCounts delim (set blocks 0 new)
 dropped_counts delim n gone blocks first new some is now of each =
@@ -84,26 +79,11 @@ grown_counts delim n more blocks last new part at is now of each =
     let all : last.count + more ≡ delimiters delim (last.bytes ++ part) = omega arith in
     All-set (HasCount delim) blocks n new (subst (HasCount delim) (sym now) all) each
 
--- one block has its count
-one_counted : (delim : ℕ) (block : BlockState) → block.count ≡ delimiters delim block.bytes → HaveCounts delim (block ∷ [])
-one_counted delim block here zero d low = here
-one_counted delim block here (suc k) d low = absurd (omega arith)
-
-pub pushed_counts : (delim : ℕ) (blocks : List BlockState) (block : BlockState) → block.count ≡ delimiters delim block.bytes → HaveCounts delim blocks → HaveCounts delim (blocks ++ block ∷ [])
-pushed_counts delim blocks block here each = All-append (HasCount delim) blocks (block ∷ []) each (one_counted delim block here)
-
--- and once there is one block more at the front
-fronted_counts : (delim : ℕ) (block : BlockState) (blocks : List BlockState) → block.count ≡ delimiters delim block.bytes → HaveCounts delim blocks → HaveCounts delim (block ∷ blocks)
-fronted_counts delim block blocks here each = All-append (HasCount delim) (block ∷ []) blocks (one_counted delim block here) each
-
--- a block stands before a text: the lines end after the block, or in it
+-- a block stands before a text, and the lines end after the block
 pub lines_pass : (delim n : ℕ) (block rest : List ℕ) → delimiters delim block < n → length (first_lines delim n (block ++ rest)) ≡ length block + length (first_lines delim (n - delimiters delim block) rest)
 lines_pass delim n block rest fewer =
     ap length (first_lines-append delim n block rest ∙ ap (λ x. x ++ first_lines delim (n - delimiters delim block) rest) (first_lines-short delim n block fewer))
     ∙ length-append block (first_lines delim (n - delimiters delim block) rest)
-
-pub lines_end : (delim n : ℕ) (block rest : List ℕ) → n ≤ delimiters delim block → length (first_lines delim n (block ++ rest)) ≡ length (first_lines delim n block)
-lines_end delim n block rest enough = ap length (first_lines-full delim n block rest enough)
 
 -- the first block goes too
 pub first_goes : (n : ℕ) (blocks : List BlockState) (first : BlockState) (left : List BlockState) (bytes count : ℕ) → 0 < length left → first ≡ get_or left 0 first → length first.bytes ≤ bytes → Gone n blocks left bytes count
@@ -111,8 +91,6 @@ pub first_goes : (n : ℕ) (blocks : List BlockState) (first : BlockState) (left
 first_goes n blocks first [] bytes count some is fits so_far = absurd (omega arith)
 first_goes n blocks first (block ∷ left) bytes count some is fits so_far =
     let gone = so_far.gone in
-    let long = so_far.long in
-    let counted = so_far.counted in
     let both = ap length (text_of-append gone (first ∷ []) ∙ ap (λ x. text_of gone ++ x) (append-nil first.bytes)) ∙ length-append (text_of gone) first.bytes in
     let all = count_of-append gone (first ∷ []) in
     record {
@@ -182,15 +160,11 @@ pub counted_drop : (delim most n : ℕ) (blocks new : List BlockState) (len coun
     → IsCounted delim most new (len - n) (count - gone)
 counted_drop delim most n blocks new len count gone so_far within left is each =
     let text = text_of blocks in
-    let few = so_far.few in
-    let long = so_far.long in
-    let counted = so_far.counted in
     let fewer = line_count-drop delim n text in
     let same = ap (line_count delim) left in
     let short = ap length left ∙ length-drop n text in
     let cut = delimiters-take-drop delim n text in
     let rest = ap (delimiters delim) left in
-    let fits = so_far.fits in
     record { few = omega arith; fits = omega arith; long = omega arith; counted = omega arith; each = each }
 
 -- and once a piece is appended
@@ -198,8 +172,6 @@ pub counted_put : (delim most : ℕ) (blocks new : List BlockState) (piece : Lis
     → IsCounted delim most new (len + length piece) (count + more)
 counted_put delim most blocks new piece len count more so_far fits within grown is each =
     let text = text_of blocks in
-    let long = so_far.long in
-    let counted = so_far.counted in
     let few = few_from_nothing delim most (text ++ piece) within in
     let same = ap (line_count delim) grown in
     let all = ap length grown ∙ length-append text piece in
@@ -212,8 +184,6 @@ pub counted_front : (delim most : ℕ) (blocks : List BlockState) (front : Block
 counted_front delim most blocks front bytes len count so_far fits left is =
     let text = text_of blocks in
     let over = line_count delim (bytes ++ text) - most in
-    let long = so_far.long in
-    let counted = so_far.counted in
     let last : front.bytes ++ text ≡ last_lines delim most (bytes ++ text) = ap (λ x. x ++ text) left ∙ sym (last_lines-front delim most bytes text so_far.few) in
     let lines = ap (line_count delim) last in
     let few = count_last delim most (bytes ++ text) in
@@ -221,18 +191,12 @@ counted_front delim most blocks front bytes len count so_far fits left is =
     let same = ap length left in
     let all = length-append front.bytes text in
     let both = delimiters-append delim front.bytes text in
-    record { few = omega arith; fits = omega arith; long = omega arith; counted = omega arith; each = fronted_counts delim front blocks is so_far.each }
+    record { few = omega arith; fits = omega arith; long = omega arith; counted = omega arith; each = All-cons (HasCount delim) front blocks is so_far.each }
 
 -- fresh blocks after those of which the last was filled
 pub extended : (old mid filled fresh new : List BlockState) (near far piece : List ℕ) → new ≡ filled ++ fresh → text_of filled ≡ text_of mid ++ near → text_of fresh ≡ far → mid ≡ old → piece ≡ near ++ far
     → text_of new ≡ text_of old ++ piece
-extended old mid filled fresh new near far piece all fill_is of same split =
-    ap text_of all
-    ∙ text_of-append filled fresh
-    ∙ ap (λ x. x ++ text_of fresh) (fill_is ∙ ap (λ (bs : List BlockState). text_of bs ++ near) same)
-    ∙ ap (λ x. (text_of old ++ near) ++ x) of
-    ∙ append_assoc (text_of old) near far
-    ∙ ap (λ x. text_of old ++ x) (sym split)
+extended old mid filled fresh new near far piece all fill_is of same split = cc (text_of-append filled fresh, append_assoc (text_of old) near far)
 
 -- the delimiters of a text in two parts
 pub split_counted : (delim : ℕ) (text near far : List ℕ) (count : ℕ) → count ≡ delimiters delim text → text ≡ near ++ far → count ≡ delimiters delim near + delimiters delim far

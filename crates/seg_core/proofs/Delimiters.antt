@@ -55,13 +55,7 @@ count_more delim x i n one so_far h here = let more = delimiters_more delim x i 
 
 -- a count that goes on byte by byte
 pub count_yes : (delim : ℕ) (x : List ℕ) (i n : ℕ) → n ≡ delimiters delim (take i x) → i < length x → get_or x i 0 ≡ delim → n + 1 ≡ delimiters delim (take (i + 1) x)
-count_yes delim x i n so_far h here =
-    let one = delimiters-one_yes delim (get_or x i 0) (eq-eqb (get_or x i 0) delim here) in
-    let more = delimiters_more delim x i h in
-    omega arith
+count_yes delim x i n so_far h here = count_more delim x i n 1 so_far h (sym (delimiters-one_yes delim (get_or x i 0) (eq-eqb (get_or x i 0) delim here)))
 
 pub count_no : (delim : ℕ) (x : List ℕ) (i n : ℕ) → n ≡ delimiters delim (take i x) → i < length x → get_or x i 0 ≢ delim → n ≡ delimiters delim (take (i + 1) x)
-count_no delim x i n so_far h here =
-    let none = delimiters-one_no delim (get_or x i 0) (ne_eqb (get_or x i 0) delim here) in
-    let more = delimiters_more delim x i h in
-    omega arith
+count_no delim x i n so_far h here = omega (arith, count_more delim x i n 0 so_far h (sym (delimiters-one_no delim (get_or x i 0) (ne_eqb (get_or x i 0) delim here))))

@@ -136,11 +136,9 @@ EndsAt-enough delim n x end ends = omega (arith, ends.complete, delimiters-take-
 
 AreLines-take : (delim k : ℕ) (lines : List (List ℕ)) → AreLines delim lines → AreLines delim (take k lines)
 AreLines-take delim zero lines each = tt
-AreLines-take delim (suc k) [] each = tt
-AreLines-take delim (suc zero) (line ∷ []) each = each
-AreLines-take delim (suc (suc k)) (line ∷ []) each = each
 AreLines-take delim (suc zero) (line ∷ next ∷ lines) (complete, each) = inl complete
 AreLines-take delim (suc (suc k)) (line ∷ next ∷ lines) (complete, each) = (complete, AreLines-take delim (suc k) (next ∷ lines) each)
+AreLines-take delim k lines each = each
 
 -- the lines of the first lines
 pub lines_of-first_lines : (delim n : ℕ) (x : List ℕ) → lines_of delim (first_lines delim n x) ≡ take n (lines_of delim x)
@@ -148,10 +146,9 @@ lines_of-first_lines delim n x = lines_of-joined delim (take n (lines_of delim x
 
 AreLines-drop : (delim k : ℕ) (lines : List (List ℕ)) → AreLines delim lines → AreLines delim (drop k lines)
 AreLines-drop delim zero lines each = each
-AreLines-drop delim (suc k) [] each = tt
-AreLines-drop delim (suc zero) (line ∷ []) each = tt
-AreLines-drop delim (suc (suc k)) (line ∷ []) each = tt
 AreLines-drop delim (suc k) (line ∷ next ∷ lines) (complete, each) = AreLines-drop delim k (next ∷ lines) each
+AreLines-drop delim (suc zero) lines each = tt
+AreLines-drop delim (suc (suc k)) lines each = tt
 
 -- the lines of what stands after the first lines
 pub lines_of-after_lines : (delim k : ℕ) (x : List ℕ) → lines_of delim (after_lines delim k x) ≡ drop k (lines_of delim x)

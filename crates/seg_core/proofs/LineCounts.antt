@@ -74,11 +74,9 @@ ends_with-some delim [] ends = absurd (false≢true ends)
 ends_with-some delim (byte ∷ x) ends = omega arith
 
 pub ends_with-last : (delim : ℕ) (x : List ℕ) (n : ℕ) → n + 1 ≡ length x → ends_with delim x ≡ eqb (get_or x n 0) delim
-ends_with-last delim [] n last = absurd (omega arith)
 ends_with-last delim (byte ∷ []) zero last = refl
-ends_with-last delim (byte ∷ []) (suc n) last = absurd (omega arith)
-ends_with-last delim (byte ∷ next ∷ x) zero last = absurd (omega arith)
 ends_with-last delim (byte ∷ next ∷ x) (suc n) last = ends_with-last delim (next ∷ x) n (omega arith)
+ends_with-last delim x n last = absurd (omega arith)
 
 -- how many lines a byte adds
 near_step : (is_delim : Bool) (byte n : ℕ) (lines : List (List ℕ)) → n ≤ length lines → length lines ≤ n + 1

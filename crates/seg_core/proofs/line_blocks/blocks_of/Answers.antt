@@ -2,7 +2,8 @@ use Rattle.std.proofs.Common.{◌++◌, ◌∙◌, List, ℕ, ap, sym, subst, le
 use Rattle.std.proofs.lemmas.Bool.{eqb-true}
 use Rattle.seg_core.specs.Blocks.{BlockState, HasCount, HaveCounts, text_of}
 use Rattle.seg_core.proofs.Delimiters.{delimiters-le-length}
-use Rattle.seg_core.proofs.BlockLemmas.{back_counted, pushed_counts, text_push, none_left, split_counted}
+use Rattle.std.proofs.lemmas.List.Elements.{All-push}
+use Rattle.seg_core.proofs.BlockLemmas.{back_counted, text_push, none_left, split_counted}
 use Rattle.seg_core.proofs.line_blocks.blocks_of.Goals as goal
 
 pub count_first-near_count-requires : goal.count_first-near_count-requires
@@ -31,5 +32,5 @@ loop-left-preserved c =
           ∙ ap (λ (x : List ℕ). text_of blocks ++ x) (sym c.split_at.ensures.by_index.0)
           ∙ c.loop-left.invariant.whole;
       counted = (back_counted c.args.delim c.loop-left.left.now c.split_at.result.0.now far c.loop-left.count c.count_first-near_count.result c.loop-left.invariant.counted c.split_at.ensures.by_index.0 c.count_first-near_count.ensures).1;
-      each = subst (HaveCounts c.args.delim) (sym {A = List BlockState} c.in-Ok.ensures.items) (pushed_counts c.args.delim blocks c.in_ok-block.block near c.loop-left.invariant.each);
+      each = subst (HaveCounts c.args.delim) (sym {A = List BlockState} c.in-Ok.ensures.items) (All-push (HasCount c.args.delim) blocks c.in_ok-block.block c.loop-left.invariant.each near);
     }

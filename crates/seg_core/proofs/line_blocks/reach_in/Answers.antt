@@ -3,15 +3,15 @@ use Rattle.std.proofs.lemmas.List.{length-append}
 use Rattle.seg_core.specs.Line.{delimiters, first_lines}
 use Rattle.seg_core.specs.Blocks.{text_of}
 use Rattle.seg_core.proofs.Delimiters.{delimiters-append}
-use Rattle.seg_core.proofs.FirstLines.{length-first_lines-le}
-use Rattle.seg_core.proofs.BlockLemmas.{counted_at, text_from, lines_pass, lines_end}
+use Rattle.seg_core.proofs.FirstLines.{first_lines-full, length-first_lines-le}
+use Rattle.seg_core.proofs.BlockLemmas.{counted_at, text_from, lines_pass}
 use Rattle.seg_core.proofs.line_blocks.reach_in.Goals as goal
 
 -- the lines end in this block
 ends_here : (delim wanted passed left end : ℕ) (rest block after : List ℕ) → rest ≡ block ++ after → wanted ≡ passed + length (first_lines delim left rest) → left ≤ delimiters delim block → end ≡ length (first_lines delim left block)
     → passed + end ≡ wanted
 ends_here delim wanted passed left end rest block after is place enough of =
-    let whole = ap (λ x. length (first_lines delim left x)) is ∙ lines_end delim left block after enough in
+    let whole = ap (λ x. length (first_lines delim left x)) is ∙ ap length (first_lines-full delim left block after enough) in
     omega arith
 
 pub overflow_add-result : goal.overflow_add-result
