@@ -86,16 +86,16 @@ lines_pass delim n block rest fewer =
     ∙ length-append block (first_lines delim (n - delimiters delim block) rest)
 
 -- the first block goes too
-pub first_goes : (n : ℕ) (blocks : List BlockState) (first : BlockState) (left : List BlockState) (bytes count : ℕ) → 0 < length left → first ≡ get_or left 0 first → length first.bytes ≤ bytes → Gone n blocks left bytes count
-    → Gone n blocks (drop 1 left) (bytes - length first.bytes) (count + first.count)
-first_goes n blocks first [] bytes count some is fits so_far = absurd (omega arith)
-first_goes n blocks first (block ∷ left) bytes count some is fits so_far =
+pub first_goes : (n : ℕ) (blocks : List BlockState) (first : BlockState) (left rest : List BlockState) (bytes count long more : ℕ) → 0 < length left → first ≡ get_or left 0 first → length first.bytes ≤ bytes → Gone n blocks left bytes count
+    → rest ≡ drop 1 left → long ≡ length first.bytes → more ≡ first.count → Gone n blocks rest (bytes - long) (count + more)
+first_goes n blocks first [] rest bytes count long more some is fits so_far after long_is more_is = absurd (omega arith)
+first_goes n blocks first (block ∷ left) rest bytes count long more some is fits so_far after long_is more_is =
     let gone = so_far.gone in
     let both = ap length (text_of-append gone (first ∷ []) ∙ ap (λ x. text_of gone ++ x) (append-nil first.bytes)) ∙ length-append (text_of gone) first.bytes in
     let all = count_of-append gone (first ∷ []) in
     record {
       gone = gone ++ first ∷ [];
-      whole = so_far.whole ∙ ap (λ (b : BlockState). gone ++ (b ∷ left)) (sym is) ∙ sym (append_assoc gone (first ∷ []) left);
+      whole = cc (so_far.whole, append_assoc gone (first ∷ []) left);
       long = omega arith;
       counted = omega arith;
     }
@@ -179,9 +179,10 @@ counted_put delim most blocks new piece len count more so_far fits within grown 
     record { few = omega arith; fits = omega arith; long = omega arith; counted = omega arith; each = each }
 
 -- and once what is left of a block of bytes is put at the front
-pub counted_front : (delim most : ℕ) (blocks : List BlockState) (front : BlockState) (bytes : List ℕ) (len count : ℕ) → IsCounted delim most blocks len count → len + length bytes < 2 ^ 63
-    → front.bytes ≡ after_lines delim (line_count delim (bytes ++ text_of blocks) - most) bytes → front.count ≡ delimiters delim front.bytes → IsCounted delim most (front ∷ blocks) (len + length front.bytes) (count + front.count)
-counted_front delim most blocks front bytes len count so_far fits left is =
+pub counted_front : (delim most : ℕ) (blocks new : List BlockState) (front : BlockState) (bytes : List ℕ) (len count long more : ℕ) → IsCounted delim most blocks len count → len + length bytes < 2 ^ 63
+    → front.bytes ≡ after_lines delim (line_count delim (bytes ++ text_of blocks) - most) bytes → front.count ≡ delimiters delim front.bytes → new ≡ front ∷ blocks → long ≡ length front.bytes → more ≡ front.count
+    → IsCounted delim most new (len + long) (count + more)
+counted_front delim most blocks new front bytes len count long more so_far fits left is now long_is more_is =
     let text = text_of blocks in
     let over = line_count delim (bytes ++ text) - most in
     let last : front.bytes ++ text ≡ last_lines delim most (bytes ++ text) = ap (λ x. x ++ text) left ∙ sym (last_lines-front delim most bytes text so_far.few) in
@@ -191,7 +192,8 @@ counted_front delim most blocks front bytes len count so_far fits left is =
     let same = ap length left in
     let all = length-append front.bytes text in
     let both = delimiters-append delim front.bytes text in
-    record { few = omega arith; fits = omega arith; long = omega arith; counted = omega arith; each = All-cons (HasCount delim) front blocks is so_far.each }
+    subst (λ bs. IsCounted delim most bs (len + long) (count + more)) (sym {A = List BlockState} now)
+    (record { few = omega arith; fits = omega arith; long = omega arith; counted = omega arith; each = All-cons (HasCount delim) front blocks is so_far.each })
 
 -- fresh blocks after those of which the last was filled
 pub extended : (old mid filled fresh new : List BlockState) (near far piece : List ℕ) → new ≡ filled ++ fresh → text_of filled ≡ text_of mid ++ near → text_of fresh ≡ far → mid ≡ old → piece ≡ near ++ far

@@ -4,8 +4,8 @@ use Rattle.std.specs.List.{prefix_len, list_all}
 use Rattle.std.specs.Char.{is_ascii_digit}
 use Rattle.std.proofs.lemmas.Bool.{eq-eqb, ne_eqb, le-leb, lt-leb, lt-ltb, and_from, and_right}
 use Rattle.std.proofs.lemmas.List.{take_all, take_rest}
-use Rattle.std.proofs.lemmas.List.Folds.{length-prefix_len}
-use Rattle.std.proofs.lemmas.List.Sums.{prefix_len-le-length}
+use Rattle.std.proofs.lemmas.List.Folds.{length-prefix_len, list_all_at}
+use Rattle.std.proofs.lemmas.List.Sums.{prefix_len-le-length, prefix_len_stops}
 use Rattle.std.proofs.Math.Nat.{mul-le-mul_left, mul-le-mul_right}
 use Rattle.seg_core.specs.declared.count.Sign.{Sign}
 use Rattle.seg_core.specs.declared.count.CountFault.TheVariants.{NoDigits, TooLarge}
@@ -61,14 +61,6 @@ all_digits : (text : List ℕ) → prefix_len is_ascii_digit text ≡ length tex
 all_digits [] same = refl
 all_digits (byte ∷ text) same = all_step (is_ascii_digit byte) (list_all is_ascii_digit text) (prefix_len is_ascii_digit text) (length text) (all_digits text) same
 
-not_all_step : (is_digit rest : Bool) (n m : ℕ) → (n < m → rest ≡ false) → cond is_digit (1 + n) 0 < suc m → (is_digit && rest) ≡ false
-not_all_step true rest n m later fewer = later (omega arith)
-not_all_step false rest n m later fewer = refl
-
-not_all_digits : (text : List ℕ) → prefix_len is_ascii_digit text < length text → list_all is_ascii_digit text ≡ false
-not_all_digits [] fewer = absurd (omega arith)
-not_all_digits (byte ∷ text) fewer = not_all_step (is_ascii_digit byte) (list_all is_ascii_digit text) (prefix_len is_ascii_digit text) (length text) (not_all_digits text) fewer
-
 -- the text doesn't begin with a digit, or its digits aren't all of it
 pub digits_of-none : (text : List ℕ) (end : ℕ) → end ≡ prefix_len is_ascii_digit text → (end ≡ 0) ⊎ (end < length text) → digits_of text ≡ Err NoDigits
 unfolding digits_of
@@ -76,7 +68,7 @@ digits_of-none [] end is either = refl
 digits_of-none (byte ∷ text) end is either =
     let fewer : prefix_len is_ascii_digit (byte ∷ text) < length (byte ∷ text) = omega arith in
     ap (λ (c : Bool). cond c (cond (leb (value_of (byte ∷ text)) greatest) (Ok (value_of (byte ∷ text))) (Err TooLarge)) (Err NoDigits))
-    (and_right (ltb 0 (length (byte ∷ text))) (list_all is_ascii_digit (byte ∷ text)) (not_all_digits (byte ∷ text) fewer))
+    (and_right (ltb 0 (length (byte ∷ text))) (list_all is_ascii_digit (byte ∷ text)) (list_all_at is_ascii_digit (byte ∷ text) _ 0 fewer (prefix_len_stops is_ascii_digit (byte ∷ text) 0 fewer)))
 
 -- the digits are all of the text
 pub digits_of-some : (text : List ℕ) (end : ℕ) → end ≡ prefix_len is_ascii_digit text → (end ≡ 0 → ⊥) → length text ≤ end

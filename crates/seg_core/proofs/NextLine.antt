@@ -53,16 +53,16 @@ open_cut delim x none = record {
   last = λ no. refl;
 }
 
-pub cut_after : (delim : ℕ) (x : List ℕ) (k : ℕ) → k < length x → Passes (is_byte delim) x k → Nowhere (Passes (is_byte delim) x) 0 k
-    → IsCutFrom delim x (take (k + 1) x) (drop (k + 1) x)
-cut_after delim x k h here none =
-    let line : take (k + 1) x ≡ take k x ++ delim ∷ [] = take_more x k 0 h ∙ ap (λ byte. take k x ++ byte ∷ []) (eqb-true (get_or x k 0) delim here) in
-    let whole : (take k x ++ delim ∷ []) ++ drop (k + 1) x ≡ x = ap (λ z. z ++ drop (k + 1) x) (sym line) ∙ take-append-drop (k + 1) x in
-    let cut = complete_cut delim (take k x) (drop (k + 1) x) (HasNone-take delim k x (omega arith) none) in
-    subst (λ l. IsCutFrom delim x l (drop (k + 1) x)) (sym line) (subst (λ z. IsCutFrom delim z (take k x ++ delim ∷ []) (drop (k + 1) x)) whole cut)
+pub cut_after : (delim : ℕ) (x : List ℕ) (k : ℕ) (line rest : List ℕ) → k < length x → Passes (is_byte delim) x k → Nowhere (Passes (is_byte delim) x) 0 k → line ≡ take (k + 1) x → rest ≡ drop (k + 1) x
+    → IsCutFrom delim x line rest
+cut_after delim x k line rest h here none front back =
+    let ends : line ≡ take k x ++ delim ∷ [] = front ∙ take_more x k 0 h ∙ ap (λ byte. take k x ++ byte ∷ []) (eqb-true (get_or x k 0) delim here) in
+    let whole : (take k x ++ delim ∷ []) ++ rest ≡ x = let all = take-append-drop (k + 1) x in cc in
+    let cut = complete_cut delim (take k x) rest (HasNone-take delim k x (omega arith) none) in
+    subst (λ l. IsCutFrom delim x l rest) (sym ends) (subst (λ z. IsCutFrom delim z (take k x ++ delim ∷ []) rest) whole cut)
 
-pub cut_at_end : (delim : ℕ) (x : List ℕ) → Nowhere (Passes (is_byte delim) x) 0 (length x) → IsCutFrom delim x (take (length x) x) (drop (length x) x)
-cut_at_end delim x none =
+pub cut_at_end : (delim : ℕ) (x line rest : List ℕ) → Nowhere (Passes (is_byte delim) x) 0 (length x) → line ≡ take (length x) x → rest ≡ drop (length x) x → IsCutFrom delim x line rest
+cut_at_end delim x line rest none front back =
     let whole = take_all (length x) x (omega arith) in
     let cut = open_cut delim x (subst (HasNone delim) whole (HasNone-take delim (length x) x (omega arith) none)) in
-    subst (λ l. IsCutFrom delim x l (drop (length x) x)) (sym whole) (subst (λ r. IsCutFrom delim x x r) (sym (drop_all (length x) x (omega arith))) cut)
+    subst (λ l. IsCutFrom delim x l rest) (sym (front ∙ whole)) (subst (IsCutFrom delim x x) (sym (back ∙ drop_all (length x) x (omega arith))) cut)

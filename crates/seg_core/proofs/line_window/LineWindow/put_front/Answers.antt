@@ -1,8 +1,8 @@
-use Rattle.std.proofs.Common.{◌≡◌, ◌+◌, ◌-◌, ◌^◌, ◌<◌, ◌++◌, ◌∙◌, List, ◌∷◌, ap, sym, subst, length, arith}
+use Rattle.std.proofs.Common.{◌≡◌, ◌+◌, ◌-◌, ◌^◌, ◌<◌, ◌++◌, ◌∙◌, ap, sym, subst, length, arith}
 use Rattle.std.proofs.lemmas.Grind.{common_steps}
 use Rattle.seg_core.specs.Line.{delimiters, after_lines, last_lines, line_count}
 use Rattle.seg_core.specs.Window.{Window}
-use Rattle.seg_core.specs.Blocks.{BlockState, IsCounted, text_of}
+use Rattle.seg_core.specs.Blocks.{text_of}
 use Rattle.seg_core.proofs.Delimiters.{delimiters-le-length}
 use Rattle.seg_core.proofs.BlockLemmas.{counted_front}
 use Rattle.seg_core.proofs.FrontLines.{last_lines-front, length-after_lines-le}
@@ -25,16 +25,12 @@ overflow_add-self-2 c =
 pub invariant_of-self-2 : goal.invariant_of-self-2
 invariant_of-self-2 c =
     let inside = c.self.inside in
-    let blocks = inside.blocks.items in
     let bytes = c.args.block.items in
     let front = c.needed_of-block.result in
-    let fits : inside.len + length bytes < 2 ^ 63 = let room = c.if-len-self.false in let long = c.len.ensures in let ok = c.args.block.ok in let of = c.self.invariant.long in let held = c.self.invariant.fits in omega arith in
+    let fits : inside.len + length bytes < 2 ^ 63 = omega arith in
     let left = subst (λ (w : Window). front.bytes ≡ after_lines w.delim (line_count w.delim (bytes ++ w.held) - w.most) bytes) (sym c.self.view_is) c.needed_of-block.ensures.left in
     let counted = subst (λ (w : Window). front.count ≡ delimiters w.delim front.bytes) (sym c.self.view_is) c.needed_of-block.ensures.counted in
-    let next = counted_front inside.delim inside.most blocks front bytes inside.len inside.delimiters c.self.invariant fits left counted in
-    subst (λ (bs : List BlockState). IsCounted inside.delim inside.most bs (inside.len + c.len-len.result) (inside.delimiters + c.delimiters-delimiters.result)) (sym {A = List BlockState} c.in-Ok.ensures.items)
-    (subst (λ n. IsCounted inside.delim inside.most (front ∷ blocks) (inside.len + n) (inside.delimiters + c.delimiters-delimiters.result)) (sym c.len-len.ensures)
-    (subst (λ n. IsCounted inside.delim inside.most (front ∷ blocks) (inside.len + length front.bytes) (inside.delimiters + n)) (sym c.delimiters-delimiters.ensures) next))
+    counted_front inside.delim inside.most inside.blocks.items _ c.needed_of-block.result bytes inside.len inside.delimiters _ _ c.self.invariant fits left counted c.in-Ok.ensures.items c.len-len.ensures c.delimiters-delimiters.ensures
 
 pub returns-clause-ok : goal.returns-clause-ok
 returns-clause-ok c =
