@@ -204,12 +204,6 @@ extended old mid filled fresh new near far piece all fill_is of same split = cc 
 pub split_counted : (delim : ℕ) (text near far : List ℕ) (count : ℕ) → count ≡ delimiters delim text → text ≡ near ++ far → count ≡ delimiters delim near + delimiters delim far
 split_counted delim text near far count is split = is ∙ ap (delimiters delim) split ∙ delimiters-append delim near far
 
--- and so the back of it
-pub back_counted : (delim : ℕ) (text near far : List ℕ) (count m : ℕ) → count ≡ delimiters delim text → text ≡ near ++ far → m ≡ delimiters delim near → (m ≤ count) × (count - m ≡ delimiters delim far)
-back_counted delim text near far count m is split of =
-    let all = split_counted delim text near far count is split in
-    (omega arith, omega arith)
-
 -- all of a text is in blocks
 pub none_left : (held left text : List ℕ) → length left ≡ 0 → held ++ left ≡ text → held ≡ text
 none_left held [] text none whole = sym (append-nil held) ∙ whole

@@ -6,8 +6,7 @@ use Rattle.seg_core.proofs.FirstLines.{after_lines-is_drop, length-first_lines-l
 use Rattle.seg_core.proofs.line_blocks.drop_lines.Goals as goal
 
 pub drop_front-requires-clause-within : goal.drop_front-requires-clause-within
-drop_front-requires-clause-within c =
-    omega (arith, length-first_lines-le c.args.delim c.args.lines c.args.block.now.bytes)
+drop_front-requires-clause-within c = omega (arith, length-first_lines-le c.args.delim c.args.lines c.args.block.now.bytes)
 
 pub returns-clause-left : goal.returns-clause-left
 returns-clause-left c =

@@ -2,21 +2,20 @@ use Rattle.std.proofs.Common.{sym, subst, arith}
 use Rattle.std.proofs.lemmas.List.Elements.{All-append}
 use Rattle.seg_core.specs.Blocks.{HasCount, HaveCounts}
 use Rattle.seg_core.proofs.Delimiters.{delimiters-le-length}
-use Rattle.seg_core.proofs.BlockLemmas.{back_counted, extended, split_counted}
+use Rattle.seg_core.proofs.BlockLemmas.{extended, split_counted}
 use Rattle.seg_core.proofs.line_blocks.extend.Goals as goal
 
 pub count_first-near_count-requires : goal.count_first-near_count-requires
 count_first-near_count-requires c = split_counted c.args.delim c.args.piece.now c.split_at.result.0.now c.split_at.result.1.now c.args.count c.requires.counted c.split_at.ensures.by_index.0
 
 pub overflow_sub-count : goal.overflow_sub-count
-overflow_sub-count c = (back_counted c.args.delim c.args.piece.now c.split_at.result.0.now c.split_at.result.1.now c.args.count c.count_first-near_count.result c.requires.counted c.split_at.ensures.by_index.0 c.count_first-near_count.ensures).0
+overflow_sub-count c = omega (arith, split_counted c.args.delim c.args.piece.now c.split_at.result.0.now c.split_at.result.1.now c.args.count c.requires.counted c.split_at.ensures.by_index.0)
 
 pub blocks_of-requires : goal.blocks_of-requires
-blocks_of-requires c = (back_counted c.args.delim c.args.piece.now c.split_at.result.0.now c.split_at.result.1.now c.args.count c.count_first-near_count.result c.requires.counted c.split_at.ensures.by_index.0 c.count_first-near_count.ensures).1
+blocks_of-requires c = omega (arith, split_counted c.args.delim c.args.piece.now c.split_at.result.0.now c.split_at.result.1.now c.args.count c.requires.counted c.split_at.ensures.by_index.0)
 
 pub fill-requires-clause-few : goal.fill-requires-clause-few
-fill-requires-clause-few c =
-    omega (arith, delimiters-le-length c.args.delim c.split_at.result.0.now)
+fill-requires-clause-few c = omega (arith, delimiters-le-length c.args.delim c.split_at.result.0.now)
 
 pub returns-clause-ok : goal.returns-clause-ok
 returns-clause-ok c =
