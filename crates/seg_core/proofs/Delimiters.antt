@@ -1,6 +1,7 @@
 -- How many delimiters a text has.
 use Rattle.std.proofs.Common.{◌≡◌, ◌≢◌, ℕ, ◌+◌, ◌-◌, ◌<◌, ◌≤◌, Bool, true, false, cond, eqb, List, [], ◌∷◌, ◌++◌, length, take, drop, get_or, sym, ap, ◌∙◌, arith}
-use Rattle.std.proofs.lemmas.List.{take_more, take-append-drop, take-take, drop-take}
+use Rattle.std.proofs.lemmas.List.{take_more, take-append-drop}
+use Rattle.std.proofs.Math.Seq.{take-add}
 use Rattle.std.proofs.lemmas.Bool.{eq-eqb, ne_eqb}
 use Rattle.seg_core.specs.Line.{delimiters}
 
@@ -36,10 +37,7 @@ pub delimiters-one_no : (delim byte : ℕ) → eqb byte delim ≡ false → deli
 delimiters-one_no delim byte e = ap (λ (c : Bool). cond c (0 + 1) 0) e
 
 pub delimiters-take-add : (delim i k : ℕ) (x : List ℕ) → delimiters delim (take (i + k) x) ≡ delimiters delim (take i x) + delimiters delim (take k (drop i x))
-delimiters-take-add delim i k x =
-    delimiters-take-drop delim i (take (i + k) x)
-    ∙ ap (λ n. n + delimiters delim (drop i (take (i + k) x))) (ap (delimiters delim) (take-take i (i + k) x (omega arith)))
-    ∙ ap (λ n. delimiters delim (take i x) + n) (ap (delimiters delim) (drop-take i k x))
+delimiters-take-add delim i k x = ap (delimiters delim) (take-add i k x) ∙ delimiters-append delim (take i x) (take k (drop i x))
 
 -- a count that goes on by a stretch
 pub count_stretch : (delim : ℕ) (x : List ℕ) (at width n more : ℕ) → n ≡ delimiters delim (take at x) → more ≡ delimiters delim (take (at + width - at) (drop at x)) → n + more ≡ delimiters delim (take (at + width) x)

@@ -56,12 +56,9 @@ sum-fours lanes long =
     ∙ ap (λ n. sum_l (products lanes (replicate n 1))) (sym long)
     ∙ sum_by-ones lanes
 
-pub sum_small : (lanes : List ℕ) → length lanes ≡ STEP → Each1 (Fits w8) lanes → sum_l lanes ≤ 255 * STEP
-sum_small lanes long fit = omega (arith, sum_bound 255 lanes (bytes_below lanes fit))
-
 pub fours_fit : (lanes : List ℕ) → length lanes ≡ STEP → Each1 (Fits w8) lanes → Steps (λ s x. Fits w32 (s + x)) (λ s x. s + x) 0 (dots lanes (replicate STEP 1))
 fours_fit lanes long fit =
-    let small = sum_small lanes long fit in
+    let small = sum_bound 255 lanes (bytes_below lanes fit) in
     let same = sum-fours lanes long in
     sum_fits w32 0 (dots lanes (replicate STEP 1)) (omega arith)
 

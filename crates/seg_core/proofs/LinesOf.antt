@@ -3,7 +3,7 @@ use Rattle.std.proofs.Common.{◌≡◌, ◌≢◌, ℕ, ◌<◌, Bool, true, fa
 use Rattle.std.specs.List.{onto_first}
 use Rattle.std.proofs.lemmas.Bool.{ne_eqb, cases_eq, eqb-true, false≢true, eq-eqb}
 use Rattle.std.proofs.lemmas.List.{append-nil}
-use Rattle.seg_core.specs.Line.{ends_with, joined, HasNone, IsComplete, IsOpen, AreLines, IsLines, lines_of}
+use Rattle.seg_core.specs.Line.{ends_with, joined, HasNone, IsComplete, AreLines, IsLines, lines_of}
 
 joined_step : (is_delim : Bool) (byte : ℕ) (lines : List (List ℕ)) → joined (cond is_delim ((byte ∷ []) ∷ lines) (onto_first byte lines)) ≡ byte ∷ joined lines
 joined_step true byte lines = refl
@@ -21,13 +21,10 @@ complete_first delim (line ∷ lines) each = (([], refl, tt), each)
 complete_cons : (delim byte : ℕ) (line : List ℕ) → byte ≢ delim → IsComplete delim line → IsComplete delim (byte ∷ line)
 complete_cons delim byte line other (text, whole, none) = (byte ∷ text, ap (λ z. byte ∷ z) whole, (other, none))
 
-open_cons : (delim byte : ℕ) (line : List ℕ) → byte ≢ delim → IsOpen delim line → IsOpen delim (byte ∷ line)
-open_cons delim byte line other (some, none) = (omega arith, (other, none))
-
 other_first : (delim byte : ℕ) (lines : List (List ℕ)) → byte ≢ delim → AreLines delim lines → AreLines delim (onto_first byte lines)
 other_first delim byte [] other each = inr (omega arith, (other, tt))
 other_first delim byte (line ∷ []) other (inl complete) = inl (complete_cons delim byte line other complete)
-other_first delim byte (line ∷ []) other (inr short) = inr (open_cons delim byte line other short)
+other_first delim byte (line ∷ []) other (inr (some, none)) = inr (omega arith, (other, none))
 other_first delim byte (line ∷ next ∷ lines) other (complete, each) = (complete_cons delim byte line other complete, each)
 
 lines_of-delimiter : (delim byte : ℕ) (x : List ℕ) → byte ≡ delim → lines_of delim (byte ∷ x) ≡ (byte ∷ []) ∷ lines_of delim x
@@ -73,14 +70,11 @@ lines_of-joined delim (line ∷ next ∷ lines) (complete, each) =
 pub lines_of-only : (delim : ℕ) (x : List ℕ) (lines : List (List ℕ)) → IsLines delim x lines → lines ≡ lines_of delim x
 lines_of-only delim x lines are = sym (lines_of-joined delim lines are.each) ∙ ap (lines_of delim) are.whole
 
-onto_append : (byte next : ℕ) (rest : List ℕ) (front back : List (List ℕ)) → joined front ≡ next ∷ rest → onto_first byte (front ++ back) ≡ onto_first byte front ++ back
-onto_append byte next rest [] back some = absurd (cc)
-onto_append byte next rest (line ∷ front) back some = refl
-
 append_step : (is_delim : Bool) (byte next : ℕ) (rest : List ℕ) (front back : List (List ℕ)) → joined front ≡ next ∷ rest
     → cond is_delim ((byte ∷ []) ∷ (front ++ back)) (onto_first byte (front ++ back)) ≡ cond is_delim ((byte ∷ []) ∷ front) (onto_first byte front) ++ back
 append_step true byte next rest front back some = refl
-append_step false byte next rest front back some = onto_append byte next rest front back some
+append_step false byte next rest [] back some = absurd (cc)
+append_step false byte next rest (line ∷ front) back some = refl
 
 -- a text that ends with a delimiter and goes on: its lines, and those of what follows
 pub lines_of-append : (delim : ℕ) (x y : List ℕ) → ends_with delim x ≡ true → lines_of delim (x ++ y) ≡ lines_of delim x ++ lines_of delim y

@@ -5,6 +5,7 @@ use Rattle.std.proofs.lemmas.List.{take_more, take-append-drop, take_all, drop_a
 use Rattle.memchr.specs.Find.{Nowhere, Passes, is_byte}
 use Rattle.seg_core.specs.Line.{HasNone, lines_of, delimiters, ends_with}
 use Rattle.seg_core.proofs.Delimiters.{delimiters-append, delimiters-one_yes}
+use Rattle.seg_core.proofs.LineCounts.{ends_with-append}
 use Rattle.seg_core.proofs.LinesOf.{lines_of-complete, lines_of-open}
 
 -- what `next_line` says of a text x, its first line and the rest
@@ -25,9 +26,7 @@ delimiters-none delim [] none = refl
 delimiters-none delim (byte ∷ x) (other, none) = ap (λ (c : Bool). cond c (delimiters delim x + 1) (delimiters delim x)) (ne_eqb byte delim other) ∙ delimiters-none delim x none
 
 ends-complete : (delim : ℕ) (text : List ℕ) → ends_with delim (text ++ delim ∷ []) ≡ true
-ends-complete delim [] = eq-eqb delim delim refl
-ends-complete delim (byte ∷ []) = eq-eqb delim delim refl
-ends-complete delim (byte ∷ next ∷ text) = ends-complete delim (next ∷ text)
+ends-complete delim text = ends_with-append delim text (delim ∷ []) (omega arith) ∙ eq-eqb delim delim refl
 
 ends-none : (delim : ℕ) (x : List ℕ) → HasNone delim x → ends_with delim x ≡ false
 ends-none delim [] none = refl

@@ -1,13 +1,7 @@
 -- Bytes that are moved out, stretch by stretch.
 use Rattle.std.proofs.Common.{◌≡◌, ℕ, ◌+◌, ◌≤◌, List, ◌++◌, length, take, drop, sym, ap, ◌∙◌, arith}
-use Rattle.std.proofs.lemmas.List.{append_assoc, take-append-drop, length-append, length-drop, length-take-le, drop-drop, take_at, drop_at, take-append-le}
-use Rattle.std.proofs.Math.Seq.{take-append-add}
-
-take_further : (at n : ℕ) (x : List ℕ) → at ≤ length x → take (at + n) x ≡ take at x ++ take n (drop at x)
-take_further at n x within =
-    sym (ap (take (at + n)) (take-append-drop at x))
-    ∙ sym (ap (λ k. take (k + n) (take at x ++ drop at x)) (length-take-le at x within))
-    ∙ take-append-add (take at x) (drop at x) n
+use Rattle.std.proofs.lemmas.List.{append_assoc, length-append, length-drop, length-take-le, drop-drop, take_at, drop_at, take-append-le}
+use Rattle.std.proofs.Math.Seq.{take-add}
 
 -- after the first `at` bytes of what was held, n more bytes of the stretch that follows them
 pub taken_more : (held front rest before out : List ℕ) (at n : ℕ) → at ≤ length held → drop at held ≡ front ++ rest → n ≤ length front → out ≡ take at held ++ drop at before
@@ -22,7 +16,7 @@ taken_more held front rest before out at n within next fits so_far =
     ∙ ap (λ x. take at held ++ (take n front ++ x)) tail
     ∙ ap (λ x. take at held ++ (x ++ drop (at + n) before)) more
     ∙ sym (append_assoc (take at held) (take n (drop at held)) (drop (at + n) before))
-    ∙ ap (λ x. x ++ drop (at + n) before) (sym (take_further at n held within))
+    ∙ ap (λ x. x ++ drop (at + n) before) (sym (take-add at n held))
 
 -- moving out leaves the slice as long as it was
 pub same_size : (held before out : List ℕ) (at : ℕ) → at ≤ length held → at ≤ length before → out ≡ take at held ++ drop at before → length out ≡ length before

@@ -14,8 +14,6 @@ loop-at-preserved c =
     let long = ap length next ∙ length-append c.front.result.now c.front.ensures.front.0 in
     let left = length-drop at held in
     let fits : count ≤ length c.front.result.now = omega arith in
-    let there = was.there in
-    let within = was.within in
     let size = same_size held c.args.out.now c.loop-at.out at was.there was.within was.out in
     record {
       most = ap (λ (w : Window). w.most) c.drop_front.ensures ∙ was.most;
