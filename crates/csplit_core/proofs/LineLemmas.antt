@@ -6,9 +6,8 @@ use Rattle.std.proofs.Math.Seq.{take-add}
 use Rattle.seg_core.specs.Line.{lines_of, line_count, delimiters, joined, first_lines, after_lines, ends_with, EndsAt, FallsShort}
 use Rattle.seg_core.proofs.LinesOf.{lines_of-append, joined-lines_of}
 use Rattle.seg_core.proofs.LineCounts.{line_count-closed, ends_with-append, line_count-le-length}
-use Rattle.seg_core.proofs.FirstLines.{first_lines-short, first_lines_then_rest, joined-append}
+use Rattle.seg_core.proofs.FirstLines.{first_lines-short, first_lines_then_rest, joined-append, lines_of-after_lines}
 use Rattle.seg_core.proofs.EndLines.{after_lines-past, after_lines-append}
-use Rattle.seg_core.proofs.Carried.{lines_of-after_lines}
 use Rattle.csplit_core.specs.Section.{lines_between, bytes_of}
 use Rattle.csplit_core.specs.Input.{newline, marked, all_lines}
 use Rattle.csplit_core.specs.inner.Cutter.{IsWhole, IsLine}

@@ -11,9 +11,8 @@ use Rattle.bre_core.specs.Pattern.{Pattern}
 use Rattle.bre_core.specs.Search.{contains}
 use Rattle.seg_core.specs.Line.{lines_of, line_count, delimiters, ends_with, EndsAt, FallsShort}
 use Rattle.seg_core.proofs.Delimiters.{delimiters-le-length}
-use Rattle.seg_core.proofs.EndLines.{line_count_near}
 use Rattle.seg_core.proofs.FirstLines.{EndsAt-enough, lines_of-first_lines}
-use Rattle.seg_core.proofs.LineCounts.{line_count-le-length}
+use Rattle.seg_core.proofs.LineCounts.{line_count-le-length, line_count_near}
 use Rattle.csplit_core.specs.Cutter.{CutterState, suppress_in, state_in, pattern_in, pattern_by, AimHolds, IsFit, IsSound}
 use Rattle.csplit_core.specs.inner.Cutter.{AreClear, IsWhole, IsLine, IsFound, IsNextFound, PassesClear, PassesOver, StopsAt}
 use Rattle.csplit_core.specs.Input.{newline, without_newline, is_match_of, marked, all_lines}

@@ -2,7 +2,6 @@
 use Rattle.std.proofs.Common.{◌≡◌, ℕ, ◌+◌, ◌-◌, ◌≤◌, cond, List, [], length, drop, sym, ◌∙◌, ap, arith}
 use Rattle.std.proofs.lemmas.List.{drop-map}
 use Rattle.seg_core.specs.Line.{lines_of, line_count, joined}
-use Rattle.seg_core.proofs.Carried.{lines_of-after_lines}
 use Rattle.csplit_core.specs.Input.{newline, marked, all_lines}
 use Rattle.csplit_core.specs.Plan.{start}
 use Rattle.csplit_core.specs.Planned.{Plan, plan}
@@ -13,6 +12,7 @@ use Rattle.csplit_core.specs.Cutter.{CutterState, IsLive, state_in, suppress_in,
 use Rattle.csplit_core.proofs.CutterLemmas.{runs_to}
 use Rattle.csplit_core.proofs.LineLemmas.{bytes_marked, from_further, length-all_lines}
 use Rattle.csplit_core.proofs.SettledLemmas.{settled_count}
+use Rattle.seg_core.proofs.FirstLines.{lines_of-after_lines}
 
 -- the lines after the first ones, as bytes
 after_bytes : (first n : ℕ) (x : List ℕ) → 1 ≤ first → bytes_of (drop n (drop (first - 1) (all_lines x))) ≡ text_from (first + n) x

@@ -5,12 +5,13 @@ use Rattle.std.proofs.lemmas.Bool.{eq-eqb}
 use Rattle.seg_core.specs.Line.{delimiters, last_lines}
 use Rattle.seg_core.proofs.Delimiters.{delimiters-append, delimiters-one_yes}
 use Rattle.seg_core.proofs.FirstLines.{first_lines-nil, first_lines-more}
-use Rattle.seg_core.proofs.EndLines.{line_count_near, count_last}
+use Rattle.seg_core.proofs.EndLines.{count_last}
 use Rattle.seg_core.specs.declared.unit.Unit.{Unit as Counted}
 use Rattle.seg_core.specs.declared.unit.Unit.TheVariants.{Lines, Bytes}
 use Rattle.ends_core.specs.declared.front.Front.{Front}
 use Rattle.ends_core.specs.Ends.{size, measure, first_of, after_of, last_of, but_last_of}
 use Rattle.ends_core.specs.laws.EndsLaws.{measure-append, first_then_after, ends_together, last_of-append}
+use Rattle.seg_core.proofs.LineCounts.{line_count_near}
 
 pub first_of-nil : (delim : ℕ) (unit : Counted) (n : ℕ) → first_of delim unit n [] ≡ []
 first_of-nil delim Lines n = first_lines-nil delim n

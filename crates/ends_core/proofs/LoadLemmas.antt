@@ -7,7 +7,6 @@ use Rattle.std.proofs.lemmas.Bool.{eq-eqb, false≢true, or_left, or_right}
 use Rattle.seg_core.specs.Line.{line_count, last_lines, but_last_lines, first_lines}
 use Rattle.seg_core.specs.Window.{ByteWindowState, with_put}
 use Rattle.seg_core.proofs.EndLines.{after_lines-past}
-use Rattle.seg_core.proofs.FrontLines.{line_count-front}
 use Rattle.seg_core.proofs.LastLines.{but_last_then_last}
 use Rattle.ports_core.specs.Slot.{changed_at}
 use Rattle.ports_core.specs.Source.{Source, Shows, is_readable, skips, source_at}
@@ -17,6 +16,7 @@ use Rattle.seg_core.specs.declared.unit.Unit.TheVariants.{Lines, Bytes}
 use Rattle.ends_core.specs.Ends.{size, measure, after_of, last_of}
 use Rattle.ends_core.specs.laws.EndsLaws.{after_of-append}
 use Rattle.ends_core.specs.inner.Load.{HasSeen, Passes}
+use Rattle.seg_core.proofs.LineCounts.{line_count-front}
 
 size-append : (delim : ℕ) (unit : Counted) (n : ℕ) (x y : List ℕ) → n < size delim unit y → size delim unit (x ++ y) ≡ measure delim unit x + size delim unit y
 size-append delim Lines n x [] many = absurd (omega (arith, many))

@@ -6,9 +6,8 @@ use Rattle.ports_core.specs.Slot.{Slot, is_open, adds, changed_at, told_of, with
 use Rattle.ports_core.specs.declared.tool.Tool.{Tool}
 use Rattle.ports_core.specs.Message.{PrintsOn, Says, SaysOn}
 use Rattle.ports_core.proofs.InputsLemmas.{changed_elsewhere}
-use Rattle.ports_core.proofs.SlotLemmas.{length-changed_at}
+use Rattle.ports_core.proofs.SlotLemmas.{length-changed_at, changed_there}
 use Rattle.follow_core.specs.inner.Visits.{KeepsOthers}
-use Rattle.ports_core.proofs.LoadLemmas.{changed_there}
 use Rattle.ports_core.proofs.MessageLemmas.{said_state}
 use Rattle.watch_core.proofs.NameLemmas.{watchable_within}
 use Rattle.follow_core.specs.Telling.{TellsAll}

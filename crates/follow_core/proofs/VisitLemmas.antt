@@ -4,9 +4,8 @@ use Rattle.std.proofs.lemmas.Bool.{false≢true}
 use Rattle.std.proofs.lemmas.Option.{same_Some}
 use Rattle.ports_core.specs.Slot.{Slot, changed_at}
 use Rattle.ports_core.specs.declared.fault.Fault.{Fault}
-use Rattle.ports_core.proofs.LoadLemmas.{changed_there}
 use Rattle.watch_core.proofs.NameLemmas.{watchable_within}
-use Rattle.ports_core.proofs.SlotLemmas.{changed_at-again, length-changed_at}
+use Rattle.ports_core.proofs.SlotLemmas.{changed_at-again, length-changed_at, changed_there}
 use Rattle.watch_core.specs.Snapshot.{Snapshot}
 use Rattle.watch_core.specs.Watched.{Reopens, Watched, added, open_contents, breaks, is_watchable, no_name, opens, watched_at}
 use Rattle.std.specs.Prelude.{is_none, is_some}

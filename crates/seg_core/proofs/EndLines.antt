@@ -2,10 +2,10 @@
 use Rattle.std.proofs.Common.{◌≡◌, ℕ, zero, suc, ◌+◌, ◌-◌, ◌<◌, ◌≤◌, List, [], ◌∷◌, ◌++◌, length, drop, sym, ap, ◌∙◌, arith, length-drop}
 use Rattle.std.proofs.lemmas.List.{append-nil, drop_all, drop-drop, drop-append-le}
 use Rattle.seg_core.specs.Line.{joined, lines_of, delimiters, line_count, first_lines, after_lines, last_lines}
-use Rattle.seg_core.proofs.FirstLines.{first_lines-full, length-first_lines-le, after_lines-is_drop}
+use Rattle.seg_core.proofs.FirstLines.{first_lines-full, length-first_lines-le, after_lines-is_drop, lines_of-after_lines}
 use Rattle.seg_core.proofs.LineCounts.{line_count-some, line_count-front}
 pub use Rattle.seg_core.proofs.LineCounts.{line_count_near}
-use Rattle.seg_core.proofs.Carried.{lines_of-after_lines, line_count-last}
+use Rattle.seg_core.proofs.Carried.{line_count-last}
 
 -- once n lines are complete, what follows the text is added to what stands after them
 pub after_lines-append : (delim n : ℕ) (x y : List ℕ) → n ≤ delimiters delim x → after_lines delim n x ++ y ≡ after_lines delim n (x ++ y)

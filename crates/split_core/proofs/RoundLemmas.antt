@@ -10,8 +10,7 @@ use Rattle.std.proofs.lemmas.Result.{IfErr-weaker, on_ok_weaker}
 use Rattle.std.proofs.lemmas.List.FromFn.{length-map-range_with_len, take-map-range_with_len}
 use Rattle.seg_core.specs.Line.{joined, lines_of, delimiters, line_count}
 use Rattle.seg_core.proofs.Delimiters.{delimiters-append}
-use Rattle.seg_core.proofs.LineCounts.{line_count-some}
-use Rattle.seg_core.proofs.EndLines.{line_count_near}
+use Rattle.seg_core.proofs.LineCounts.{line_count-some, line_count_near, line_count-front}
 use Rattle.ports_core.specs.Name.{Naming}
 use Rattle.ports_core.specs.Slot.{Slot}
 use Rattle.ports_core.specs.Part.{File, OutputsAt, StoppedBetween, nothing}
@@ -38,7 +37,6 @@ use Rattle.split_core.proofs.DealLaws.{dealt_same, opened_by-most}
 use Rattle.split_core.proofs.FilesLemmas.{closed_all, added_begin, added_none, open_begins}
 use Rattle.split_core.proofs.MoveLemmas.{met_files, named_before, unjudged}
 use Rattle.split_core.proofs.PlaceLemmas.{all_dealt}
-use Rattle.seg_core.proofs.FrontLines.{line_count-front}
 
 -- Names
 

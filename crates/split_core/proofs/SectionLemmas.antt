@@ -7,10 +7,8 @@ use Rattle.std.specs.List.{All}
 use Rattle.std.proofs.lemmas.List.Elements.{All-nil, All-cons}
 use Rattle.std.proofs.lemmas.List.{append-nil, take_all, drop-drop, length-map, length-take-le, map-append}
 use Rattle.seg_core.specs.Line.{joined, lines_of, delimiters, first_lines, after_lines, line_count}
-use Rattle.seg_core.proofs.Carried.{lines_of-after_lines}
-use Rattle.seg_core.proofs.EndLines.{line_count_near}
-use Rattle.seg_core.proofs.FirstLines.{joined-append, lines_of-first_lines, lines_of-after}
-use Rattle.seg_core.proofs.LineCounts.{line_count-some}
+use Rattle.seg_core.proofs.FirstLines.{joined-append, lines_of-first_lines, lines_of-after, lines_of-after_lines}
+use Rattle.seg_core.proofs.LineCounts.{line_count-some, line_count_near}
 use Rattle.seg_core.proofs.LinesOf.{joined-lines_of}
 use Rattle.ports_core.specs.declared.slot.State.TheVariants.{Open, Closed}
 use Rattle.split_core.specs.declared.limit.Limit.{Limit}

@@ -11,12 +11,10 @@ use Rattle.std.proofs.lemmas.List.FromFn.{get_or-map-range_with_len, length-map-
 use Rattle.std.proofs.lemmas.Nat.{div-add-mod', mod_below}
 use Rattle.std.proofs.lemmas.List.Elements.{All-nil, All-cons}
 use Rattle.seg_core.specs.Line.{joined, lines_of, line_count, delimiters, ends_with, first_lines, after_lines}
-use Rattle.seg_core.proofs.Carried.{lines_of-after_lines}
 use Rattle.seg_core.proofs.Delimiters.{delimiters-le-length}
-use Rattle.seg_core.proofs.EndLines.{line_count_near}
 use Rattle.seg_core.proofs.LinesOf.{joined-lines_of}
-use Rattle.seg_core.proofs.FirstLines.{delimiters-first_lines, first_lines-append, first_lines-cons, first_lines-full, first_lines-more, first_lines-short, lines_of-first_lines}
-use Rattle.seg_core.proofs.LineCounts.{line_count-open}
+use Rattle.seg_core.proofs.FirstLines.{delimiters-first_lines, first_lines-append, first_lines-cons, first_lines-full, first_lines-more, first_lines-short, lines_of-first_lines, lines_of-after_lines}
+use Rattle.seg_core.proofs.LineCounts.{line_count-open, line_count_near}
 use Rattle.seg_core.specs.declared.cut.Cut.{Cut}
 use Rattle.seg_core.specs.declared.cut.Cut.TheVariants.{Lines, Bytes, LineBytes, Round}
 use Rattle.ports_core.specs.Name.{Naming}
@@ -37,7 +35,7 @@ use Rattle.split_core.specs.laws.DealLaws.{share_none}
 use Rattle.split_core.proofs.CutLaws.{first_then_after}
 use Rattle.split_core.proofs.AgreedLemmas.{bytes_named, each_named, named_bytes}
 use Rattle.split_core.proofs.PlaceLemmas.{line_at, all_dealt, first_files}
-use Rattle.split_core.proofs.SectionLemmas.{bytes_of_shares, joined_parts, part_lines, part_bytes, lines_count, bytes_count, line_bytes_are_parts, line_bytes_within}
+use Rattle.split_core.proofs.SectionLemmas.{joined_parts, part_lines, part_bytes, lines_count, bytes_count, line_bytes_are_parts, line_bytes_within}
 use Rattle.words_core.specs.declared.settings.Settings.TheVariants.{Split}
 use Rattle.words_core.specs.SplitAsked.{SplitAsked}
 use Rattle.words_core.specs.SplitWords.{CanSplit, IsInLimits}
@@ -45,6 +43,7 @@ use Rattle.tools_core.specs.Tasks.{naming_of, split_task}
 use Rattle.tools_core.specs.Promises.{Run, Does, HasInput, AreInOrder, AreListed, ArePieces, AreLinePieces, AreUncut, AreDealt, EndsLine, IsFilled, IsSound, contents_of, files_of, text_at}
 use Rattle.tools_core.proofs.CanLemmas.{can_run}
 use Rattle.tools_core.proofs.PromiseLemmas.{did_one, one_done, slot_of}
+use Rattle.split_core.proofs.ShareLaws.{bytes_of_shares}
 
 -- The pieces, and their files
 
