@@ -58,9 +58,6 @@ pub record Reads (words : List (Bor (List ℕ))) (read : List Operand) (least : 
 abbrev pub spelled_as : ℕ → Aim → Times → Spelled
 spelled_as index aim times = record { index = index; aim = aim; times = times }
 
-all_read : (front : List Spelled) (read : List Operand) → AreRead front read → (words : List Spelled) → words ≡ front ++ [] → AreRead words read
-all_read front read are words is = subst (λ those. AreRead those read) (sym (is ∙ append-nil front)) are
-
 -- there is a time for each operand
 says_by : (next : List ℕ) (words : List (List ℕ)) (says : Option Times) → times_by (spelling next) ≡ says → (times : Times) × (said : ℕ) × SayTimes (next ∷ words) times said
 says_by next words None is = (Count 0, 0, other next words is)
@@ -74,7 +71,7 @@ ends_by : (words : List (List ℕ)) (read : List Operand) (front : List Spelled)
     → AreRead front read → words_of words ≡ after_front front (words_from index least (word ∷ left)) → IsAimed (aim_of least (spelling word)) (Err what) → IsFault words (record { kind = what; index = index })
 ends_by words read front index least word left what are asks (is_wrong what' is) =
     let at : words_of words ≡ after_front front (failed what index) = asks ∙ ap (after_front front) (stop_at index least word left what is) in
-    reading.is_wrong (record { kind = what; index = index }) read (ap (λ (w : Words). w.fault) at) (all_read front read are (words_of words).operands (ap (λ (w : Words). w.operands) at))
+    reading.is_wrong (record { kind = what; index = index }) read (ap (λ (w : Words). w.fault) at) (subst (λ those. AreRead those read) (sym (ap (λ (w : Words). w.operands) at ∙ append-nil front)) are)
 ends_by words read front index least word left what are asks (is_refused aim fault is refused) =
     let said = says left in
     reading.is_refused fault front (spelled_as index aim said.0) _ read

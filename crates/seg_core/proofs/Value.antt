@@ -1,11 +1,8 @@
 -- The value of digits, one digit after another, and held at a limit.
-use Rattle.std.proofs.Common.{◌≡◌, ℕ, suc, ◌+◌, ◌-◌, ◌*◌, ◌^◌, ◌<◌, min, List, [], ◌∷◌, ◌++◌, length, take, get_or, ap, ◌∙◌, arith}
+use Rattle.std.proofs.Common.{◌≡◌, ℕ, ◌+◌, ◌-◌, ◌*◌, ◌^◌, ◌<◌, min, List, [], ◌∷◌, ◌++◌, length, take, get_or, ap, ◌∙◌, arith, add-one}
 use Rattle.std.proofs.lemmas.List.{take_more, length_push}
 use Rattle.std.proofs.Math.Nat.{pow-suc}
 use Rattle.seg_core.specs.Count.{value_of}
-
-power_more : (n : ℕ) → 10 ^ (n + 1) ≡ 10 ^ n * 10
-power_more n = let next : n + 1 ≡ suc n = omega arith in ap (λ k. 10 ^ k) next ∙ pow-suc 10 n
 
 push_step : (first power value digit more later : ℕ) → more ≡ power * 10 → later ≡ value * 10 + digit → first * more + later ≡ (first * power + value) * 10 + digit
 push_step first power value digit more later a b = ap (λ m. first * m + later) a ∙ omega arith
@@ -13,7 +10,7 @@ push_step first power value digit more later a b = ap (λ m. first * m + later) 
 pub value_of_push : (digits : List ℕ) (digit : ℕ) → value_of (digits ++ digit ∷ []) ≡ value_of digits * 10 + (digit - 48)
 value_of_push [] digit = omega arith
 value_of_push (first ∷ digits) digit =
-    let power : 10 ^ length (digits ++ digit ∷ []) ≡ 10 ^ length digits * 10 = ap (λ n. 10 ^ n) (length_push digits digit) ∙ power_more (length digits) in
+    let power : 10 ^ length (digits ++ digit ∷ []) ≡ 10 ^ length digits * 10 = ap (λ n. 10 ^ n) (length_push digits digit ∙ add-one (length digits)) ∙ pow-suc 10 (length digits) in
     push_step (first - 48) (10 ^ length digits) (value_of digits) (digit - 48) (10 ^ length (digits ++ digit ∷ [])) (value_of (digits ++ digit ∷ [])) power (value_of_push digits digit)
 
 pub value_of_more : (text : List ℕ) (i : ℕ) → i < length text → value_of (take (i + 1) text) ≡ value_of (take i text) * 10 + (get_or text i 0 - 48)
