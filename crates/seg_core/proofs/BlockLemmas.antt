@@ -86,7 +86,8 @@ lines_pass delim n block rest fewer =
     ∙ length-append block (first_lines delim (n - delimiters delim block) rest)
 
 -- the first block goes too
-pub first_goes : (n : ℕ) (blocks : List BlockState) (first : BlockState) (left rest : List BlockState) (bytes count long more : ℕ) → 0 < length left → first ≡ get_or left 0 first → length first.bytes ≤ bytes → Gone n blocks left bytes count
+pub first_goes : (n : ℕ) (blocks : List BlockState) (first : BlockState) (left rest : List BlockState) (bytes count long more : ℕ) → 0 < length left
+    → first ≡ get_or left 0 first → length first.bytes ≤ bytes → Gone n blocks left bytes count
     → rest ≡ drop 1 left → long ≡ length first.bytes → more ≡ first.count → Gone n blocks rest (bytes - long) (count + more)
 first_goes n blocks first [] rest bytes count long more some is fits so_far after long_is more_is = absurd (omega arith)
 first_goes n blocks first (block ∷ left) rest bytes count long more some is fits so_far after long_is more_is =
@@ -179,8 +180,10 @@ counted_put delim most blocks new piece len count more so_far fits within grown 
     record { few = omega arith; fits = omega arith; long = omega arith; counted = omega arith; each = each }
 
 -- and once what is left of a block of bytes is put at the front
-pub counted_front : (delim most : ℕ) (blocks new : List BlockState) (front : BlockState) (bytes : List ℕ) (len count long more : ℕ) → IsCounted delim most blocks len count → len + length bytes < 2 ^ 63
-    → front.bytes ≡ after_lines delim (line_count delim (bytes ++ text_of blocks) - most) bytes → front.count ≡ delimiters delim front.bytes → new ≡ front ∷ blocks → long ≡ length front.bytes → more ≡ front.count
+pub counted_front : (delim most : ℕ) (blocks new : List BlockState) (front : BlockState) (bytes : List ℕ) (len count long more : ℕ)
+    → IsCounted delim most blocks len count → len + length bytes < 2 ^ 63
+    → front.bytes ≡ after_lines delim (line_count delim (bytes ++ text_of blocks) - most) bytes → front.count ≡ delimiters delim front.bytes
+    → new ≡ front ∷ blocks → long ≡ length front.bytes → more ≡ front.count
     → IsCounted delim most new (len + long) (count + more)
 counted_front delim most blocks new front bytes len count long more so_far fits left is now long_is more_is =
     let text = text_of blocks in

@@ -56,4 +56,5 @@ pub count_yes : (delim : ℕ) (x : List ℕ) (i n : ℕ) → n ≡ delimiters de
 count_yes delim x i n so_far h here = count_more delim x i n 1 so_far h (sym (delimiters-one_yes delim (get_or x i 0) (eq-eqb (get_or x i 0) delim here)))
 
 pub count_no : (delim : ℕ) (x : List ℕ) (i n : ℕ) → n ≡ delimiters delim (take i x) → i < length x → get_or x i 0 ≢ delim → n ≡ delimiters delim (take (i + 1) x)
-count_no delim x i n so_far h here = omega (arith, count_more delim x i n 0 so_far h (sym (delimiters-one_no delim (get_or x i 0) (ne_eqb (get_or x i 0) delim here))))
+count_no delim x i n so_far h here =
+    omega (arith, count_more delim x i n 0 so_far h (sym (delimiters-one_no delim (get_or x i 0) (ne_eqb (get_or x i 0) delim here))))

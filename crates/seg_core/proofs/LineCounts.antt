@@ -8,7 +8,8 @@ use Rattle.seg_core.specs.Line.{lines_of, delimiters, ends_with, line_count}
 use Rattle.seg_core.proofs.Delimiters.{delimiters-append, delimiters-one_yes, delimiters_more}
 
 -- a byte before lines makes a line more, or none; at least one is there then
-cons_step : (is_delim : Bool) (byte : ℕ) (lines : List (List ℕ)) → let now = length (cond is_delim ((byte ∷ []) ∷ lines) (onto_first byte lines)) in (length lines ≤ now) × (now ≤ suc (length lines)) × (0 < now)
+cons_step : (is_delim : Bool) (byte : ℕ) (lines : List (List ℕ))
+    → let now = length (cond is_delim ((byte ∷ []) ∷ lines) (onto_first byte lines)) in (length lines ≤ now) × (now ≤ suc (length lines)) × (0 < now)
 cons_step true byte lines = (omega arith, omega arith, omega arith)
 cons_step false byte [] = (omega arith, omega arith, omega arith)
 cons_step false byte (line ∷ lines) = (omega arith, omega arith, omega arith)
@@ -92,7 +93,8 @@ line_count_near delim [] = (omega arith, omega arith)
 line_count_near delim (byte ∷ x) = let near = line_count_near delim x in near_step (eqb byte delim) byte (delimiters delim x) (lines_of delim x) near.0 near.1
 
 -- a text has as many lines as delimiters, and one more where its end is open
-pub line_count-by_end : (delim : ℕ) (x : List ℕ) (closed : Bool) → 0 < length x → closed ≡ ends_with delim x → line_count delim x ≡ delimiters delim x + bool_byte (not closed)
+pub line_count-by_end : (delim : ℕ) (x : List ℕ) (closed : Bool) → 0 < length x → closed ≡ ends_with delim x
+    → line_count delim x ≡ delimiters delim x + bool_byte (not closed)
 line_count-by_end delim x true some is = line_count-closed delim x (sym is) ∙ omega arith
 line_count-by_end delim x false some is = line_count-open delim x some (sym is)
 

@@ -52,7 +52,8 @@ open_cut delim x none = record {
   last = λ no. refl;
 }
 
-pub cut_after : (delim : ℕ) (x : List ℕ) (k : ℕ) (line rest : List ℕ) → k < length x → Passes (is_byte delim) x k → Nowhere (Passes (is_byte delim) x) 0 k → line ≡ take (k + 1) x → rest ≡ drop (k + 1) x
+pub cut_after : (delim : ℕ) (x : List ℕ) (k : ℕ) (line rest : List ℕ) → k < length x → Passes (is_byte delim) x k → Nowhere (Passes (is_byte delim) x) 0 k
+    → line ≡ take (k + 1) x → rest ≡ drop (k + 1) x
     → IsCutFrom delim x line rest
 cut_after delim x k line rest h here none front back =
     let ends : line ≡ take k x ++ delim ∷ [] = front ∙ take_more x k 0 h ∙ ap (λ byte. take k x ++ byte ∷ []) (eqb-true (get_or x k 0) delim here) in
@@ -60,7 +61,8 @@ cut_after delim x k line rest h here none front back =
     let cut = complete_cut delim (take k x) rest (HasNone-take delim k x (omega arith) none) in
     subst (λ l. IsCutFrom delim x l rest) (sym ends) (subst (λ z. IsCutFrom delim z (take k x ++ delim ∷ []) rest) whole cut)
 
-pub cut_at_end : (delim : ℕ) (x line rest : List ℕ) → Nowhere (Passes (is_byte delim) x) 0 (length x) → line ≡ take (length x) x → rest ≡ drop (length x) x → IsCutFrom delim x line rest
+pub cut_at_end : (delim : ℕ) (x line rest : List ℕ) → Nowhere (Passes (is_byte delim) x) 0 (length x) → line ≡ take (length x) x → rest ≡ drop (length x) x
+    → IsCutFrom delim x line rest
 cut_at_end delim x line rest none front back =
     let whole = take_all (length x) x (omega arith) in
     let cut = open_cut delim x (subst (HasNone delim) whole (HasNone-take delim (length x) x (omega arith) none)) in

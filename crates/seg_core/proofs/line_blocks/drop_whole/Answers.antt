@@ -12,5 +12,6 @@ pub loop-first-preserved-else-left-len : goal.loop-first-preserved-else-left-len
 loop-first-preserved-else-left-len c =
     let items = c.loop-first.queue.items in
     let some : 0 < length items = let v = c.in-Some.ensures.variant.0 refl in let o = c.loop-first.queue.ok in omega arith in
-    first_goes c.args.n c.args.queue.now.items c.in-Some.first.now items _ c.loop-first.left.bytes c.loop-first.left.delimiters _ _ some c.in-Some.ensures.lookup (omega arith) c.loop-first.invariant
+    first_goes c.args.n c.args.queue.now.items c.in-Some.first.now items _ c.loop-first.left.bytes c.loop-first.left.delimiters _ _ some
+    c.in-Some.ensures.lookup (omega arith) c.loop-first.invariant
     c.pop_front.ensures.rest c.len-in-Some.ensures c.delimiters.ensures
