@@ -10,19 +10,15 @@ count_first-near_count-requires c = split_counted c.args.delim c.args.piece.now 
 
 pub overflow_sub-count : goal.overflow_sub-count
 overflow_sub-count c =
-    omega (
-      arith,
-      split_counted c.args.delim c.args.piece.now c.split_at.result.0.now c.split_at.result.1.now c.args.count c.requires.counted
-          c.split_at.ensures.by_index.0,
-    )
+    let all = split_counted c.args.delim c.args.piece.now c.split_at.result.0.now c.split_at.result.1.now c.args.count c.requires.counted
+    c.split_at.ensures.by_index.0 in
+    omega arith
 
 pub blocks_of-requires : goal.blocks_of-requires
 blocks_of-requires c =
-    omega (
-      arith,
-      split_counted c.args.delim c.args.piece.now c.split_at.result.0.now c.split_at.result.1.now c.args.count c.requires.counted
-          c.split_at.ensures.by_index.0,
-    )
+    let all = split_counted c.args.delim c.args.piece.now c.split_at.result.0.now c.split_at.result.1.now c.args.count c.requires.counted
+    c.split_at.ensures.by_index.0 in
+    omega arith
 
 pub fill-requires-clause-few : goal.fill-requires-clause-few
 fill-requires-clause-few c = omega (arith, delimiters-le-length c.args.delim c.split_at.result.0.now)
