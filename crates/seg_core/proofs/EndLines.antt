@@ -3,8 +3,7 @@ use Rattle.std.proofs.Common.{◌≡◌, ℕ, zero, suc, ◌+◌, ◌-◌, ◌<�
 use Rattle.std.proofs.lemmas.List.{append-nil, drop_all, drop-drop, drop-append-le}
 use Rattle.seg_core.specs.Line.{joined, lines_of, delimiters, line_count, first_lines, after_lines, last_lines}
 use Rattle.seg_core.proofs.FirstLines.{first_lines-full, length-first_lines-le, after_lines-is_drop, lines_of-after_lines}
-use Rattle.seg_core.proofs.LineCounts.{line_count-some, line_count-front}
-pub use Rattle.seg_core.proofs.LineCounts.{line_count_near}
+use Rattle.seg_core.proofs.LineCounts.{line_count-some, line_count-front, line_count_near}
 use Rattle.seg_core.proofs.Carried.{line_count-last}
 
 -- once n lines are complete, what follows the text is added to what stands after them

@@ -6,7 +6,7 @@ use Rattle.seg_core.specs.Line.{delimiters, ends_with, line_count, first_lines, 
 use Rattle.seg_core.proofs.Delimiters.{delimiters-append, delimiters-le-length}
 use Rattle.seg_core.proofs.FirstLines.{first_lines_then_rest}
 use Rattle.seg_core.proofs.LineCounts.{ends_with-last, line_count-by_end}
-pub use Rattle.seg_core.proofs.LineCounts.{line_count-front}
+use Rattle.seg_core.proofs.LineCounts.{line_count-front}
 use Rattle.seg_core.proofs.EndLines.{after_lines-append}
 
 -- and so it is no longer than the text
