@@ -28,13 +28,13 @@ lines_whole x = whole_by (whole_lines x) (ends_with newline (whole_lines x)) ref
     let few : length (take (delimiters newline x) (lines_of newline x)) ≤ delimiters newline x = take_few (delimiters newline x) (lines_of newline x) in
     let all : delimiters newline (whole_lines x) ≡ delimiters newline x = delimiters-first_lines newline (delimiters newline x) x (omega arith) in omega (arith, count, few, all))
 
-pub lines_then_open : (x : List ℕ) → whole_lines x ++ open_line x ≡ x
-lines_then_open x = first_lines_then_rest newline (delimiters newline x) x
+pub lines_then_open : {x : List ℕ} → whole_lines x ++ open_line x ≡ x
+lines_then_open {x} = first_lines_then_rest newline (delimiters newline x) x
 
 pub open_unbroken : (x : List ℕ) → delimiters newline (open_line x) ≡ 0
 open_unbroken x =
     let sum : delimiters newline (whole_lines x ++ open_line x) ≡ delimiters newline (whole_lines x) + delimiters newline (open_line x) = delimiters-append newline (whole_lines x) (open_line x) in
-    let same : delimiters newline (whole_lines x ++ open_line x) ≡ delimiters newline x = ap (delimiters newline) (lines_then_open x) in
+    let same : delimiters newline (whole_lines x ++ open_line x) ≡ delimiters newline x = ap (delimiters newline) (lines_then_open {x = x}) in
     let all : delimiters newline (whole_lines x) ≡ delimiters newline x = delimiters-first_lines newline (delimiters newline x) x (omega arith) in omega (arith, sum, same, all)
 
 pub all_complete : (x : List ℕ) → all_lines (whole_lines x) ≡ complete_lines x
@@ -47,26 +47,26 @@ front_is front rest (inl empty) none = subst (λ those. whole_lines (those ++ re
 front_is front rest (inr ends) none = first_lines-whole newline front rest (delimiters newline (front ++ rest)) ends
     (let sum : delimiters newline (front ++ rest) ≡ delimiters newline front + delimiters newline rest = delimiters-append newline front rest in omega (arith, sum, none))
 
-pub rest_is : (front rest : List ℕ) → IsWhole front → delimiters newline rest ≡ 0 → open_line (front ++ rest) ≡ rest
-rest_is front rest whole none = append_cancel_left front (open_line (front ++ rest)) rest
-    (ap (λ those. those ++ open_line (front ++ rest)) (sym (front_is front rest whole none)) ∙ lines_then_open (front ++ rest))
+pub rest_is : (front : List ℕ) {rest : List ℕ} → IsWhole front → delimiters newline rest ≡ 0 → open_line (front ++ rest) ≡ rest
+rest_is front {rest} whole none = append_cancel_left front (open_line (front ++ rest)) rest
+    (ap (λ those. those ++ open_line (front ++ rest)) (sym (front_is front rest whole none)) ∙ lines_then_open)
 
 -- more bytes complete the open line, or not
 
 parted : (x y : List ℕ) → x ++ y ≡ (whole_lines x ++ whole_lines (open_line x ++ y)) ++ open_line (open_line x ++ y)
 parted x y =
-    ap (λ those. those ++ y) (sym (lines_then_open x)) ∙ append_assoc (whole_lines x) (open_line x) y
-    ∙ ap (λ those. whole_lines x ++ those) (sym (lines_then_open (open_line x ++ y)))
+    ap (λ those. those ++ y) (sym (lines_then_open)) ∙ append_assoc (whole_lines x) (open_line x) y
+    ∙ ap (λ those. whole_lines x ++ those) (sym (lines_then_open))
     ∙ sym (append_assoc (whole_lines x) (whole_lines (open_line x ++ y)) (open_line (open_line x ++ y)))
 
 both_whole : (x y : List ℕ) → IsWhole (whole_lines x ++ whole_lines (open_line x ++ y))
-both_whole x y = whole-append (whole_lines x) (whole_lines (open_line x ++ y)) (lines_whole x) (lines_whole (open_line x ++ y))
+both_whole x y = whole-append (whole_lines (open_line x ++ y)) (lines_whole x) (lines_whole (open_line x ++ y))
 
 pub lines_more : (x y : List ℕ) → whole_lines (x ++ y) ≡ whole_lines x ++ whole_lines (open_line x ++ y)
 lines_more x y = ap whole_lines (parted x y) ∙ front_is (whole_lines x ++ whole_lines (open_line x ++ y)) (open_line (open_line x ++ y)) (both_whole x y) (open_unbroken (open_line x ++ y))
 
 pub open_more : (x y : List ℕ) → open_line (x ++ y) ≡ open_line (open_line x ++ y)
-open_more x y = ap open_line (parted x y) ∙ rest_is (whole_lines x ++ whole_lines (open_line x ++ y)) (open_line (open_line x ++ y)) (both_whole x y) (open_unbroken (open_line x ++ y))
+open_more x y = ap open_line (parted x y) ∙ rest_is (whole_lines x ++ whole_lines (open_line x ++ y)) (both_whole x y) (open_unbroken (open_line x ++ y))
 
 -- a piece without a newline
 
@@ -77,7 +77,7 @@ pub none_lines : (rest piece : List ℕ) → delimiters newline rest ≡ 0 → d
 none_lines rest piece none also = front_is [] (rest ++ piece) (inl refl) (no_newline rest piece none also)
 
 pub none_open : (rest piece : List ℕ) → delimiters newline rest ≡ 0 → delimiters newline piece ≡ 0 → open_line (rest ++ piece) ≡ rest ++ piece
-none_open rest piece none also = rest_is [] (rest ++ piece) (inl refl) (no_newline rest piece none also)
+none_open rest piece none also = rest_is [] (inl refl) (no_newline rest piece none also)
 
 -- a piece with one
 
@@ -88,8 +88,8 @@ ends_by : (x : List ℕ) → IsWhole x → 0 < length x → ends_with newline x 
 ends_by x (inl empty) some = absurd (let e : length x ≡ 0 = ap length empty in omega (arith, e, some))
 ends_by x (inr ends) some = ends
 
-pub piece_ends : (piece : List ℕ) (end : ℕ) → LastEndsAt newline piece end → ends_with newline (take end piece) ≡ true
-piece_ends piece end last = ends_by (take end piece) (subst IsWhole (sym last.complete) (lines_whole piece)) (take_some end piece last.some last.within)
+pub piece_ends : {piece : List ℕ} (end : ℕ) → LastEndsAt newline piece end → ends_with newline (take end piece) ≡ true
+piece_ends {piece} end last = ends_by (take end piece) (subst IsWhole (sym last.complete) (lines_whole piece)) (take_some end piece last.some last.within)
 
 some_ends : (rest text : List ℕ) → ends_with newline text ≡ true → ends_with newline (rest ++ text) ≡ true
 some_ends rest text ends = ends_with-append newline rest text (ends_with-some newline text ends) ∙ ends
@@ -97,11 +97,11 @@ some_ends rest text ends = ends_with-append newline rest text (ends_with-some ne
 split_piece : (rest piece : List ℕ) (end : ℕ) → rest ++ piece ≡ (rest ++ take end piece) ++ drop end piece
 split_piece rest piece end = ap (λ those. rest ++ those) (sym (take-append-drop end piece)) ∙ sym (append_assoc rest (take end piece) (drop end piece))
 
-pub piece_lines : (rest piece : List ℕ) (end : ℕ) → LastEndsAt newline piece end → whole_lines (rest ++ piece) ≡ rest ++ take end piece
-piece_lines rest piece end last = ap whole_lines (split_piece rest piece end) ∙ front_is (rest ++ take end piece) (drop end piece) (inr (some_ends rest (take end piece) (piece_ends piece end last))) last.none_after
+pub piece_lines : (rest : List ℕ) {piece : List ℕ} (end : ℕ) → LastEndsAt newline piece end → whole_lines (rest ++ piece) ≡ rest ++ take end piece
+piece_lines rest {piece} end last = ap whole_lines (split_piece rest piece end) ∙ front_is (rest ++ take end piece) (drop end piece) (inr (some_ends rest (take end piece) (piece_ends end last))) last.none_after
 
-pub piece_open : (rest piece : List ℕ) (end : ℕ) → LastEndsAt newline piece end → open_line (rest ++ piece) ≡ drop end piece
-piece_open rest piece end last = ap open_line (split_piece rest piece end) ∙ rest_is (rest ++ take end piece) (drop end piece) (inr (some_ends rest (take end piece) (piece_ends piece end last))) last.none_after
+pub piece_open : (rest : List ℕ) {piece : List ℕ} (end : ℕ) → LastEndsAt newline piece end → open_line (rest ++ piece) ≡ drop end piece
+piece_open rest {piece} end last = ap open_line (split_piece rest piece end) ∙ rest_is (rest ++ take end piece) (inr (some_ends rest (take end piece) (piece_ends end last))) last.none_after
 
 -- lines
 
@@ -139,16 +139,16 @@ joined_line rest end none is = line_by (rest ++ end) (joined_by rest end (none_i
 
 -- the first of complete lines is complete, and so are those after it
 
-complete_by : (text line rest : List ℕ) (ends : Bool) → ends_with newline line ≡ ends → (ends_with newline line ≡ false → rest ≡ []) → text ≡ line ++ rest → ends_with newline text ≡ true → ends_with newline line ≡ true
-complete_by text line rest true is last joined whole = is
-complete_by text line rest false is last joined whole = absurd (false≢true (sym is ∙ ap (ends_with newline) (sym (joined ∙ ap (λ those. line ++ those) (last is) ∙ append-nil line)) ∙ whole))
+complete_by : {text : List ℕ} (line : List ℕ) {rest : List ℕ} (ends : Bool) → ends_with newline line ≡ ends → (ends_with newline line ≡ false → rest ≡ []) → text ≡ line ++ rest → ends_with newline text ≡ true → ends_with newline line ≡ true
+complete_by line true is last joined whole = is
+complete_by line false is last joined whole = absurd (false≢true (sym is ∙ ap (ends_with newline) (sym (joined ∙ ap (λ those. line ++ those) (last is) ∙ append-nil line)) ∙ whole))
 
-pub first_complete : (text line rest : List ℕ) → (ends_with newline line ≡ false → rest ≡ []) → text ≡ line ++ rest → ends_with newline text ≡ true → ends_with newline line ≡ true
-first_complete text line rest last joined whole = complete_by text line rest (ends_with newline line) refl last joined whole
+pub first_complete : {text : List ℕ} (line : List ℕ) {rest : List ℕ} → (ends_with newline line ≡ false → rest ≡ []) → text ≡ line ++ rest → ends_with newline text ≡ true → ends_with newline line ≡ true
+first_complete line last joined whole = complete_by line (ends_with newline line) refl last joined whole
 
-pub others_whole : (text line rest : List ℕ) → text ≡ line ++ rest → ends_with newline text ≡ true → IsWhole rest
-others_whole text line [] joined whole = inl refl
-others_whole text line (byte ∷ rest) joined whole = inr (sym (ends_with-append newline line (byte ∷ rest) (omega arith)) ∙ ap (ends_with newline) (sym joined) ∙ whole)
+pub others_whole : {text : List ℕ} (line rest : List ℕ) → text ≡ line ++ rest → ends_with newline text ≡ true → IsWhole rest
+others_whole line [] joined whole = inl refl
+others_whole line (byte ∷ rest) joined whole = inr (sym (ends_with-append newline line (byte ∷ rest) (omega arith)) ∙ ap (ends_with newline) (sym joined) ∙ whole)
 
 pub open_complete : (rest line : List ℕ) → ends_with newline line ≡ true → IsWhole (rest ++ line)
 open_complete rest line ends = inr (some_ends rest line ends)

@@ -22,8 +22,8 @@ use Rattle.csplit_core.proofs.WriterLemmas.{halts_wider, bytes_begin, owns_still
 
 -- where none waits
 
-pub none_there : (held : List ℕ) (empty : Bool) → empty ≡ eqb (length held) 0 → empty ≡ true → held ≡ []
-none_there held empty is true_is = nil_from_length held (eqb-true (length held) 0 (sym is ∙ true_is))
+pub none_there : {held : List ℕ} {empty : Bool} → empty ≡ eqb (length held) 0 → empty ≡ true → held ≡ []
+none_there {held} is true_is = nil_from_length held (eqb-true (length held) 0 (sym is ∙ true_is))
 
 pub alone : (P : ℕ → List ℕ → Type 0) (cutter : CutterState) (line : List ℕ) → cutter.window.held ≡ [] → P cutter.lines line
     → P (cutter.lines - delimiters newline cutter.window.held) (cutter.window.held ++ line)
@@ -31,17 +31,17 @@ alone P cutter line none holds =
     subst (λ those. P (cutter.lines - delimiters newline those) (those ++ line)) (sym none)
     (subst (λ n. P n line) (let e : cutter.lines ≡ cutter.lines - 0 = omega arith in e) holds)
 
-pub cut_alone : (told : Bool) (cutter start place_of next : CutterState) (cut : Cut) (line : List ℕ) (old new : List Slot) (result : Result (Unit {0}) Fault) → start ≡ cutter → place_of ≡ cutter → start.window.held ≡ []
+pub cut_alone : (told : Bool) {cutter start place_of : CutterState} (next : CutterState) (cut : Cut) (line : List ℕ) (old new : List Slot) (result : Result (Unit {0}) Fault) → start ≡ cutter → place_of ≡ cutter → start.window.held ≡ []
     → CutsAll told cutter cut place_of.lines line line old new next result → CutsAll told cutter cut (cutter.lines - delimiters newline cutter.window.held) (cutter.window.held ++ line) line old new next result
-cut_alone told cutter start place_of next cut line old new result same same_place none cuts =
+cut_alone told {cutter} next cut line old new result same same_place none cuts =
     alone (λ place those. CutsAll told cutter cut place those line old new next result) cutter line (sym (ap (λ (c : CutterState). c.window.held) same) ∙ none)
     (subst (λ (c : CutterState). CutsAll told cutter cut c.lines line line old new next result) same_place cuts)
 
 -- and where some do
 
-cuts_alike : (cutter : CutterState) (window : Window) (x left line : List ℕ) (cut : Cut) (place : ℕ) (at : IsAt cutter x left) → CutsNow cutter x left line cut place at → CutsNow (alike cutter cutter.aim window) x left line cut place (at_alike cutter cutter.aim window x left at)
+cuts_alike : {cutter : CutterState} (window : Window) {x left : List ℕ} (line : List ℕ) (cut : Cut) {place : ℕ} {at : IsAt cutter x left} → CutsNow cutter x left line cut place at → CutsNow (alike cutter cutter.aim window) x left line cut place (at_alike cutter cutter.aim window x left at)
 unfolding at_alike
-cuts_alike cutter window x left line cut place at now = record { last = now.last; near = now.near; place_is = now.place_is; before = now.before; goes = now.goes }
+cuts_alike window line cut now = record { last = now.last; near = now.near; place_is = now.place_is; before = now.before; goes = now.goes }
 
 all_alike : (told : Bool) (cutter next : CutterState) (window : Window) (cut : Cut) (place : ℕ) (left line : List ℕ) (old new : List Slot) (result : Result (Unit {0}) Fault) → CutsAll told (alike cutter cutter.aim window) cut place left line old new next result → CutsAll told cutter cut place left line old new next result
 unfolding at_alike
@@ -49,8 +49,8 @@ all_alike told cutter next window cut place left line old new (Ok done) all = re
   same = record { operands = all.same.operands; style = all.same.style };
   lines = all.lines;
   sound = all.sound;
-  stands = λ x at now. all.stands x (at_alike cutter cutter.aim window x left at) (cuts_alike cutter window x left line cut place at now);
-  moves = λ x at now. all.moves x (at_alike cutter cutter.aim window x left at) (cuts_alike cutter window x left line cut place at now);
+  stands = λ x at now. all.stands x (at_alike cutter cutter.aim window x left at) (cuts_alike window line cut now);
+  moves = λ x at now. all.moves x (at_alike cutter cutter.aim window x left at) (cuts_alike window line cut now);
   keeps = all.keeps;
   owns = all.owns;
   ready = all.ready;
@@ -58,39 +58,39 @@ all_alike told cutter next window cut place left line old new (Ok done) all = re
 }
 all_alike told cutter next window cut place left line old new (Err fault) all = record {
   same = record { operands = all.same.operands; style = all.same.style };
-  halts = λ x at now. all.halts x (at_alike cutter cutter.aim window x left at) (cuts_alike cutter window x left line cut place at now);
+  halts = λ x at now. all.halts x (at_alike cutter cutter.aim window x left at) (cuts_alike window line cut now);
   breaks = all.breaks;
   owns = all.owns;
 }
 
-pub cut_drained : (told : Bool) (cutter start next : CutterState) (window : Window) (cut : Cut) (place : ℕ) (waiting line : List ℕ) (old new : List Slot) (result : Result (Unit {0}) Fault) → start ≡ cutter → waiting ≡ start.window.held ++ line → place ≡ start.lines - delimiters newline start.window.held
+pub cut_drained : (told : Bool) {cutter start : CutterState} (next : CutterState) (window : Window) (cut : Cut) {place : ℕ} {waiting : List ℕ} (line : List ℕ) (old new : List Slot) (result : Result (Unit {0}) Fault) → start ≡ cutter → waiting ≡ start.window.held ++ line → place ≡ start.lines - delimiters newline start.window.held
     → CutsAll told (record start { window = window }) cut place waiting line old new next result → CutsAll told cutter cut (cutter.lines - delimiters newline cutter.window.held) (cutter.window.held ++ line) line old new next result
-cut_drained told cutter start next window cut place waiting line old new result same waiting_is place_is cuts =
+cut_drained told {start} next window cut {waiting} line old new result same waiting_is place_is cuts =
     subst (λ (c : CutterState). CutsAll told c cut (c.lines - delimiters newline c.window.held) (c.window.held ++ line) line old new next result) same
     (all_alike told start next window cut (start.lines - delimiters newline start.window.held) (start.window.held ++ line) line old new result
     (subst (λ those. CutsAll told (record start { window = window }) cut (start.lines - delimiters newline start.window.held) those line old new next result) waiting_is
     (subst (λ n. CutsAll told (record start { window = window }) cut n waiting line old new next result) place_is cuts)))
 
-pub cut_lacks : (told : Bool) (cutter start : CutterState) (window : Window) (cut : Cut) (line : List ℕ) (slots : List Slot) (fault : Fault) → start ≡ cutter → IsFit cutter → WillCut cutter cut → fault ≡ Memory
+pub cut_lacks : (told : Bool) {cutter start : CutterState} {window : Window} (cut : Cut) (line : List ℕ) {slots : List Slot} {fault : Fault} → start ≡ cutter → IsFit cutter → WillCut cutter cut → fault ≡ Memory
     → CutAllNot told cutter cut (cutter.lines - delimiters newline cutter.window.held) (cutter.window.held ++ line) line [] slots slots (record start { window = window }) fault
-cut_lacks told cutter start window cut line slots fault same fit will lacks =
+cut_lacks told {cutter} {start} {window} cut line {slots} same fit will lacks =
     subst (λ why. CutAllNot told cutter cut (cutter.lines - delimiters newline cutter.window.held) (cutter.window.held ++ line) line [] slots slots (record start { window = window }) why) (sym lacks) (record {
       same = record { operands = ap (λ (c : CutterState). c.operands) same; style = ap (λ (c : CutterState). c.writer.style) same };
       halts = λ x at now.
           let draft = draft_by (all_lines x) at.steps (kept_by (state_in cutter).operands) at.written in
           let before = first_lines newline (cut.line - (cutter.lines - delimiters newline cutter.window.held)) (cutter.window.held ++ line) in
           subst (λ those. Halts told cutter.writer (draft_part cutter.writer.style draft) (settled_part cutter those) slots slots Memory) (sym (append-nil x))
-          (halts_wider told (draft_part cutter.writer.style draft) (draft_part cutter.writer.style draft) (settled_part cutter x) slots slots Memory (memory_halts told cutter.writer.style draft slots at.writes.closed)
+          (halts_wider told (memory_halts told cutter.writer.style draft at.writes.closed)
           (part_trans (draft_part cutter.writer.style draft) (draft_part cutter.writer.style (with_bytes before draft)) (settled_part cutter x) (bytes_begin cutter.writer.style before draft)
-          (before_begins cutter x (cutter.window.held ++ line) line before at cut (cutter.lines - delimiters newline cutter.window.held) now fit will refl)));
+          (before_begins line cut now fit will refl)));
       breaks = tt;
-      owns = subst (λ w. Rattle.csplit_core.specs.inner.Writer.KeepsFiles cutter.writer w slots slots) (sym (ap (λ (c : CutterState). c.writer) same)) (owns_still cutter.writer slots);
+      owns = subst (λ w. Rattle.csplit_core.specs.inner.Writer.KeepsFiles cutter.writer w slots slots) (sym (ap (λ (c : CutterState). c.writer) same)) (owns_still);
     })
 
 -- how many lines wait
-pub waiting_count : (lines : ℕ) (held waiting line front : List ℕ) (size count place : ℕ) → waiting ≡ held ++ line → size ≡ length held → front ≡ take size waiting → count ≡ delimiters newline front → place ≡ lines - count → place ≡ lines - delimiters newline held
-waiting_count lines held waiting line front size count place waiting_is size_is front_is count_is place_is =
+pub waiting_count : (lines : ℕ) (held : List ℕ) {waiting : List ℕ} (line front : List ℕ) {size count place : ℕ} → waiting ≡ held ++ line → size ≡ length held → front ≡ take size waiting → count ≡ delimiters newline front → place ≡ lines - count → place ≡ lines - delimiters newline held
+waiting_count lines held line front {size} waiting_is size_is front_is count_is place_is =
     place_is ∙ ap (λ n. lines - n) (count_is ∙ ap (delimiters newline) (front_is ∙ ap (take size) waiting_is ∙ take_at held line size (sym size_is)))
 
-pub waiting_size : (held line items : List ℕ) (n : ℕ) → items ≡ held ++ line → n ≡ length items → n - length line ≡ length held
-waiting_size held line items n is long = let e : length items ≡ length held + length line = ap length is ∙ length-append held line in omega (arith, e, long)
+pub waiting_size : (held line : List ℕ) {items : List ℕ} {n : ℕ} → items ≡ held ++ line → n ≡ length items → n - length line ≡ length held
+waiting_size held line {items} is long = let e : length items ≡ length held + length line = ap length is ∙ length-append held line in omega (arith, e, long)

@@ -17,49 +17,48 @@ use Rattle.csplit_core.proofs.LineLemmas.{all_lines-append, count-append, count_
 use Rattle.csplit_core.proofs.SettledLemmas.{draft_is, settled_part_is, settled_count, ended_still}
 
 -- the plan up to where the cutter stands
-pub runs_to : (cutter : CutterState) (x left : List ℕ) (at : IsAt cutter x left) (ends : EndsNow cutter x) → Runs (suppress_in cutter) (all_lines x) (start cutter.operands) at.steps (state_in cutter) ends.ending
-runs_to cutter x left at ends = subst (λ steps. Runs (suppress_in cutter) (all_lines x) (start cutter.operands) steps (state_in cutter) ends.ending) (append-nil at.steps) (at.leads [] (state_in cutter) ends.ending ends.runs)
+pub runs_to : {cutter : CutterState} {x left : List ℕ} (at : IsAt cutter x left) (ends : EndsNow cutter x) → Runs (suppress_in cutter) (all_lines x) (start cutter.operands) at.steps (state_in cutter) ends.ending
+runs_to {cutter} {x} at ends = subst (λ steps. Runs (suppress_in cutter) (all_lines x) (start cutter.operands) steps (state_in cutter) ends.ending) (append-nil at.steps) (at.leads [] (state_in cutter) ends.ending ends.runs)
 
 -- more lines came in, and nothing was done with them yet
 unfoldable pub at_more : (cutter : CutterState) (lines : ℕ) (aim : Turn) (x t left : List ℕ) → IsWhole x → 1 ≤ cutter.progress.current → (at : IsAt cutter x left) → EndsNow cutter x → lines ≡ line_count newline (x ++ t)
     → IsAt (record cutter { lines = lines; aim = aim }) (x ++ t) (left ++ t)
 at_more cutter lines aim x t left whole some at ends count =
-    let e = all_lines-append x t whole in record {
+    let e = all_lines-append t whole in record {
       steps = at.steps;
       leads = λ more last ending run. subst (λ those. Runs (suppress_in cutter) those (start cutter.operands) (at.steps ++ more) last ending) (sym e)
-          (goes_on (suppress_in cutter) (all_lines x) (all_lines t) (start cutter.operands) at.steps (state_in cutter) ends.ending more last ending (runs_to cutter x left at ends)
-          (subst (λ those. Runs (suppress_in cutter) those (state_in cutter) more last ending) e run));
+          (goes_on (all_lines t) more last (runs_to at ends) (subst (λ those. Runs (suppress_in cutter) those (state_in cutter) more last ending) e run));
       counted = count;
       taken = at.taken;
       written = at.written;
-      few = (let f : cutter.progress.current + at.taken ≤ line_count newline x + 1 = at.few in let all = count-append x t whole in omega (arith, f, all));
-      written_is = at.written_is ∙ sym (first_still at.taken cutter.progress.current x t whole some at.few);
-      left_is = ap (λ those. those ++ t) at.left_is ∙ rest_more (cutter.progress.current + at.taken) x t whole (omega (arith, some)) at.few;
-      writes = subst (Writes cutter.writer) (ended_still cutter.writer.style cutter.operands x t at.steps (state_in cutter) ends.ending (kept_by (state_in cutter).operands) at.written whole (runs_to cutter x left at ends)) at.writes;
+      few = (let f : cutter.progress.current + at.taken ≤ line_count newline x + 1 = at.few in let all = count-append t whole in omega (arith, f, all));
+      written_is = at.written_is ∙ sym (first_still at.taken cutter.progress.current t whole some at.few);
+      left_is = ap (λ those. those ++ t) at.left_is ∙ rest_more (cutter.progress.current + at.taken) t whole (omega (arith, some)) at.few;
+      writes = subst (Writes cutter.writer) (ended_still cutter.writer.style cutter.operands t (kept_by (state_in cutter).operands) at.written whole (runs_to at ends)) at.writes;
     }
 
-pub part_more : (cutter : CutterState) (lines : ℕ) (aim : Turn) (x t left : List ℕ) (whole : IsWhole x) (some : 1 ≤ cutter.progress.current) (at : IsAt cutter x left) (ends : EndsNow cutter x) (count : lines ≡ line_count newline (x ++ t))
+pub part_more : {cutter : CutterState} {lines : ℕ} (aim : Turn) {x : List ℕ} (t : List ℕ) {left : List ℕ} (whole : IsWhole x) (some : 1 ≤ cutter.progress.current) (at : IsAt cutter x left) (ends : EndsNow cutter x) (count : lines ≡ line_count newline (x ++ t))
     → part_at cutter x left at ≡ part_at (record cutter { lines = lines; aim = aim }) (x ++ t) (left ++ t) (at_more cutter lines aim x t left whole some at ends count)
 unfolding at_more
-part_more cutter lines aim x t left whole some at ends count =
-    ap (draft_part cutter.writer.style) (ended_still cutter.writer.style cutter.operands x t at.steps (state_in cutter) ends.ending (kept_by (state_in cutter).operands) at.written whole (runs_to cutter x left at ends))
+part_more {cutter} aim t whole some at ends count =
+    ap (draft_part cutter.writer.style) (ended_still cutter.writer.style cutter.operands t (kept_by (state_in cutter).operands) at.written whole (runs_to at ends))
 
 -- what is written of the open section, where all but the last lines that may wait are taken, is what is settled
-pub live_part : (cutter : CutterState) (x : List ℕ) (live : IsLive cutter x) → part_at cutter x cutter.window.held live.at ≡ settled_part cutter x
-live_part cutter x live =
-    let runs = runs_to cutter x cutter.window.held live.at live.ends in
+pub live_part : {cutter : CutterState} {x : List ℕ} (live : IsLive cutter x) → part_at cutter x cutter.window.held live.at ≡ settled_part cutter x
+live_part {cutter} {x} live =
+    let runs = runs_to live.at live.ends in
     let count : line_count newline x + 1 - cutter.progress.current - most_waiting live.ends.ending ≡ cutter.lines + 1 - cutter.progress.current - most_waiting live.ends.ending =
     ap (λ n. n + 1 - cutter.progress.current - most_waiting live.ends.ending) (sym live.at.counted) in
-    ap (draft_part cutter.writer.style) (draft_is settled_end (suppress_in cutter) cutter.operands x live.at.steps (state_in cutter) live.ends.ending live.at.taken live.at.written runs
+    ap (draft_part cutter.writer.style) (draft_is settled_end cutter.operands x live.at.taken runs
     (live.settled ∙ sym count ∙ settled_count (line_count newline x) cutter.progress.current live.ends.ending live.live) live.at.written_is)
     ∙ settled_part_is cutter.writer.style cutter.operands (all_lines x)
 
 -- how many lines are left
-pub left_count : (cutter : CutterState) (x left : List ℕ) (at : IsAt cutter x left) → line_count newline left ≡ cutter.lines - (cutter.progress.current + at.taken - 1)
-left_count cutter x left at = ap (line_count newline) at.left_is ∙ count_from (cutter.progress.current + at.taken) x ∙ ap (λ n. n - (cutter.progress.current + at.taken - 1)) (sym at.counted)
+pub left_count : {cutter : CutterState} {x left : List ℕ} (at : IsAt cutter x left) → line_count newline left ≡ cutter.lines - (cutter.progress.current + at.taken - 1)
+left_count {cutter} {x} at = ap (line_count newline) at.left_is ∙ count_from (cutter.progress.current + at.taken) x ∙ ap (λ n. n - (cutter.progress.current + at.taken - 1)) (sym at.counted)
 
-pub few_taken : (cutter : CutterState) (x left : List ℕ) (at : IsAt cutter x left) → cutter.progress.current + at.taken ≤ cutter.lines + 1
-few_taken cutter x left at = let f : cutter.progress.current + at.taken ≤ line_count newline x + 1 = at.few in let e : cutter.lines ≡ line_count newline x = at.counted in omega (arith, f, e)
+pub few_taken : {cutter : CutterState} {x left : List ℕ} (at : IsAt cutter x left) → cutter.progress.current + at.taken ≤ cutter.lines + 1
+few_taken {cutter} {x} at = let f : cutter.progress.current + at.taken ≤ line_count newline x + 1 = at.few in let e : cutter.lines ≡ line_count newline x = at.counted in omega (arith, f, e)
 
 -- some lines of those that were left are written, and the others wait
 unfoldable pub at_held : (cutter : CutterState) (writer : WriterState) (x left bytes held : List ℕ) (n : ℕ) → 1 ≤ cutter.progress.current → (at : IsAt cutter x left) → writer.style ≡ cutter.writer.style → n ≤ line_count newline left
@@ -82,6 +81,6 @@ at_held cutter writer x left bytes held n some at same within bytes_is held_is w
     }
 
 -- how many lines are taken once as many wait as may
-pub taken_all : (taken lines current left most : ℕ) → 1 ≤ current → current + taken ≤ lines + 1 → left ≡ lines - (current + taken - 1) → (taken ≡ 0) ⊎ (most ≤ left) → taken + (left - most) ≡ lines + 1 - current - most
-taken_all taken lines current left most some few is (inl none) = omega (arith, some, few, is, none)
-taken_all taken lines current left most some few is (inr enough) = omega (arith, some, few, is, enough)
+pub taken_all : (taken lines current : ℕ) {left : ℕ} (most : ℕ) → 1 ≤ current → current + taken ≤ lines + 1 → left ≡ lines - (current + taken - 1) → (taken ≡ 0) ⊎ (most ≤ left) → taken + (left - most) ≡ lines + 1 - current - most
+taken_all taken lines current most some few is (inl none) = omega (arith, some, few, is, none)
+taken_all taken lines current most some few is (inr enough) = omega (arith, some, few, is, enough)

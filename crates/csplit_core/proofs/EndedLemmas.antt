@@ -43,18 +43,18 @@ whole_past : (total : ℕ) (ending : Ending) → is_final ending ≡ true → se
 whole_past total (below operand repetition) past = refl
 whole_past total _ past = absurd (false≢true past)
 
-all_first : (n : ℕ) (y : List ℕ) → line_count newline y ≤ n → first_lines newline n y ≡ y
-all_first n y few = ap joined (take_all n (lines_of newline y) few) ∙ joined-lines_of newline y
+all_first : (n : ℕ) {y : List ℕ} → line_count newline y ≤ n → first_lines newline n y ≡ y
+all_first n {y} few = ap joined (take_all n (lines_of newline y) few) ∙ joined-lines_of newline y
 
-all_written : (x written held : List ℕ) (current taken : ℕ) (ending : Ending) → 1 ≤ current → is_final ending ≡ false → written ≡ first_lines newline taken (text_from current x) → held ≡ text_from (current + taken) x
+all_written : (x : List ℕ) {written held : List ℕ} (current taken : ℕ) (ending : Ending) → 1 ≤ current → is_final ending ≡ false → written ≡ first_lines newline taken (text_from current x) → held ≡ text_from (current + taken) x
     → written ++ held ≡ first_lines newline (whole_end (line_count newline x) ending - current) (text_from current x)
-all_written x written held current taken ending some live written_is held_is =
+all_written x {held} current taken ending some live written_is held_is =
     let all : first_lines newline taken (text_from current x) ++ after_lines newline taken (text_from current x) ≡ text_from current x = first_lines_then_rest newline taken (text_from current x) in
     let end : whole_end (line_count newline x) ending ≡ suc (line_count newline x) = ends_after_all (line_count newline x) ending live in
     let count : line_count newline (text_from current x) ≡ line_count newline x - (current - 1) = count_from current x in
     ap (λ those. those ++ held) written_is
     ∙ ap (λ those. first_lines newline taken (text_from current x) ++ those) (held_is ∙ sym (from_further current taken x some))
-    ∙ all ∙ sym (all_first (whole_end (line_count newline x) ending - current) (text_from current x) (omega (arith, end, count, some)))
+    ∙ all ∙ sym (all_first (whole_end (line_count newline x) ending - current) (omega (arith, end, count, some)))
 
 -- What is written before the end, and with the lines that wait, is what is settled and the whole.
 record LastDraft (cutter : CutterState) (x : List ℕ) : Type 0 where
@@ -63,19 +63,18 @@ record LastDraft (cutter : CutterState) (x : List ℕ) : Type 0 where
   settled : draft_part cutter.writer.style draft ≡ settled_part cutter x
   whole : ended_part cutter.writer.style (with_bytes cutter.window.held draft) ≡ whole_part cutter x
 
-live_draft : (cutter : CutterState) (x : List ℕ) → IsFit cutter → IsLive cutter x → LastDraft cutter x
-live_draft cutter x fit live = record {
+live_draft : {cutter : CutterState} {x : List ℕ} → IsFit cutter → IsLive cutter x → LastDraft cutter x
+live_draft {cutter} {x} fit live = record {
   draft = draft_by (all_lines x) live.at.steps (kept_by (state_in cutter).operands) live.at.written;
   writes = live.at.writes;
-  settled = live_part cutter x live;
-  whole = ap (ended_part cutter.writer.style) (draft_is whole_end (suppress_in cutter) cutter.operands x live.at.steps (state_in cutter) live.ends.ending _ (live.at.written ++ cutter.window.held)
-      (runs_to cutter x cutter.window.held live.at live.ends) refl
-      (all_written x live.at.written cutter.window.held cutter.progress.current live.at.taken live.ends.ending fit.fits.some live.live live.at.written_is live.at.left_is))
+  settled = live_part live;
+  whole = ap (ended_part cutter.writer.style) (draft_is whole_end cutter.operands x _ (runs_to live.at live.ends) refl
+      (all_written x cutter.progress.current live.at.taken live.ends.ending fit.fits.some live.live live.at.written_is live.at.left_is))
       ∙ whole_part_is cutter.writer.style cutter.operands (all_lines x);
 }
 
-past_whole : (cutter : CutterState) (x : List ℕ) → IsPast cutter x → with_bytes cutter.window.held (settled_draft (suppress_in cutter) cutter.operands (all_lines x)) ≡ draft_to whole_end (suppress_in cutter) cutter.operands (all_lines x)
-past_whole cutter x past =
+past_whole : {cutter : CutterState} {x : List ℕ} → IsPast cutter x → with_bytes cutter.window.held (settled_draft (suppress_in cutter) cutter.operands (all_lines x)) ≡ draft_to whole_end (suppress_in cutter) cutter.operands (all_lines x)
+past_whole {cutter} {x} past =
     let lines = all_lines x in
     let p = plan (suppress_in cutter) cutter.operands (all_lines x) in
     ap (λ bytes. draft_by (all_lines x) p.steps (is_last_kept p.ending) bytes)
@@ -83,17 +82,17 @@ past_whole cutter x past =
     ∙ append-nil (bytes_of (lines_between p.last.current (settled_end (length lines) p.ending) lines))
     ∙ ap (λ end. bytes_of (lines_between p.last.current end lines)) (whole_past (length lines) p.ending past.past))
 
-past_draft : (cutter : CutterState) (x : List ℕ) → IsPast cutter x → LastDraft cutter x
-past_draft cutter x past = record {
+past_draft : {cutter : CutterState} {x : List ℕ} → IsPast cutter x → LastDraft cutter x
+past_draft {cutter} {x} past = record {
   draft = settled_draft (suppress_in cutter) cutter.operands (all_lines x);
   writes = past.writes;
   settled = settled_part_is cutter.writer.style cutter.operands (all_lines x);
-  whole = ap (ended_part cutter.writer.style) (past_whole cutter x past) ∙ whole_part_is cutter.writer.style cutter.operands (all_lines x);
+  whole = ap (ended_part cutter.writer.style) (past_whole past) ∙ whole_part_is cutter.writer.style cutter.operands (all_lines x);
 }
 
-last_draft : (cutter : CutterState) (x : List ℕ) → IsFit cutter → Stands cutter x → LastDraft cutter x
-last_draft cutter x fit (inl live) = live_draft cutter x fit live
-last_draft cutter x fit (inr past) = past_draft cutter x past
+last_draft : {cutter : CutterState} {x : List ℕ} → IsFit cutter → Stands cutter x → LastDraft cutter x
+last_draft fit (inl live) = live_draft fit live
+last_draft fit (inr past) = past_draft past
 
 -- how the plan ends
 
@@ -101,63 +100,61 @@ final_aims : (ending : Ending) → is_final ending ≡ true → AimsAt Below end
 final_aims (below operand repetition) past = tt
 final_aims ending past = absurd (false≢true past)
 
-judged_now : (cutter : CutterState) (x : List ℕ) → Stands cutter x → IsJudged cutter x
-judged_now cutter x (inl live) =
-    let is = plan_once (suppress_in cutter) cutter.operands (all_lines x) live.at.steps (state_in cutter) live.ends.ending (runs_to cutter x cutter.window.held live.at live.ends) in record {
+judged_now : {cutter : CutterState} {x : List ℕ} → Stands cutter x → IsJudged cutter x
+judged_now {cutter} {x} (inl live) =
+    let is = plan_once (suppress_in cutter) cutter.operands (all_lines x) live.at.steps (state_in cutter) live.ends.ending (runs_to live.at live.ends) in record {
       last = sym (ap (λ (p : Plan). p.last) is);
       aims = subst (λ (p : Plan). AimsAt cutter.aim p.ending) (sym is) live.ends.aims;
     }
-judged_now cutter x (inr past) = record {
+judged_now {cutter} {x} (inr past) = record {
   last = past.last;
   aims = subst (λ aim. AimsAt aim (plan (suppress_in cutter) cutter.operands (all_lines x)).ending) (sym past.aim) (final_aims (plan (suppress_in cutter) cutter.operands (all_lines x)).ending past.past);
 }
 
-judged_later : (cutter : CutterState) (writer : WriterState) (window : Window) (x : List ℕ) → writer.style ≡ cutter.writer.style → Stands cutter x → IsJudged (record cutter { writer = writer; window = window }) x
-judged_later cutter writer window x same stands =
-    let judged = judged_now cutter x stands in record {
+judged_later : {cutter : CutterState} {writer : WriterState} {window : Window} {x : List ℕ} → writer.style ≡ cutter.writer.style → Stands cutter x → IsJudged (record cutter { writer = writer; window = window }) x
+judged_later {cutter} {x} same stands =
+    let judged = judged_now stands in record {
       last = subst (λ (style : Style). state_in cutter ≡ (plan style.suppress cutter.operands (all_lines x)).last) (sym same) judged.last;
       aims = subst (λ (style : Style). AimsAt cutter.aim (plan style.suppress cutter.operands (all_lines x)).ending) (sym same) judged.aims;
     }
 
 -- What `end` does: the lines that wait are written, and then the section ends.
 
-end_ended : (told : Bool) (cutter : CutterState) (between next : WriterState) (window : Window) (old mid new : List Slot) → IsFit cutter → Went told cutter.writer (with_bytes cutter.window.held) old mid between → Ended told between mid new next
+end_ended : (told : Bool) {cutter : CutterState} (between : WriterState) {next : WriterState} {window : Window} {old mid new : List Slot} → IsFit cutter → Went told cutter.writer (with_bytes cutter.window.held) old mid between → Ended told between mid new next
     → EndedAll told cutter old new (record cutter { writer = next; window = window })
-end_ended told cutter between next window old mid new fit went ended = record {
+end_ended told {cutter} between {next} {old} {mid} {new} fit went ended = record {
   same = record { operands = refl; style = ended.style ∙ went.style };
-  moves = λ x stands. let last = last_draft cutter x fit stands in
-      moves_as told _ _ _ _ old new (sym last.settled) (sym last.whole)
+  moves = λ x stands. let last = last_draft fit stands in
+      moves_as told old new (sym last.settled) (sym last.whole)
       (moves_again told (draft_part cutter.writer.style last.draft) (draft_part cutter.writer.style (with_bytes cutter.window.held last.draft)) (ended_part cutter.writer.style (with_bytes cutter.window.held last.draft)) old mid new
       (went.moves last.draft last.writes)
       (subst (λ (style : Style). Moves told between next (draft_part style (with_bytes cutter.window.held last.draft)) (ended_part style (with_bytes cutter.window.held last.draft)) mid new) went.style
       (ended.moves (with_bytes cutter.window.held last.draft) (went.writes last.draft last.writes))));
-  judged = λ x stands. judged_later cutter next window x (ended.style ∙ went.style) stands;
+  judged = λ x stands. judged_later (ended.style ∙ went.style) stands;
   keeps = keeps_again old mid new went.keeps ended.keeps;
-  owns = owns_again cutter.writer between next old mid new went.owns ended.owns;
+  owns = owns_again cutter.writer went.owns ended.owns;
   ready = ended.ready;
 }
 
-end_stopped : (told : Bool) (cutter : CutterState) (between next : WriterState) (window : Window) (old mid new : List Slot) (fault : Fault) → IsFit cutter → Went told cutter.writer (with_bytes cutter.window.held) old mid between
+end_stopped : (told : Bool) {cutter : CutterState} (between : WriterState) {next : WriterState} {window : Window} {old mid new : List Slot} {fault : Fault} → IsFit cutter → Went told cutter.writer (with_bytes cutter.window.held) old mid between
     → EndedNot told between mid new next fault → EndedNone told cutter old new (record cutter { writer = next; window = window }) fault
-end_stopped told cutter between next window old mid new fault fit went stopped = record {
+end_stopped told {cutter} between {old} {mid} {new} {fault} fit went stopped = record {
   same = record { operands = refl; style = stopped.style ∙ went.style };
-  halts = λ x stands. let last = last_draft cutter x fit stands in
-      halts_as told _ _ _ _ old new fault (sym last.settled) (sym last.whole)
-      (halts_after told (draft_part cutter.writer.style last.draft) (draft_part cutter.writer.style (with_bytes cutter.window.held last.draft)) (ended_part cutter.writer.style (with_bytes cutter.window.held last.draft)) old mid new fault
+  halts = λ x stands. let last = last_draft fit stands in
+      halts_as told (sym last.settled) (sym last.whole) (halts_after told
       (bytes_begin cutter.writer.style cutter.window.held last.draft) (went.moves last.draft last.writes)
       (subst (λ (style : Style). Halts told between (draft_part style (with_bytes cutter.window.held last.draft)) (ended_part style (with_bytes cutter.window.held last.draft)) mid new fault) went.style
       (stopped.halts (with_bytes cutter.window.held last.draft) (went.writes last.draft last.writes))));
   breaks = breaks_later cutter.writer.style old mid new fault went.keeps (subst (λ (style : Style). Breaks style mid new fault) went.style stopped.breaks);
-  owns = owns_again cutter.writer between next old mid new went.owns stopped.owns;
+  owns = owns_again cutter.writer went.owns stopped.owns;
 }
 
-end_short : (told : Bool) (cutter : CutterState) (next : WriterState) (window : Window) (old new : List Slot) (fault : Fault) → IsFit cutter → Stopped told cutter.writer (with_bytes cutter.window.held) old new next fault
+end_short : (told : Bool) {cutter : CutterState} {next : WriterState} {window : Window} {old new : List Slot} {fault : Fault} → IsFit cutter → Stopped told cutter.writer (with_bytes cutter.window.held) old new next fault
     → EndedNone told cutter old new (record cutter { writer = next; window = window }) fault
-end_short told cutter next window old new fault fit stopped = record {
+end_short told {cutter} fit stopped = record {
   same = record { operands = refl; style = stopped.style };
-  halts = λ x stands. let last = last_draft cutter x fit stands in
-      halts_as told _ _ _ _ old new fault (sym last.settled) (sym last.whole)
-      (halts_wider told (draft_part cutter.writer.style last.draft) (draft_part cutter.writer.style (with_bytes cutter.window.held last.draft)) (ended_part cutter.writer.style (with_bytes cutter.window.held last.draft)) old new fault
+  halts = λ x stands. let last = last_draft fit stands in
+      halts_as told (sym last.settled) (sym last.whole) (halts_wider told
       (stopped.halts last.draft last.writes) (end_begins cutter.writer.style (with_bytes cutter.window.held last.draft)));
   breaks = stopped.breaks;
   owns = stopped.owns;
@@ -165,22 +162,22 @@ end_short told cutter next window old new fault fit stopped = record {
 
 end_goes : (told : Bool) (cutter : CutterState) (between next : WriterState) (window : Window) (old mid new : List Slot) (result : Result (Unit {0}) Fault) → IsFit cutter → Went told cutter.writer (with_bytes cutter.window.held) old mid between
     → Ends told between mid new next result → EndsAll told cutter old new (record cutter { writer = next; window = window }) result
-end_goes told cutter between next window old mid new (Ok done) fit went ended = end_ended told cutter between next window old mid new fit went ended
-end_goes told cutter between next window old mid new (Err fault) fit went stopped = end_stopped told cutter between next window old mid new fault fit went stopped
+end_goes told cutter between next window old mid new (Ok done) fit went ended = end_ended told {cutter = cutter} between {next = next} {window = window} {old = old} {mid = mid} {new = new} fit went ended
+end_goes told cutter between next window old mid new (Err fault) fit went stopped = end_stopped told {cutter = cutter} between {next = next} {window = window} {old = old} {mid = mid} {new = new} {fault = fault} fit went stopped
 
 -- The same of a cutter that is known by its fields.
 
-all_held : (cutter : CutterState) (n : ℕ) → n ≡ length cutter.window.held → take n cutter.window.held ≡ cutter.window.held
-all_held cutter n all = take_all n cutter.window.held (omega (arith, all))
+all_held : (cutter : CutterState) {n : ℕ} → n ≡ length cutter.window.held → take n cutter.window.held ≡ cutter.window.held
+all_held cutter {n} all = take_all n cutter.window.held (omega (arith, all))
 
 pub end_goes_at : (told : Bool) (cutter now : CutterState) (between next : WriterState) (window : Window) (old mid new : List Slot) (n : ℕ) (result : Result (Unit {0}) Fault) → cutter ≡ now → IsFit now → n ≡ length cutter.window.held
     → Went told cutter.writer (with_bytes (take n cutter.window.held)) old mid between → Ends told between mid new next result → EndsAll told now old new (record cutter { writer = next; window = window }) result
 end_goes_at told cutter now between next window old mid new n result is fit all went ends =
     subst (λ (those : CutterState). EndsAll told those old new (record cutter { writer = next; window = window }) result) is
-    (end_goes told cutter between next window old mid new result (subst IsFit (sym is) fit) (went_as told cutter.writer between (take n cutter.window.held) cutter.window.held old mid (all_held cutter n all) went) ends)
+    (end_goes told cutter between next window old mid new result (subst IsFit (sym is) fit) (went_as told {writer = cutter.writer} {next = between} {a = take n cutter.window.held} {b = cutter.window.held} {old = old} {new = mid} (all_held cutter {n = n} all) went) ends)
 
-pub end_short_at : (told : Bool) (cutter now : CutterState) (next : WriterState) (window : Window) (old new : List Slot) (n : ℕ) (fault : Fault) → cutter ≡ now → IsFit now → n ≡ length cutter.window.held
+pub end_short_at : (told : Bool) {cutter now : CutterState} {next : WriterState} {window : Window} {old new : List Slot} {n : ℕ} {fault : Fault} → cutter ≡ now → IsFit now → n ≡ length cutter.window.held
     → Stopped told cutter.writer (with_bytes (take n cutter.window.held)) old new next fault → EndedNone told now old new (record cutter { writer = next; window = window }) fault
-end_short_at told cutter now next window old new n fault is fit all stopped =
+end_short_at told {cutter} {next} {window} {old} {new} {fault} is fit all stopped =
     subst (λ (those : CutterState). EndedNone told those old new (record cutter { writer = next; window = window }) fault) is
-    (end_short told cutter next window old new fault (subst IsFit (sym is) fit) (stopped_as told cutter.writer next (take n cutter.window.held) cutter.window.held old new fault (all_held cutter n all) stopped))
+    (end_short told (subst IsFit (sym is) fit) (stopped_as told (all_held cutter all) stopped))

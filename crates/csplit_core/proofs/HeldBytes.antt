@@ -16,34 +16,34 @@ use Rattle.csplit_core.proofs.TakeLemmas.{past_not_live}
 use Rattle.csplit_core.proofs.WaitingBytes.{waiting_live}
 
 -- what the cutter holds is the end of the complete lines
-held_within : (cutter : CutterState) (x : List ℕ) → IsLive cutter x → length cutter.window.held ≤ length x
-held_within cutter x live =
+held_within : {cutter : CutterState} {x : List ℕ} → IsLive cutter x → length cutter.window.held ≤ length x
+held_within {cutter} {x} live =
     let both : first_lines newline (cutter.progress.current + live.at.taken - 1) x ++ after_lines newline (cutter.progress.current + live.at.taken - 1) x ≡ x = first_lines_then_rest newline (cutter.progress.current + live.at.taken - 1) x in
     let long : length x ≡ length (first_lines newline (cutter.progress.current + live.at.taken - 1) x) + length (text_from (cutter.progress.current + live.at.taken) x) = ap length (sym both) ∙ length-append (first_lines newline (cutter.progress.current + live.at.taken - 1) x) (text_from (cutter.progress.current + live.at.taken) x) in
     let same : length cutter.window.held ≡ length (text_from (cutter.progress.current + live.at.taken) x) = ap length live.at.left_is in omega (arith, long, same)
 
-live_ending : (cutter : CutterState) (x : List ℕ) → IsLive cutter x → is_final (plan (suppress_in cutter) cutter.operands (all_lines x)).ending ≡ false
-live_ending cutter x live =
-    ap (λ (p : Plan). is_final p.ending) (plan_once (suppress_in cutter) cutter.operands (all_lines x) live.at.steps (state_in cutter) live.ends.ending (runs_to cutter x cutter.window.held live.at live.ends)) ∙ live.live
+live_ending : {cutter : CutterState} {x : List ℕ} → IsLive cutter x → is_final (plan (suppress_in cutter) cutter.operands (all_lines x)).ending ≡ false
+live_ending {cutter} {x} live =
+    ap (λ (p : Plan). is_final p.ending) (plan_once (suppress_in cutter) cutter.operands (all_lines x) live.at.steps (state_in cutter) live.ends.ending (runs_to live.at live.ends)) ∙ live.live
 
 live_waiting : (stage : CsplitState) (x : List ℕ) (live : IsLive stage.cutter (whole_lines x)) → stage.rest ≡ open_line x → waiting stage.cutter.writer.style stage.cutter.operands x ≡ stage.cutter.window.held ++ stage.rest
 live_waiting stage x live rest_is =
     ap (λ lines. waiting_of lines (plan (suppress_in stage.cutter) stage.cutter.operands lines) (open_line x)) (sym (all_complete x))
-    ∙ ap (λ final. cond final [] (bytes_of (waiting_lines (all_lines (whole_lines x)) (plan (suppress_in stage.cutter) stage.cutter.operands (all_lines (whole_lines x)))) ++ open_line x)) (live_ending stage.cutter (whole_lines x) live)
-    ∙ ap (λ those. those ++ open_line x) (waiting_live stage.cutter (whole_lines x) live) ∙ ap (λ those. stage.cutter.window.held ++ those) (sym rest_is)
+    ∙ ap (λ final. cond final [] (bytes_of (waiting_lines (all_lines (whole_lines x)) (plan (suppress_in stage.cutter) stage.cutter.operands (all_lines (whole_lines x)))) ++ open_line x)) (live_ending live)
+    ∙ ap (λ those. those ++ open_line x) (waiting_live live) ∙ ap (λ those. stage.cutter.window.held ++ those) (sym rest_is)
 
 past_waiting : (stage : CsplitState) (x : List ℕ) → IsPast stage.cutter (whole_lines x) → waiting stage.cutter.writer.style stage.cutter.operands x ≡ []
 past_waiting stage x past =
     ap (λ lines. waiting_of lines (plan (suppress_in stage.cutter) stage.cutter.operands lines) (open_line x)) (sym (all_complete x))
     ∙ ap (λ final. cond final [] (bytes_of (waiting_lines (all_lines (whole_lines x)) (plan (suppress_in stage.cutter) stage.cutter.operands (all_lines (whole_lines x)))) ++ open_line x)) past.past
 
-pub held_is : (stage : CsplitState) (x : List ℕ) (result : ℕ) → Holds stage x → length x < 2 ^ 63 → result ≡ min (length stage.cutter.window.held + length stage.rest) (2 ^ 64 - 1) → result ≡ length (waiting stage.cutter.writer.style stage.cutter.operands x)
-held_is stage x result holds few is = by holds.stands where
+pub held_is : {stage : CsplitState} {x : List ℕ} {result : ℕ} → Holds stage x → length x < 2 ^ 63 → result ≡ min (length stage.cutter.window.held + length stage.rest) (2 ^ 64 - 1) → result ≡ length (waiting stage.cutter.writer.style stage.cutter.operands x)
+held_is {stage} {x} {result} holds few is = by holds.stands where
   by : Stands stage.cutter (whole_lines x) → result ≡ length (waiting stage.cutter.writer.style stage.cutter.operands x)
   by (inl live) =
-      let rest_is = holds.live (λ below. past_not_live stage.cutter (whole_lines x) below live) in
-      let within = held_within stage.cutter (whole_lines x) live in
-      let all : length (whole_lines x) + length (open_line x) ≡ length x = sym (length-append (whole_lines x) (open_line x)) ∙ ap length (lines_then_open x) in
+      let rest_is = holds.live (λ below. past_not_live below live) in
+      let within = held_within live in
+      let all : length (whole_lines x) + length (open_line x) ≡ length x = sym (length-append (whole_lines x) (open_line x)) ∙ ap length (lines_then_open) in
       let rest_long : length stage.rest ≡ length (open_line x) = ap length rest_is in
       is ∙ min-eq_left (omega (arith, within, all, rest_long, few)) ∙ sym (length-append stage.cutter.window.held stage.rest)
       ∙ sym (ap length (live_waiting stage x live rest_is))

@@ -34,34 +34,34 @@ abbrev pub over_of : CutterState → List ℕ → ℕ
 over_of cutter left = line_count newline left - cutter.window.most
 
 -- then all lines but those that may wait are taken
-taken_is : (cutter : CutterState) (x left : List ℕ) (at : IsAt cutter x left) (arrives : Arrives cutter x left at) → IsFit cutter → is_final arrives.ends.ending ≡ false
+taken_is : {cutter : CutterState} {x left : List ℕ} {at : IsAt cutter x left} (arrives : Arrives cutter x left at) → IsFit cutter → is_final arrives.ends.ending ≡ false
     → at.taken + over_of cutter left ≡ cutter.lines + 1 - cutter.progress.current - most_waiting arrives.ends.ending
-taken_is cutter x left at arrives fit live =
-    let runs = runs_to cutter x left at arrives.ends in
+taken_is {cutter} {x} {at} arrives fit live =
+    let runs = runs_to at arrives.ends in
     let most : cutter.window.most ≡ most_waiting arrives.ends.ending = fit.most ∙ most_is (suppress_in cutter) (all_lines x) (state_in cutter) arrives.ends.ending (ends_as (suppress_in cutter) (all_lines x) _ at.steps (state_in cutter) arrives.ends.ending runs) live in
-    taken_all at.taken cutter.lines cutter.progress.current (line_count newline left) cutter.window.most fit.fits.some (few_taken cutter x left at) (left_count cutter x left at) arrives.enough
+    taken_all at.taken cutter.lines cutter.progress.current cutter.window.most fit.fits.some (few_taken at) (left_count at) arrives.enough
     ∙ ap (λ n. cutter.lines + 1 - cutter.progress.current - n) most
 
 -- and what is written is what is settled
-held_part : (cutter : CutterState) (x left bytes : List ℕ) (at : IsAt cutter x left) (arrives : Arrives cutter x left at) → IsFit cutter → is_final arrives.ends.ending ≡ false → bytes ≡ first_lines newline (over_of cutter left) left
+held_part : {cutter : CutterState} {x left bytes : List ℕ} {at : IsAt cutter x left} (arrives : Arrives cutter x left at) → IsFit cutter → is_final arrives.ends.ending ≡ false → bytes ≡ first_lines newline (over_of cutter left) left
     → draft_part cutter.writer.style (with_bytes bytes (draft_by (all_lines x) at.steps (kept_by (state_in cutter).operands) at.written)) ≡ settled_part cutter x
-held_part cutter x left bytes at arrives fit live bytes_is =
-    let runs = runs_to cutter x left at arrives.ends in
-    let taken = taken_is cutter x left at arrives fit live in
+held_part {cutter} {x} {left} {bytes} {at} arrives fit live bytes_is =
+    let runs = runs_to at arrives.ends in
+    let taken = taken_is arrives fit live in
     let counted : cutter.lines + 1 - cutter.progress.current - most_waiting arrives.ends.ending ≡ line_count newline x + 1 - cutter.progress.current - most_waiting arrives.ends.ending =
     ap (λ n. n + 1 - cutter.progress.current - most_waiting arrives.ends.ending) at.counted in
     let written : at.written ++ bytes ≡ first_lines newline (at.taken + over_of cutter left) (text_from cutter.progress.current x) =
     ap (λ those. those ++ bytes) at.written_is
     ∙ ap (λ those. first_lines newline at.taken (text_from cutter.progress.current x) ++ those) (bytes_is ∙ ap (first_lines newline (over_of cutter left)) at.left_is)
     ∙ sym (first_further cutter.progress.current at.taken (over_of cutter left) x fit.fits.some) in
-    ap (draft_part cutter.writer.style) (draft_is settled_end (suppress_in cutter) cutter.operands x at.steps (state_in cutter) arrives.ends.ending (at.taken + over_of cutter left) (at.written ++ bytes) runs
+    ap (draft_part cutter.writer.style) (draft_is settled_end cutter.operands x (at.taken + over_of cutter left) runs
     (taken ∙ counted ∙ settled_count (line_count newline x) cutter.progress.current arrives.ends.ending live) written)
     ∙ settled_part_is cutter.writer.style cutter.operands (all_lines x)
 
-held_live : (cutter : CutterState) (writer : WriterState) (x left bytes held : List ℕ) (at : IsAt cutter x left) (arrives : Arrives cutter x left at) → IsFit cutter → is_final arrives.ends.ending ≡ false → writer.style ≡ cutter.writer.style
+held_live : {cutter : CutterState} {writer : WriterState} {x left bytes held : List ℕ} {at : IsAt cutter x left} (arrives : Arrives cutter x left at) → IsFit cutter → is_final arrives.ends.ending ≡ false → writer.style ≡ cutter.writer.style
     → bytes ≡ first_lines newline (over_of cutter left) left → held ≡ after_lines newline (over_of cutter left) left → ((draft : Draft) → Writes cutter.writer draft → Writes writer (with_bytes bytes draft)) → IsLive (holding cutter writer held) x
 unfolding at_held
-held_live cutter writer x left bytes held at arrives fit live same bytes_is held_is writes = record {
+held_live {cutter} {writer} {x} {left} {bytes} {held} {at} arrives fit live same bytes_is held_is writes = record {
   at = at_held cutter writer x left bytes held (over_of cutter left) fit.fits.some at same (omega arith) bytes_is held_is writes;
   ends = record {
     ending = arrives.ends.ending;
@@ -69,14 +69,14 @@ held_live cutter writer x left bytes held at arrives fit live same bytes_is held
     aims = arrives.ends.aims;
   };
   live = live;
-  settled = taken_is cutter x left at arrives fit live;
+  settled = taken_is arrives fit live;
 }
 
-hold_live : (told : Bool) (cutter : CutterState) (writer : WriterState) (window : Window) (left : List ℕ) (old new : List Slot) → IsFit cutter → (cutter.aim ≡ Below → ⊥)
+hold_live : (told : Bool) {cutter : CutterState} {writer : WriterState} {window : Window} {left : List ℕ} {old new : List Slot} → IsFit cutter → (cutter.aim ≡ Below → ⊥)
     → Went told cutter.writer (with_bytes (but_last_lines cutter.window.delim cutter.window.most left)) old new writer
     → window ≡ record { most = cutter.window.most; delim = cutter.window.delim; held = last_lines cutter.window.delim cutter.window.most left }
     → size_of writer.current + length window.held ≤ size_of cutter.writer.current + length left → Held told cutter left old new (record cutter { writer = writer; window = window })
-hold_live told cutter writer window left old new fit differs went kept size =
+hold_live told {cutter} {writer} {window} {left} {old} {new} fit differs went kept size =
     let bytes_is : but_last_lines cutter.window.delim cutter.window.most left ≡ first_lines newline (over_of cutter left) left = ap (λ d. but_last_lines d cutter.window.most left) fit.delim in
     let held_is : window.held ≡ after_lines newline (over_of cutter left) left = ap (λ (w : Window). w.held) kept ∙ ap (λ d. last_lines d cutter.window.most left) fit.delim in
     let window_is : window ≡ record cutter.window { held = window.held } = kept ∙ ap (λ held. record cutter.window { held = held }) (sym (ap (λ (w : Window). w.held) kept)) in record {
@@ -84,37 +84,37 @@ hold_live told cutter writer window left old new fit differs went kept size =
       style = went.style;
       window = window_is;
       stands = λ x at arrives. let live = aims_live cutter.aim arrives.ends.ending arrives.ends.aims differs in
-          subst (λ w. Rattle.csplit_core.specs.Cutter.Stands (record cutter { writer = writer; window = w }) x) (sym window_is) (inl (held_live cutter writer x left _ window.held at arrives fit live went.style bytes_is held_is went.writes));
+          subst (λ w. Rattle.csplit_core.specs.Cutter.Stands (record cutter { writer = writer; window = w }) x) (sym window_is) (inl (held_live arrives fit live went.style bytes_is held_is went.writes));
       moves = λ x at arrives. let live = aims_live cutter.aim arrives.ends.ending arrives.ends.aims differs in
-          moves_as told _ _ _ _ old new refl (sym (held_part cutter x left _ at arrives fit live bytes_is)) (went.moves (draft_by (all_lines x) at.steps (kept_by (state_in cutter).operands) at.written) at.writes);
+          moves_as told old new refl (sym (held_part arrives fit live bytes_is)) (went.moves (draft_by (all_lines x) at.steps (kept_by (state_in cutter).operands) at.written) at.writes);
       keeps = went.keeps;
       owns = went.owns;
       ready = went.ready;
       size = size;
     }
 
-hold_stopped : (told : Bool) (cutter : CutterState) (writer : WriterState) (window : Window) (left : List ℕ) (old new : List Slot) (fault : Fault) → IsFit cutter → (cutter.aim ≡ Below → ⊥)
+hold_stopped : (told : Bool) {cutter : CutterState} {writer : WriterState} {window : Window} {left : List ℕ} {old new : List Slot} {fault : Fault} → IsFit cutter → (cutter.aim ≡ Below → ⊥)
     → Stopped told cutter.writer (with_bytes (but_last_lines cutter.window.delim cutter.window.most left)) old new writer fault → HeldNot told cutter left old new (record cutter { writer = writer; window = window }) fault
-hold_stopped told cutter writer window left old new fault fit differs stopped =
+hold_stopped told {cutter} {left} fit differs stopped =
     let bytes_is : but_last_lines cutter.window.delim cutter.window.most left ≡ first_lines newline (over_of cutter left) left = ap (λ d. but_last_lines d cutter.window.most left) fit.delim in record {
       same = record { operands = refl; style = stopped.style };
       halts = λ x at arrives. let live = aims_live cutter.aim arrives.ends.ending arrives.ends.aims differs in
-          halts_as told _ _ _ _ old new fault refl (sym (held_part cutter x left _ at arrives fit live bytes_is)) (stopped.halts (draft_by (all_lines x) at.steps (kept_by (state_in cutter).operands) at.written) at.writes);
+          halts_as told refl (sym (held_part arrives fit live bytes_is)) (stopped.halts (draft_by (all_lines x) at.steps (kept_by (state_in cutter).operands) at.written) at.writes);
       breaks = stopped.breaks;
       owns = stopped.owns;
     }
 
 -- where the cut is below the current line, none waits
 
-past_draft : (cutter : CutterState) (x left : List ℕ) (at : IsAt cutter x left) (arrives : Arrives cutter x left at) → is_final arrives.ends.ending ≡ true
+past_draft : {cutter : CutterState} {x left : List ℕ} {at : IsAt cutter x left} (arrives : Arrives cutter x left at) → is_final arrives.ends.ending ≡ true
     → draft_by (all_lines x) at.steps (kept_by (state_in cutter).operands) at.written ≡ settled_draft (suppress_in cutter) cutter.operands (all_lines x)
-past_draft cutter x left at arrives past =
-    draft_is settled_end (suppress_in cutter) cutter.operands x at.steps (state_in cutter) arrives.ends.ending at.taken at.written (runs_to cutter x left at arrives.ends)
+past_draft {cutter} {x} {at} arrives past =
+    draft_is settled_end cutter.operands x at.taken (runs_to at arrives.ends)
     (arrives.low past ∙ final_count (line_count newline x) cutter.progress.current arrives.ends.ending past) at.written_is
 
-hold_past : (told : Bool) (cutter : CutterState) (window : Window) (left : List ℕ) (slots : List Slot) (n : ℕ) → cutter.aim ≡ Below → IsReady cutter.writer slots → n ≡ length cutter.window.held → length cutter.window.held ≤ length left
+hold_past : (told : Bool) {cutter : CutterState} {window : Window} {left : List ℕ} {slots : List Slot} {n : ℕ} → cutter.aim ≡ Below → IsReady cutter.writer slots → n ≡ length cutter.window.held → length cutter.window.held ≤ length left
     → window ≡ without_first cutter.window n → Held told cutter left slots slots (record cutter { window = window })
-hold_past told cutter window left slots n aim ready all less dropped =
+hold_past told {cutter} {window} {slots} {n} aim ready all less dropped =
     let none : window.held ≡ [] = ap (λ (w : Window). w.held) dropped ∙ drop_all n cutter.window.held (omega (arith, all)) in
     let window_is : window ≡ record cutter.window { held = window.held } = dropped ∙ ap (λ held. record cutter.window { held = held }) (sym (ap (λ (w : Window). w.held) dropped)) in record {
       same = refl;
@@ -122,19 +122,19 @@ hold_past told cutter window left slots n aim ready all less dropped =
       window = window_is;
       stands = λ x at arrives.
           let past = aims_past arrives.ends.ending (subst (λ a. AimsAt a arrives.ends.ending) aim arrives.ends.aims) in
-          let is = plan_once (suppress_in cutter) cutter.operands (all_lines x) at.steps (state_in cutter) arrives.ends.ending (runs_to cutter x left at arrives.ends) in
+          let is = plan_once (suppress_in cutter) cutter.operands (all_lines x) at.steps (state_in cutter) arrives.ends.ending (runs_to at arrives.ends) in
           inr (record {
             aim = aim;
             past = ap (λ (p : Plan). is_final p.ending) is ∙ past;
             last = sym (ap (λ (p : Plan). p.last) is);
             none = none;
-            writes = subst (Writes cutter.writer) (past_draft cutter x left at arrives past) at.writes;
+            writes = subst (Writes cutter.writer) (past_draft arrives past) at.writes;
           });
       moves = λ x at arrives.
           let past = aims_past arrives.ends.ending (subst (λ a. AimsAt a arrives.ends.ending) aim arrives.ends.aims) in
-          moves_same told _ _ slots (ap (draft_part cutter.writer.style) (past_draft cutter x left at arrives past) ∙ settled_part_is cutter.writer.style cutter.operands (all_lines x));
+          moves_same told slots (ap (draft_part cutter.writer.style) (past_draft arrives past) ∙ settled_part_is cutter.writer.style cutter.operands (all_lines x));
       keeps = λ place sound. sound;
-      owns = owns_still _ _;
+      owns = owns_still;
       ready = ready;
       size = (let e : length window.held ≡ 0 = ap length none in omega (arith, e));
     }
@@ -147,17 +147,17 @@ pub hold_goes_at : (told : Bool) (cutter now : CutterState) (writer : WriterStat
     → OnOk result (size_of writer.current + length window.held ≤ size_of cutter.writer.current + length cutter.window.held + length text) → Holds told now (now.window.held ++ text) old new (record cutter { writer = writer; window = window }) result
 hold_goes_at told cutter now writer window text old new (Ok done) is fit differs went kept size =
     subst (λ (those : CutterState). Held told those (those.window.held ++ text) old new (record cutter { writer = writer; window = window })) is
-    (hold_live told cutter writer window (cutter.window.held ++ text) old new (subst IsFit (sym is) fit)
+    (hold_live told {cutter = cutter} {writer = writer} {window = window} {left = cutter.window.held ++ text} {old = old} {new = new} (subst IsFit (sym is) fit)
     (λ below. differs (sym (ap (λ (those : CutterState). those.aim) is) ∙ below)) went kept
     (let e : length (cutter.window.held ++ text) ≡ length cutter.window.held + length text = length-append cutter.window.held text in omega (arith, e, size)))
 hold_goes_at told cutter now writer window text old new (Err fault) is fit differs stopped kept size =
     subst (λ (those : CutterState). HeldNot told those (those.window.held ++ text) old new (record cutter { writer = writer; window = window }) fault) is
-    (hold_stopped told cutter writer window (cutter.window.held ++ text) old new fault (subst IsFit (sym is) fit)
+    (hold_stopped told {cutter = cutter} {writer = writer} {window = window} {left = cutter.window.held ++ text} {old = old} {new = new} {fault = fault} (subst IsFit (sym is) fit)
     (λ below. differs (sym (ap (λ (those : CutterState). those.aim) is) ∙ below)) stopped)
 
-pub hold_past_at : (told : Bool) (cutter now : CutterState) (window : Window) (text : List ℕ) (slots : List Slot) (n : ℕ) → cutter ≡ now → now.aim ≡ Below → IsReady now.writer slots → n ≡ length cutter.window.held
+pub hold_past_at : (told : Bool) {cutter now : CutterState} {window : Window} (text : List ℕ) {slots : List Slot} {n : ℕ} → cutter ≡ now → now.aim ≡ Below → IsReady now.writer slots → n ≡ length cutter.window.held
     → window ≡ without_first cutter.window n → Held told now (now.window.held ++ text) slots slots (record cutter { window = window })
-hold_past_at told cutter now window text slots n is aim ready all dropped =
+hold_past_at told {cutter} {window} text {slots} is aim ready all dropped =
     subst (λ (those : CutterState). Held told those (those.window.held ++ text) slots slots (record cutter { window = window })) is
-    (hold_past told cutter window (cutter.window.held ++ text) slots n (ap (λ (those : CutterState). those.aim) is ∙ aim) (subst (λ (those : CutterState). IsReady those.writer slots) (sym is) ready) all
+    (hold_past told (ap (λ (those : CutterState). those.aim) is ∙ aim) (subst (λ (those : CutterState). IsReady those.writer slots) (sym is) ready) all
     (let e : length (cutter.window.held ++ text) ≡ length cutter.window.held + length text = length-append cutter.window.held text in omega (arith, e)) dropped)

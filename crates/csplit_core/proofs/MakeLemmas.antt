@@ -8,15 +8,15 @@ use Rattle.csplit_core.specs.Writer.{WriterState}
 use Rattle.csplit_core.specs.inner.WriterSteps.{MakesNone, unnamed, failed}
 use Rattle.csplit_core.specs.declared.section_writer.Current.{Current}
 
-pub not_named : (slots : List Slot) (name : List ℕ) (fault : Fault) → fault ≡ Memory → MakesNone slots name slots fault
-not_named slots name fault is = subst (MakesNone slots name slots) (sym is) (unnamed refl)
+pub not_named : {slots : List Slot} {name : List ℕ} {fault : Fault} → fault ≡ Memory → MakesNone slots name slots fault
+not_named {slots} {name} is = subst (MakesNone slots name slots) (sym is) (unnamed refl)
 
-pub not_opened : (old : List Slot) (given name : List ℕ) (new : List Slot) (fault : Fault) → given ≡ name → FailsToOpen old given new fault → MakesNone old name new fault
-not_opened old given name new fault is fails = failed fault (subst (λ those. FailsToOpen old those new fault) is fails)
+pub not_opened : {old : List Slot} {given name : List ℕ} {new : List Slot} {fault : Fault} → given ≡ name → FailsToOpen old given new fault → MakesNone old name new fault
+not_opened {old} {new} {fault} is fails = failed fault (subst (λ those. FailsToOpen old those new fault) is fails)
 
 abbrev pub state_of : Style → List ℕ → Current → WriterState
 state_of style files current = record { style = style; files = files; current = current }
 
 -- where there is room for one more
-pub with_room : (style : Style) (files now : List ℕ) (current : Current) (writer : WriterState) → now ≡ files → state_of style files current ≡ writer → state_of style now current ≡ writer
-with_room style files now current writer same is = ap (λ those. state_of style those current) same ∙ is
+pub with_room : {style : Style} {files now : List ℕ} (current : Current) {writer : WriterState} → now ≡ files → state_of style files current ≡ writer → state_of style now current ≡ writer
+with_room {style} current same is = ap (λ those. state_of style those current) same ∙ is

@@ -5,7 +5,7 @@ use Rattle.std.proofs.lemmas.Bool.{false≢true, cases_lt}
 use Rattle.std.proofs.lemmas.Bool.Decides.{nat_tests}
 use Rattle.std.proofs.lemmas.List.{append-nil, take-append-drop, drop-drop}
 use Rattle.csplit_core.specs.Operand.{Plus, Minus, Target, Number, Search, Operand, Line, most_held}
-use Rattle.csplit_core.specs.Plan.{State, start, Step, Ending, used_up, missed, above, below, search_line, CutsAt, Misses, line_after, state_after, step_of, Runs, is_used_up, misses, is_above, is_below, cuts}
+use Rattle.csplit_core.specs.Plan.{State, start, Step, Ending, used_up, missed, above, below, search_line, CutsAt, Misses, line_after, step_of, Runs, is_used_up, misses, is_above, is_below, cuts}
 use Rattle.csplit_core.specs.Planned.{Plan, plan}
 use Rattle.csplit_core.specs.Section.{whole_end, settled_end, is_final, waiting_lines}
 use Rattle.csplit_core.specs.Agreed.{CanCome}
@@ -29,91 +29,91 @@ same_by false false index one other same = same refl refl
 same_by lt le index one other same = refl
 
 -- before the current line all plans that go on agree
-place_front : (suppress : Bool) (lines : List Line) (first : State) (steps : List Step) (last : State) (ending : Ending) → Runs suppress lines first steps last ending
+place_front : {suppress : Bool} {lines : List Line} {first : State} {steps : List Step} {last : State} {ending : Ending} → Runs suppress lines first steps last ending
     → (total total' index line : ℕ) (more more' : List Step) (how how' : Ending) → first.current ≤ line → line < last.current
     → place_from suppress total index (steps ++ more) how line ≡ place_from suppress total' index (steps ++ more') how' line
-place_front suppress lines first steps last ending (cuts state operand operands matched cut steps' last' ending' is at least within rest) total total' index line more more' how how' from before =
+place_front {suppress} (cuts state operand operands matched cut steps' last' ending' is at least within rest) total total' index line more more' how how' from before =
     same_by (nat_lt line cut) (suppress && nat_le line cut) index _ _
-    (λ lt le. place_front suppress lines (state_after suppress operand operands state.repetition matched cut) steps' last' ending' rest total total' (index + 1) line more more' how how' (left_by suppress line cut lt le) before)
-place_front suppress lines first steps last ending run total total' index line more more' how how' from before = absurd (omega (arith, from, before))
+    (λ lt le. place_front rest total total' (index + 1) line more more' how how' (left_by suppress line cut lt le) before)
+place_front run total total' index line more more' how how' from before = absurd (omega (arith, from, before))
 
-current_grows : (suppress : Bool) (lines : List Line) (first : State) (steps : List Step) (last : State) (ending : Ending) → Runs suppress lines first steps last ending → first.current ≤ last.current
-current_grows suppress lines first steps last ending (cuts state operand operands matched cut steps' last' ending' is at least within rest) =
-    let on = current_grows suppress lines (state_after suppress operand operands state.repetition matched cut) steps' last' ending' rest in
+current_grows : {suppress : Bool} {lines : List Line} {first : State} {steps : List Step} {last : State} {ending : Ending} → Runs suppress lines first steps last ending → first.current ≤ last.current
+current_grows {suppress} (cuts state operand operands matched cut steps' last' ending' is at least within rest) =
+    let on = current_grows rest in
     let more : cut ≤ line_after suppress cut = line_some suppress cut in omega (arith, on, more, least)
-current_grows suppress lines first steps last ending run = omega arith
+current_grows run = omega arith
 
 -- from the current line on, what follows decides
-place_after : (suppress : Bool) (lines : List Line) (first : State) (steps : List Step) (last : State) (ending : Ending) → Runs suppress lines first steps last ending
+place_after : {suppress : Bool} {lines : List Line} {first : State} {steps : List Step} {last : State} {ending : Ending} → Runs suppress lines first steps last ending
     → (total index line : ℕ) (more : List Step) (how : Ending) → last.current ≤ line → place_from suppress total index (steps ++ more) how line ≡ place_from suppress total (index + length steps) more how line
-place_after suppress lines first steps last ending (cuts state operand operands matched cut steps' last' ending' is at least within rest) total index line more how from =
-    let on : line_after suppress cut ≤ last'.current = current_grows suppress lines (state_after suppress operand operands state.repetition matched cut) steps' last' ending' rest in
+place_after {suppress} (cuts state operand operands matched cut steps' last' ending' is at least within rest) total index line more how from =
+    let on : line_after suppress cut ≤ last'.current = current_grows rest in
     let more_cut : cut ≤ line_after suppress cut = line_some suppress cut in
     ap (λ b. cond b (in_section index) (cond (suppress && nat_le line cut) (left_out index) (place_from suppress total (index + 1) (steps' ++ more) how line))) (not_less_test line cut (omega (arith, more_cut, on, from)))
     ∙ ap (λ b. cond b (left_out index) (place_from suppress total (index + 1) (steps' ++ more) how line)) (not_left suppress line cut (omega (arith, on, from)))
-    ∙ place_after suppress lines (state_after suppress operand operands state.repetition matched cut) steps' last' ending' rest total (index + 1) line more how from
+    ∙ place_after rest total (index + 1) line more how from
     ∙ ap (λ i. place_from suppress total i more how line) (let e : index + 1 + length steps' ≡ index + suc (length steps') = omega arith in e)
-place_after suppress lines first steps last ending run total index line more how from = ap (λ i. place_from suppress total i more how line) (let e : index ≡ index + 0 = omega arith in e)
+place_after {suppress} run total index line more how from = ap (λ i. place_from suppress total i more how line) (let e : index ≡ index + 0 = omega arith in e)
 
 -- What is settled of the open section is in it whatever comes
 
-in_rest : (total index line : ℕ) (how : Ending) → line < whole_end total how → cond (nat_lt line (whole_end total how)) (in_section index) nowhere ≡ in_section index
-in_rest total index line how less = ap (λ b. cond b (in_section index) nowhere) (less_test line (whole_end total how) less)
+in_rest : (total : ℕ) {index : ℕ} (line : ℕ) (how : Ending) → line < whole_end total how → cond (nat_lt line (whole_end total how)) (in_section index) nowhere ≡ in_section index
+in_rest total {index} line how less = ap (λ b. cond b (in_section index) nowhere) (less_test line (whole_end total how) less)
 
-settled_with : (suppress : Bool) (a b : List Line) (first : State) (operand : Operand) (operands : List Operand) (past : ℕ) → past ≤ suc (length a) → first.operands ≡ operand ∷ operands
+settled_with : {suppress : Bool} (a b : List Line) {first : State} {operand : Operand} {operands : List Operand} (past : ℕ) → past ≤ suc (length a) → first.operands ≡ operand ∷ operands
     → ((matched cut : ℕ) → CutsAt suppress (a ++ b) first operand operand.target matched cut → past ≤ cut)
-    → (more : List Step) (end : State) (how : Ending) → Runs suppress (a ++ b) first more end how
-    → (index line : ℕ) → first.current ≤ line → line < past → place_from suppress (length (a ++ b)) index more how line ≡ in_section index
-settled_with suppress a b first operand operands past within is cut_at more end how (is_used_up state none) index line from before = absurd (none_there operand operands (sym none ∙ is))
-settled_with suppress a b first operand operands past within is cut_at more end how (misses state operand' operands' are none) index line from before =
-    in_rest (length (a ++ b)) index line (missed operand' state.repetition) (let e : length (a ++ b) ≡ length a + length b = length-append a b in omega (arith, e, before, within))
-settled_with suppress a b first operand operands past within is cut_at more end how (is_above state operand' operands' matched cut are at far) index line from before =
-    in_rest (length (a ++ b)) index line (above operand' state.repetition matched cut) (let e : length (a ++ b) ≡ length a + length b = length-append a b in omega (arith, e, before, within))
-settled_with suppress a b first operand operands past within is cut_at more end how (is_below state operand' operands' matched cut are at in_lines low) index line from before =
-    let same = front_of operand operand' operands operands' (sym is ∙ are) in
+    → (more : List Step) (end : State) {how : Ending} → Runs suppress (a ++ b) first more end how
+    → {index : ℕ} (line : ℕ) → first.current ≤ line → line < past → place_from suppress (length (a ++ b)) index more how line ≡ in_section index
+settled_with a b {operand} past within is cut_at more end (is_used_up state none) line from before = absurd (none_there operand (sym none ∙ is))
+settled_with a b past within is cut_at more end (misses state operand' operands' are none) line from before =
+    in_rest (length (a ++ b)) line (missed operand' state.repetition) (let e : length (a ++ b) ≡ length a + length b = length-append a b in omega (arith, e, before, within))
+settled_with a b past within is cut_at more end (is_above state operand' operands' matched cut are at far) line from before =
+    in_rest (length (a ++ b)) line (above operand' state.repetition matched cut) (let e : length (a ++ b) ≡ length a + length b = length-append a b in omega (arith, e, before, within))
+settled_with {suppress} a b {operand} past within is cut_at more end (is_below state operand' operands' matched cut are at in_lines low) line from before =
+    let same = front_of operand operand' (sym is ∙ are) in
     let most : past ≤ cut = cut_at matched cut (subst (λ o. CutsAt suppress (a ++ b) state o o.target matched cut) (sym same) at) in absurd (omega (arith, most, low, from, before))
-settled_with suppress a b first operand operands past within is cut_at more end how (cuts state operand' operands' matched cut steps' last' ending' are at least in_lines rest) index line from before =
-    let same = front_of operand operand' operands operands' (sym is ∙ are) in
+settled_with {suppress} a b {operand} past within is cut_at more end (cuts state operand' operands' matched cut steps' last' ending' are at least in_lines rest) {index} line from before =
+    let same = front_of operand operand' (sym is ∙ are) in
     let most : past ≤ cut = cut_at matched cut (subst (λ o. CutsAt suppress (a ++ b) state o o.target matched cut) (sym same) at) in
     ap (λ has. cond has (in_section index) (cond (suppress && nat_le line cut) (left_out index) (place_from suppress (length (a ++ b)) (index + 1) steps' ending' line))) (less_test line cut (omega (arith, most, before)))
 
-settled_used_up : (suppress : Bool) (a b : List Line) (first : State) → first.operands ≡ [] → (more : List Step) (end : State) (how : Ending) → Runs suppress (a ++ b) first more end how
-    → (index line : ℕ) → line ≤ length a → place_from suppress (length (a ++ b)) index more how line ≡ in_section index
-settled_used_up suppress a b first is more end how (is_used_up state none) index line within =
-    in_rest (length (a ++ b)) index line used_up (let e : length (a ++ b) ≡ length a + length b = length-append a b in omega (arith, e, within))
-settled_used_up suppress a b first is more end how (misses state operand operands are none) index line within = absurd (none_there operand operands (sym is ∙ are))
-settled_used_up suppress a b first is more end how (is_above state operand operands matched cut are at far) index line within = absurd (none_there operand operands (sym is ∙ are))
-settled_used_up suppress a b first is more end how (is_below state operand operands matched cut are at in_lines low) index line within = absurd (none_there operand operands (sym is ∙ are))
-settled_used_up suppress a b first is more end how (cuts state operand operands matched cut steps' last' ending' are at least in_lines rest) index line within = absurd (none_there operand operands (sym is ∙ are))
+settled_used_up : {suppress : Bool} (a b : List Line) {first : State} → first.operands ≡ [] → (more : List Step) (end : State) {how : Ending} → Runs suppress (a ++ b) first more end how
+    → {index : ℕ} (line : ℕ) → line ≤ length a → place_from suppress (length (a ++ b)) index more how line ≡ in_section index
+settled_used_up a b is more end (is_used_up state none) line within =
+    in_rest (length (a ++ b)) line used_up (let e : length (a ++ b) ≡ length a + length b = length-append a b in omega (arith, e, within))
+settled_used_up a b is more end (misses state operand operands are none) line within = absurd (none_there operand (sym is ∙ are))
+settled_used_up a b is more end (is_above state operand operands matched cut are at far) line within = absurd (none_there operand (sym is ∙ are))
+settled_used_up a b is more end (is_below state operand operands matched cut are at in_lines low) line within = absurd (none_there operand (sym is ∙ are))
+settled_used_up a b is more end (cuts state operand operands matched cut steps' last' ending' are at least in_lines rest) line within = absurd (none_there operand (sym is ∙ are))
 
-settled_place : (suppress : Bool) (a b : List Line) (last : State) (ending : Ending) → EndsAs suppress a last ending → (more : List Step) (end : State) (how : Ending) → Runs suppress (a ++ b) last more end how
-    → (index line : ℕ) → last.current ≤ line → line ≤ length a → line < settled_end (length a) ending → place_from suppress (length (a ++ b)) index more how line ≡ in_section index
-settled_place suppress a b last used_up is more end how rest index line from within before = settled_used_up suppress a b last is more end how rest index line within
-settled_place suppress a b last (missed operand repetition) (operands, is, none) more end how rest index line from within before =
-    settled_with suppress a b last operand operands (suc (length a) - most_held operand.target) (omega arith) is (missed_cut suppress a b last operand operand.target none) more end how rest index line from before
-settled_place suppress a b last (above operand repetition matched cut) (operands, is, at, far) more end how rest index line from within before =
-    settled_with suppress a b last operand operands (suc (length a)) (omega arith) is
-    (λ matched' cut' at'. let same : cut ≡ cut' = (cut_once suppress (a ++ b) last operand operand.target matched cut matched' cut' (cuts_still suppress a b last operand operand.target matched cut at) at').1 in omega (arith, far, same))
-    more end how rest index line from before
-settled_place suppress a b last (below operand repetition) is more end how rest index line from within before = absurd (omega (arith, before))
+settled_place : {suppress : Bool} (a b : List Line) {last : State} (ending : Ending) → EndsAs suppress a last ending → (more : List Step) (end : State) {how : Ending} → Runs suppress (a ++ b) last more end how
+    → {index : ℕ} (line : ℕ) → last.current ≤ line → line ≤ length a → line < settled_end (length a) ending → place_from suppress (length (a ++ b)) index more how line ≡ in_section index
+settled_place a b used_up is more end rest line from within before = settled_used_up a b is more end rest line within
+settled_place {suppress} a b {last} (missed operand repetition) (operands, is, none) more end rest line from within before =
+    settled_with a b (suc (length a) - most_held operand.target) (omega arith) is (missed_cut suppress a b last operand operand.target none) more end rest line from before
+settled_place {suppress} a b {last} (above operand repetition matched cut) (operands, is, at, far) more end rest line from within before =
+    settled_with a b (suc (length a)) (omega arith) is
+    (λ matched' cut' at'. let same : cut ≡ cut' = (cut_once suppress (a ++ b) last operand operand.target cut (cuts_still suppress a b last operand operand.target matched cut at) at').1 in omega (arith, far, same))
+    more end rest line from before
+settled_place a b (below operand repetition) is more end rest line from within before = absurd (omega (arith, before))
 
 -- where the cut is below the current line all lines go nowhere
 
-nowhere_by : (suppress : Bool) (lines : List Line) (first : State) (operand : Operand) (operands : List Operand) (matched cut : ℕ) → first.operands ≡ operand ∷ operands → CutsAt suppress lines first operand operand.target matched cut → cut ≤ length lines → cut < first.current
-    → (more : List Step) (end : State) (how : Ending) → Runs suppress lines first more end how → (index line : ℕ) → place_from suppress (length lines) index more how line ≡ nowhere
-nowhere_by suppress lines first operand operands matched cut is at within low more end how (is_used_up state none) index line = absurd (none_there operand operands (sym none ∙ is))
-nowhere_by suppress lines first operand operands matched cut is at within low more end how (misses state operand' operands' are none) index line =
-    let same = front_of operand' operand operands' operands (sym are ∙ is) in
+nowhere_by : {suppress : Bool} {lines : List Line} {first : State} {operand : Operand} {operands : List Operand} (matched cut : ℕ) → first.operands ≡ operand ∷ operands → CutsAt suppress lines first operand operand.target matched cut → cut ≤ length lines → cut < first.current
+    → (more : List Step) (end : State) {how : Ending} → Runs suppress lines first more end how → (index line : ℕ) → place_from suppress (length lines) index more how line ≡ nowhere
+nowhere_by {operand} matched cut is at within low more end (is_used_up state none) index line = absurd (none_there operand (sym none ∙ is))
+nowhere_by {suppress} {lines} {operand} matched cut is at within low more end (misses state operand' operands' are none) index line =
+    let same = front_of operand' operand (sym are ∙ is) in
     absurd (cuts_or_misses suppress lines state operand operand.target matched cut at (subst (λ o. Misses suppress lines state o o.target) same none))
-nowhere_by suppress lines first operand operands matched cut is at within low more end how (is_above state operand' operands' matched' cut' are at' far) index line =
-    let same = front_of operand' operand operands' operands (sym are ∙ is) in
-    let one = cut_once suppress lines state operand operand.target matched cut matched' cut' at (subst (λ o. CutsAt suppress lines state o o.target matched' cut') same at') in
+nowhere_by {suppress} {lines} {operand} matched cut is at within low more end (is_above state operand' operands' matched' cut' are at' far) index line =
+    let same = front_of operand' operand (sym are ∙ is) in
+    let one = cut_once suppress lines state operand operand.target cut at (subst (λ o. CutsAt suppress lines state o o.target matched' cut') same at') in
     absurd (omega (arith, one.1, within, far))
-nowhere_by suppress lines first operand operands matched cut is at within low more end how (is_below state operand' operands' matched' cut' are at' in_lines low') index line =
+nowhere_by matched cut is at within low more end (is_below state operand' operands' matched' cut' are at' in_lines low') index line =
     ap (λ b. cond b (in_section index) nowhere) (not_less_test line 0 (omega arith))
-nowhere_by suppress lines first operand operands matched cut is at within low more end how (cuts state operand' operands' matched' cut' steps' last' ending' are at' least in_lines rest) index line =
-    let same = front_of operand' operand operands' operands (sym are ∙ is) in
-    let one = cut_once suppress lines state operand operand.target matched cut matched' cut' at (subst (λ o. CutsAt suppress lines state o o.target matched' cut') same at') in
+nowhere_by {suppress} {lines} {operand} matched cut is at within low more end (cuts state operand' operands' matched' cut' steps' last' ending' are at' least in_lines rest) index line =
+    let same = front_of operand' operand (sym are ∙ is) in
+    let one = cut_once suppress lines state operand operand.target cut at (subst (λ o. CutsAt suppress lines state o o.target matched' cut') same at') in
     absurd (omega (arith, one.1, low, least))
 
 -- One place for each line that doesn't wait
@@ -125,105 +125,102 @@ WaitsAt total plan line = (is_final plan.ending ≡ false) × (plan.last.current
 decided_by : (suppress : Bool) (a b : List Line) (last : State) (ending : Ending) → EndsAs suppress a last ending → (line : ℕ) → last.current ≤ line → line ≤ length a → ((is_final ending ≡ false) → settled_end (length a) ending ≤ line → ⊥)
     → (index : ℕ) (more : List Step) (end : State) (how : Ending) → Runs suppress (a ++ b) last more end how → place_from suppress (length (a ++ b)) index more how line ≡ cond (is_final ending) nowhere (in_section index)
 decided_by suppress a b last (missed operand repetition) is line from within not index more end how rest =
-    settled_place suppress a b last (missed operand repetition) is more end how rest index line from within
+    settled_place {suppress = suppress} a b {last = last} (missed operand repetition) is more end {how = how} rest {index = index} line from within
     (elim (cases_lt line (suc (length a) - most_held operand.target)) [ inl less ↦ less | inr beyond ↦ absurd (not refl beyond) ])
 decided_by suppress a b last (below operand repetition) (operands, matched, cut, is, at, in_lines, low) line from within not index more end how rest =
-    nowhere_by suppress (a ++ b) last operand operands matched cut is (cuts_still suppress a b last operand operand.target matched cut at) (let e : length (a ++ b) ≡ length a + length b = length-append a b in omega (arith, e, in_lines)) low more end how rest index line
-decided_by suppress a b last ending is line from within not index more end how rest = settled_place suppress a b last ending is more end how rest index line from within (omega (arith, within))
+    nowhere_by {suppress = suppress} {lines = a ++ b} {first = last} {operand = operand} {operands = operands} matched cut is (cuts_still suppress a b last operand operand.target matched cut at) (let e : length (a ++ b) ≡ length a + length b = length-append a b in omega (arith, e, in_lines)) low more end {how = how} rest index line
+decided_by suppress a b last ending is line from within not index more end how rest = settled_place {suppress = suppress} a b {last = last} ending is more end {how = how} rest {index = index} line from within (omega (arith, within))
 
 place_here : (suppress : Bool) (operands : List Operand) (x y : List Line) (line : ℕ) → 1 ≤ line → line ≤ length x → (WaitsAt (length x) (plan suppress operands x) line → ⊥) → place_of suppress operands (x ++ y) line ≡ place_of suppress operands x line
 place_here suppress operands x y line some within not =
-    let goes = plan_goes_on suppress operands x y in
+    let goes = plan_goes_on operands x y in
     let here = plan_runs suppress operands x in
-    let over = plan_goes_on suppress operands x [] in
-    ap (λ (p : Plan). place_from suppress (length (x ++ y)) 0 p.steps p.ending line) goes.is
-    ∙ elim (cases_lt line (plan suppress operands x).last.current) [
-      | inl before ↦
-          place_front suppress x (start operands) _ _ _ here (length (x ++ y)) (length x) 0 line goes.more [] goes.how (plan suppress operands x).ending some before
+    let over = plan_goes_on operands x [] in
+    ap (λ (p : Plan). place_from suppress (length (x ++ y)) 0 p.steps p.ending line) goes.is ∙ elim (cases_lt line (plan suppress operands x).last.current) [
+      | inl before ↦ place_front here (length (x ++ y)) (length x) 0 line goes.more [] goes.how (plan suppress operands x).ending some before
           ∙ ap (λ those. place_from suppress (length x) 0 those (plan suppress operands x).ending line) (append-nil (plan suppress operands x).steps)
-      | inr from ↦
-          place_after suppress x (start operands) _ _ _ here (length (x ++ y)) 0 line goes.more goes.how from
+      | inr from ↦ place_after here (length (x ++ y)) 0 line goes.more goes.how from
           ∙ decided_by suppress x y _ _ (ends_as suppress x (start operands) _ _ _ here) line from within (λ live past. not (live, from, past, within)) _ goes.more goes.end goes.how goes.rest
           ∙ sym (decided_by suppress x [] _ _ (ends_as suppress x (start operands) _ _ _ here) line from within (λ live past. not (live, from, past, within)) _ over.more over.end over.how over.rest)
-          ∙ sym (place_after suppress x (start operands) _ _ _ here (length (x ++ [])) 0 line over.more over.how from)
+          ∙ sym (place_after here (length (x ++ [])) 0 line over.more over.how from)
           ∙ sym (ap (λ (p : Plan). place_from suppress (length (x ++ [])) 0 p.steps p.ending line) over.is)
           ∙ ap (λ those. place_of suppress operands those line) (append-nil x)
     ]
 
 -- Two places for each that does
 
-rest_later : (index other : ℕ) → index < other → (has : Bool) → cond has (in_section other) nowhere ≡ in_section index → ⊥
-rest_later index other less true same = let e : other ≡ index = cc in omega (arith, e, less)
-rest_later index other less false same = cc
+rest_later : {index : ℕ} (other : ℕ) → index < other → (has : Bool) → cond has (in_section other) nowhere ≡ in_section index → ⊥
+rest_later {index} other less true same = let e : other ≡ index = cc in omega (arith, e, less)
+rest_later other less false same = cc
 
-step_later : (index other : ℕ) (rest' : Place) → index < other → (rest' ≡ in_section index → ⊥) → (lt le : Bool) → cond lt (in_section other) (cond le (left_out other) rest') ≡ in_section index → ⊥
-step_later index other rest' less later true le same = let e : other ≡ index = cc in omega (arith, e, less)
-step_later index other rest' less later false true same = cc
-step_later index other rest' less later false false same = later same
+step_later : {index : ℕ} (other : ℕ) {rest' : Place} → index < other → (rest' ≡ in_section index → ⊥) → (lt le : Bool) → cond lt (in_section other) (cond le (left_out other) rest') ≡ in_section index → ⊥
+step_later {index} other less later true le same = let e : other ≡ index = cc in omega (arith, e, less)
+step_later other less later false true same = cc
+step_later other less later false false same = later same
 
 -- what comes after a section isn't in it
-pub in_later : (suppress : Bool) (total index other line : ℕ) (steps : List Step) (how : Ending) → index < other → place_from suppress total other steps how line ≡ in_section index → ⊥
-in_later suppress total index other line [] how less is = rest_later index other less (nat_lt line (whole_end total how)) is
-in_later suppress total index other line (step ∷ steps) how less is =
-    step_later index other (place_from suppress total (other + 1) steps how line) less (λ same. in_later suppress total index (other + 1) line steps how (omega (arith, less)) same) (nat_lt line step.cut) (suppress && nat_le line step.cut) is
+pub in_later : (suppress : Bool) (total : ℕ) {index : ℕ} (other line : ℕ) (steps : List Step) (how : Ending) → index < other → place_from suppress total other steps how line ≡ in_section index → ⊥
+in_later suppress total other line [] how less is = rest_later other less (nat_lt line (whole_end total how)) is
+in_later suppress total other line (step ∷ steps) how less is =
+    step_later other less (λ same. in_later suppress total (other + 1) line steps how (omega (arith, less)) same) (nat_lt line step.cut) (suppress && nat_le line step.cut) is
 
 -- a line after the cut isn't in the section
-cut_before : (suppress : Bool) (total index line : ℕ) (step : Step) (steps : List Step) (how : Ending) → step.cut ≤ line → place_from suppress total index (step ∷ steps) how line ≡ in_section index → ⊥
-cut_before suppress total index line step steps how before is =
+cut_before : (suppress : Bool) (total : ℕ) {index : ℕ} (line : ℕ) (step : Step) (steps : List Step) (how : Ending) → step.cut ≤ line → place_from suppress total index (step ∷ steps) how line ≡ in_section index → ⊥
+cut_before suppress total {index} line step steps how before is =
     left_later (suppress && nat_le line step.cut) (sym (ap (λ has. cond has (in_section index) (cond (suppress && nat_le line step.cut) (left_out index) (place_from suppress total (index + 1) steps how line))) (not_less_test line step.cut before)) ∙ is)
   where
     left_later : (le : Bool) → cond le (left_out index) (place_from suppress total (index + 1) steps how line) ≡ in_section index → ⊥
     left_later true same = cc
-    left_later false same = in_later suppress total index (index + 1) line steps how (omega arith) same
+    left_later false same = in_later suppress total (index + 1) line steps how (omega arith) same
 
-turned_away : (suppress : Bool) (x : List Line) (state : State) (operand : Operand) (k line : ℕ) → Turned suppress x state operand (suc (length x) - k) → suc (length x) - k ≤ line
+turned_away : {suppress : Bool} {x : List Line} {state : State} {operand : Operand} (k line : ℕ) → Turned suppress x state operand (suc (length x) - k) → suc (length x) - k ≤ line
     → (steps : List Step) × (end : State) × (how : Ending) × Runs suppress (x ++ matching_line ∷ []) state steps end how × ((index : ℕ) → place_from suppress (length (x ++ matching_line ∷ [])) index steps how line ≡ in_section index → ⊥)
-turned_away suppress x state operand k line (too_low low rest) from = (
+turned_away {state} {operand} k line (too_low low rest) from = (
   [],
   state,
   below operand state.repetition,
   rest,
   λ index is. let none : nowhere ≡ in_section index = sym (ap (λ has. cond has (in_section index) nowhere) (not_less_test line 0 (omega arith))) ∙ is in cc,
 )
-turned_away suppress x state operand k line (turns least steps end how rest) from = (
+turned_away {suppress} {x} {state} {operand} k line (turns least steps end how rest) from = (
   step_of state operand (suc (length x)) (suc (length x) - k) ∷ steps,
   end,
   how,
   rest,
-  λ index is. cut_before suppress (length (x ++ matching_line ∷ [])) index line (step_of state operand (suc (length x)) (suc (length x) - k)) steps how from is,
+  λ index is. cut_before suppress (length (x ++ matching_line ∷ [])) line (step_of state operand (suc (length x)) (suc (length x) - k)) steps how from is,
 )
 
 -- where a pattern matched nothing yet, the rest as it is puts the line into its section
-missed_here : (suppress : Bool) (operands : List Operand) (x : List Line) (operand : Operand) (repetition line : ℕ) → (plan suppress operands x).ending ≡ missed operand repetition → (plan suppress operands x).last.current ≤ line → line ≤ length x
+missed_here : (suppress : Bool) (operands : List Operand) (x : List Line) {operand : Operand} {repetition : ℕ} (line : ℕ) → (plan suppress operands x).ending ≡ missed operand repetition → (plan suppress operands x).last.current ≤ line → line ≤ length x
     → place_of suppress operands x line ≡ in_section (0 + length (plan suppress operands x).steps)
-missed_here suppress operands x operand repetition line ending from within =
+missed_here suppress operands x {operand} {repetition} line ending from within =
     ap (λ those. place_from suppress (length x) 0 those (plan suppress operands x).ending line) (sym (append-nil (plan suppress operands x).steps))
-    ∙ place_after suppress x (start operands) _ _ _ (plan_runs suppress operands x) (length x) 0 line [] (plan suppress operands x).ending from
+    ∙ place_after (plan_runs suppress operands x) (length x) 0 line [] (plan suppress operands x).ending from
     ∙ ap (λ how. place_from suppress (length x) (0 + length (plan suppress operands x).steps) [] how line) ending
-    ∙ in_rest (length x) (0 + length (plan suppress operands x).steps) line (missed operand repetition) (omega (arith, within))
+    ∙ in_rest (length x) line (missed operand repetition) (omega (arith, within))
 
-differ_missed : (suppress : Bool) (operands : List Operand) (x : List Line) (operand : Operand) (repetition : ℕ) (left : List Operand) → (plan suppress operands x).ending ≡ missed operand repetition → (plan suppress operands x).last.operands ≡ operand ∷ left
+differ_missed : (suppress : Bool) (operands : List Operand) (x : List Line) {operand : Operand} {repetition : ℕ} {left : List Operand} → (plan suppress operands x).ending ≡ missed operand repetition → (plan suppress operands x).last.operands ≡ operand ∷ left
     → 1 ≤ (plan suppress operands x).last.current → search_line suppress (plan suppress operands x).last ≤ suc (length x)
     → (target : Target) → operand.target ≡ target → Misses suppress x (plan suppress operands x).last operand target → (line : ℕ) → (plan suppress operands x).last.current ≤ line → suc (length x) - most_held target ≤ line → line ≤ length x
     → (z : List Line) × CanCome z × (place_of suppress operands (x ++ []) line ≢ place_of suppress operands (x ++ z) line)
-differ_missed suppress operands x operand repetition left ending is some within (Number n) target none line from past most = absurd none
-differ_missed suppress operands x operand repetition left ending is some within (Search pattern kept (Plus k)) target none line from past most = absurd (omega (arith, past, most))
-differ_missed suppress operands x operand repetition left ending is some within (Search pattern kept (Minus k)) target none line from past most =
-    let away = turned_away suppress x (plan suppress operands x).last operand k line (turned suppress x (plan suppress operands x).last operand left pattern kept k some is target none within) past in (
+differ_missed suppress operands x ending is some within (Number n) target none line from past most = absurd none
+differ_missed suppress operands x ending is some within (Search pattern kept (Plus k)) target none line from past most = absurd (omega (arith, past, most))
+differ_missed suppress operands x ending is some within (Search pattern kept (Minus k)) target none line from past most =
+    let away = turned_away k line (turned pattern kept k some is target none within) past in (
       matching_line ∷ [],
       matching_comes,
       λ same. away.4 (0 + length (plan suppress operands x).steps)
           (sym (ap (λ (p : Plan). place_from suppress (length (x ++ matching_line ∷ [])) 0 p.steps p.ending line)
-          (plan_once suppress operands (x ++ matching_line ∷ []) _ _ _ (goes_on suppress x (matching_line ∷ []) (start operands) _ _ _ _ _ _ (plan_runs suppress operands x) away.3))
-          ∙ place_after suppress x (start operands) _ _ _ (plan_runs suppress operands x) (length (x ++ matching_line ∷ [])) 0 line away.0 away.2 from)
-          ∙ sym same ∙ ap (λ those. place_of suppress operands those line) (append-nil x) ∙ missed_here suppress operands x operand repetition line ending from most),
+          (plan_once suppress operands (x ++ matching_line ∷ []) _ _ _ (goes_on (matching_line ∷ []) _ _ (plan_runs suppress operands x) away.3))
+          ∙ place_after (plan_runs suppress operands x) (length (x ++ matching_line ∷ [])) 0 line away.0 away.2 from)
+          ∙ sym same ∙ ap (λ those. place_of suppress operands those line) (append-nil x) ∙ missed_here suppress operands x line ending from most),
     )
 
 differ_at : (suppress : Bool) (operands : List Operand) (x : List Line) (ending : Ending) → (plan suppress operands x).ending ≡ ending → EndsAs suppress x (plan suppress operands x).last ending
     → 1 ≤ (plan suppress operands x).last.current → search_line suppress (plan suppress operands x).last ≤ suc (length x) → (line : ℕ) → is_final ending ≡ false → (plan suppress operands x).last.current ≤ line → settled_end (length x) ending ≤ line → line ≤ length x
     → (z : List Line) × CanCome z × (place_of suppress operands (x ++ []) line ≢ place_of suppress operands (x ++ z) line)
 differ_at suppress operands x (missed operand repetition) is (left, are, none) some within line live from past most =
-    differ_missed suppress operands x operand repetition left is are some within operand.target refl none line from past most
+    differ_missed suppress operands x is are some within operand.target refl none line from past most
 differ_at suppress operands x (below operand repetition) is ends some within line live from past most = absurd (false≢true (sym live))
 differ_at suppress operands x ending is ends some within line live from past most = absurd (omega (arith, past, most))
 
@@ -232,7 +229,7 @@ differ_line : (suppress : Bool) (operands : List Operand) (x : List Line) (line 
 differ_line suppress operands x line waits =
     let here = plan_runs suppress operands x in
     let two = differ_at suppress operands x (plan suppress operands x).ending refl (ends_as suppress x (start operands) _ _ _ here) (are_within suppress x (start operands) _ _ _ here (omega arith)).1
-    (search_within suppress x (start operands) _ _ _ here (omega arith) (search_at_start suppress operands (length x))) line waits.0 waits.1 waits.2 waits.3 in
+    (search_within here (omega arith) (search_at_start suppress operands (length x))) line waits.0 waits.1 waits.2 waits.3 in
     ([], two.0, none_comes, two.1, two.2)
 
 same_line : (suppress : Bool) (operands : List Operand) (x y z : List Line) (line : ℕ) → 1 ≤ line → line ≤ length x → (WaitsAt (length x) (plan suppress operands x) line → ⊥)
@@ -243,15 +240,15 @@ same_line suppress operands x y z line some within not = place_here suppress ope
 abbrev gone : ℕ → Plan → ℕ
 gone total plan = plan.last.current - 1 + (settled_end total plan.ending - plan.last.current)
 
-undecided_by : (suppress : Bool) (operands : List Operand) (x : List Line) → 1 ≤ (plan suppress operands x).last.current → (final : Bool) → is_final (plan suppress operands x).ending ≡ final
+undecided_by : (suppress : Bool) (operands : List Operand) {x : List Line} → 1 ≤ (plan suppress operands x).last.current → (final : Bool) → is_final (plan suppress operands x).ending ≡ final
     → IsUndecided (place_of suppress operands) x (cond final [] (drop (settled_end (length x) (plan suppress operands x).ending - (plan suppress operands x).last.current) (drop ((plan suppress operands x).last.current - 1) x)))
-undecided_by suppress operands x some true final = record {
+undecided_by suppress operands {x} some true final = record {
   before = x;
   are_last = sym (append-nil x);
   differ = λ line past within. absurd (omega (arith, past, within));
   decided = λ line one within y z y_comes z_comes. same_line suppress operands x y z line one within (λ waits. false≢true (sym waits.0 ∙ final));
 }
-undecided_by suppress operands x some false live =
+undecided_by suppress operands {x} some false live =
     let n = gone (length x) (plan suppress operands x) in
     let count : length (take n x) ≡ min n (length x) = length-take n x in record {
       before = take n x;
@@ -262,4 +259,4 @@ undecided_by suppress operands x some false live =
 
 pub waiting_is_undecided : (suppress : Bool) (operands : List Operand) (x : List Line) → IsUndecided (place_of suppress operands) x (waiting_lines x (plan suppress operands x))
 waiting_is_undecided suppress operands x =
-    undecided_by suppress operands x (are_within suppress x (start operands) _ _ _ (plan_runs suppress operands x) (omega arith)).1 (is_final (plan suppress operands x).ending) refl
+    undecided_by suppress operands (are_within suppress x (start operands) _ _ _ (plan_runs suppress operands x) (omega arith)).1 (is_final (plan suppress operands x).ending) refl

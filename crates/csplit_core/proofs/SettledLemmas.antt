@@ -35,15 +35,14 @@ draft_to past suppress operands lines =
     draft_by lines p.steps (is_last_kept p.ending) (bytes_of (lines_between p.last.current (past (length lines) p.ending) lines))
 
 -- it is the draft of these steps, where the plan ends after them
-pub draft_is : (past : ℕ → Ending → ℕ) (suppress : Bool) (operands : List Operand) (x : List ℕ) (steps : List Step) (state : State) (ending : Ending) (taken : ℕ) (written : List ℕ) → Runs suppress (all_lines x) (start operands) steps state ending
+pub draft_is : (past : ℕ → Ending → ℕ) {suppress : Bool} (operands : List Operand) (x : List ℕ) {steps : List Step} {state : State} {ending : Ending} (taken : ℕ) {written : List ℕ} → Runs suppress (all_lines x) (start operands) steps state ending
     → taken ≡ past (line_count newline x) ending - state.current → written ≡ first_lines newline taken (text_from state.current x)
     → draft_by (all_lines x) steps (kept_by state.operands) written ≡ draft_to past suppress operands (all_lines x)
-draft_is past suppress operands x steps state ending taken written runs taken_is written_is =
+draft_is past {suppress} operands x {steps} {state} {ending} taken {written} runs taken_is written_is =
     let kept = last_kept suppress (all_lines x) state ending (ends_as suppress (all_lines x) (start operands) steps state ending runs) in
     let count : past (length (all_lines x)) ending - state.current ≡ taken = ap (λ n. past n ending - state.current) (length-all_lines x) ∙ sym taken_is in
     let bytes = bytes_between state.current (past (length (all_lines x)) ending) x ∙ ap (λ n. first_lines newline n (text_from state.current x)) count ∙ sym written_is in
-    ap (λ k. draft_by (all_lines x) steps k written) kept
-    ∙ ap (λ bytes. draft_by (all_lines x) steps (is_last_kept ending) bytes) (sym bytes)
+    ap (λ k. draft_by (all_lines x) steps k written) kept ∙ ap (λ bytes. draft_by (all_lines x) steps (is_last_kept ending) bytes) (sym bytes)
     ∙ ap (λ (p : Plan). draft_by (all_lines x) p.steps (is_last_kept p.ending) (bytes_of (lines_between p.last.current (past (length (all_lines x)) p.ending) (all_lines x)))) (sym (plan_once suppress operands (all_lines x) steps state ending runs))
 
 -- and what is written of it is what is settled
@@ -62,12 +61,12 @@ final_count total current (below operand repetition) past = omega arith
 final_count total current _ past = absurd (false≢true past)
 
 -- the sections that ended stay, whatever comes
-pub ended_still : (style : Style) (operands : List Operand) (x t : List ℕ) (steps : List Step) (state : State) (ending : Ending) (kept : Bool) (written : List ℕ) → IsWhole x → Runs style.suppress (all_lines x) (start operands) steps state ending
+pub ended_still : (style : Style) (operands : List Operand) {x : List ℕ} (t : List ℕ) {steps : List Step} {state : State} {ending : Ending} (kept : Bool) (written : List ℕ) → IsWhole x → Runs style.suppress (all_lines x) (start operands) steps state ending
     → draft_by (all_lines x) steps kept written ≡ draft_by (all_lines (x ++ t)) steps kept written
-ended_still style operands x t steps state ending kept written whole runs =
+ended_still style operands {x} t {steps} {state} {ending} kept written whole runs =
     let within = (are_within style.suppress (all_lines x) (start operands) steps state ending runs (omega arith)).0 in
     ap (λ ended. record { ended = map contents_of ended; is_kept = kept; bytes = written })
-    (sym (ap (λ lines. map (section_of lines) steps) (all_lines-append x t whole) ∙ closed_still (all_lines x) (all_lines t) steps within))
+    (sym (ap (λ lines. map (section_of lines) steps) (all_lines-append t whole) ∙ closed_still (all_lines x) (all_lines t) steps within))
 
 -- as many lines may wait as the next operand says
 pub most_is : (suppress : Bool) (lines : List Line) (state : State) (ending : Ending) → EndsAs suppress lines state ending → is_final ending ≡ false → most_by state.operands ≡ most_waiting ending

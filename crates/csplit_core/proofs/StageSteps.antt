@@ -23,39 +23,39 @@ use Rattle.csplit_core.proofs.CutLineLemmas.{none_there}
 
 -- the open line and its end
 
-pub line_at : (before stage : CsplitState) (text end : List ℕ) → before ≡ stage → text ≡ before.rest ++ end → delimiters newline stage.rest ≡ 0 → IsLine end → IsLine text
-line_at before stage text end is text_is none line = subst IsLine (sym text_is) (joined_line before.rest end (ap (λ (s : CsplitState). delimiters newline s.rest) is ∙ none) line)
+pub line_at : {before stage : CsplitState} {text : List ℕ} (end : List ℕ) → before ≡ stage → text ≡ before.rest ++ end → delimiters newline stage.rest ≡ 0 → IsLine end → IsLine text
+line_at {before} end is text_is none line = subst IsLine (sym text_is) (joined_line before.rest end (ap (λ (s : CsplitState). delimiters newline s.rest) is ∙ none) line)
 
-pub lacks_at : (told : Bool) (before stage : CsplitState) (t : List ℕ) (slots : List Slot) → before ≡ stage → TookNot told stage.cutter t slots slots before.cutter Memory
-lacks_at told before stage t slots is = subst (λ (s : CsplitState). TookNot told s.cutter t slots slots before.cutter Memory) is (lacks_first told before.cutter t slots)
+pub lacks_at : (told : Bool) {before stage : CsplitState} {t : List ℕ} {slots : List Slot} → before ≡ stage → TookNot told stage.cutter t slots slots before.cutter Memory
+lacks_at told {before} {t} {slots} is = subst (λ (s : CsplitState). TookNot told s.cutter t slots slots before.cutter Memory) is (lacks_first told)
 
 -- the first of the lines was taken in, and then the others
 
-rest_of_lines : (rest lines end others : List ℕ) → lines ≡ end ++ others → (rest ++ end) ++ others ≡ rest ++ lines
-rest_of_lines rest lines end others is = append_assoc rest end others ∙ ap (λ those. rest ++ those) (sym is)
+rest_of_lines : (rest : List ℕ) {lines : List ℕ} (end others : List ℕ) → lines ≡ end ++ others → (rest ++ end) ++ others ≡ rest ++ lines
+rest_of_lines rest end others is = append_assoc rest end others ∙ ap (λ those. rest ++ those) (sym is)
 
-pub lines_stop : (told : Bool) (one two : CutterState) (rest lines end others : List ℕ) (old new : List Slot) (fault : Fault) → lines ≡ end ++ others → (ends_with newline end ≡ false → others ≡ []) → ends_with newline lines ≡ true
+pub lines_stop : (told : Bool) (one : CutterState) {two : CutterState} (rest : List ℕ) {lines : List ℕ} (end : List ℕ) {others : List ℕ} {old new : List Slot} {fault : Fault} → lines ≡ end ++ others → (ends_with newline end ≡ false → others ≡ []) → ends_with newline lines ≡ true
     → TookNot told one (rest ++ end) old new two fault → TookNot told one (rest ++ lines) old new two fault
-lines_stop told one two rest lines end others old new fault is last whole stopped =
-    subst (λ text. TookNot told one text old new two fault) (rest_of_lines rest lines end others is)
-    (not_wider told one two (rest ++ end) others old new fault (open_complete rest end (first_complete lines end others last is whole)) stopped)
+lines_stop told one {two} rest end {others} {old} {new} {fault} is last whole stopped =
+    subst (λ text. TookNot told one text old new two fault) (rest_of_lines rest end others is)
+    (not_wider told others (open_complete rest end (first_complete end last is whole)) stopped)
 
-lines_by : (told : Bool) (one two three : CutterState) (a b : List ℕ) (old mid new : List Slot) (result : Result (Unit {0}) Fault) → IsWhole a → Took told one a old mid two → Takes told two b mid new three result → Takes told one (a ++ b) old new three result
-lines_by told one two three a b old mid new (Ok done) whole first second = took_again told one two three a b old mid new whole first second
-lines_by told one two three a b old mid new (Err fault) whole first second = took_then_not told one two three a b old mid new fault whole first second
+lines_by : (told : Bool) (one : CutterState) {two : CutterState} (three : CutterState) {a : List ℕ} (b : List ℕ) {old mid : List Slot} (new : List Slot) (result : Result (Unit {0}) Fault) → IsWhole a → Took told one a old mid two → Takes told two b mid new three result → Takes told one (a ++ b) old new three result
+lines_by told one three b new (Ok done) whole first second = took_again told one whole first second
+lines_by told one three b new (Err fault) whole first second = took_then_not told one whole first second
 
 pub lines_after : (told : Bool) (one three : CutterState) (before mid : CsplitState) (rest lines end others : List ℕ) (old between new : List Slot) (result : Result (Unit {0}) Fault) → before ≡ mid → lines ≡ end ++ others → (ends_with newline end ≡ false → others ≡ []) → ends_with newline lines ≡ true
     → Took told one (rest ++ end) old between mid.cutter → Takes told before.cutter others between new three result → Takes told one (rest ++ lines) old new three result
 lines_after told one three before mid rest lines end others old between new result same is last whole first second =
-    subst (λ text. Takes told one text old new three result) (rest_of_lines rest lines end others is)
-    (lines_by told one before.cutter three (rest ++ end) others old between new result (open_complete rest end (first_complete lines end others last is whole))
+    subst (λ text. Takes told one text old new three result) (rest_of_lines rest {lines = lines} end others is)
+    (lines_by told one {two = before.cutter} three {a = rest ++ end} others {old = old} {mid = between} new result (open_complete rest end (first_complete {text = lines} end {rest = others} last is whole))
     (subst (λ (s : CsplitState). Took told one (rest ++ end) old between s.cutter) (sym same) first) second)
 
 -- A piece
 
 -- the same of a stage that counted the bytes first
-passes_at : (told : Bool) (view stage : CsplitState) (taken : ℕ) (piece : List ℕ) (old new : List Slot) (next : CsplitState) (result : Result (Unit {0}) Fault) → view ≡ stage → Passes told (record view { taken = taken }) piece old new next result → Passes told stage piece old new next result
-passes_at told view stage taken piece old new next (Ok done) is passed = subst (λ (s : CsplitState). Passed told s piece old new next) is (record {
+passes_at : (told : Bool) {view stage : CsplitState} (taken : ℕ) (piece : List ℕ) (old new : List Slot) (next : CsplitState) (result : Result (Unit {0}) Fault) → view ≡ stage → Passes told (record view { taken = taken }) piece old new next result → Passes told stage piece old new next result
+passes_at told taken piece old new next (Ok done) is passed = subst (λ (s : CsplitState). Passed told s piece old new next) is (record {
   took = passed.took;
   live = passed.live;
   past = passed.past;
@@ -63,14 +63,14 @@ passes_at told view stage taken piece old new next (Ok done) is passed = subst (
   unbroken = passed.unbroken;
   size = passed.size;
 })
-passes_at told view stage taken piece old new next (Err fault) is stopped = subst (λ (s : CsplitState). Passes told s piece old new next (Err fault)) is stopped
+passes_at told taken piece old new next (Err fault) is stopped = subst (λ (s : CsplitState). Passes told s piece old new next (Err fault)) is stopped
 
-pub past_passes : (told : Bool) (view stage : CsplitState) (taken : ℕ) (piece : List ℕ) (slots : List Slot) → view ≡ stage → view.cutter.aim ≡ Below → IsReady stage.cutter.writer slots → IsSound stage.cutter → delimiters newline stage.rest ≡ 0
+pub past_passes : (told : Bool) {view stage : CsplitState} (taken : ℕ) {piece : List ℕ} {slots : List Slot} → view ≡ stage → view.cutter.aim ≡ Below → IsReady stage.cutter.writer slots → IsSound stage.cutter → delimiters newline stage.rest ≡ 0
     → Passed told stage piece slots slots (record view { taken = taken })
-past_passes told view stage taken piece slots is aim ready sound unbroken =
+past_passes told {stage} taken {piece} {slots} is aim ready sound unbroken =
     let aimed : stage.cutter.aim ≡ Below = ap (λ (s : CsplitState). s.cutter.aim) (sym is) ∙ aim in
     subst (λ (s : CsplitState). Passed told stage piece slots slots (record s { taken = taken })) (sym is) (record {
-      took = took_past told stage.cutter (whole_lines (stage.rest ++ piece)) slots aimed sound ready;
+      took = took_past told aimed sound ready;
       live = λ differs. absurd (differs aimed);
       past = λ below was. was below;
       still = λ below. refl;
@@ -87,7 +87,7 @@ below_or_not turn = inr (λ is. cc)
 none_passes : (told : Bool) (stage next : CsplitState) (piece : List ℕ) (slots : List Slot) (result : Result (Unit {0}) Fault) → (stage.cutter.aim ≡ Below → ⊥) → delimiters newline piece ≡ 0 → IsReady stage.cutter.writer slots → IsSound stage.cutter → delimiters newline stage.rest ≡ 0
     → next.cutter ≡ stage.cutter → OnOk result ((stage.cutter.aim ≡ Below → ⊥) → next.rest ≡ stage.rest ++ piece) → IfErr result (λ fault. fault ≡ Memory) → Passes told stage piece slots slots next result
 none_passes told stage next piece slots (Ok done) differs none ready sound unbroken cutter rest lacks = record {
-  took = subst (λ (c : CutterState). Took told stage.cutter (whole_lines (stage.rest ++ piece)) slots slots c) (sym cutter) (subst (λ text. Took told stage.cutter text slots slots stage.cutter) (sym (none_lines stage.rest piece unbroken none)) (took_nothing told stage.cutter slots sound ready));
+  took = subst (λ (c : CutterState). Took told stage.cutter (whole_lines (stage.rest ++ piece)) slots slots c) (sym cutter) (subst (λ text. Took told stage.cutter text slots slots stage.cutter) (sym (none_lines stage.rest piece unbroken none)) (took_nothing told {cutter = stage.cutter} {slots = slots} sound ready));
   live = λ also. rest differs ∙ sym (none_open stage.rest piece unbroken none);
   past = λ below was. absurd (differs (ap (λ (c : CutterState). c.aim) (sym cutter) ∙ below));
   still = λ below. absurd (differs below);
@@ -96,12 +96,12 @@ none_passes told stage next piece slots (Ok done) differs none ready sound unbro
 }
 none_passes told stage next piece slots (Err fault) differs none ready sound unbroken cutter rest lacks =
     subst (λ (c : CutterState). TookNot told stage.cutter (whole_lines (stage.rest ++ piece)) slots slots c fault) (sym cutter)
-    (subst (λ why. TookNot told stage.cutter (whole_lines (stage.rest ++ piece)) slots slots stage.cutter why) (sym lacks) (lacks_first told stage.cutter (whole_lines (stage.rest ++ piece)) slots))
+    (subst (λ why. TookNot told stage.cutter (whole_lines (stage.rest ++ piece)) slots slots stage.cutter why) (sym lacks) (lacks_first told {cutter = stage.cutter} {t = whole_lines (stage.rest ++ piece)} {slots = slots}))
 
 pub none_counted : (told : Bool) (view stage next : CsplitState) (taken : ℕ) (piece : List ℕ) (slots : List Slot) (result : Result (Unit {0}) Fault) → view ≡ stage → (view.cutter.aim ≡ Below → ⊥) → delimiters newline piece ≡ 0 → IsReady stage.cutter.writer slots → IsSound stage.cutter → delimiters newline stage.rest ≡ 0
     → next.cutter ≡ view.cutter → OnOk result ((view.cutter.aim ≡ Below → ⊥) → next.rest ≡ view.rest ++ piece) → IfErr result (λ fault. fault ≡ Memory) → Passes told stage piece slots slots next result
 none_counted told view stage next taken piece slots result is differs none ready sound unbroken cutter rest lacks =
-    passes_at told view stage taken piece slots slots next result is
+    passes_at told {view = view} {stage = stage} taken piece slots slots next result is
     (none_passes told (record view { taken = taken }) next piece slots result differs none (subst (λ (s : CsplitState). IsReady s.cutter.writer slots) (sym is) ready) (subst (λ (s : CsplitState). IsSound s.cutter) (sym is) sound) (subst (λ (s : CsplitState). delimiters newline s.rest ≡ 0) (sym is) unbroken)
     cutter rest lacks)
 
@@ -119,8 +119,8 @@ some_passes : (told : Bool) (stage mid next : CsplitState) (piece lines text : L
 some_passes told stage mid next piece lines text end old new (Ok done) differs last lines_is text_is unbroken took empty cutter past live lacks =
     let none : delimiters newline text ≡ 0 = ap (delimiters newline) text_is ∙ last.none_after in
     let rest = some_unbroken mid.cutter.aim mid next text empty none (below_or_not mid.cutter.aim) past live in record {
-      took = subst (λ (c : CutterState). Took told stage.cutter (whole_lines (stage.rest ++ piece)) old new c) (sym cutter) (subst (λ those. Took told stage.cutter those old new mid.cutter) (ap (λ those. stage.rest ++ those) lines_is ∙ sym (piece_lines stage.rest piece end last)) took);
-      live = λ other. live (λ below. other (ap (λ (c : CutterState). c.aim) cutter ∙ below)) ∙ ap (λ those. those ++ text) empty ∙ text_is ∙ sym (piece_open stage.rest piece end last);
+      took = subst (λ (c : CutterState). Took told stage.cutter (whole_lines (stage.rest ++ piece)) old new c) (sym cutter) (subst (λ those. Took told stage.cutter those old new mid.cutter) (ap (λ those. stage.rest ++ those) lines_is ∙ sym (piece_lines stage.rest {piece = piece} end last)) took);
+      live = λ other. live (λ below. other (ap (λ (c : CutterState). c.aim) cutter ∙ below)) ∙ ap (λ those. those ++ text) empty ∙ text_is ∙ sym (piece_open stage.rest {piece = piece} end last);
       past = λ below was. past (ap (λ (c : CutterState). c.aim) (sym cutter) ∙ below) ∙ empty;
       still = λ below. absurd (differs below);
       unbroken = rest.0;
@@ -136,22 +136,22 @@ some_passes told stage mid next piece lines text end old new (Ok done) differs l
 some_passes told stage mid next piece lines text end old new (Err fault) differs last lines_is text_is unbroken took empty cutter past live lacks =
     subst (λ (c : CutterState). TookNot told stage.cutter (whole_lines (stage.rest ++ piece)) old new c fault) (sym cutter)
     (subst (λ why. TookNot told stage.cutter (whole_lines (stage.rest ++ piece)) old new mid.cutter why) (sym lacks)
-    (lacks_then told stage.cutter mid.cutter (whole_lines (stage.rest ++ piece)) old new
-    (subst (λ those. Took told stage.cutter those old new mid.cutter) (ap (λ those. stage.rest ++ those) lines_is ∙ sym (piece_lines stage.rest piece end last)) took)))
+    (lacks_then told {cutter = stage.cutter} {next = mid.cutter} {t = whole_lines (stage.rest ++ piece)} {old = old} {new = new}
+    (subst (λ those. Took told stage.cutter those old new mid.cutter) (ap (λ those. stage.rest ++ those) lines_is ∙ sym (piece_lines stage.rest {piece = piece} end last)) took)))
 
 pub some_counted : (told : Bool) (view stage mid next : CsplitState) (taken : ℕ) (piece lines text : List ℕ) (end : ℕ) (old new : List Slot) (result : Result (Unit {0}) Fault) → view ≡ stage → (view.cutter.aim ≡ Below → ⊥) → LastEndsAt newline piece end → lines ≡ take end piece → text ≡ drop end piece → delimiters newline stage.rest ≡ 0
     → Took told view.cutter (view.rest ++ lines) old new mid.cutter → mid.rest ≡ [] → next.cutter ≡ mid.cutter
     → OnOk result (mid.cutter.aim ≡ Below → next.rest ≡ mid.rest) → OnOk result ((mid.cutter.aim ≡ Below → ⊥) → next.rest ≡ mid.rest ++ text) → IfErr result (λ fault. fault ≡ Memory) → Passes told stage piece old new next result
 some_counted told view stage mid next taken piece lines text end old new result is differs last lines_is text_is unbroken took empty cutter past live lacks =
-    passes_at told view stage taken piece old new next result is
+    passes_at told {view = view} {stage = stage} taken piece old new next result is
     (some_passes told (record view { taken = taken }) mid next piece lines text end old new result differs last lines_is text_is (subst (λ (s : CsplitState). delimiters newline s.rest ≡ 0) (sym is) unbroken) took empty cutter past live lacks)
 
-pub stop_counted : (told : Bool) (view stage : CsplitState) (two : CutterState) (piece lines : List ℕ) (end : ℕ) (old new : List Slot) (fault : Fault) → view ≡ stage → LastEndsAt newline piece end → lines ≡ take end piece → TookNot told view.cutter (view.rest ++ lines) old new two fault
+pub stop_counted : (told : Bool) {view stage : CsplitState} {two : CutterState} {piece lines : List ℕ} (end : ℕ) {old new : List Slot} {fault : Fault} → view ≡ stage → LastEndsAt newline piece end → lines ≡ take end piece → TookNot told view.cutter (view.rest ++ lines) old new two fault
     → TookNot told stage.cutter (whole_lines (stage.rest ++ piece)) old new two fault
-stop_counted told view stage two piece lines end old new fault is last lines_is stopped =
+stop_counted told {view} {two} {piece} end {old} {new} {fault} is last lines_is stopped =
     subst (λ (s : CsplitState). TookNot told s.cutter (whole_lines (s.rest ++ piece)) old new two fault) is
     (subst (λ those. TookNot told view.cutter those old new two fault)
-    (ap (λ those. view.rest ++ those) lines_is ∙ sym (piece_lines view.rest piece end last)) stopped)
+    (ap (λ those. view.rest ++ those) lines_is ∙ sym (piece_lines view.rest end last)) stopped)
 
 -- The last line
 
@@ -159,14 +159,14 @@ some_by : (items : List ℕ) → eqb (length items) 0 ≡ false → 0 < length i
 some_by [] is = absurd (false≢true (sym is))
 some_by (byte ∷ items) is = omega arith
 
-pub last_none : (told : Bool) (before stage : CsplitState) (n : ℕ) (slots : List Slot) → before ≡ stage → n ≡ length before.rest → eqb n 0 ≡ true → IsReady stage.cutter.writer slots → IsSound stage.cutter → Took told stage.cutter stage.rest slots slots stage.cutter
-last_none told before stage n slots is size empty ready sound =
-    subst (λ text. Took told stage.cutter text slots slots stage.cutter) (sym (ap (λ (s : CsplitState). s.rest) (sym is) ∙ none_there before.rest (eqb n 0) (ap (λ k. eqb k 0) size) empty)) (took_nothing told stage.cutter slots sound ready)
+pub last_none : (told : Bool) {before stage : CsplitState} {n : ℕ} {slots : List Slot} → before ≡ stage → n ≡ length before.rest → eqb n 0 ≡ true → IsReady stage.cutter.writer slots → IsSound stage.cutter → Took told stage.cutter stage.rest slots slots stage.cutter
+last_none told {stage} {slots} is size empty ready sound =
+    subst (λ text. Took told stage.cutter text slots slots stage.cutter) (sym (ap (λ (s : CsplitState). s.rest) (sym is) ∙ none_there (ap (λ k. eqb k 0) size) empty)) (took_nothing told sound ready)
 
-pub last_line : (before stage : CsplitState) (n : ℕ) (text : List ℕ) → before ≡ stage → text ≡ before.rest → n ≡ length before.rest → eqb n 0 ≡ false → delimiters newline stage.rest ≡ 0 → IsLine text
-last_line before stage n text is text_is size some unbroken = subst IsLine (sym text_is) (open_is_line before.rest (some_by before.rest (ap (λ k. eqb k 0) (sym size) ∙ some)) (ap (λ (s : CsplitState). delimiters newline s.rest) is ∙ unbroken))
+pub last_line : {before stage : CsplitState} {n : ℕ} {text : List ℕ} → before ≡ stage → text ≡ before.rest → n ≡ length before.rest → eqb n 0 ≡ false → delimiters newline stage.rest ≡ 0 → IsLine text
+last_line {before} is text_is size some unbroken = subst IsLine (sym text_is) (open_is_line before.rest (some_by before.rest (ap (λ k. eqb k 0) (sym size) ∙ some)) (ap (λ (s : CsplitState). delimiters newline s.rest) is ∙ unbroken))
 
 -- the work ends with a fault of its own, and the files are removed then
-pub judged_by : (told : Bool) (stage mid next : CsplitState) (reached new old : List Slot) (verdict : Option Fault) (fault : Fault) → Closed told stage old reached mid → verdict ≡ Some fault → Judges mid.cutter verdict → is_verdict fault ≡ true → Sweeps mid reached new next
+pub judged_by : (told : Bool) {stage mid next : CsplitState} {reached new old : List Slot} {verdict : Option Fault} {fault : Fault} → Closed told stage old reached mid → verdict ≡ Some fault → Judges mid.cutter verdict → is_verdict fault ≡ true → Sweeps mid reached new next
     → Closes told stage old new next (Err fault)
-judged_by told stage mid next reached new old verdict fault closed is verdict_is kind swept = ended_so fault mid reached closed (subst (Judges mid.cutter) is verdict_is) kind swept
+judged_by told {mid} {reached} {fault} closed is verdict_is kind swept = ended_so fault mid reached closed (subst (Judges mid.cutter) is verdict_is) kind swept

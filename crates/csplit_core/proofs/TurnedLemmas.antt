@@ -27,13 +27,12 @@ matched_within : (suppress : Bool) (lines : List Line) (state : State) (operand 
 matched_within suppress lines state operand (Number n) matched cut at within = omega (arith, at.0, within)
 matched_within suppress lines state operand (Search pattern kept offset) matched cut at within = at.0.within
 
-pub search_within : (suppress : Bool) (lines : List Line) (first : State) (steps : List Step) (last : State) (ending : Ending) → Runs suppress lines first steps last ending → first.matched ≤ length lines → search_line suppress first ≤ suc (length lines)
+pub search_within : {suppress : Bool} {lines : List Line} {first : State} {steps : List Step} {last : State} {ending : Ending} → Runs suppress lines first steps last ending → first.matched ≤ length lines → search_line suppress first ≤ suc (length lines)
     → search_line suppress last ≤ suc (length lines)
-search_within suppress lines first steps last ending (cuts state operand operands matched' cut steps' last' ending' is at from in_lines rest) matched within =
+search_within {suppress} {lines} (cuts state operand operands matched' cut steps' last' ending' is at from in_lines rest) matched within =
     let few = matched_within suppress lines state operand operand.target matched' cut at matched in
-    search_within suppress lines (state_after suppress operand operands state.repetition matched' cut) steps' last' ending' rest few
-    (search_past_cut suppress (length lines) (state_after suppress operand operands state.repetition matched' cut) cut refl in_lines few)
-search_within suppress lines first steps last ending run matched within = within
+    search_within rest few (search_past_cut suppress (length lines) (state_after suppress operand operands state.repetition matched' cut) cut refl in_lines few)
+search_within run matched within = within
 
 pub search_at_start : (suppress : Bool) (operands : List Operand) (total : ℕ) → search_line suppress (start operands) ≤ suc total
 search_at_start true operands total = omega arith
@@ -50,9 +49,9 @@ pub matching_comes : CanCome (matching_line ∷ [])
 matching_comes = All-cons (λ (line : Line). All (λ byte. byte < 256) line.text × IsComplete newline line.text) matching_line []
     (All-cons (λ byte. byte < 256) 10 [] (lit< tt) (All-nil (λ byte. byte < 256)), ([], refl, tt)) none_comes
 
-matches_first : (suppress : Bool) (x : List Line) (state : State) (operand : Operand) → MatchesNone operand x (search_line suppress state) → search_line suppress state ≤ suc (length x)
+matches_first : (suppress : Bool) (x : List Line) (state : State) {operand : Operand} → MatchesNone operand x (search_line suppress state) → search_line suppress state ≤ suc (length x)
     → IsFirst operand (x ++ matching_line ∷ []) (search_line suppress state) (suc (length x))
-matches_first suppress x state operand none within = record {
+matches_first suppress x state {operand} none within = record {
   not_before = within;
   within = let e : length (x ++ matching_line ∷ []) ≡ length x + 1 = length-append x (matching_line ∷ []) in omega (arith, e);
   match = ap (λ i. (get_or (x ++ matching_line ∷ []) i unmarked).marks operand) (let e : suc (length x) - 1 ≡ length x = omega arith in e) ∙ ap (λ (line : Line). line.marks operand) (get_or-append_seam x matching_line [] unmarked);
@@ -64,9 +63,9 @@ pub data Turned (suppress : Bool) (x : List Line) (state : State) (operand : Ope
   too_low : cut < state.current → Runs suppress (x ++ matching_line ∷ []) state [] state (below operand state.repetition) → Turned suppress x state operand cut
   turns : state.current ≤ cut → (rest : List Step) (end : State) (how : Ending) → Runs suppress (x ++ matching_line ∷ []) state (step_of state operand (suc (length x)) cut ∷ rest) end how → Turned suppress x state operand cut
 
-turned_by : (suppress : Bool) (x : List Line) (state : State) (operand : Operand) (operands : List Operand) (cut : ℕ) → 1 ≤ state.current → state.operands ≡ operand ∷ operands
+turned_by : {suppress : Bool} {x : List Line} {state : State} {operand : Operand} {operands : List Operand} (cut : ℕ) → 1 ≤ state.current → state.operands ≡ operand ∷ operands
     → CutsAt suppress (x ++ matching_line ∷ []) state operand operand.target (suc (length x)) cut → cut ≤ length (x ++ matching_line ∷ []) → Turned suppress x state operand cut
-turned_by suppress x state operand operands cut some is at within = elim (cases_lt cut state.current) [
+turned_by {suppress} {x} {state} {operand} {operands} cut some is at within = elim (cases_lt cut state.current) [
   | inl low ↦ too_low low (is_below state operand operands (suc (length x)) cut is at within low)
   | inr from ↦
       let least : cut ≤ line_after suppress cut = line_some suppress cut in
@@ -75,9 +74,9 @@ turned_by suppress x state operand operands cut some is at within = elim (cases_
       (state_after suppress operand operands state.repetition (suc (length x)) cut) (omega arith) (omega (arith, some, from, least))))
 ]
 
-pub turned : (suppress : Bool) (x : List Line) (state : State) (operand : Operand) (operands : List Operand) (pattern : Pattern) (kept : Bool) (k : ℕ) → 1 ≤ state.current → state.operands ≡ operand ∷ operands → operand.target ≡ Search pattern kept (Minus k)
+pub turned : {suppress : Bool} {x : List Line} {state : State} {operand : Operand} {operands : List Operand} (pattern : Pattern) (kept : Bool) (k : ℕ) → 1 ≤ state.current → state.operands ≡ operand ∷ operands → operand.target ≡ Search pattern kept (Minus k)
     → MatchesNone operand x (search_line suppress state) → search_line suppress state ≤ suc (length x) → Turned suppress x state operand (suc (length x) - k)
-turned suppress x state operand operands pattern kept k some is target none within =
-    turned_by suppress x state operand operands (suc (length x) - k) some is
-    (subst (λ t. CutsAt suppress (x ++ matching_line ∷ []) state operand t (suc (length x)) (suc (length x) - k)) (sym target) (matches_first suppress x state operand none within, refl))
+turned {suppress} {x} {state} {operand} pattern kept k some is target none within =
+    turned_by (suc (length x) - k) some is
+    (subst (λ t. CutsAt suppress (x ++ matching_line ∷ []) state operand t (suc (length x)) (suc (length x) - k)) (sym target) (matches_first suppress x state none within, refl))
     (let e : length (x ++ matching_line ∷ []) ≡ length x + 1 = length-append x (matching_line ∷ []) in omega (arith, e))

@@ -38,8 +38,8 @@ ends_of suppress lines first steps last ending (cuts state operand operands matc
 abbrev ending_in : CutterState → List ℕ → Ending
 ending_in cutter x = (plan (suppress_in cutter) cutter.operands (all_lines x)).ending
 
-of_it : (cutter : CutterState) (x : List ℕ) → IsJudged cutter x → IsOf (state_in cutter) (ending_in cutter x)
-of_it cutter x judged =
+of_it : {cutter : CutterState} {x : List ℕ} → IsJudged cutter x → IsOf (state_in cutter) (ending_in cutter x)
+of_it {cutter} {x} judged =
     subst (λ state. IsOf state (ending_in cutter x)) (sym judged.last)
     (ends_of (suppress_in cutter) (all_lines x) (start cutter.operands) (plan (suppress_in cutter) cutter.operands (all_lines x)).steps (plan (suppress_in cutter) cutter.operands (all_lines x)).last (ending_in cutter x)
     (plan_runs (suppress_in cutter) cutter.operands (all_lines x)))
@@ -50,10 +50,9 @@ none_of state used_up of none = refl
 none_of state ending of none = absurd (cc of.0.1)
 
 -- what is said of the operand of an ending and of how often it was performed is said of the next one
-next_one : (f : Operand → ℕ → Option Fault) (state : State) (other operand : Operand) (operands : List Operand) (repetition : ℕ) → IsNext state other repetition
+next_one : (f : Operand → ℕ → Option Fault) (state : State) (other : Operand) {operand : Operand} {operands : List Operand} {repetition : ℕ} → IsNext state other repetition
     → state.operands ≡ operand ∷ operands → f operand state.repetition ≡ f other repetition
-next_one f state other operand operands repetition of are =
-    let same : operand ≡ other = cc of.0.1 in ap (λ o. f o state.repetition) same ∙ ap (f other) (sym of.1)
+next_one f state other {operand} of are = let same : operand ≡ other = cc of.0.1 in ap (λ o. f o state.repetition) same ∙ ap (f other) (sym of.1)
 
 -- the fault of the next operand, by what it did
 abbrev pub verdict_at : Turn → Operand → ℕ → Option Fault
@@ -62,34 +61,31 @@ verdict_at (Above matched line) operand repetition = verdict_of (above operand r
 verdict_at Below operand repetition = verdict_of (below operand repetition)
 verdict_at turn operand repetition = None
 
-verdict_is : (state : State) (operand : Operand) (operands : List Operand) (aim : Turn) (ending : Ending) → IsOf state ending → state.operands ≡ operand ∷ operands → AimsAt aim ending → verdict_at aim operand state.repetition ≡ verdict_of ending
-verdict_is state operand operands UsedUp used_up of are aims = refl
-verdict_is state operand operands Missed (missed other repetition) of are aims =
-    next_one (λ o n. verdict_of (missed o n)) state other operand operands repetition of are
-verdict_is state operand operands (Above matched line) (above other repetition matched' cut) of are aims =
-    next_one (λ o n. verdict_of (above o n 0 0)) state other operand operands repetition of are
-verdict_is state operand operands Below (below other repetition) of are aims =
-    next_one (λ o n. verdict_of (below o n)) state other operand operands repetition of are
-verdict_is state operand operands aim ending of are aims = absurd aims
+verdict_is : (state : State) {operand : Operand} {operands : List Operand} (aim : Turn) (ending : Ending) → IsOf state ending → state.operands ≡ operand ∷ operands → AimsAt aim ending → verdict_at aim operand state.repetition ≡ verdict_of ending
+verdict_is state UsedUp used_up of are aims = refl
+verdict_is state Missed (missed other repetition) of are aims = next_one (λ o n. verdict_of (missed o n)) state other of are
+verdict_is state (Above matched line) (above other repetition matched' cut) of are aims = next_one (λ o n. verdict_of (above o n 0 0)) state other of are
+verdict_is state Below (below other repetition) of are aims = next_one (λ o n. verdict_of (below o n)) state other of are
+verdict_is state aim ending of are aims = absurd aims
 
 -- What `verdict` returns: the cutter is known by its fields.
 
-pub judged_none : (cutter now : CutterState) (result : Option Fault) (x : List ℕ) → cutter ≡ now → false ≡ nat_lt cutter.progress.done (length cutter.operands) → result ≡ None → IsJudged now x
+pub judged_none : {cutter now : CutterState} {result : Option Fault} {x : List ℕ} → cutter ≡ now → false ≡ nat_lt cutter.progress.done (length cutter.operands) → result ≡ None → IsJudged now x
     → result ≡ verdict_of (plan (suppress_in now) now.operands (all_lines x)).ending
-judged_none cutter now result x is over none judged =
+judged_none {cutter} {now} {x} is over none judged =
     let beyond : length cutter.operands ≤ cutter.progress.done = grind (arith, nat_tests, over) in
     let left : (state_in now).operands ≡ [] = subst (λ (those : CutterState). (state_in those).operands ≡ []) is (drop_all cutter.progress.done cutter.operands beyond) in
-    none ∙ none_of (state_in now) (ending_in now x) (of_it now x judged) left
+    none ∙ none_of (state_in now) (ending_in now x) (of_it judged) left
 
 -- the operand that was looked up is the next
-next_is : (cutter now : CutterState) (operand : Operand) → cutter ≡ now → cutter.progress.done < length cutter.operands → operand ≡ get_or cutter.operands cutter.progress.done operand
+next_is : {cutter now : CutterState} {operand : Operand} → cutter ≡ now → cutter.progress.done < length cutter.operands → operand ≡ get_or cutter.operands cutter.progress.done operand
     → (state_in now).operands ≡ operand ∷ drop (now.progress.done + 1) now.operands
-next_is cutter now operand is within here =
-    subst (λ (those : CutterState). (state_in those).operands ≡ operand ∷ drop (those.progress.done + 1) those.operands) is (left_is cutter.operands cutter.progress.done operand within here)
+next_is {cutter} {operand} is within here =
+    subst (λ (those : CutterState). (state_in those).operands ≡ operand ∷ drop (those.progress.done + 1) those.operands) is (left_is cutter.operands cutter.progress.done within here)
 
-pub judged_next : (cutter now : CutterState) (operand : Operand) (aim : Turn) (result : Option Fault) (x : List ℕ) → cutter ≡ now → cutter.progress.done < length cutter.operands → operand ≡ get_or cutter.operands cutter.progress.done operand
+pub judged_next : {cutter now : CutterState} {operand : Operand} {aim : Turn} {result : Option Fault} {x : List ℕ} → cutter ≡ now → cutter.progress.done < length cutter.operands → operand ≡ get_or cutter.operands cutter.progress.done operand
     → cutter.aim ≡ aim → result ≡ verdict_at aim operand cutter.progress.repetition → IsJudged now x → result ≡ verdict_of (plan (suppress_in now) now.operands (all_lines x)).ending
-judged_next cutter now operand aim result x is within here aimed made judged =
+judged_next {now} {operand} {aim} {x} is within here aimed made judged =
     let aims : AimsAt aim (ending_in now x) = subst (λ a. AimsAt a (ending_in now x)) (sym (ap (λ (those : CutterState). those.aim) is) ∙ aimed) judged.aims in
     made ∙ ap (λ (those : CutterState). verdict_at aim operand those.progress.repetition) is
-    ∙ verdict_is (state_in now) operand (drop (now.progress.done + 1) now.operands) aim (ending_in now x) (of_it now x judged) (next_is cutter now operand is within here) aims
+    ∙ verdict_is (state_in now) aim (ending_in now x) (of_it judged) (next_is is within here) aims

@@ -18,14 +18,12 @@ use Rattle.seg_core.proofs.FirstLines.{lines_of-after_lines}
 after_bytes : (first n : ℕ) (x : List ℕ) → 1 ≤ first → bytes_of (drop n (drop (first - 1) (all_lines x))) ≡ text_from (first + n) x
 after_bytes first n x some =
     ap (λ those. bytes_of (drop n those)) (drop-map marked (first - 1) (lines_of newline x))
-    ∙ ap bytes_of (drop-map marked n (drop (first - 1) (lines_of newline x)))
-    ∙ bytes_marked (drop n (drop (first - 1) (lines_of newline x)))
-    ∙ ap (λ those. joined (drop n those)) (sym (lines_of-after_lines newline (first - 1) x))
-    ∙ from_further first n x some
+    ∙ ap bytes_of (drop-map marked n (drop (first - 1) (lines_of newline x))) ∙ bytes_marked (drop n (drop (first - 1) (lines_of newline x)))
+    ∙ ap (λ those. joined (drop n those)) (sym (lines_of-after_lines newline (first - 1) x)) ∙ from_further first n x some
 
-pub waiting_live : (cutter : CutterState) (x : List ℕ) (live : IsLive cutter x) → bytes_of (waiting_lines (all_lines x) (plan (suppress_in cutter) cutter.operands (all_lines x))) ≡ cutter.window.held
-waiting_live cutter x live =
-    let runs = runs_to cutter x cutter.window.held live.at live.ends in
+pub waiting_live : {cutter : CutterState} {x : List ℕ} (live : IsLive cutter x) → bytes_of (waiting_lines (all_lines x) (plan (suppress_in cutter) cutter.operands (all_lines x))) ≡ cutter.window.held
+waiting_live {cutter} {x} live =
+    let runs = runs_to live.at live.ends in
     let some : 1 ≤ cutter.progress.current = (are_within (suppress_in cutter) (all_lines x) (start cutter.operands) live.at.steps (state_in cutter) live.ends.ending runs (omega arith)).1 in
     let count : line_count newline x + 1 - cutter.progress.current - most_waiting live.ends.ending ≡ cutter.lines + 1 - cutter.progress.current - most_waiting live.ends.ending =
     ap (λ n. n + 1 - cutter.progress.current - most_waiting live.ends.ending) (sym live.at.counted) in
@@ -33,6 +31,5 @@ waiting_live cutter x live =
     ap (λ n. settled_end n live.ends.ending - cutter.progress.current) (length-all_lines x) ∙ sym (live.settled ∙ sym count ∙ settled_count (line_count newline x) cutter.progress.current live.ends.ending live.live) in
     ap (λ (p : Plan). bytes_of (waiting_lines (all_lines x) p)) (plan_once (suppress_in cutter) cutter.operands (all_lines x) live.at.steps (state_in cutter) live.ends.ending runs)
     ∙ ap (λ final. bytes_of (cond final [] (drop (settled_end (length (all_lines x)) live.ends.ending - cutter.progress.current) (drop (cutter.progress.current - 1) (all_lines x))))) live.live
-    ∙ ap (λ n. bytes_of (drop n (drop (cutter.progress.current - 1) (all_lines x)))) taken
-    ∙ after_bytes cutter.progress.current live.at.taken x some
+    ∙ ap (λ n. bytes_of (drop n (drop (cutter.progress.current - 1) (all_lines x)))) taken ∙ after_bytes cutter.progress.current live.at.taken x some
     ∙ sym live.at.left_is

@@ -4,7 +4,7 @@ use Rattle.std.proofs.lemmas.Bool.{false≢true}
 use Rattle.std.proofs.lemmas.List.{append-nil, take-append-drop, take_all, drop-drop}
 use Rattle.std.proofs.Common.{length-drop}
 use Rattle.csplit_core.specs.Operand.{Operand, Line}
-use Rattle.csplit_core.specs.Plan.{State, start, Step, Ending, below, state_after, Runs, cuts}
+use Rattle.csplit_core.specs.Plan.{State, start, Step, Ending, below, Runs, cuts}
 use Rattle.csplit_core.specs.Planned.{plan}
 use Rattle.csplit_core.specs.Section.{Section, section, section_of, lines_between, is_last_kept, whole_end, settled_end, whole_sections, settled_sections, is_final, waiting_lines, lines_in}
 use Rattle.csplit_core.specs.laws.PlanLaws.{plan_runs}
@@ -20,30 +20,29 @@ between_rest first cut lines some least =
     ap (λ those. lines_between first cut lines ++ those) (ap (λ n. drop n lines) (let e : cut - 1 ≡ first - 1 + (cut - first) = omega (arith, some, least) in e) ∙ sym (drop-drop (cut - first) (first - 1) lines))
     ∙ take-append-drop (cut - first) (drop (first - 1) lines)
 
-steps_and_rest : (lines : List Line) (first : State) (steps : List Step) (last : State) (ending : Ending) → Runs false lines first steps last ending → 1 ≤ first.current
+steps_and_rest : {lines : List Line} {first : State} {steps : List Step} {last : State} {ending : Ending} → Runs false lines first steps last ending → 1 ≤ first.current
     → lines_in (map (section_of lines) steps) ++ drop (last.current - 1) lines ≡ drop (first.current - 1) lines
-steps_and_rest lines first steps last ending (cuts state operand operands matched cut steps' last' ending' is at from within rest) some =
+steps_and_rest {lines} (cuts state operand operands matched cut steps' last' ending' is at from within rest) some =
     append_assoc (lines_between state.current cut lines) (lines_in (map (section_of lines) steps')) (drop (last'.current - 1) lines)
-    ∙ ap (λ those. lines_between state.current cut lines ++ those) (steps_and_rest lines (state_after false operand operands state.repetition matched cut) steps' last' ending' rest (omega (arith, some, from)))
+    ∙ ap (λ those. lines_between state.current cut lines ++ those) (steps_and_rest rest (omega (arith, some, from)))
     ∙ between_rest state.current cut lines some from
-steps_and_rest lines first steps last ending run some = refl
+steps_and_rest run some = refl
 
 -- the steps' sections, then these lines, where they are what is left
-all_with : (closed : Bool) (operands : List Operand) (x : List Line) (end rest : List Line) → end ++ rest ≡ drop ((plan false operands x).last.current - 1) x
+all_with : (closed : Bool) (operands : List Operand) {x : List Line} (end rest : List Line) → end ++ rest ≡ drop ((plan false operands x).last.current - 1) x
     → lines_in (map (section_of x) (plan false operands x).steps ++ section (is_last_kept (plan false operands x).ending) closed end ∷ []) ++ rest ≡ x
-all_with closed operands x end rest is =
+all_with closed operands {x} end rest is =
     ap (λ those. those ++ rest) (lines_in-append (map (section_of x) (plan false operands x).steps) (section (is_last_kept (plan false operands x).ending) closed end ∷ [])
     ∙ ap (λ those. lines_in (map (section_of x) (plan false operands x).steps) ++ those) (append-nil end))
     ∙ append_assoc (lines_in (map (section_of x) (plan false operands x).steps)) end rest
-    ∙ ap (λ those. lines_in (map (section_of x) (plan false operands x).steps) ++ those) is
-    ∙ steps_and_rest x (start operands) _ _ _ (plan_runs false operands x) (omega arith)
+    ∙ ap (λ those. lines_in (map (section_of x) (plan false operands x).steps) ++ those) is ∙ steps_and_rest (plan_runs false operands x) (omega arith)
 
 pub none_lost : (operands : List Operand) (x : List Line) → is_final (plan false operands x).ending ≡ false
     → lines_in (settled_sections x (plan false operands x)) ++ waiting_lines x (plan false operands x) ≡ x
 none_lost operands x live =
     let plan' = plan false operands x in
     ap (λ final. lines_in (settled_sections x plan') ++ cond final [] (drop (settled_end (length x) plan'.ending - plan'.last.current) (drop (plan'.last.current - 1) x))) live
-    ∙ all_with false operands x (lines_between plan'.last.current (settled_end (length x) plan'.ending) x) (drop (settled_end (length x) plan'.ending - plan'.last.current) (drop (plan'.last.current - 1) x))
+    ∙ all_with false operands (lines_between plan'.last.current (settled_end (length x) plan'.ending) x) (drop (settled_end (length x) plan'.ending - plan'.last.current) (drop (plan'.last.current - 1) x))
     (take-append-drop (settled_end (length x) plan'.ending - plan'.last.current) (drop (plan'.last.current - 1) x))
 
 pub ends_after_all : (total : ℕ) (ending : Ending) → is_final ending ≡ false → whole_end total ending ≡ suc total
@@ -57,7 +56,6 @@ pub none_lost_at_end : (operands : List Operand) (x : List Line) → is_final (p
 none_lost_at_end operands x live =
     let plan' = plan false operands x in
     let some = (are_within false x (start operands) _ _ _ (plan_runs false operands x) (omega arith)).1 in
-    sym (append-nil (lines_in (whole_sections x plan')))
-    ∙ all_with true operands x (lines_between plan'.last.current (whole_end (length x) plan'.ending) x) []
+    sym (append-nil (lines_in (whole_sections x plan'))) ∙ all_with true operands (lines_between plan'.last.current (whole_end (length x) plan'.ending) x) []
     (append-nil (lines_between plan'.last.current (whole_end (length x) plan'.ending) x)
     ∙ ap (λ end. lines_between plan'.last.current end x) (ends_after_all (length x) plan'.ending live) ∙ rest_is_all x plan'.last.current some)

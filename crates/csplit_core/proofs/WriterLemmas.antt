@@ -22,20 +22,20 @@ use Rattle.csplit_core.proofs.OutputSteps.{Becomes, Falls}
 pub moves_again : (told : Bool) (low middle high : Part) (old mid new : List Slot) {one two three : WriterState} → Moves told one two low middle old mid → Moves told two three middle high mid new → Moves told one three low high old new
 moves_again told low middle high old mid new first second before at = second before (first before at)
 
-pub halts_after : (told : Bool) (low middle high : Part) (old mid new : List Slot) (fault : Fault) {one two : WriterState} → Begins low middle → Moves told one two low middle old mid → Halts told two middle high mid new fault → Halts told one low high old new fault
-halts_after told low middle high old mid new fault begins moves halts before at =
+pub halts_after : (told : Bool) {low middle high : Part} {old mid new : List Slot} {fault : Fault} {one two : WriterState} → Begins low middle → Moves told one two low middle old mid → Halts told two middle high mid new fault → Halts told one low high old new fault
+halts_after told {low} {middle} {high} {new} {fault} begins moves halts before at =
     turn_between told before low middle high high fault new begins (halts before (moves before at)) (part_begins_itself high)
 
-pub halts_wider : (told : Bool) (low middle high : Part) (old new : List Slot) (fault : Fault) {writer : WriterState} → Halts told writer low middle old new fault → Begins middle high → Halts told writer low high old new fault
-halts_wider told low middle high old new fault halts begins before at =
+pub halts_wider : (told : Bool) {low middle high : Part} {old new : List Slot} {fault : Fault} {writer : WriterState} → Halts told writer low middle old new fault → Begins middle high → Halts told writer low high old new fault
+halts_wider told {low} {middle} {high} {new} {fault} halts begins before at =
     turn_between told before low low middle high fault new (part_begins_itself low) (halts before at) begins
 
 -- a step that is known of the outputs alone, as long as the file of the open section is the last
-pub goes_by : (told : Bool) (low high : Part) (old new : List Slot) {writer next : WriterState} → KeepsFiles writer next old new → (IsLast writer.current old → Becomes told low high old new) → Moves told writer next low high old new
-goes_by told low high old new keeps becomes before at = record { owns = keeps.owns (length before) at.owns; outputs = becomes at.owns.last before at.outputs }
+pub goes_by : (told : Bool) {low high : Part} {old new : List Slot} {writer next : WriterState} → KeepsFiles writer next old new → (IsLast writer.current old → Becomes told low high old new) → Moves told writer next low high old new
+goes_by told keeps becomes before at = record { owns = keeps.owns (length before) at.owns; outputs = becomes at.owns.last before at.outputs }
 
-pub stops_by : (told : Bool) (low high : Part) (old new : List Slot) (fault : Fault) {writer : WriterState} → (IsLast writer.current old → Falls told low high old new fault) → Halts told writer low high old new fault
-stops_by told low high old new fault falls before at = falls at.owns.last before at.outputs
+pub stops_by : (told : Bool) {low high : Part} {old new : List Slot} {fault : Fault} {writer : WriterState} → (IsLast writer.current old → Falls told low high old new fault) → Halts told writer low high old new fault
+stops_by told falls before at = falls at.owns.last before at.outputs
 
 -- What is written of a draft only grows: the open section isn't closed.
 
@@ -58,20 +58,20 @@ breaks_later style old mid new (Write slot) keeps breaks = (breaks.0, rose_later
 breaks_later style old mid new (Open slot) keeps breaks = rose_later slot old mid new keeps breaks
 breaks_later style old mid new _ keeps breaks = absurd breaks
 
-pub owns_again : (one two three : WriterState) (old mid new : List Slot) → KeepsFiles one two old mid → KeepsFiles two three mid new → KeepsFiles one three old new
-owns_again one two three old mid new before after = record { owns = λ first own. after.owns first (before.owns first own); there = λ are. after.there (before.there are) }
+pub owns_again : (one : WriterState) {two three : WriterState} {old mid new : List Slot} → KeepsFiles one two old mid → KeepsFiles two three mid new → KeepsFiles one three old new
+owns_again one before after = record { owns = λ first own. after.owns first (before.owns first own); there = λ are. after.there (before.there are) }
 
-pub owns_still : (writer : WriterState) (slots : List Slot) → KeepsFiles writer writer slots slots
-owns_still writer slots = record { owns = λ first own. own; there = λ are. are }
+pub owns_still : {writer : WriterState} {slots : List Slot} → KeepsFiles writer writer slots slots
+owns_still = record { owns = λ first own. own; there = λ are. are }
 
 -- The same of parts that are written otherwise
 
-pub moves_as : (told : Bool) (low low' high high' : Part) (old new : List Slot) {writer next : WriterState} → low ≡ low' → high ≡ high' → Moves told writer next low' high' old new → Moves told writer next low high old new
-moves_as told low low' high high' old new {writer = writer} {next = next} is_low is_high moves before at = subst (λ part. At told next before part new) (sym is_high) (moves before (subst (λ part. At told writer before part old) is_low at))
+pub moves_as : (told : Bool) {low low' high high' : Part} (old new : List Slot) {writer next : WriterState} → low ≡ low' → high ≡ high' → Moves told writer next low' high' old new → Moves told writer next low high old new
+moves_as told old new {writer = writer} {next = next} is_low is_high moves before at = subst (λ part. At told next before part new) (sym is_high) (moves before (subst (λ part. At told writer before part old) is_low at))
 
-pub moves_same : (told : Bool) (low high : Part) (slots : List Slot) {writer : WriterState} → low ≡ high → Moves told writer writer low high slots slots
-moves_same told low high slots {writer = writer} is before at = subst (λ part. At told writer before part slots) is at
+pub moves_same : (told : Bool) {low high : Part} (slots : List Slot) {writer : WriterState} → low ≡ high → Moves told writer writer low high slots slots
+moves_same told slots {writer = writer} is before at = subst (λ part. At told writer before part slots) is at
 
-pub halts_as : (told : Bool) (low low' high high' : Part) (old new : List Slot) (fault : Fault) {writer : WriterState} → low ≡ low' → high ≡ high' → Halts told writer low' high' old new fault → Halts told writer low high old new fault
-halts_as told low low' high high' old new fault {writer = writer} is_low is_high halts before at =
+pub halts_as : (told : Bool) {low low' high high' : Part} {old new : List Slot} {fault : Fault} {writer : WriterState} → low ≡ low' → high ≡ high' → Halts told writer low' high' old new fault → Halts told writer low high old new fault
+halts_as told {low'} {high} {old} {new} {fault} {writer = writer} is_low is_high halts before at =
     subst (λ part. StoppedInTurn told before part high fault new) (sym is_low) (subst (λ part. StoppedInTurn told before low' part fault new) (sym is_high) (halts before (subst (λ part. At told writer before part old) is_low at)))

@@ -24,25 +24,20 @@ from_not_less a b is = grind (arith, nat_tests, is)
 
 -- What a plan says, the computation does
 
-turn_at_cut : (suppress : Bool) (lines : List Line) (state : State) (operand : Operand) (operands : List Operand)
-    (target : Target) (matched cut : ℕ)
-    → CutsAt suppress lines state operand target matched cut
-    → turn_to suppress lines state operand operands target
+turn_at_cut : (suppress : Bool) (lines : List Line) (state : State) (operand : Operand) (operands : List Operand) (target : Target) (matched cut : ℕ)
+    → CutsAt suppress lines state operand target matched cut → turn_to suppress lines state operand operands target
     ≡ turn_at suppress (length lines) state operand operands matched cut
 turn_at_cut suppress lines state operand operands (Number n) matched cut at =
     ap (λ f. turn_at suppress (length lines) state operand operands f (n * (state.repetition + 1))) (sym at.0)
     ∙ ap (turn_at suppress (length lines) state operand operands matched) (sym at.1)
 turn_at_cut suppress lines state operand operands (Search pattern kept offset) matched cut at =
-    ap (turn_from suppress (length lines) state operand operands offset)
-    (first_is_match operand lines (search_line suppress state) matched (search_some suppress state) at.0)
+    ap (turn_from suppress (length lines) state operand operands offset) (first_is_match matched (search_some suppress state) at.0)
     ∙ ap (turn_at suppress (length lines) state operand operands matched) (sym at.1)
 
-turn_missed : (suppress : Bool) (lines : List Line) (state : State) (operand : Operand) (operands : List Operand)
-    (target : Target)
-    → Misses suppress lines state operand target
-    → turn_to suppress lines state operand operands target ≡ ends (missed operand state.repetition)
-turn_missed suppress lines state operand operands (Number n) none = absurd none
-turn_missed suppress lines state operand operands (Search pattern kept offset) none =
+turn_missed : (suppress : Bool) (lines : List Line) (state : State) {operand : Operand} (operands : List Operand) (target : Target)
+    → Misses suppress lines state operand target → turn_to suppress lines state operand operands target ≡ ends (missed operand state.repetition)
+turn_missed suppress lines state operands (Number n) none = absurd none
+turn_missed suppress lines state {operand} operands (Search pattern kept offset) none =
     ap (turn_from suppress (length lines) state operand operands offset)
     (none_is_match operand lines (search_line suppress state) (search_some suppress state) none)
 
@@ -50,234 +45,171 @@ left_most : (total : ℕ) (state : State) (target : Target) → left_of total st
 left_most total state (Number n) = omega arith
 left_most total state (Search pattern kept offset) = omega arith
 
-fewer_operands : (total : ℕ) (state : State) (operands : List Operand)
-    → needed_by total state operands < length operands * (total + 1) + 1
+fewer_operands : (total : ℕ) (state : State) (operands : List Operand) → needed_by total state operands < length operands * (total + 1) + 1
 fewer_operands total state [] = omega arith
 fewer_operands total state (operand ∷ operands) =
     let most : left_of total state operand.target ≤ total = left_most total state operand.target in
-    let more : suc (length operands) * (total + 1) ≡ length operands * (total + 1) + (total + 1) =
-    omega arith in omega (arith, most, more)
+    let more : suc (length operands) * (total + 1) ≡ length operands * (total + 1) + (total + 1) = omega arith in omega (arith, most, more)
 
 pub moves_of : (suppress : Bool) (lines : List Line) (state : State) (operand : Operand) (target : Target)
-    (matched cut : ℕ) → CutsAt suppress lines state operand target matched cut
-    → Moves (length lines) state target matched cut
+    (matched cut : ℕ) → CutsAt suppress lines state operand target matched cut → Moves (length lines) state target matched cut
 moves_of suppress lines state operand (Number n) matched cut at = at.1
 moves_of suppress lines state operand (Search pattern kept offset) matched cut at =
-    let more : state.matched < search_line suppress state =
-    search_past suppress state in (omega (arith, more, at.0.not_before), at.0.within)
+    let more : state.matched < search_line suppress state = search_past suppress state in (omega (arith, more, at.0.not_before), at.0.within)
 
-fewer_left : (total : ℕ) (state next : State) (target : Target) (matched cut : ℕ) → Moves total state target matched cut
-    → 1 ≤ cut → cut ≤ total
-    → next.repetition ≡ state.repetition + 1 → next.matched ≡ matched
-    → left_of total next target < left_of total state target
-fewer_left total state next (Number zero) matched cut at some within again same =
-    absurd (none (omega (arith, at)) some) where
-      none : cut ≡ 0 → 1 ≤ cut → ⊥
-      none is some = omega (arith, is, some)
-fewer_left total state next (Number (suc n)) matched cut at some within again same =
+fewer_left : (total : ℕ) (state next : State) (target : Target) {matched : ℕ} (cut : ℕ) → Moves total state target matched cut → 1 ≤ cut → cut ≤ total
+    → next.repetition ≡ state.repetition + 1 → next.matched ≡ matched → left_of total next target < left_of total state target
+fewer_left total state next (Number zero) cut at some within again same = absurd (none (omega (arith, at)) some) where
+  none : cut ≡ 0 → 1 ≤ cut → ⊥
+  none is some = omega (arith, is, some)
+fewer_left total state next (Number (suc n)) cut at some within again same =
     let is : suc n * (state.repetition + 1) ≡ n * (state.repetition + 1) + (state.repetition + 1) = omega arith in
     let cut_is : cut ≡ suc n * (state.repetition + 1) = at in omega (arith, is, cut_is, within, again)
-fewer_left total state next (Search pattern kept offset) matched cut at some within again same =
-    omega (arith, at.0, at.1, same)
+fewer_left total state next (Search pattern kept offset) cut at some within again same = omega (arith, at.0, at.1, same)
 
-fewer_by : (total : ℕ) (state : State) (operand : Operand) (operands : List Operand) (matched cut : ℕ)
-    → Moves total state operand.target matched cut → 1 ≤ cut → cut ≤ total
-    → (more : Bool) (next : State) → next.operands ≡ operands_after more operand operands
-    → next.repetition ≡ repetition_after more state.repetition → next.matched ≡ matched
-    → needed total next < needed_by total state (operand ∷ operands)
-fewer_by total state operand operands matched cut at some within true next left again same =
+fewer_by : (total : ℕ) (state : State) (operand : Operand) (operands : List Operand) {matched : ℕ} (cut : ℕ)
+    → Moves total state operand.target matched cut → 1 ≤ cut → cut ≤ total → (more : Bool) (next : State) → next.operands ≡ operands_after more operand operands
+    → next.repetition ≡ repetition_after more state.repetition → next.matched ≡ matched → needed total next < needed_by total state (operand ∷ operands)
+fewer_by total state operand operands cut at some within true next left again same =
     let fewer : left_of total next operand.target < left_of total state operand.target =
-    fewer_left total state next operand.target matched cut at some within again same in
+    fewer_left total state next operand.target cut at some within again same in
     let is : needed total next ≡ needed_by total next (operand ∷ operands) = ap (needed_by total next) left in
     omega (arith, fewer, is)
-fewer_by total state operand operands matched cut at some within false next left again same =
+fewer_by total state operand operands cut at some within false next left again same =
     let fewer : needed_by total next operands < length operands * (total + 1) + 1 =
     fewer_operands total next operands in
     let is : needed total next ≡ needed_by total next operands = ap (needed_by total next) left in
     omega (arith, fewer, is)
 
-pub fewer_moves : (suppress : Bool) (total : ℕ) (state : State) (operand : Operand) (operands : List Operand)
-    (matched cut : ℕ) → state.operands ≡ operand ∷ operands
-    → Moves total state operand.target matched cut → 1 ≤ cut → cut ≤ total
+pub fewer_moves : (suppress : Bool) (total : ℕ) (state : State) {operand : Operand} {operands : List Operand}
+    (matched cut : ℕ) → state.operands ≡ operand ∷ operands → Moves total state operand.target matched cut → 1 ≤ cut → cut ≤ total
     → needed total (state_after suppress operand operands state.repetition matched cut) < needed total state
-fewer_moves suppress total state operand operands matched cut is at some within =
-    subst (λ those. needed total (state_after suppress operand operands state.repetition matched cut) < needed_by total
-    state those) (sym is)
-    (fewer_by total state operand operands matched cut at some within (has_more operand.times state.repetition)
+fewer_moves suppress total state {operand} {operands} matched cut is at some within =
+    subst (λ those. needed total (state_after suppress operand operands state.repetition matched cut) < needed_by total state those) (sym is)
+    (fewer_by total state operand operands cut at some within (has_more operand.times state.repetition)
     (state_after suppress operand operands state.repetition matched cut) refl refl refl)
 
-pub fewer : (suppress : Bool) (lines : List Line) (state : State) (operand : Operand) (operands : List Operand)
-    (matched cut : ℕ) → state.operands ≡ operand ∷ operands
-    → CutsAt suppress lines state operand operand.target matched cut → 1 ≤ cut → cut ≤ length lines
-    → needed (length lines) (state_after suppress operand operands state.repetition matched cut) < needed (length lines)
-    state
-fewer suppress lines state operand operands matched cut is at some within =
-    fewer_moves suppress (length lines) state operand operands matched cut is
-    (moves_of suppress lines state operand operand.target matched cut at) some within
+pub fewer : (suppress : Bool) (lines : List Line) (state : State) {operand : Operand} {operands : List Operand}
+    (matched cut : ℕ) → state.operands ≡ operand ∷ operands → CutsAt suppress lines state operand operand.target matched cut → 1 ≤ cut → cut ≤ length lines
+    → needed (length lines) (state_after suppress operand operands state.repetition matched cut) < needed (length lines) state
+fewer suppress lines state {operand} matched cut is at some within =
+    fewer_moves suppress (length lines) state matched cut is (moves_of suppress lines state operand operand.target matched cut at) some within
 
 pub line_some : (suppress : Bool) (cut : ℕ) → cut ≤ line_after suppress cut
 line_some true cut = omega arith
 line_some false cut = omega arith
 
-no_bound : (total : ℕ) (state : State) (operand : Operand) (operands : List Operand)
-    → state.operands ≡ operand ∷ operands → needed total state ≤ 0 → ⊥
-no_bound total state operand operands is enough =
-    none (needed_by total state (operand ∷ operands)) (omega arith)
-    (subst (λ those. needed_by total state those ≤ 0) is enough) where
+no_bound : (total : ℕ) (state : State) {operand : Operand} {operands : List Operand} → state.operands ≡ operand ∷ operands → needed total state ≤ 0 → ⊥
+no_bound total state {operand} {operands} is enough =
+    none (needed_by total state (operand ∷ operands)) (omega arith) (subst (λ those. needed_by total state those ≤ 0) is enough) where
       none : (n : ℕ) → 1 ≤ n → n ≤ 0 → ⊥
       none n some few = omega (arith, some, few)
 
-turns_to : (bound : ℕ) (suppress : Bool) (lines : List Line) (state : State) (operand : Operand)
-    (operands : List Operand) (turn' : Turn) → state.operands ≡ operand ∷ operands
-    → turn_to suppress lines state operand operands operand.target ≡ turn'
+turns_to : (bound : ℕ) (suppress : Bool) (lines : List Line) (state : State) {operand : Operand}
+    {operands : List Operand} {turn' : Turn} → state.operands ≡ operand ∷ operands → turn_to suppress lines state operand operands operand.target ≡ turn'
     → plan_within (suc bound) suppress lines state ≡ after bound suppress lines state turn'
-turns_to bound suppress lines state operand operands turn' is e =
-    ap (λ those. after bound suppress lines state (turn_of suppress lines state those)) is
-    ∙ ap (after bound suppress lines state) e
+turns_to bound suppress lines state is e =
+    ap (λ those. after bound suppress lines state (turn_of suppress lines state those)) is ∙ ap (after bound suppress lines state) e
 
-ends_within : (bound : ℕ) (suppress : Bool) (lines : List Line) (state : State) (operand : Operand)
-    (operands : List Operand) (ending : Ending) → state.operands ≡ operand ∷ operands
+ends_within : (bound : ℕ) (suppress : Bool) (lines : List Line) (state : State) {operand : Operand}
+    {operands : List Operand} {ending : Ending} → state.operands ≡ operand ∷ operands
     → turn_to suppress lines state operand operands operand.target ≡ ends ending → needed (length lines) state ≤ bound
     → plan_within bound suppress lines state ≡ so [] state ending
-ends_within zero suppress lines state operand operands ending is e enough =
-    absurd (no_bound (length lines) state operand operands is enough)
-ends_within (suc bound) suppress lines state operand operands ending is e enough =
-    turns_to bound suppress lines state operand operands (ends ending) is e
+ends_within zero suppress lines state is e enough = absurd (no_bound (length lines) state is enough)
+ends_within (suc bound) suppress lines state is e enough = turns_to bound suppress lines state is e
 
 tested : (suppress : Bool) (total : ℕ) (state : State) (operand : Operand) (operands : List Operand) (matched cut : ℕ)
-    (far low : Bool) → nat_lt total cut ≡ far → nat_lt cut state.current ≡ low
-    → turn_at suppress total state operand operands matched cut
-    ≡ cond far (ends (above operand state.repetition matched cut))
-    (cond low (ends (below operand state.repetition))
+    {far low : Bool} → nat_lt total cut ≡ far → nat_lt cut state.current ≡ low → turn_at suppress total state operand operands matched cut
+    ≡ cond far (ends (above operand state.repetition matched cut)) (cond low (ends (below operand state.repetition))
     (goes (step_of state operand matched cut) (state_after suppress operand operands state.repetition matched cut)))
-tested suppress total state operand operands matched cut far low is are =
-    ap (λ b. cond b (ends (above operand state.repetition matched cut))
-    (cond (nat_lt cut state.current) (ends (below operand state.repetition))
-    (goes (step_of state operand matched cut)
-    (state_after suppress operand operands state.repetition matched cut)))) is
-    ∙ ap (λ b. cond far (ends (above operand state.repetition matched cut))
-    (cond b (ends (below operand state.repetition))
-    (goes (step_of state operand matched cut)
-    (state_after suppress operand operands state.repetition matched cut)))) are
+tested suppress total state operand operands matched cut {far} is are =
+    ap (λ b. cond b (ends (above operand state.repetition matched cut)) (cond (nat_lt cut state.current) (ends (below operand state.repetition))
+    (goes (step_of state operand matched cut) (state_after suppress operand operands state.repetition matched cut)))) is
+    ∙ ap (λ b. cond far (ends (above operand state.repetition matched cut)) (cond b (ends (below operand state.repetition))
+    (goes (step_of state operand matched cut) (state_after suppress operand operands state.repetition matched cut)))) are
 
 -- A plan is the one that is computed
-pub computed : (suppress : Bool) (lines : List Line) (first : State) (all : List Step) (end : State) (how : Ending)
-    → Runs suppress lines first all end how
-    → (bound : ℕ) → needed (length lines) first ≤ bound → 1 ≤ first.current
-    → plan_within bound suppress lines first ≡ so all end how
-computed suppress lines first all end how (is_used_up state none) zero enough some = refl
-computed suppress lines first all end how (is_used_up state none) (suc bound) enough some =
+pub computed : {suppress : Bool} {lines : List Line} {first : State} (all : List Step) (end : State) {how : Ending} → Runs suppress lines first all end how
+    → (bound : ℕ) → needed (length lines) first ≤ bound → 1 ≤ first.current → plan_within bound suppress lines first ≡ so all end how
+computed all end (is_used_up state none) zero enough some = refl
+computed {suppress} {lines} all end (is_used_up state none) (suc bound) enough some =
     ap (λ those. after bound suppress lines state (turn_of suppress lines state those)) none
-computed suppress lines first all end how (misses state operand operands is none) bound enough some =
-    ends_within bound suppress lines state operand operands (missed operand state.repetition) is
-    (turn_missed suppress lines state operand operands operand.target none) enough
-computed suppress lines first all end how (is_above state operand operands matched cut is at far) bound enough some =
-    ends_within bound suppress lines state operand operands (above operand state.repetition matched cut) is
-    (turn_at_cut suppress lines state operand operands operand.target matched cut at
-    ∙ tested suppress (length lines) state operand operands matched cut true (nat_lt cut state.current)
-    (less_test (length lines) cut far) refl) enough
-computed suppress lines first all end how (is_below state operand operands matched cut is at within low) bound enough
-    some =
-    ends_within bound suppress lines state operand operands (below operand state.repetition) is
-    (turn_at_cut suppress lines state operand operands operand.target matched cut at
-    ∙ tested suppress (length lines) state operand operands matched cut false true
-    (not_less_test (length lines) cut within) (less_test cut state.current low)) enough
-computed suppress lines first all end how
-    (cuts state operand operands matched cut steps last ending is at from within rest) zero enough some =
-    absurd (no_bound (length lines) state operand operands is enough)
-computed suppress lines first all end how
-    (cuts state operand operands matched cut steps last ending is at from within rest) (suc bound) enough some =
-    turns_to bound suppress lines state operand operands
-    (goes (step_of state operand matched cut) (state_after suppress operand operands state.repetition matched cut))
-    is
-    (turn_at_cut suppress lines state operand operands operand.target matched cut at
-    ∙ tested suppress (length lines) state operand operands matched cut false false
-    (not_less_test (length lines) cut within) (not_less_test cut state.current from))
-    ∙ ap (with_step (step_of state operand matched cut))
-    (computed suppress lines (state_after suppress operand operands state.repetition matched cut) steps last ending
-    rest bound
+computed {suppress} {lines} all end (misses state operand operands is none) bound enough some =
+    ends_within bound suppress lines state is (turn_missed suppress lines state operands operand.target none) enough
+computed {suppress} {lines} all end (is_above state operand operands matched cut is at far) bound enough some =
+    ends_within bound suppress lines state is (turn_at_cut suppress lines state operand operands operand.target matched cut at
+    ∙ tested suppress (length lines) state operand operands matched cut (less_test (length lines) cut far) refl) enough
+computed {suppress} {lines} all end (is_below state operand operands matched cut is at within low) bound enough some =
+    ends_within bound suppress lines state is (turn_at_cut suppress lines state operand operands operand.target matched cut at
+    ∙ tested suppress (length lines) state operand operands matched cut (not_less_test (length lines) cut within) (less_test cut state.current low)) enough
+computed {lines} all end (cuts state operand operands matched cut steps last ending is at from within rest) zero enough some =
+    absurd (no_bound (length lines) state is enough)
+computed {suppress} {lines} all end (cuts state operand operands matched cut steps last ending is at from within rest) (suc bound) enough some =
+    turns_to bound suppress lines state is (turn_at_cut suppress lines state operand operands operand.target matched cut at
+    ∙ tested suppress (length lines) state operand operands matched cut (not_less_test (length lines) cut within) (not_less_test cut state.current from))
+    ∙ ap (with_step (step_of state operand matched cut)) (computed steps last rest bound
     (let less : needed (length lines) (state_after suppress operand operands state.repetition matched cut) < needed
-    (length lines) state = fewer suppress lines state operand operands matched cut is at (omega (arith, some, from))
-    within in omega (arith, less, enough))
+    (length lines) state = fewer suppress lines state matched cut is at (omega (arith, some, from)) within in omega (arith, less, enough))
     (let least : cut ≤ line_after suppress cut = line_some suppress cut in omega (arith, least, some, from)))
 
-runs_at : (bound : ℕ) (suppress : Bool) (lines : List Line) (state : State) (operand : Operand)
-    (operands : List Operand) (matched cut : ℕ) → state.operands ≡ operand ∷ operands
-    → CutsAt suppress lines state operand operand.target matched cut
-    → (state.current ≤ cut → cut ≤ length lines
-    → RunsAs suppress lines (state_after suppress operand operands state.repetition matched cut)
+runs_at : (bound : ℕ) (suppress : Bool) (lines : List Line) (state : State) {operand : Operand}
+    {operands : List Operand} (matched cut : ℕ) → state.operands ≡ operand ∷ operands → CutsAt suppress lines state operand operand.target matched cut
+    → (state.current ≤ cut → cut ≤ length lines → RunsAs suppress lines (state_after suppress operand operands state.repetition matched cut)
     (plan_within bound suppress lines (state_after suppress operand operands state.repetition matched cut)))
-    → (far low : Bool) → nat_lt (length lines) cut ≡ far → nat_lt cut state.current ≡ low
-    → RunsAs suppress lines state (after bound suppress lines state
-    (cond far (ends (above operand state.repetition matched cut))
-    (cond low (ends (below operand state.repetition))
-    (goes (step_of state operand matched cut)
+    → (far low : Bool) → nat_lt (length lines) cut ≡ far → nat_lt cut state.current ≡ low → RunsAs suppress lines state (after bound suppress lines state
+    (cond far (ends (above operand state.repetition matched cut)) (cond low (ends (below operand state.repetition)) (goes (step_of state operand matched cut)
     (state_after suppress operand operands state.repetition matched cut)))))
-runs_at bound suppress lines state operand operands matched cut is at rest true low far_is low_is =
+runs_at bound suppress lines state {operand} {operands} matched cut is at rest true low far_is low_is =
     is_above state operand operands matched cut is at (from_less (length lines) cut far_is)
-runs_at bound suppress lines state operand operands matched cut is at rest false true far_is low_is =
-    is_below state operand operands matched cut is at (from_not_less (length lines) cut far_is)
-    (from_less cut state.current low_is)
-runs_at bound suppress lines state operand operands matched cut is at rest false false far_is low_is =
+runs_at bound suppress lines state {operand} {operands} matched cut is at rest false true far_is low_is =
+    is_below state operand operands matched cut is at (from_not_less (length lines) cut far_is) (from_less cut state.current low_is)
+runs_at bound suppress lines state {operand} {operands} matched cut is at rest false false far_is low_is =
     let from : state.current ≤ cut = from_not_less cut state.current low_is in
     let within : cut ≤ length lines = from_not_less (length lines) cut far_is in
     cuts state operand operands matched cut _ _ _ is at from within (rest from within)
 
-runs_matched : (bound : ℕ) (suppress : Bool) (lines : List Line) (state : State) (operand : Operand)
-    (operands : List Operand) (pattern' : Pattern) (kept : Bool) (offset : Offset) → state.operands ≡ operand ∷ operands
-    → operand.target ≡ Search pattern' kept offset
-    → ((matched cut : ℕ) → CutsAt suppress lines state operand operand.target matched cut → state.current ≤ cut
-    → cut ≤ length lines → RunsAs suppress lines
-    (state_after suppress operand operands state.repetition matched cut)
+runs_matched : (bound : ℕ) (suppress : Bool) (lines : List Line) (state : State) {operand : Operand}
+    {operands : List Operand} (pattern' : Pattern) (kept : Bool) (offset : Offset) → state.operands ≡ operand ∷ operands
+    → operand.target ≡ Search pattern' kept offset → ((matched cut : ℕ) → CutsAt suppress lines state operand operand.target matched cut → state.current ≤ cut
+    → cut ≤ length lines → RunsAs suppress lines (state_after suppress operand operands state.repetition matched cut)
     (plan_within bound suppress lines (state_after suppress operand operands state.repetition matched cut)))
-    → (matched : Option ℕ) → MatchesAs operand lines (search_line suppress state) matched
-    → RunsAs suppress lines state (after bound suppress lines state
+    → (matched : Option ℕ) → MatchesAs operand lines (search_line suppress state) matched → RunsAs suppress lines state (after bound suppress lines state
     (turn_from suppress (length lines) state operand operands offset matched))
-runs_matched bound suppress lines state operand operands pattern' kept offset is target rest None none =
+runs_matched bound suppress lines state {operand} {operands} pattern' kept offset is target rest None none =
     misses state operand operands is (subst (Misses suppress lines state operand) (sym target) none)
-runs_matched bound suppress lines state operand operands pattern' kept offset is target rest (Some matched) first =
+runs_matched bound suppress lines state {operand} pattern' kept offset is target rest (Some matched) first =
     let at : CutsAt suppress lines state operand operand.target matched (moved offset matched) =
     subst (λ t. CutsAt suppress lines state operand t matched (moved offset matched)) (sym target) (first, refl) in
-    runs_at bound suppress lines state operand operands matched (moved offset matched) is at
-    (rest matched (moved offset matched) at) _ _ refl refl
+    runs_at bound suppress lines state matched (moved offset matched) is at (rest matched (moved offset matched) at) _ _ refl refl
 
-runs_target : (bound : ℕ) (suppress : Bool) (lines : List Line) (state : State) (operand : Operand)
-    (operands : List Operand) → state.operands ≡ operand ∷ operands
-    → ((matched cut : ℕ) → CutsAt suppress lines state operand operand.target matched cut → state.current ≤ cut
-    → cut ≤ length lines → RunsAs suppress lines
+runs_target : (bound : ℕ) (suppress : Bool) (lines : List Line) (state : State) {operand : Operand}
+    {operands : List Operand} → state.operands ≡ operand ∷ operands
+    → ((matched cut : ℕ) → CutsAt suppress lines state operand operand.target matched cut → state.current ≤ cut → cut ≤ length lines → RunsAs suppress lines
     (state_after suppress operand operands state.repetition matched cut)
-    (plan_within bound suppress lines (state_after suppress operand operands state.repetition matched cut)))
-    → (target : Target) → operand.target ≡ target
-    → RunsAs suppress lines state (after bound suppress lines state
-    (turn_to suppress lines state operand operands target))
-runs_target bound suppress lines state operand operands is rest (Number n) target =
+    (plan_within bound suppress lines (state_after suppress operand operands state.repetition matched cut))) → (target : Target) → operand.target ≡ target
+    → RunsAs suppress lines state (after bound suppress lines state (turn_to suppress lines state operand operands target))
+runs_target bound suppress lines state {operand} is rest (Number n) target =
     let at : CutsAt suppress lines state operand operand.target state.matched (n * (state.repetition + 1)) =
-    subst (λ t. CutsAt suppress lines state operand t state.matched (n * (state.repetition + 1))) (sym target)
-    (refl, refl) in
-    runs_at bound suppress lines state operand operands state.matched (n * (state.repetition + 1)) is at
-    (rest state.matched (n * (state.repetition + 1)) at) _ _ refl refl
-runs_target bound suppress lines state operand operands is rest (Search pattern' kept offset) target =
-    runs_matched bound suppress lines state operand operands pattern' kept offset is target rest
-    (first_match operand lines (search_line suppress state))
+    subst (λ t. CutsAt suppress lines state operand t state.matched (n * (state.repetition + 1))) (sym target) (refl, refl) in
+    runs_at bound suppress lines state state.matched (n * (state.repetition + 1)) is at (rest state.matched (n * (state.repetition + 1)) at) _ _ refl refl
+runs_target bound suppress lines state {operand} is rest (Search pattern' kept offset) target =
+    runs_matched bound suppress lines state pattern' kept offset is target rest (first_match operand lines (search_line suppress state))
     (first_match_as operand lines (search_line suppress state) (search_some suppress state))
 
-mutual_runs : (bound : ℕ) (suppress : Bool) (lines : List Line) (state : State) (operands : List Operand)
-    → state.operands ≡ operands
+mutual_runs : (bound : ℕ) (suppress : Bool) (lines : List Line) (state : State) (operands : List Operand) → state.operands ≡ operands
     → ((operand : Operand) (rest : List Operand) → state.operands ≡ operand ∷ rest → (matched cut : ℕ)
     → CutsAt suppress lines state operand operand.target matched cut → state.current ≤ cut → cut ≤ length lines
     → RunsAs suppress lines (state_after suppress operand rest state.repetition matched cut)
     (plan_within bound suppress lines (state_after suppress operand rest state.repetition matched cut)))
     → RunsAs suppress lines state (after bound suppress lines state (turn_of suppress lines state operands))
 mutual_runs bound suppress lines state [] is rest = is_used_up state is
-mutual_runs bound suppress lines state (operand ∷ operands) is rest =
-    runs_target bound suppress lines state operand operands is (rest operand operands is) operand.target refl
+mutual_runs bound suppress lines state (operand ∷ operands) is rest = runs_target bound suppress lines state is (rest operand operands is) operand.target refl
 
 none_by : (suppress : Bool) (lines : List Line) (state : State) (operands : List Operand) → state.operands ≡ operands
     → needed_by (length lines) state operands ≤ 0 → RunsAs suppress lines state (ended state used_up)
 none_by suppress lines state [] is enough = is_used_up state is
 none_by suppress lines state (operand ∷ operands) is enough =
-    absurd (no_bound (length lines) state operand operands is
-    (subst (λ those. needed_by (length lines) state those ≤ 0) (sym is) enough))
+    absurd (no_bound (length lines) state is (subst (λ those. needed_by (length lines) state those ≤ 0) (sym is) enough))
 
 pub runs : (bound : ℕ) (suppress : Bool) (lines : List Line) (state : State) → needed (length lines) state ≤ bound
     → 1 ≤ state.current → RunsAs suppress lines state (plan_within bound suppress lines state)
@@ -285,8 +217,7 @@ runs zero suppress lines state enough some = none_by suppress lines state state.
 runs (suc bound) suppress lines state enough some =
     mutual_runs bound suppress lines state state.operands refl (λ operand operands is matched cut at from within.
     let less : needed (length lines) (state_after suppress operand operands state.repetition matched cut) < needed
-    (length lines) state = fewer suppress lines state operand operands matched cut is at (omega (arith, some, from))
-    within in
+    (length lines) state = fewer suppress lines state matched cut is at (omega (arith, some, from)) within in
     let least : cut ≤ line_after suppress cut = line_some suppress cut in
     runs bound suppress lines (state_after suppress operand operands state.repetition matched cut)
     (omega (arith, less, enough)) (omega (arith, least, some, from)))
@@ -296,39 +227,28 @@ enough_at_start total [] = omega arith
 enough_at_start total (operand ∷ operands) =
     let most : left_of total (start (operand ∷ operands)) operand.target ≤ total =
     left_most total (start (operand ∷ operands)) operand.target in
-    let more : suc (length operands) * (total + 1) ≡ length operands * (total + 1) + (total + 1) =
-    omega arith in omega (arith, most, more)
+    let more : suc (length operands) * (total + 1) ≡ length operands * (total + 1) + (total + 1) = omega arith in omega (arith, most, more)
 
-pub plan_runs : (suppress : Bool) (operands : List Operand) (lines : List Line)
-    → RunsAs suppress lines (start operands) (plan suppress operands lines)
+pub plan_runs : (suppress : Bool) (operands : List Operand) (lines : List Line) → RunsAs suppress lines (start operands) (plan suppress operands lines)
 plan_runs suppress operands lines = runs (length operands * (length lines + 1)) suppress lines (start operands)
     (enough_at_start (length lines) operands) (omega arith)
 
 pub plan_once : (suppress : Bool) (operands : List Operand) (lines : List Line) (steps : List Step) (last : State)
-    (ending : Ending) → Runs suppress lines (start operands) steps last ending
-    → plan suppress operands lines ≡ so steps last ending
+    (ending : Ending) → Runs suppress lines (start operands) steps last ending → plan suppress operands lines ≡ so steps last ending
 plan_once suppress operands lines steps last ending is =
-    computed suppress lines (start operands) steps last ending is (length operands * (length lines + 1))
-    (enough_at_start (length lines) operands) (omega arith)
+    computed steps last is (length operands * (length lines + 1)) (enough_at_start (length lines) operands) (omega arith)
 
 -- What was cut off stays so
 
 pub cuts_still : (suppress : Bool) (a b : List Line) (state : State) (operand : Operand) (target : Target)
-    (matched cut : ℕ) → CutsAt suppress a state operand target matched cut
-    → CutsAt suppress (a ++ b) state operand target matched cut
+    (matched cut : ℕ) → CutsAt suppress a state operand target matched cut → CutsAt suppress (a ++ b) state operand target matched cut
 cuts_still suppress a b state operand (Number n) matched cut at = at
-cuts_still suppress a b state operand (Search pattern kept offset) matched cut at =
-    (first_still operand a b (search_line suppress state) matched (search_some suppress state) at.0, at.1)
+cuts_still suppress a b state operand (Search pattern kept offset) matched cut at = (first_still b matched (search_some suppress state) at.0, at.1)
 
-pub goes_on : (suppress : Bool) (a b : List Line) (first : State) (steps : List Step) (last : State) (ending : Ending)
-    (more : List Step) (end : State) (how : Ending)
-    → Runs suppress a first steps last ending → Runs suppress (a ++ b) last more end how
+pub goes_on : {suppress : Bool} {a : List Line} (b : List Line) {first : State} {steps : List Step} {last : State} {ending : Ending}
+    (more : List Step) (end : State) {how : Ending} → Runs suppress a first steps last ending → Runs suppress (a ++ b) last more end how
     → Runs suppress (a ++ b) first (steps ++ more) end how
-goes_on suppress a b first steps last ending more end how
-    (cuts state operand operands matched cut steps' last' ending' is at from within rest') rest =
-    cuts state operand operands matched cut (steps' ++ more) end how is
-    (cuts_still suppress a b state operand operand.target matched cut at) from
-    (let e : length (a ++ b) ≡ length a + length b = length-append a b in omega (arith, e, within))
-    (goes_on suppress a b (state_after suppress operand operands state.repetition matched cut) steps' last' ending' more
-    end how rest' rest)
-goes_on suppress a b first steps last ending more end how run rest = rest
+goes_on {suppress} {a} b more end {how} (cuts state operand operands matched cut steps' last' ending' is at from within rest') rest =
+    cuts state operand operands matched cut (steps' ++ more) end how is (cuts_still suppress a b state operand operand.target matched cut at) from
+    (let e : length (a ++ b) ≡ length a + length b = length-append a b in omega (arith, e, within)) (goes_on b more end rest' rest)
+goes_on b more end run rest = rest

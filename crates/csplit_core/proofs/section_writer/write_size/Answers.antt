@@ -9,15 +9,14 @@ use Rattle.csplit_core.proofs.section_writer.write_size.Goals as goal
 
 pub returns-clause-ok : goal.returns-clause-ok
 returns-clause-ok g c =
-    c.in_ok-write_whole.ensures.whole
-    ∙ ap (λ line. with_written 0 (told_of g.O.Outs.told line) (g.O.Outs.slots c.args.outs.now))
-    (line_is c.args.size 21 c.as_bytes-digits.result.now c.copy_from_slice.new.self c.copy_from_slice.ensures.after (c.as_bytes-digits.ensures.value ∙ c.format.ensures.text) (let fits = c.format.ensures.fits in omega (arith, c.as_bytes-digits.ensures.len)))
+    c.in_ok-write_whole.ensures.whole ∙ ap (λ line. with_written 0 (told_of g.O.Outs.told line) (g.O.Outs.slots c.args.outs.now))
+    (line_is c.args.size 21 c.copy_from_slice.new.self c.copy_from_slice.ensures.after (c.as_bytes-digits.ensures.value ∙ c.format.ensures.text) (let fits = c.format.ensures.fits in omega (arith, c.as_bytes-digits.ensures.len)))
 
 pub returns-in_err-write_whole-clause-err : goal.returns-in_err-write_whole-clause-err
 returns-in_err-write_whole-clause-err g c = fault_is _ _ _ (of_write _ _ _ c.from_residual.ensures.1 c.in_err-write_whole.ensures.slot)
     (broke c.in_err-write_whole.field-0.0.written
     (subst (λ line. BrokeAfter g.O.Outs.told (g.O.Outs.slots c.args.outs.now) (g.O.Outs.slots c.write_whole.new.outs) 0 line c.in_err-write_whole.field-0.0.written)
-    (line_is c.args.size 21 c.as_bytes-digits.result.now c.copy_from_slice.new.self c.copy_from_slice.ensures.after (c.as_bytes-digits.ensures.value ∙ c.format.ensures.text) (let fits = c.format.ensures.fits in omega (arith, c.as_bytes-digits.ensures.len)))
+    (line_is c.args.size 21 c.copy_from_slice.new.self c.copy_from_slice.ensures.after (c.as_bytes-digits.ensures.value ∙ c.format.ensures.text) (let fits = c.format.ensures.fits in omega (arith, c.as_bytes-digits.ensures.len)))
     c.in_err-write_whole.ensures.cut))
 
 pub slice_bounds-write_whole-end : goal.slice_bounds-write_whole-end

@@ -22,10 +22,10 @@ take_open-requires-clause-line g c = first_line c.args.lines.now c.next_line.res
 
 pub returns-in_err-take_open-clause-takes : goal.returns-in_err-take_open-clause-takes
 returns-in_err-take_open-clause-takes g c = result_is (Takes g.O.Outs.told c.args.self.now.cutter _ _ _ c.take_open.new.self.cutter) c.from_residual.result _ c.from_residual.ensures.1
-    (lines_stop g.O.Outs.told _ _ c.args.self.now.rest c.args.lines.now c.next_line.result.0.now c.next_line.result.1.now _ _ _ c.next_line.ensures.joined c.next_line.ensures.last c.requires.whole c.in_err-take_open.ensures.takes)
+    (lines_stop g.O.Outs.told _ c.args.self.now.rest c.next_line.result.0.now c.next_line.ensures.joined c.next_line.ensures.last c.requires.whole c.in_err-take_open.ensures.takes)
 
 pub take-requires-2-clause-whole : goal.take-requires-2-clause-whole
-take-requires-2-clause-whole g c = others_whole c.args.lines.now c.next_line.result.0.now c.next_line.result.1.now c.next_line.ensures.joined c.requires.whole
+take-requires-2-clause-whole g c = others_whole c.next_line.result.0.now c.next_line.result.1.now c.next_line.ensures.joined c.requires.whole
 
 pub take-requires-2-clause-fits : goal.take-requires-2-clause-fits
 take-requires-2-clause-fits g c = grind (arith, common_steps)

@@ -25,15 +25,15 @@ finish-tells g c =
     let told = g.O.Outs.told in
     let stage = c.args.self.now in
     let next = c.new.self.now in record {
-      same = end_same told stage next _ _ c.result c.ensures.closes;
+      same = end_same told stage next _ _ c.ensures.closes;
       size = c.ensures.bound;
-      outputs = end_outputs told stage next _ _ c.result c.ensures.closes;
-      writable = end_writable told stage next _ _ c.result c.ensures.closes;
-      owns = end_own told stage next _ _ c.result c.ensures.closes;
+      outputs = end_outputs told stage next _ _ c.ensures.closes;
+      writable = end_writable told stage next _ _ c.ensures.closes;
+      owns = end_own told stage next _ _ c.ensures.closes;
       there = end_there told stage next _ _ c.result c.ensures.closes;
-      cut = end_cut told stage next _ _ c.result c.ensures.closes;
-      met = end_met told stage next _ _ c.result c.ensures.closes;
+      cut = end_cut told stage next _ _ c.ensures.closes;
+      met = end_met told stage next _ _ c.ensures.closes;
     }
 
 pub waits-tells : goal.waits-tells
-waits-tells g c x few holds = held_is c.args.self.now x c.result holds few c.ensures
+waits-tells g c x few holds = held_is holds few c.ensures

@@ -16,10 +16,10 @@ hold-requires-clause-fits g c =
     omega (arith, same, ap length spread.so_far.held, spread.so_far.size, c.requires.fits)
 
 pub hold-requires-clause-fit : goal.hold-requires-clause-fit
-hold-requires-clause-fit g c = let spread = c.in_ok-left.ensures.ok in spread_fit spread.now _ spread.is spread.so_far.fit
+hold-requires-clause-fit g c = let spread = c.in_ok-left.ensures.ok in spread_fit spread.is spread.so_far.fit
 
 pub hold-requires-clause-ready : goal.hold-requires-clause-ready
-hold-requires-clause-ready g c = let spread = c.in_ok-left.ensures.ok in spread_ready spread.now _ _ spread.is spread.so_far.ready
+hold-requires-clause-ready g c = let spread = c.in_ok-left.ensures.ok in spread_ready spread.now spread.is spread.so_far.ready
 
 pub returns : goal.returns
 returns g c = spread_held _ _ _ _ _ _ _ _ _ _ _ _ c.hold.result c.in_ok-left.ensures.ok c.hold.ensures

@@ -1,4 +1,4 @@
-use Rattle.std.proofs.Common.{Ok, Err, length, take, ap, arith, sym, ◌∙◌, subst}
+use Rattle.std.proofs.Common.{Ok, Err, take, ap, arith, sym, ◌∙◌, subst}
 use Rattle.std.proofs.lemmas.Grind.{common_steps}
 use Rattle.ports_core.proofs.HandedOn.{result_is}
 use Rattle.csplit_core.specs.Cutter.{CutterState}
@@ -12,14 +12,14 @@ use Rattle.csplit_core.proofs.TakeLemmas.{take_some, took_past}
 use Rattle.csplit_core.proofs.line_cutter.LineCutter.stretch.Goals as goal
 
 pub returns-then-is_past : goal.returns-then-is_past
-returns-then-is_past g c = stretch_first _ c.args.self.now c.args.self.now c.args.text.now (length c.args.text.now) c.unfound.result _ _ c.requires.some (omega arith)
+returns-then-is_past g c = stretch_first _ c.unfound.result c.requires.some (omega arith)
     (subst IsWhole (sym (take-length c.args.text.now)) c.requires.whole) c.unfound.ensures.size c.unfound.ensures.found
-    (took_past _ c.args.self.now (take (length c.args.text.now) c.args.text.now) _ (c.is_past.ensures.past c.if-is_past.true) c.requires.sound c.requires.ready)
+    (took_past _ (c.is_past.ensures.past c.if-is_past.true) c.requires.sound c.requires.ready)
 
 pub go_on-requires : goal.go_on-requires
 go_on-requires g c = record {
   within = c.first_size-size.ensures.within;
-  rest = whole_drop c.first_size-size.result c.args.text.now c.requires.whole;
+  rest = whole_drop c.first_size-size.result c.requires.whole;
   lines = grind (arith, common_steps);
   fits = grind (arith, common_steps);
   sound = record { fit = c.try_line.ensures.fit; aim = c.in_default.ensures.aim };
@@ -34,7 +34,7 @@ pub cut_on-requires : goal.cut_on-requires
 cut_on-requires g c = record {
   within = c.first_size-size.ensures.within;
   line = c.first_size-size.ensures.line;
-  rest = whole_drop c.first_size-size.result c.args.text.now c.requires.whole;
+  rest = whole_drop c.first_size-size.result c.requires.whole;
   complete = grind (arith, common_steps);
   lines = grind (arith, common_steps);
   fits = grind (arith, common_steps);
@@ -47,7 +47,7 @@ cut_on-requires g c = record {
 pub returns-then-is_empty : goal.returns-then-is_empty
 returns-then-is_empty g c = stretch_cut _ c.args.self.now c.try_line.new.self _ c.args.text.now c.first_size-size.result _ _ _ c.cut_on.result c.requires.sound.fit (c.is_past.ensures.live c.if-is_past.false) c.first_size-size.ensures.some c.first_size-size.ensures.within
     c.first_size-size.ensures.line c.first_size-size.ensures.whole c.try_line.ensures.same
-    (sym (ap (λ (cutter : CutterState). cutter.window.held) c.self.view_is) ∙ none_there c.self.inside.window.held c.is_empty.result c.is_empty.ensures c.if-is_empty.true) c.in-Some.ensures.cuts c.in-Some.ensures.tries c.cut_on.ensures
+    (sym (ap (λ (cutter : CutterState). cutter.window.held) c.self.view_is) ∙ none_there c.is_empty.ensures c.if-is_empty.true) c.in-Some.ensures.cuts c.in-Some.ensures.tries c.cut_on.ensures
 
 pub cut_line-requires : goal.cut_line-requires
 cut_line-requires g c = record {
@@ -61,9 +61,9 @@ cut_line-requires g c = record {
 
 pub returns-in_err-cut_line : goal.returns-in_err-cut_line
 returns-in_err-cut_line g c = result_is (Stretches _ _ _ _ _ _) _ _ c.from_residual.ensures.1
-    (first_stopped _ c.args.self.now _ c.args.text.now c.first_size-size.result _ _ c.in_err-cut_line.field-0.0 c.first_size-size.ensures.whole
+    (first_stopped _ c.first_size-size.result c.first_size-size.ensures.whole
     (take_some _ c.args.self.now c.try_line.new.self _ (take c.first_size-size.result c.args.text.now) c.in-Some.cut _ _ (Err c.in_err-cut_line.field-0.0) c.requires.sound.fit (c.is_past.ensures.live c.if-is_past.false) c.first_size-size.ensures.line c.try_line.ensures.same c.in-Some.ensures.cuts c.in-Some.ensures.tries c.in_err-cut_line.ensures))
 
 pub returns : goal.returns
-returns g c = stretch_first _ c.args.self.now _ c.args.text.now c.first_size-size.result c.unfound-2.result _ _ c.first_size-size.ensures.some c.first_size-size.ensures.within c.first_size-size.ensures.whole c.unfound-2.ensures.size c.unfound-2.ensures.found
+returns g c = stretch_first _ c.unfound-2.result c.first_size-size.ensures.some c.first_size-size.ensures.within c.first_size-size.ensures.whole c.unfound-2.ensures.size c.unfound-2.ensures.found
     (take_some _ c.args.self.now c.try_line.new.self _ (take c.first_size-size.result c.args.text.now) c.in-Some.cut _ _ (Ok c.in_ok-cut_line.field-0) c.requires.sound.fit (c.is_past.ensures.live c.if-is_past.false) c.first_size-size.ensures.line c.try_line.ensures.same c.in-Some.ensures.cuts c.in-Some.ensures.tries c.in_ok-cut_line.ensures)

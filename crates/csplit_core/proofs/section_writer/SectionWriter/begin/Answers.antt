@@ -10,16 +10,16 @@ use Rattle.csplit_core.proofs.section_writer.SectionWriter.begin.Goals as goal
 pub returns-then-not-is_kept : goal.returns-then-not-is_kept
 returns-then-not-is_kept g c =
     subst (Started g.O.Outs.told c.args.self.now.style c.args.self.now c.args.is_kept _ _) (sym (ap (λ (w : WriterState). record w { current = Skipped }) c.self.view_is))
-    (begin_skipped g.O.Outs.told c.args.self.now c.args.is_kept _ c.if-not-is_kept.true c.requires)
+    (begin_skipped g.O.Outs.told c.if-not-is_kept.true c.requires)
 
 pub returns-then-self : goal.returns-then-self
 returns-then-self g c =
     subst (Started g.O.Outs.told c.args.self.now.style c.args.self.now c.args.is_kept _ _) (sym (ap (λ i. state_of i.style i.files.items Unmade) c.self-inside.view_is ∙ ap (λ (w : WriterState). record w { current = Unmade }) c.self.view_is))
-    (begin_unmade g.O.Outs.told c.args.self.now c.args.is_kept _ c.if-not-is_kept.false (sym (ap (λ i. i.style.elide) c.self-inside.view_is ∙ ap (λ (w : WriterState). w.style.elide) c.self.view_is) ∙ c.if-self.true) c.requires)
+    (begin_unmade g.O.Outs.told c.if-not-is_kept.false (sym (ap (λ i. i.style.elide) c.self-inside.view_is ∙ ap (λ (w : WriterState). w.style.elide) c.self.view_is) ∙ c.if-self.true) c.requires)
 
 pub returns-in_err-make_file : goal.returns-in_err-make_file
 returns-in_err-make_file g c = result_is (Starts g.O.Outs.told c.args.self.now.style c.args.self.now c.args.is_kept _ _ c.make_file.new.self) _ _ c.from_residual.ensures.1
-    (begin_not g.O.Outs.told c.args.self.now c.make_file.new.self c.args.is_kept _ _ _ c.if-not-is_kept.false (sym (ap (λ i. i.style.elide) c.self-inside.view_is ∙ ap (λ (w : WriterState). w.style.elide) c.self.view_is) ∙ c.if-self.false) c.requires c.in_err-make_file.ensures)
+    (begin_not g.O.Outs.told c.if-not-is_kept.false (sym (ap (λ i. i.style.elide) c.self-inside.view_is ∙ ap (λ (w : WriterState). w.style.elide) c.self.view_is) ∙ c.if-self.false) c.requires c.in_err-make_file.ensures)
 
 pub returns : goal.returns
-returns g c = begin_made g.O.Outs.told c.args.self.now c.make_file.new.self c.args.is_kept c.in_ok-make_file.field-0 _ _ c.if-not-is_kept.false (sym (ap (λ i. i.style.elide) c.self-inside.view_is ∙ ap (λ (w : WriterState). w.style.elide) c.self.view_is) ∙ c.if-self.false) c.requires c.in_ok-make_file.ensures
+returns g c = begin_made g.O.Outs.told c.if-not-is_kept.false (sym (ap (λ i. i.style.elide) c.self-inside.view_is ∙ ap (λ (w : WriterState). w.style.elide) c.self.view_is) ∙ c.if-self.false) c.requires c.in_ok-make_file.ensures

@@ -11,12 +11,12 @@ use Rattle.csplit_core.proofs.section_writer.SectionWriter.end_file.Goals as goa
 pub returns-in_err-close : goal.returns-in_err-close
 returns-in_err-close g c = result_is (Ends g.O.Outs.told c.args.self.now _ _ _) _ _ c.from_residual.ensures.1
     (subst (λ next. EndedNot g.O.Outs.told c.args.self.now (g.O.Outs.slots c.args.outs.now) (g.O.Outs.slots c.close.new.self) next c.in_err-close.field-0.0) (sym (ap (λ i. state_of i.style i.files.items Skipped) c.self-inside.view_is ∙ ap (λ (w : WriterState). record w { current = Skipped }) c.self.view_is))
-    (close_not g.O.Outs.told c.args.self.now c.args.slot c.args.size _ _ _ c.requires.file c.requires.ready c.in_err-close.ensures.err.0 c.in_err-close.ensures.err.1))
+    (close_not g.O.Outs.told c.args.slot c.args.size c.requires.file c.requires.ready c.in_err-close.ensures.err.0 c.in_err-close.ensures.err.1))
 
 pub returns-then-self : goal.returns-then-self
 returns-then-self g c =
     subst (Ended g.O.Outs.told c.args.self.now _ _) (sym (ap (λ i. state_of i.style i.files.items Skipped) c.self-inside.view_is ∙ ap (λ (w : WriterState). record w { current = Skipped }) c.self.view_is))
-    (end_quiet g.O.Outs.told c.args.self.now c.args.slot c.args.size _ _ c.requires.file c.requires.ready (sym (ap (λ i. i.style.quiet) c.self-inside.view_is ∙ ap (λ (w : WriterState). w.style.quiet) c.self.view_is) ∙ c.if-self.true) c.in_ok-close.ensures.ok)
+    (end_quiet g.O.Outs.told c.args.slot c.args.size c.requires.file c.requires.ready (sym (ap (λ i. i.style.quiet) c.self-inside.view_is ∙ ap (λ (w : WriterState). w.style.quiet) c.self.view_is) ∙ c.if-self.true) c.in_ok-close.ensures.ok)
 
 pub returns : goal.returns
 returns g c =

@@ -9,11 +9,11 @@ use Rattle.csplit_core.proofs.BeginLemmas.{put_first, put_unmade}
 use Rattle.csplit_core.proofs.section_writer.SectionWriter.put.Goals as goal
 
 pub returns-in-Skipped-clause-goes : goal.returns-in-Skipped-clause-goes
-returns-in-Skipped-clause-goes g c = put_skipped g.O.Outs.told c.args.self.now c.args.bytes.now _ (sym (ap (λ (w : WriterState). w.current) c.self.view_is) ∙ c.in-Skipped.is) c.requires.ready
+returns-in-Skipped-clause-goes g c = put_skipped g.O.Outs.told c.args.bytes.now (sym (ap (λ (w : WriterState). w.current) c.self.view_is) ∙ c.in-Skipped.is) c.requires.ready
 
 pub returns-in_err-slot-in-Unmade-clause-goes : goal.returns-in_err-slot-in-Unmade-clause-goes
 returns-in_err-slot-in-Unmade-clause-goes g c = result_is (Goes g.O.Outs.told c.args.self.now (with_bytes c.args.bytes.now) _ _ c.make_file.new.self) _ _ c.from_residual.ensures.1
-    (put_unmade g.O.Outs.told c.args.self.now c.make_file.new.self c.args.bytes.now _ _ _ (sym (ap (λ (w : WriterState). w.current) c.self.view_is) ∙ c.in-Unmade.is) (some_bytes c.args.bytes.now c.if-is_empty.ensures) c.requires.ready c.in_err-slot-in-Unmade.ensures)
+    (put_unmade g.O.Outs.told c.args.bytes.now (sym (ap (λ (w : WriterState). w.current) c.self.view_is) ∙ c.in-Unmade.is) (some_bytes c.args.bytes.now c.if-is_empty.ensures) c.requires.ready c.in_err-slot-in-Unmade.ensures)
 
 pub returns-in_ok-slot-in-Unmade-clause-goes : goal.returns-in_ok-slot-in-Unmade-clause-goes
 returns-in_ok-slot-in-Unmade-clause-goes g c =
