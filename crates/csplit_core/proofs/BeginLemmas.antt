@@ -1,5 +1,5 @@
 -- A file is made for the open section, and a section begins.
-use Rattle.std.proofs.Common.{◌≡◌, ℕ, ◌+◌, ◌≤◌, Bool, true, false, not, ◌&&◌, List, [], ◌∷◌, ◌++◌, length, Result, Ok, Err, IsTrue, refl, sym, ◌∙◌, ap, subst, arith, length-append}
+use Rattle.std.proofs.Common.{◌≡◌, ℕ, ◌+◌, ◌≤◌, Bool, true, false, not, ◌&&◌, List, [], ◌∷◌, ◌++◌, length, Option, Some, None, Err, IsTrue, refl, sym, ◌∙◌, ap, subst, arith, length-append}
 use Rattle.ports_core.specs.Name.{numbered_name}
 use Rattle.ports_core.specs.Part.{Part, OutputsAt, IsNext}
 use Rattle.ports_core.specs.Swept.{is_among}
@@ -12,24 +12,23 @@ use Rattle.csplit_core.specs.Output.{Style, Contents, is_empty, makes_file, file
 use Rattle.csplit_core.specs.Draft.{Draft, draft_part, last_contents, AreClosed}
 use Rattle.csplit_core.specs.inner.Draft.{first_draft, with_bytes}
 use Rattle.csplit_core.specs.Writer.{WriterState, Writes, OwnsFiles, IsReady, IsLast, IsOpenAt, size_of}
-use Rattle.csplit_core.specs.inner.Writer.{KeepsFiles, Pauses, Stopped, Goes, Begun, BegunNot, new_writer}
-use Rattle.csplit_core.specs.inner.WriterSteps.{MakesNone, Made, Makes, Appends, Started, StartedNot, next_name, begun_after}
+use Rattle.csplit_core.specs.inner.Writer.{KeepsFiles, Leaves, Pauses, Goes, Begun, BegunNot, new_writer}
+use Rattle.csplit_core.specs.inner.WriterSteps.{MakesNone, Made, Makes, Appends, Starts, next_name, begun_after}
 use Rattle.csplit_core.specs.declared.section_writer.Current.{Current}
 use Rattle.csplit_core.specs.declared.section_writer.Current.TheVariants.{Skipped, Unmade, File}
-use Rattle.csplit_core.proofs.WriterLemmas.{moves_as, halts_as, goes_by, stops_by, breaks_later, owns_again}
-use Rattle.csplit_core.proofs.OutputSteps.{Becomes, Falls, becomes_again, falls_after, file_of, with_last, file_begins, open_moves, write_moves, open_halts, write_halts}
-use Rattle.ports_core.proofs.SlotSteps.{keeps_same, keeps_write, keeps_open, made_write, writable_before, opened_writable, opened_last, none_past, made_short, keeps_again, made_same}
+use Rattle.csplit_core.proofs.WriterLemmas.{leaves_again, reaches_as, reaches_by, stops_in, where_well}
+use Rattle.csplit_core.proofs.OutputSteps.{Becomes, becomes_again, file_of, with_last, file_begins, opens, opens_not, writes_to}
+use Rattle.ports_core.proofs.SlotSteps.{keeps_same, keeps_open, writable_before, opened_writable, opened_last, none_past, made_same}
 use Rattle.csplit_core.proofs.DraftLemmas.{name_after, part_none, part_made, open_part, count_made, count_none, closed_files, more_begins}
-use Rattle.csplit_core.proofs.OwnLemmas.{at_file, owned_same, owned_opened, owned_unopened, make_breaks, write_breaks}
+use Rattle.csplit_core.proofs.OwnLemmas.{owned_same, owned_opened, owned_unopened, make_breaks}
 use Rattle.csplit_core.proofs.MakeLemmas.{state_of}
-use Rattle.csplit_core.proofs.PutLemmas.{now_unmade, skips_file, elides_file, file_owned, ready_written}
+use Rattle.csplit_core.proofs.PutLemmas.{now_unmade, skips_file, elides_file, appends_leaves}
 
 -- The next file
 
-made_moves : (told : Bool) {writer next : WriterState} (ended : List Contents) {slot : ℕ} {old new : List Slot} → length writer.files ≡ length (files_of writer.style 0 ended) → Made writer old new next slot
-    → Becomes told (part_by writer.style ended) (with_last (size_lines writer.style ended) (files_of writer.style 0 ended) (file_of (name_after writer.style ended) [] state.Open)) old new
-made_moves told {writer} ended {old} count made =
-    open_moves told (size_lines writer.style ended) (files_of writer.style 0 ended) (name_after writer.style ended) old
+made_becomes : {told : Bool} {writer next : WriterState} (ended : List Contents) {slot : ℕ} {old new : List Slot} → length writer.files ≡ length (files_of writer.style 0 ended) → Made writer old new next slot
+    → Becomes told (part_by writer.style ended) (with_last (size_lines writer.style ended) (files_of writer.style 0 ended) (file_of (name_after writer.style ended) [] state.Open)) old new None
+made_becomes {told} {writer} ended {old = old} count made = opens told (size_lines writer.style ended) (files_of writer.style 0 ended) (name_after writer.style ended)
     (made.added ∙ ap (λ n. old ++ opened (numbered_name writer.style.prefix writer.style.digits n) Fresh ∷ []) count)
 
 next_file : (style : Style) (ended : List Contents) (one : Contents) → makes_file style one ≡ true → IsNext (part_by style ended) (part_by style (ended ++ one ∷ [])) (name_after style ended)
@@ -42,11 +41,10 @@ next_file style ended one makes = record {
   name_is = refl;
 }
 
-made_halts : (told : Bool) (writer : WriterState) (ended : List Contents) (one : Contents) {old new : List Slot} {f : Fault} → makes_file writer.style one ≡ true → AreClosed ended → length writer.files ≡ length (files_of writer.style 0 ended)
-    → MakesNone old (next_name writer) new f → Falls told (part_by writer.style ended) (part_by writer.style (ended ++ one ∷ [])) old new f
-made_halts told writer ended one {old} {new} {f} makes closed count none =
-    open_halts told (files_of writer.style 0 ended)
-    (closed_files writer.style 0 ended closed) (more_begins writer.style ended one) (next_file writer.style ended one makes)
+unmade_falls : {told : Bool} (writer : WriterState) (ended : List Contents) (one : Contents) {old new : List Slot} {f : Fault} → makes_file writer.style one ≡ true → AreClosed ended → length writer.files ≡ length (files_of writer.style 0 ended)
+    → MakesNone old (next_name writer) new f → Becomes told (part_by writer.style ended) (part_by writer.style (ended ++ one ∷ [])) old new (Some f)
+unmade_falls {told} writer ended one {old} {new} {f} makes closed count none =
+    opens_not told (size_lines writer.style ended) (files_of writer.style 0 ended) (closed_files writer.style 0 ended closed) (more_begins writer.style ended one) (next_file writer.style ended one makes)
     (subst (λ n. MakesNone old (numbered_name writer.style.prefix writer.style.digits n) new f) count none)
 
 current_made : {writer next : WriterState} {slot : ℕ} {old new : List Slot} → Made writer old new next slot → next.current ≡ File slot 0
@@ -61,6 +59,18 @@ made_ready {writer} {slot} {old} {new} ready made = record {
     (let two = ready.streams in let here : slot ≡ length old = made.place in omega (arith, two, here)),
     opened_writable old new slot (next_name writer) Fresh made.place made.added,
   );
+}
+
+made_leaves : {writer next : WriterState} {slot : ℕ} {old new : List Slot} → IsReady writer old → Made writer old new next slot → Leaves writer next old new None
+made_leaves {old = old} {new} ready made =
+    record { style = ap (λ (those : WriterState). those.style) made.same; owns = owned_opened ready.streams made; slots = keeps_open _ old new made.added; ready = made_ready ready made }
+
+unmade_leaves : {writer next : WriterState} {old new : List Slot} {f : Fault} → Makes writer old new next (Err f) → Leaves writer next old new (Some f)
+unmade_leaves {writer} {old = old} {new} (same, none) = record {
+  style = ap (λ (those : WriterState). those.style) same;
+  owns = subst (λ those. KeepsFiles writer those old new) (sym same) (owned_unopened none);
+  slots = make_breaks writer.style none;
+  ready = tt;
 }
 
 -- The first bytes of a section whose file isn't made before them
@@ -95,46 +105,30 @@ unwritten {writer} {bytes} {draft} is some writes = record {
   none : makes_file writer.style (last_contents false draft) ≡ false
   none = let now = now_unmade is writes in elides_file writer.style (last_contents false draft) now.1 now.2
 
-pub put_first : (told : Bool) (writer made next : WriterState) (slot : ℕ) (bytes : List ℕ) (old mid new : List Slot) (result : Result (Unit {0}) Fault) → writer.current ≡ Unmade → is_empty bytes ≡ false → IsReady writer old → Made writer old mid made slot
-    → Appends told made slot 0 bytes mid new next result → Goes told writer (with_bytes bytes) old new next result
-put_first told writer made next slot bytes old mid new (Ok done) is some ready makes (same, wrote) = record {
-  style = ap (λ (those : WriterState). those.style) same ∙ ap (λ (those : WriterState). those.style) makes.same;
-  writes = λ draft writes. subst (λ those. Writes those (with_bytes bytes draft)) (sym (same ∙ ap (λ (those : WriterState). record those { current = File slot (0 + length bytes) }) makes.same)) (record {
-    closed = writes.closed;
-    made = length-append writer.files (slot ∷ []) ∙ ap (λ n. n + 1) (unwritten {writer = writer} {bytes = bytes} {draft = draft} is some writes).count ∙ sym (count_made writer.style draft.ended (last_contents false (with_bytes bytes draft)) (unwritten {writer = writer} {bytes = bytes} {draft = draft} is some writes).makes);
-    current = ((unwritten {writer = writer} {bytes = bytes} {draft = draft} is some writes).makes, (unwritten {writer = writer} {bytes = bytes} {draft = draft} is some writes).size);
-  });
-  moves = λ draft writes. moves_as told old new (part_none writer.style draft.ended (last_contents false draft) (unwritten {writer = writer} {bytes = bytes} {draft = draft} is some writes).none) (unwritten {writer = writer} {bytes = bytes} {draft = draft} is some writes).high
-      (goes_by told {old = old} {new = new} (owns_again writer {two = made} {three = next} {old = old} {mid = mid} {new = new} (owned_opened {writer = writer} {next = made} {slot = slot} {old = old} {new = mid} ready.streams makes) (file_owned {writer = made} {next = next} {slot = slot} {size = 0} _ {old = mid} {new = new} (current_made {writer = writer} {next = made} {slot = slot} {old = old} {new = mid} makes) same (made_write slot _ mid new wrote)))
-      (λ last. becomes_again told old mid new (made_moves told {writer = writer} {next = made} draft.ended {slot = slot} {old = old} {new = mid} (unwritten {writer = writer} {bytes = bytes} {draft = draft} is some writes).count makes)
-      (write_moves told (size_lines writer.style draft.ended) (files_of writer.style 0 draft.ended) (name_after writer.style draft.ended) [] bytes {slot = slot} mid {new = new} (opened_last old mid slot (next_name writer) Fresh makes.place makes.added) wrote)));
-  keeps = keeps_again old mid new (keeps_open _ old mid makes.added) (keeps_write slot _ mid new wrote);
-  owns = owns_again writer {two = made} {three = next} {old = old} {mid = mid} {new = new} (owned_opened {writer = writer} {next = made} {slot = slot} {old = old} {new = mid} ready.streams makes) (file_owned {writer = made} {next = next} {slot = slot} {size = 0} _ {old = mid} {new = new} (current_made {writer = writer} {next = made} {slot = slot} {old = old} {new = mid} makes) same (made_write slot _ mid new wrote));
-  ready = ready_written {writer = made} {next = next} {slot = slot} _ {old = mid} {new = new} at (made_ready {writer = writer} {next = made} {slot = slot} {old = old} {new = mid} ready makes) same wrote;
+pub put_first : {told : Bool} {writer made next : WriterState} {slot : ℕ} (bytes : List ℕ) {old mid new : List Slot} {fault : Option Fault} → writer.current ≡ Unmade → is_empty bytes ≡ false → IsReady writer old → Made writer old mid made slot
+    → Appends told made slot 0 bytes mid new next fault → Goes told writer (with_bytes bytes) old new next fault
+put_first {told} {writer} {made} {next} {slot} bytes {old} {mid} {new} {fault} is some ready makes appends = record {
+  leaves = leaves;
+  reaches = λ draft writes. let so = unwritten is some writes in reaches_as (part_none writer.style draft.ended (last_contents false draft) so.none) so.high
+      (reaches_by leaves.owns (λ last. becomes_again (file_begins (files_of writer.style 0 draft.ended) (file_of (name_after writer.style draft.ended) [] state.Open)) (made_becomes draft.ended so.count makes)
+      (writes_to told (size_lines writer.style draft.ended) (files_of writer.style 0 draft.ended) (name_after writer.style draft.ended) [] bytes mid fault
+      (closed_files writer.style 0 draft.ended writes.closed) (opened_last old mid slot (next_name writer) Fresh makes.place makes.added) appends.wrote)));
+  writes = where_well fault appends.current (λ current draft writes. let so = unwritten is some writes in
+      subst (λ those. Writes those (with_bytes bytes draft)) (sym (appends.same ∙ ap (λ (those : WriterState). record those { current = next.current }) makes.same ∙ ap (λ current. record writer { files = writer.files ++ slot ∷ []; current = current }) current)) (record {
+        closed = writes.closed;
+        made = length-append writer.files (slot ∷ []) ∙ ap (λ n. n + 1) so.count ∙ sym (count_made writer.style draft.ended (last_contents false (with_bytes bytes draft)) so.makes);
+        current = (so.makes, so.size);
+      }));
 } where
-  at : (2 ≤ slot) × IsTrue (is_writable mid slot)
-  at = at_file {writer = made} {slot = slot} {size = 0} {slots = mid} (current_made {writer = writer} {next = made} {slot = slot} {old = old} {new = mid} makes) (made_ready {writer = writer} {next = made} {slot = slot} {old = old} {new = mid} ready makes)
-put_first told writer made next slot bytes old mid new (Err f) is some ready makes (same, cut) = record {
-  style = ap (λ (those : WriterState). those.style) same ∙ ap (λ (those : WriterState). those.style) makes.same;
-  halts = λ draft writes. halts_as told {old = old} {new = new} {fault = f} (part_none writer.style draft.ended (last_contents false draft) (unwritten {writer = writer} {bytes = bytes} {draft = draft} is some writes).none) (unwritten {writer = writer} {bytes = bytes} {draft = draft} is some writes).high
-      (stops_by told {old = old} {new = new} {fault = f} (λ last. falls_after told {middle = with_last (size_lines writer.style draft.ended) (files_of writer.style 0 draft.ended) (file_of (name_after writer.style draft.ended) [] state.Open)} old mid new f
-      (file_begins {out = size_lines writer.style draft.ended} (files_of writer.style 0 draft.ended) (file_of (name_after writer.style draft.ended) [] state.Open))
-      (made_moves told {writer = writer} {next = made} draft.ended {slot = slot} {old = old} {new = mid} (unwritten {writer = writer} {bytes = bytes} {draft = draft} is some writes).count makes)
-      (write_halts told (size_lines writer.style draft.ended) (files_of writer.style 0 draft.ended) (name_after writer.style draft.ended) [] bytes {slot = slot} {old = mid} {new = new} {fault = f} (closed_files writer.style 0 draft.ended writes.closed) (opened_last old mid slot (next_name writer) Fresh makes.place makes.added) cut)));
-  breaks = breaks_later writer.style old mid new f (keeps_open _ old mid makes.added) (write_breaks told writer.style {slot = slot} {bytes = bytes} {old = mid} {new = new} {f = f} at.0 at.1 cut);
-  owns = owns_again writer {two = made} {three = next} {old = old} {mid = mid} {new = new} (owned_opened {writer = writer} {next = made} {slot = slot} {old = old} {new = mid} ready.streams makes)
-      (subst (λ those. KeepsFiles made those mid new) (sym same) (owned_same {writer = made} {next = made} {old = mid} {new = new} refl (λ last. subst (λ current. IsLast current new) (sym (current_made {writer = writer} {next = made} {slot = slot} {old = old} {new = mid} makes)) (opened_last old mid slot (next_name writer) Fresh makes.place makes.added ∙ sym (made_short told slot bytes mid new f cut).size)) (made_short told slot bytes mid new f cut)));
-} where
-  at : (2 ≤ slot) × IsTrue (is_writable mid slot)
-  at = at_file {writer = made} {slot = slot} {size = 0} {slots = mid} (current_made {writer = writer} {next = made} {slot = slot} {old = old} {new = mid} makes) (made_ready {writer = writer} {next = made} {slot = slot} {old = old} {new = mid} ready makes)
+  leaves : Leaves writer next old new fault
+  leaves = leaves_again (made_leaves ready makes) (appends_leaves (current_made makes) (made_ready ready makes) appends)
 
-pub put_unmade : (told : Bool) {writer next : WriterState} (bytes : List ℕ) {old new : List Slot} {f : Fault} → writer.current ≡ Unmade → is_empty bytes ≡ false → IsReady writer old → Makes writer old new next (Err f) → Stopped told writer (with_bytes bytes) old new next f
-put_unmade told {writer} bytes {old} {new} is some ready (same, none) = record {
-  style = ap (λ (those : WriterState). those.style) same;
-  halts = λ draft writes. halts_as told (part_none writer.style draft.ended (last_contents false draft) (unwritten is some writes).none) refl
-      (stops_by told (λ last. made_halts told writer draft.ended (last_contents false (with_bytes bytes draft)) (unwritten is some writes).makes writes.closed (unwritten is some writes).count none));
-  breaks = make_breaks writer.style none;
-  owns = subst (λ those. KeepsFiles writer those old new) (sym same) (owned_unopened none);
+pub put_unmade : {told : Bool} {writer next : WriterState} (bytes : List ℕ) {old new : List Slot} {f : Fault} → writer.current ≡ Unmade → is_empty bytes ≡ false → Makes writer old new next (Err f) → Goes told writer (with_bytes bytes) old new next (Some f)
+put_unmade {writer = writer} bytes is some makes = record {
+  leaves = unmade_leaves makes;
+  reaches = λ draft writes. let so = unwritten is some writes in reaches_as (part_none writer.style draft.ended (last_contents false draft) so.none) refl
+      (reaches_by (unmade_leaves makes).owns (λ last. unmade_falls writer draft.ended (last_contents false (with_bytes bytes draft)) so.makes writes.closed so.count makes.1));
+  writes = tt;
 }
 
 -- A section begins
@@ -143,56 +137,52 @@ abbrev begun : Bool → Contents
 begun kept = record { is_kept = kept; is_closed = false; bytes = [] }
 
 -- one without a file
-begun_none : (told : Bool) {writer : WriterState} {kept : Bool} {current : Current} {slots : List Slot} → makes_file writer.style (begun kept) ≡ false → Rattle.csplit_core.specs.Writer.IsCurrent writer.style kept [] current → IsOpenAt current slots → IsLast current slots → size_of current ≡ 0
-    → IsReady writer slots → Started told writer.style writer kept slots slots (record writer { current = current })
-begun_none told {writer} {kept} {current} {slots} none is at last size ready = record {
-  asked = refl;
-  writes = λ ended pauses. record {
-    closed = pauses.closed;
-    made = pauses.made ∙ sym (count_none writer.style ended (begun kept) none);
-    current = is;
+begun_none : {told : Bool} {writer : WriterState} {kept : Bool} {current : Current} {slots : List Slot} → makes_file writer.style (begun kept) ≡ false → Rattle.csplit_core.specs.Writer.IsCurrent writer.style kept [] current → IsOpenAt current slots → IsLast current slots → size_of current ≡ 0
+    → IsReady writer slots → Starts told writer kept slots slots (record writer { current = current }) None
+begun_none {told} {writer} {kept} {slots = slots} none is at last size ready = record {
+  leaves = record {
+    style = refl;
+    owns = owned_same refl (λ before. last) (made_same slots);
+    slots = keeps_same slots slots refl;
+    ready = record { streams = ready.streams; output = ready.output; files = ready.files; current = at };
   };
-  moves = λ ended pauses. goes_by told (owned_same refl (λ before. last) (made_same slots))
-      (λ before these outputs. subst (λ part. OutputsAt told these part slots) (sym (part_none writer.style ended (begun kept) none)) outputs);
+  reaches = λ ended pauses. reaches_by (owned_same refl (λ before. last) (made_same slots))
+      (λ before. record { gets = λ these outputs. subst (λ part. OutputsAt told these part slots) (sym (part_none writer.style ended (begun kept) none)) outputs });
+  writes = λ ended pauses. record { closed = pauses.closed; made = pauses.made ∙ sym (count_none writer.style ended (begun kept) none); current = is };
   size = size;
-  keeps = keeps_same slots slots refl;
-  owns = owned_same refl (λ before. last) (made_same slots);
-  ready = record { streams = ready.streams; output = ready.output; files = ready.files; current = at };
+  none_made = tt;
 }
 
-pub begin_skipped : (told : Bool) {writer : WriterState} {kept : Bool} {slots : List Slot} → kept ≡ false → IsReady writer slots → Started told writer.style writer kept slots slots (record writer { current = Skipped })
-begin_skipped told {writer} {kept} is ready = begun_none told (skips_file writer.style (begun kept) is) is tt tt refl ready
+pub begin_skipped : {told : Bool} {writer : WriterState} {kept : Bool} {slots : List Slot} → kept ≡ false → IsReady writer slots → Starts told writer kept slots slots (record writer { current = Skipped }) None
+begin_skipped {writer = writer} {kept} is ready = begun_none (skips_file writer.style (begun kept) is) is tt tt refl ready
 
-pub begin_unmade : (told : Bool) {writer : WriterState} {kept : Bool} {slots : List Slot} → kept ≡ true → writer.style.elide ≡ true → IsReady writer slots → Started told writer.style writer kept slots slots (record writer { current = Unmade })
-begin_unmade told {writer} {kept} is elide ready = begun_none told (elides_file writer.style (begun kept) elide refl) (is, elide, refl) tt tt refl ready
+pub begin_unmade : {told : Bool} {writer : WriterState} {kept : Bool} {slots : List Slot} → kept ≡ true → writer.style.elide ≡ true → IsReady writer slots → Starts told writer kept slots slots (record writer { current = Unmade }) None
+begin_unmade {writer = writer} {kept} is elide ready = begun_none (elides_file writer.style (begun kept) elide refl) (is, elide, refl) tt tt refl ready
 
 -- one with a file
 begun_makes : (style : Style) {kept : Bool} → kept ≡ true → style.elide ≡ false → makes_file style (begun kept) ≡ true
 begun_makes style is elide = ap (λ k. k && not (style.elide && true)) is ∙ ap (λ e. true && not (e && true)) elide
 
-pub begin_made : (told : Bool) {writer next : WriterState} {kept : Bool} {slot : ℕ} {old new : List Slot} → kept ≡ true → writer.style.elide ≡ false → IsReady writer old → Made writer old new next slot → Started told writer.style writer kept old new next
-begin_made told {writer} {kept} {slot} {old} {new} is elide ready made = record {
-  asked = ap (λ (those : WriterState). those.style) made.same;
+pub begin_made : {told : Bool} {writer next : WriterState} {kept : Bool} {slot : ℕ} {old new : List Slot} → kept ≡ true → writer.style.elide ≡ false → IsReady writer old → Made writer old new next slot → Starts told writer kept old new next None
+begin_made {writer = writer} {kept = kept} {slot} is elide ready made = let makes = begun_makes writer.style is elide in record {
+  leaves = made_leaves ready made;
+  reaches = λ ended pauses. reaches_as refl (open_part writer.style (begun_after ended kept) makes) (reaches_by (owned_opened ready.streams made) (λ last. made_becomes ended pauses.made made));
   writes = λ ended pauses. subst (λ those. Writes those (begun_after ended kept)) (sym made.same) (record {
     closed = pauses.closed;
-    made = length-append writer.files (slot ∷ []) ∙ ap (λ n. n + 1) pauses.made ∙ sym (count_made writer.style ended (begun kept) (begun_makes writer.style is elide));
-    current = (begun_makes writer.style is elide, refl);
+    made = length-append writer.files (slot ∷ []) ∙ ap (λ n. n + 1) pauses.made ∙ sym (count_made writer.style ended (begun kept) makes);
+    current = (makes, refl);
   });
-  moves = λ ended pauses. moves_as told old new refl (open_part writer.style (begun_after ended kept) (begun_makes writer.style is elide))
-      (goes_by told (owned_opened ready.streams made) (λ last. made_moves told ended pauses.made made));
   size = ap size_of (current_made made);
-  keeps = keeps_open _ old new made.added;
-  owns = owned_opened ready.streams made;
-  ready = made_ready ready made;
+  none_made = tt;
 }
 
-pub begin_not : (told : Bool) {writer next : WriterState} {kept : Bool} {old new : List Slot} {f : Fault} → kept ≡ true → writer.style.elide ≡ false → IsReady writer old → Makes writer old new next (Err f) → StartedNot told writer.style writer kept old new next f
-begin_not told {writer} {kept} {old} {new} is elide ready (same, none) = record {
-  asked = ap (λ (those : WriterState). those.style) same;
-  halts = λ ended pauses. stops_by told (λ last. made_halts told writer ended (begun kept) (begun_makes writer.style is elide) pauses.closed pauses.made none);
-  none_made = ap (λ (those : WriterState). those.files) same;
-  breaks = make_breaks writer.style none;
-  owns = subst (λ those. KeepsFiles writer those old new) (sym same) (owned_unopened none);
+pub begin_not : {told : Bool} {writer next : WriterState} {kept : Bool} {old new : List Slot} {f : Fault} → kept ≡ true → writer.style.elide ≡ false → Makes writer old new next (Err f) → Starts told writer kept old new next (Some f)
+begin_not {writer = writer} {kept = kept} is elide makes = record {
+  leaves = unmade_leaves makes;
+  reaches = λ ended pauses. reaches_by (unmade_leaves makes).owns (λ last. unmade_falls writer ended (begun kept) (begun_makes writer.style is elide) pauses.closed pauses.made makes.1);
+  writes = tt;
+  size = tt;
+  none_made = ap (λ (those : WriterState). those.files) makes.0;
 }
 
 -- The first section
@@ -216,22 +206,22 @@ pub empty_ready : (style : Style) {files : List ℕ} {slots : List Slot} → fil
 empty_ready style {files} {slots} none two can =
     subst (λ those. IsReady (state_of style those Skipped) slots) (sym none) (record { streams = two; output = can; files = tt; current = tt })
 
-pub opens_begun : (told : Bool) {style : Style} {files : List ℕ} {kept : Bool} {old new : List Slot} {next : WriterState} → files ≡ [] → 2 ≤ length old → Started told style (state_of style files Skipped) kept old new next → Begun told style kept old new next
-opens_begun told {style} {kept} {old} {new} {next} none two begun =
-    let started = subst (λ those. Started told style (state_of style those Skipped) kept old new next) none begun in record {
-      asked = started.asked;
+pub opens_begun : {told : Bool} {style : Style} {files : List ℕ} {kept : Bool} {old new : List Slot} {next : WriterState} → files ≡ [] → 2 ≤ length old → Starts told (state_of style files Skipped) kept old new next None → Begun told style kept old new next
+opens_begun {told} {style} {kept = kept} {old} {new} {next} none two begun =
+    let started = subst (λ those. Starts told (state_of style those Skipped) kept old new next None) none begun in record {
+      asked = started.leaves.style;
       writes = started.writes [] (new_pauses style);
-      moves = started.moves [] (new_pauses style);
+      reaches = started.reaches [] (new_pauses style);
       size = started.size;
-      owns = started.owns.owns (length old) (new_owns style two);
-      ready = started.ready;
+      owns = started.leaves.owns.owns (length old) (new_owns style two);
+      ready = started.leaves.ready;
     }
 
-pub opens_not : (told : Bool) {style : Style} {files : List ℕ} {kept : Bool} {old new : List Slot} {next : WriterState} {f : Fault} → files ≡ [] → 2 ≤ length old → StartedNot told style (state_of style files Skipped) kept old new next f
+pub opens_not_begun : {told : Bool} {style : Style} {files : List ℕ} {kept : Bool} {old new : List Slot} {next : WriterState} {f : Fault} → files ≡ [] → 2 ≤ length old → Starts told (state_of style files Skipped) kept old new next (Some f)
     → BegunNot told style (draft_part style (first_draft kept)) old new f
-opens_not told {style} {kept} {old} {new} {next} {f} none two not_begun =
-    let started = subst (λ those. StartedNot told style (state_of style those Skipped) kept old new next f) none not_begun in record {
-      halts = started.halts [] (new_pauses style);
-      breaks = started.breaks;
-      none = λ place past. (started.owns.owns (length old) (new_owns style two)).own place past ∙ ap (is_among place) started.none_made;
+opens_not_begun {told} {style} {kept = kept} {old} {new} {next} {f} none two not_begun =
+    let started = subst (λ those. Starts told (state_of style those Skipped) kept old new next (Some f)) none not_begun in record {
+      reaches = stops_in (started.reaches [] (new_pauses style));
+      breaks = started.leaves.slots;
+      none = λ place past. (started.leaves.owns.owns (length old) (new_owns style two)).own place past ∙ ap (is_among place) started.none_made;
     }

@@ -1,5 +1,5 @@
 -- A cut ends the open section, and the next one begins.
-use Rattle.std.proofs.Common.{◌≡◌, ℕ, suc, ◌+◌, ◌-◌, ◌<◌, ◌≤◌, max, eqb, ◌&&◌, cond, Bool, true, false, List, [], ◌∷◌, ◌++◌, length, map, refl, sym, ◌∙◌, ap, subst, arith, append_assoc}
+use Rattle.std.proofs.Common.{◌≡◌, ℕ, suc, ◌+◌, ◌-◌, ◌<◌, ◌≤◌, max, eqb, ◌&&◌, cond, Bool, true, false, List, [], ◌∷◌, ◌++◌, length, map, Option, Some, None, refl, sym, ◌∙◌, ap, subst, arith, append_assoc}
 use Rattle.std.proofs.lemmas.List.{map-append, append-nil}
 use Rattle.seg_core.specs.Line.{first_lines, after_lines}
 use Rattle.seg_core.proofs.FirstLines.{first_lines-zero, first_lines_then_rest}
@@ -8,7 +8,6 @@ use Rattle.ports_core.specs.Slot.{Slot}
 use Rattle.ports_core.specs.declared.fault.Fault.{Fault}
 use Rattle.ports_core.specs.declared.fault.Fault.TheVariants.{Memory}
 use Rattle.ports_core.proofs.PartLemmas.{part_trans}
-use Rattle.ports_core.proofs.SlotSteps.{keeps_again}
 use Rattle.csplit_core.specs.Csplit.{settled_of}
 use Rattle.csplit_core.specs.Draft.{Draft, draft_part}
 use Rattle.csplit_core.specs.inner.Draft.{with_bytes, with_section}
@@ -23,15 +22,15 @@ use Rattle.csplit_core.specs.inner.Progress.{GoesPast}
 use Rattle.csplit_core.specs.Section.{Section, section, section_of, lines_between, bytes_of, is_last_kept, settled_end, settled_sections}
 use Rattle.csplit_core.specs.laws.SectionLaws.{part_grows, ends_as}
 use Rattle.csplit_core.specs.Writer.{WriterState, Writes, size_of}
-use Rattle.csplit_core.specs.inner.Writer.{KeepsFiles, Went, Stopped}
+use Rattle.csplit_core.specs.inner.Writer.{Goes, Leaves, Reaches}
 use Rattle.csplit_core.specs.declared.line_cutter.Cut.{Cut}
 use Rattle.csplit_core.specs.Cutter.{CutterState, suppress_in, state_in, kept_by, text_from, Leads, draft_by, IsFit, IsAt}
-use Rattle.csplit_core.specs.inner.Cutter.{settled_part, part_at, search_after, CutsNow, PassesOn, IsAfter, CutAt, CutNot, WillCut, IsEnd}
-use Rattle.csplit_core.proofs.HoldLemmas.{memory_halts}
+use Rattle.csplit_core.specs.inner.Cutter.{settled_part, part_at, search_after, CutsNow, PassesOn, IsAfter, CutAt, CutsAll, WillCut, IsEnd}
+use Rattle.csplit_core.proofs.HoldLemmas.{lacks_memory}
 use Rattle.csplit_core.proofs.LastSectionLemmas.{after_within}
 use Rattle.csplit_core.proofs.LineLemmas.{bytes_between, first_further, from_further}
 use Rattle.csplit_core.proofs.SettledLemmas.{last_kept}
-use Rattle.csplit_core.proofs.WriterLemmas.{moves_again, moves_as, halts_after, halts_wider, halts_as, bytes_begin, section_begins, breaks_later, owns_again}
+use Rattle.csplit_core.proofs.WriterLemmas.{bytes_begin, leaves_again, leaves_lacking, reaches_again, reaches_as, section_begins, stops_wider}
 
 -- What is settled begins with what stands where a section has begun.
 
@@ -123,30 +122,11 @@ pub before_begins : {cutter : CutterState} {x left : List ℕ} (line : List ℕ)
 before_begins {cutter} {x} {left} line {before} {at} cut now fit will before_is =
     part_trans (draft_part cutter.writer.style (with_bytes before (draft_at cutter x left at))) _ (settled_part cutter x) (section_begins cutter.writer.style _ (with_bytes before (draft_at cutter x left at))) (cut_begins line cut now fit will before_is)
 
-pub cut_put_stopped : (told : Bool) {cutter start : CutterState} {writer : WriterState} (cut : Cut) {place : ℕ} {left before : List ℕ} {old new : List Slot} {fault : Fault} → start ≡ cutter → IsFit cutter → WillCut cutter cut
-    → before ≡ first_lines newline (cut.line - place) left → Stopped told start.writer (with_bytes before) old new writer fault → CutNot told cutter cut place left old new (record start { writer = writer }) fault
-cut_put_stopped told {start} {writer} cut {place} {left} {old} {new} {fault} is fit will before_is stopped =
-    subst (λ (c : CutterState). CutNot told c cut place left old new (record start { writer = writer }) fault) is (record {
-      same = record { operands = refl; style = stopped.style };
-      halts = λ x line at now. halts_wider told (stopped.halts (draft_at start x left at) at.writes) (before_begins line cut now (subst IsFit (sym is) fit)
-          (subst (λ (c : CutterState). WillCut c cut) (sym is) will) before_is);
-      breaks = stopped.breaks;
-      owns = stopped.owns;
-    })
-
-pub cut_pass_stopped : (told : Bool) {cutter start mid : CutterState} {writer : WriterState} (cut : Cut) {place : ℕ} {left before : List ℕ} {old new : List Slot} {fault : Fault} → start ≡ cutter → IsFit cutter → WillCut cutter cut → before ≡ first_lines newline (cut.line - place) left
-    → Went told start.writer (with_bytes before) old new writer → (fault ≡ Memory) × (mid.writer ≡ writer) × (mid.operands ≡ start.operands) → CutNot told cutter cut place left old new mid fault
-cut_pass_stopped told {start} {mid} cut {place} {left} {before} {old} {new} {fault} is fit will before_is went (is_memory, same_writer, same_operands) =
-    subst (λ (c : CutterState). CutNot told c cut place left old new mid fault) is
-    (subst (λ why. CutNot told start cut place left old new mid why) (sym is_memory) (record {
-      same = record { operands = same_operands; style = ap (λ (w : WriterState). w.style) same_writer ∙ went.style };
-      halts = λ x line at now.
-          halts_after told (bytes_begin start.writer.style before (draft_at start x left at)) (went.moves (draft_at start x left at) at.writes)
-          (halts_wider told (memory_halts told start.writer.style (with_bytes before (draft_at start x left at)) at.writes.closed)
-          (before_begins line cut now (subst IsFit (sym is) fit) (subst (λ (c : CutterState). WillCut c cut) (sym is) will) before_is));
-      breaks = tt;
-      owns = subst (λ w. KeepsFiles start.writer w old new) (sym same_writer) went.owns;
-    }))
+pub cut_stopped : {told : Bool} {cutter next : CutterState} {cut : Cut} {place : ℕ} {left line : List ℕ} {old new : List Slot} {fault : Fault} → next.operands ≡ cutter.operands → Leaves cutter.writer next.writer old new (Some fault)
+    → ((x : List ℕ) (at : IsAt cutter x left) → CutsNow cutter x left line cut place at → Reaches told cutter.writer next.writer (part_at cutter x left at) (settled_part cutter x) old new (Some fault))
+    → CutsAll told cutter cut place left line [] old new next (Some fault)
+cut_stopped {cutter = cutter} operands leaves reaches =
+    record { keeps = record { operands = operands; writer = leaves }; reaches = λ x at now. reaches_as refl (ap (settled_part cutter) (append-nil x)) (reaches x at now); went = tt }
 
 -- the run went on after the cut
 pub record Passed (cutter mid : CutterState) (writer : WriterState) (cut : Cut) : Type 0 where
@@ -156,28 +136,45 @@ pub record Passed (cutter mid : CutterState) (writer : WriterState) (cut : Cut) 
   pub fewer : needed mid.lines (state_in mid) < needed cutter.lines (state_in cutter)
   pub state : PassesOn (record cutter { writer = writer }) cut mid
 
--- where the run stands then
-passed_state : (told : Bool) {cutter mid : CutterState} {writer : WriterState} (cut : Cut) (before : List ℕ) {old new : List Slot} → Went told cutter.writer (with_bytes before) old new writer → Passed cutter mid writer cut → {operand : Operand} {operands : List Operand} → (state_in cutter).operands ≡ operand ∷ operands
-    → state_in mid ≡ state_after (suppress_in cutter) operand operands cutter.progress.repetition cut.matched cut.line
-passed_state told {cutter} cut before went passed {operand} {operands} are =
-    passed.state operand operands are ∙ ap (λ (s : Style). state_after s.suppress operand operands cutter.progress.repetition cut.matched cut.line) went.style
+goes_here : {told : Bool} {cutter start : CutterState} {writer : WriterState} {before : List ℕ} {old new : List Slot} {fault : Option Fault} → start ≡ cutter → Goes told start.writer (with_bytes before) old new writer fault → Goes told cutter.writer (with_bytes before) old new writer fault
+goes_here {told} {writer = writer} {before} {old} {new} {fault} same goes = subst (λ (c : CutterState). Goes told c.writer (with_bytes before) old new writer fault) same goes
 
-pub next_stopped : (told : Bool) {cutter mid : CutterState} {writer next : WriterState} (cut : Cut) {place : ℕ} {left before : List ℕ} {kept : Bool} {old : List Slot} (between : List Slot) {new : List Slot} {fault : Fault} → IsFit cutter → WillCut cutter cut → before ≡ first_lines newline (cut.line - place) left
-    → Went told cutter.writer (with_bytes before) old between writer → Passed cutter mid writer cut → kept ≡ kept_by (state_in mid).operands → Stopped told mid.writer (with_section kept) between new next fault → CutNot told cutter cut place left old new (record mid { writer = next }) fault
-next_stopped told {cutter} {mid} {writer} {next} cut {left} {before} {kept} {old} between {new} {fault} fit will before_is went passed kept_is stopped =
-    let writer_is : mid.writer ≡ writer = ap (λ (c : CutterState). c.writer) passed.same in
-    let stopped' : Stopped told writer (with_section kept) between new next fault = subst (λ w. Stopped told w (with_section kept) between new next fault) writer_is stopped in record {
-      same = record { operands = ap (λ (c : CutterState). c.operands) passed.same; style = stopped'.style ∙ went.style };
-      halts = λ x line at now.
-          let state = passed_state told cut before went passed now.goes.are in
-          let kept' : kept ≡ kept_by (state_after (suppress_in cutter) now.goes.operand now.goes.operands cutter.progress.repetition cut.matched cut.line).operands = kept_is ∙ ap (λ (s : State). kept_by s.operands) state in
-          let draft = draft_at cutter x left at in
-          halts_after told (bytes_begin cutter.writer.style before draft) (went.moves draft at.writes) (halts_wider told
-          (halts_as told (ap (λ (s : Style). draft_part s (with_bytes before draft)) (sym went.style)) (ap (λ (s : Style). draft_part s (with_section kept (with_bytes before draft))) (sym went.style)) (stopped'.halts (with_bytes before draft) (went.writes draft at.writes)))
-          (subst (λ k. Begins (draft_part cutter.writer.style (with_section k (with_bytes before draft))) (settled_part cutter x)) (sym kept') (cut_begins line cut now fit will before_is)));
-      breaks = breaks_later cutter.writer.style old between new fault went.keeps (subst (λ (s : Style). Rattle.csplit_core.specs.Writer.Breaks s between new fault) went.style stopped'.breaks);
-      owns = owns_again cutter.writer went.owns stopped'.owns;
-    }
+-- where the run stands after the cut
+passed_state : {told : Bool} {cutter start mid : CutterState} {writer : WriterState} {cut : Cut} {before : List ℕ} {old new : List Slot} → start ≡ cutter → Goes told start.writer (with_bytes before) old new writer None → Passed start mid writer cut
+    → {operand : Operand} {operands : List Operand} → (state_in cutter).operands ≡ operand ∷ operands → state_in mid ≡ state_after (suppress_in cutter) operand operands cutter.progress.repetition cut.matched cut.line
+passed_state {cutter = cutter} {mid = mid} {writer} {cut} same goes passed {operand} {operands} are =
+    let here = subst (λ c. Passed c mid writer cut) same passed in
+    here.state operand operands are ∙ ap (λ (s : Style). state_after s.suppress operand operands cutter.progress.repetition cut.matched cut.line) (goes_here same goes).leaves.style
+
+-- a cut of this cutter, which is known by its fields too, is due, and stands after these bytes of the lines that are left
+module _ {cutter start : CutterState} {cut : Cut} {place : ℕ} {left before : List ℕ} (same : start ≡ cutter) (fit : IsFit cutter) (will : WillCut cutter cut) (before_is : before ≡ first_lines newline (cut.line - place) left) where
+  pub cut_put_stopped : {told : Bool} {writer : WriterState} {old new : List Slot} {fault : Fault} (line : List ℕ) → Goes told start.writer (with_bytes before) old new writer (Some fault)
+      → CutsAll told cutter cut place left line [] old new (record start { writer = writer }) (Some fault)
+  cut_put_stopped line goes = let stopped = goes_here same goes in cut_stopped (ap (λ (c : CutterState). c.operands) same) stopped.leaves
+      (λ x at now. stops_wider (stopped.reaches (draft_at cutter x left at) at.writes) (before_begins line cut now fit will before_is))
+
+  pub cut_pass_stopped : {told : Bool} {mid : CutterState} {writer : WriterState} {old new : List Slot} {fault : Fault} (line : List ℕ) → Goes told start.writer (with_bytes before) old new writer None
+      → (fault ≡ Memory) × (mid.writer ≡ writer) × (mid.operands ≡ start.operands) → CutsAll told cutter cut place left line [] old new mid (Some fault)
+  cut_pass_stopped {told} {mid} {writer} {old} {new} line goes (is_memory, same_writer, same_operands) =
+      let went = subst (λ w. Goes told cutter.writer (with_bytes before) old new w None) (sym same_writer) (goes_here same goes) in
+      subst (λ why. CutsAll told cutter cut place left line [] old new mid (Some why)) (sym is_memory)
+      (cut_stopped (same_operands ∙ ap (λ (c : CutterState). c.operands) same) (leaves_again went.leaves leaves_lacking)
+      (λ x at now. let draft = draft_at cutter x left at in reaches_again (bytes_begin cutter.writer.style before draft) (went.reaches draft at.writes)
+      (stops_wider (lacks_memory cutter.writer.style (with_bytes before draft) at.writes.closed) (before_begins line cut now fit will before_is))))
+
+  pub cut_next_stopped : {told : Bool} {mid now : CutterState} {writer next : WriterState} {kept : Bool} {old between new : List Slot} {fault : Fault} (line : List ℕ) → Goes told start.writer (with_bytes before) old between writer None → now ≡ mid → Passed start mid writer cut
+      → kept ≡ kept_by (state_in now).operands → Goes told now.writer (with_section kept) between new next (Some fault) → CutsAll told cutter cut place left line [] old new (record now { writer = next }) (Some fault)
+  cut_next_stopped {told} {mid} {now} {writer} {next} {kept} {old} {between} {new} {fault} line goes same_mid passed kept_is stops =
+      let went = goes_here same goes in
+      let stopped : Goes told writer (with_section kept) between new next (Some fault) = subst (λ w. Goes told w (with_section kept) between new next (Some fault)) (ap (λ (c : CutterState). c.writer) (same_mid ∙ passed.same)) stops in
+      cut_stopped (ap (λ (c : CutterState). c.operands) (same_mid ∙ passed.same) ∙ ap (λ (c : CutterState). c.operands) same) (leaves_again went.leaves stopped.leaves)
+      (λ x at due.
+      let kept' = kept_is ∙ ap (λ (m : CutterState). kept_by (state_in m).operands) same_mid ∙ ap (λ (s : State). kept_by s.operands) (passed_state same goes passed due.goes.are) in
+      let draft = draft_at cutter x left at in
+      reaches_again (bytes_begin cutter.writer.style before draft) (went.reaches draft at.writes)
+      (stops_wider
+      (reaches_as (ap (λ (s : Style). draft_part s (with_bytes before draft)) (sym went.leaves.style)) (ap (λ (s : Style). draft_part s (with_section kept (with_bytes before draft))) (sym went.leaves.style)) (stopped.reaches (with_bytes before draft) (went.writes draft at.writes)))
+      (subst (λ k. Begins (draft_part cutter.writer.style (with_section k (with_bytes before draft))) (settled_part cutter x)) (sym kept') (cut_begins line cut due fit will before_is))))
 
 -- the next section began
 
@@ -193,62 +190,6 @@ rest_from : (suppress : Bool) {rest : List ℕ} (all : List ℕ) (cut : ℕ) (x 
 rest_from true all cut x some is skipped whole = skipped refl ∙ ap (after_lines newline 1) is ∙ from_further cut 1 x some ∙ ap (λ n. text_from n x) (let e : cut + 1 ≡ suc cut = omega arith in e)
 rest_from false all cut x some is skipped whole = whole refl ∙ is
 
-abbrev next_of_cut : CutterState → WriterState → CutterState
-next_of_cut mid next = record mid { writer = next }
-
-after_at : (told : Bool) {cutter mid : CutterState} {writer next : WriterState} (cut : Cut) {place : ℕ} {x left : List ℕ} (line : List ℕ) {before rest : List ℕ} (all : List ℕ) {kept : Bool} {old : List Slot} (between : List Slot) {new : List Slot} → IsFit cutter → WillCut cutter cut → before ≡ first_lines newline (cut.line - place) left
-    → all ≡ after_lines newline (cut.line - place) left → (next.style.suppress ≡ true → rest ≡ after_lines newline 1 all) → (next.style.suppress ≡ false → rest ≡ all)
-    → Went told cutter.writer (with_bytes before) old between writer → Passed cutter mid writer cut → kept ≡ kept_by (state_in mid).operands → Went told mid.writer (with_section kept) between new next
-    → {at : IsAt cutter x left} (now : CutsNow cutter x left line cut place at) → IsAfter told cutter x line (next_of_cut mid next) rest (part_at cutter x left at) old new
-after_at told {cutter} {mid} {writer} {next} cut {place} {x} {left} line {before} all {kept} {old} between {new} fit will before_is all_is skipped whole went passed kept_is went' {at} now =
-    let writer_is : mid.writer ≡ writer = ap (λ (c : CutterState). c.writer) passed.same in
-    let second : Went told writer (with_section kept) between new next = subst (λ w. Went told w (with_section kept) between new next) writer_is went' in
-    let style_is : next.style ≡ cutter.writer.style = second.style ∙ went.style in
-    let suppress_is : next.style.suppress ≡ suppress_in cutter = ap (λ (s : Style). s.suppress) style_is in
-    let state = passed_state told cut before went passed now.goes.are in
-    let current : mid.progress.current ≡ line_after (suppress_in cutter) cut.line = ap (λ (s : State). s.current) state in
-    let lines_is : mid.lines ≡ cutter.lines = ap (λ (c : CutterState). c.lines) passed.same in
-    let on : cutter.progress.current + at.taken ≤ cut.line = (let p = now.place_is in let b = now.before in omega (arith, p, b)) in
-    let first : 1 ≤ cut.line = (let s = fit.fits.some in let f = will.from in omega (arith, s, f)) in
-    let same_count : cut.line - place ≡ cut.line - (cutter.progress.current + at.taken) = ap (λ n. cut.line - n) now.place_is in
-    let left_after : all ≡ text_from cut.line x = all_is ∙ ap (λ n. after_lines newline n left) same_count ∙ ap (after_lines newline (cut.line - (cutter.progress.current + at.taken))) at.left_is
-    ∙ from_further (cutter.progress.current + at.taken) (cut.line - (cutter.progress.current + at.taken)) x (let s = fit.fits.some in omega (arith, s))
-    ∙ ap (λ n. text_from n x) (let e : cutter.progress.current + at.taken + (cut.line - (cutter.progress.current + at.taken)) ≡ cut.line = omega (arith, on) in e) in
-    let draft_is = cut_draft at cut kept now.goes.are fit.fits.some on (before_is ∙ ap (λ n. first_lines newline n left) same_count) in
-    let near : mid.lines ≤ search_line next.style.suppress (state_in mid) =
-    (let e : search_line next.style.suppress (state_in mid) ≡ search_after (suppress_in cutter) cut = ap (λ b. search_line b (state_in mid)) suppress_is
-    ∙ search_same (suppress_in cutter) (state_in mid) _ (ap (λ (s : State). s.current) state) (ap (λ (s : State). s.matched) state) in let n = now.near in omega (arith, e, n, lines_is)) in record {
-      now = record {
-        steps = at.steps ++ step_at cutter now.goes.operand cut ∷ [];
-        leads = leads_as _ suppress_is (ap (λ (c : CutterState). c.operands) passed.same) state (leads_on at cut now.goes);
-        counted = lines_is ∙ at.counted;
-        taken = 0;
-        written = [];
-        few = (let w : line_after (suppress_in cutter) cut.line ≤ suc cutter.lines = after_within (suppress_in cutter) cut.line cutter.lines will.within in let c = at.counted in omega (arith, current, w, c));
-        written_is = sym (first_lines-zero newline (text_from mid.progress.current x));
-        left_is = rest_from next.style.suppress all cut.line x first left_after skipped whole
-            ∙ ap (λ n. text_from n x) (ap (λ b. line_after b cut.line) suppress_is ∙ sym current ∙ (let e : mid.progress.current ≡ mid.progress.current + 0 = omega arith in e));
-        writes = subst (Writes next) (draft_is ∙ ap (λ k. draft_by (all_lines x) (at.steps ++ step_at cutter now.goes.operand cut ∷ []) k []) kept_is)
-            (second.writes (with_bytes before (draft_at cutter x left at)) (went.writes (draft_at cutter x left at) at.writes));
-      };
-      looked = record {
-        counted = lines_is ∙ at.counted;
-        last = now.last;
-        others = λ operand operands are other from less. absurd (omega (arith, near, from, less));
-      };
-      near = near;
-      none = refl;
-      grows = subst (Begins (part_at cutter x left at))
-          (ap (draft_part cutter.writer.style) (draft_is ∙ ap (λ k. draft_by (all_lines x) (at.steps ++ step_at cutter now.goes.operand cut ∷ []) k []) kept_is)
-          ∙ ap (λ (s : Style). draft_part s (draft_by (all_lines x) (at.steps ++ step_at cutter now.goes.operand cut ∷ []) (kept_by (state_in mid).operands) [])) (sym style_is))
-          (part_trans (part_at cutter x left at) (draft_part cutter.writer.style (with_bytes before (draft_at cutter x left at))) _ (bytes_begin cutter.writer.style before (draft_at cutter x left at)) (section_begins cutter.writer.style kept (with_bytes before (draft_at cutter x left at))));
-      moves = moves_again told (part_at cutter x left at) (draft_part cutter.writer.style (with_bytes before (draft_at cutter x left at))) _ old between new (went.moves (draft_at cutter x left at) at.writes)
-          (moves_as told between new (ap (λ (s : Style). draft_part s (with_bytes before (draft_at cutter x left at))) (sym went.style))
-          (ap (λ (s : Style). draft_part s (draft_by (all_lines x) (at.steps ++ step_at cutter now.goes.operand cut ∷ []) (kept_by (state_in mid).operands) [])) (second.style)
-          ∙ ap (draft_part writer.style) (sym (draft_is ∙ ap (λ k. draft_by (all_lines x) (at.steps ++ step_at cutter now.goes.operand cut ∷ []) k []) kept_is)))
-          (second.moves (with_bytes before (draft_at cutter x left at)) (went.writes (draft_at cutter x left at) at.writes)));
-    }
-
 -- What is left is the end of the lines.
 end_of : (suppress : Bool) (left : List ℕ) {rest : List ℕ} (all : List ℕ) (n : ℕ) → all ≡ after_lines newline n left → (suppress ≡ true → rest ≡ after_lines newline 1 all) → (suppress ≡ false → rest ≡ all) → IsEnd rest left
 end_of true left {rest} all n all_is skipped whole = (
@@ -259,43 +200,77 @@ end_of true left {rest} all n all_is skipped whole = (
 )
 end_of false left all n all_is skipped whole = (first_lines newline n left, sym (first_lines_then_rest newline n left) ∙ ap (λ those. first_lines newline n left ++ those) (sym all_is ∙ sym (whole refl)))
 
-cut_went : (told : Bool) {cutter mid : CutterState} {writer next : WriterState} (cut : Cut) {place : ℕ} {left before rest : List ℕ} (all : List ℕ) {kept : Bool} {old : List Slot} (between : List Slot) {new : List Slot} → IsFit cutter → WillCut cutter cut → before ≡ first_lines newline (cut.line - place) left
-    → all ≡ after_lines newline (cut.line - place) left → (next.style.suppress ≡ true → rest ≡ after_lines newline 1 all) → (next.style.suppress ≡ false → rest ≡ all)
-    → Went told cutter.writer (with_bytes before) old between writer → Passed cutter mid writer cut → kept ≡ kept_by (state_in mid).operands → Went told mid.writer (with_section kept) between new next → size_of next.current ≡ 0 → length rest ≤ length left
-    → CutAt told cutter cut place left old new (next_of_cut mid next) rest
-cut_went told {cutter} {mid} {writer} {next} cut {place} {left} all {kept} {old} between {new} fit will before_is all_is skipped whole went passed kept_is went' empty shorter =
-    let writer_is : mid.writer ≡ writer = ap (λ (c : CutterState). c.writer) passed.same in
-    let second : Went told writer (with_section kept) between new next = subst (λ w. Went told w (with_section kept) between new next) writer_is went' in record {
-      same = record { operands = ap (λ (c : CutterState). c.operands) passed.same; style = second.style ∙ went.style };
+module _ {told : Bool} {cutter mid : CutterState} {writer next : WriterState} {cut : Cut} {place : ℕ} {left before rest : List ℕ} (all : List ℕ) {kept : Bool} {old between new : List Slot} (fit : IsFit cutter) (will : WillCut cutter cut)
+    (before_is : before ≡ first_lines newline (cut.line - place) left) (all_is : all ≡ after_lines newline (cut.line - place) left) (skipped : next.style.suppress ≡ true → rest ≡ after_lines newline 1 all) (whole : next.style.suppress ≡ false → rest ≡ all)
+    (went : Goes told cutter.writer (with_bytes before) old between writer None) (passed : Passed cutter mid writer cut) (kept_is : kept ≡ kept_by (state_in mid).operands) (second : Goes told writer (with_section kept) between new next None) where
+  after_at : {x : List ℕ} (line : List ℕ) {at : IsAt cutter x left} (now : CutsNow cutter x left line cut place at) → IsAfter told cutter x line (record mid { writer = next }) rest (part_at cutter x left at) old new
+  after_at {x} line {at} now =
+      let style_is : next.style ≡ cutter.writer.style = second.leaves.style ∙ went.leaves.style in
+      let suppress_is : next.style.suppress ≡ suppress_in cutter = ap (λ (s : Style). s.suppress) style_is in
+      let state = passed_state refl went passed now.goes.are in
+      let current : mid.progress.current ≡ line_after (suppress_in cutter) cut.line = ap (λ (s : State). s.current) state in
+      let lines_is : mid.lines ≡ cutter.lines = ap (λ (c : CutterState). c.lines) passed.same in
+      let on : cutter.progress.current + at.taken ≤ cut.line = (let p = now.place_is in let b = now.before in omega (arith, p, b)) in
+      let first : 1 ≤ cut.line = (let s = fit.fits.some in let f = will.from in omega (arith, s, f)) in
+      let same_count : cut.line - place ≡ cut.line - (cutter.progress.current + at.taken) = ap (λ n. cut.line - n) now.place_is in
+      let left_after : all ≡ text_from cut.line x = all_is ∙ ap (λ n. after_lines newline n left) same_count ∙ ap (after_lines newline (cut.line - (cutter.progress.current + at.taken))) at.left_is
+      ∙ from_further (cutter.progress.current + at.taken) (cut.line - (cutter.progress.current + at.taken)) x (let s = fit.fits.some in omega (arith, s))
+      ∙ ap (λ n. text_from n x) (let e : cutter.progress.current + at.taken + (cut.line - (cutter.progress.current + at.taken)) ≡ cut.line = omega (arith, on) in e) in
+      let draft = draft_at cutter x left at in
+      let steps = at.steps ++ step_at cutter now.goes.operand cut ∷ [] in
+      let draft_is : with_section kept (with_bytes before draft) ≡ draft_by (all_lines x) steps (kept_by (state_in mid).operands) [] =
+      cut_draft at cut kept now.goes.are fit.fits.some on (before_is ∙ ap (λ n. first_lines newline n left) same_count) ∙ ap (λ k. draft_by (all_lines x) steps k []) kept_is in
+      let near : mid.lines ≤ search_line next.style.suppress (state_in mid) =
+      (let e : search_line next.style.suppress (state_in mid) ≡ search_after (suppress_in cutter) cut = ap (λ b. search_line b (state_in mid)) suppress_is
+      ∙ search_same (suppress_in cutter) (state_in mid) _ (ap (λ (s : State). s.current) state) (ap (λ (s : State). s.matched) state) in let n = now.near in omega (arith, e, n, lines_is)) in record {
+        now = record {
+          steps = steps;
+          leads = leads_as _ suppress_is (ap (λ (c : CutterState). c.operands) passed.same) state (leads_on at cut now.goes);
+          counted = lines_is ∙ at.counted;
+          taken = 0;
+          written = [];
+          few = (let w : line_after (suppress_in cutter) cut.line ≤ suc cutter.lines = after_within (suppress_in cutter) cut.line cutter.lines will.within in let c = at.counted in omega (arith, current, w, c));
+          written_is = sym (first_lines-zero newline (text_from mid.progress.current x));
+          left_is = rest_from next.style.suppress all cut.line x first left_after skipped whole
+              ∙ ap (λ n. text_from n x) (ap (λ b. line_after b cut.line) suppress_is ∙ sym current ∙ (let e : mid.progress.current ≡ mid.progress.current + 0 = omega arith in e));
+          writes = subst (Writes next) draft_is (second.writes (with_bytes before draft) (went.writes draft at.writes));
+        };
+        looked = record {
+          counted = lines_is ∙ at.counted;
+          last = now.last;
+          others = λ operand operands are other from less. absurd (omega (arith, near, from, less));
+        };
+        near = near;
+        none = refl;
+        grows = subst (Begins (part_at cutter x left at))
+            (ap (draft_part cutter.writer.style) draft_is ∙ ap (λ (s : Style). draft_part s (draft_by (all_lines x) steps (kept_by (state_in mid).operands) [])) (sym style_is))
+            (part_trans (part_at cutter x left at) (draft_part cutter.writer.style (with_bytes before draft)) _ (bytes_begin cutter.writer.style before draft) (section_begins cutter.writer.style kept (with_bytes before draft)));
+        reaches = reaches_again (bytes_begin cutter.writer.style before draft) (went.reaches draft at.writes)
+            (reaches_as (ap (λ (s : Style). draft_part s (with_bytes before draft)) (sym went.leaves.style))
+            (ap (λ (s : Style). draft_part s (draft_by (all_lines x) steps (kept_by (state_in mid).operands) [])) second.leaves.style ∙ ap (draft_part writer.style) (sym draft_is))
+            (second.reaches (with_bytes before draft) (went.writes draft at.writes)));
+      }
+
+  cut_went : size_of next.current ≡ 0 → length rest ≤ length left → CutAt told cutter cut place left old new (record mid { writer = next }) rest
+  cut_went empty shorter = record {
+    fewer = passed.fewer;
+    spreading = λ line. record {
+      keeps = record { operands = ap (λ (c : CutterState). c.operands) passed.same; writer = leaves_again went.leaves second.leaves };
       lines = ap (λ (c : CutterState). c.lines) passed.same;
       fit = record { fits = passed.fit.fits; most = passed.fit.most; delim = passed.fit.delim; sought = passed.fit.sought };
-      fewer = passed.fewer;
       held = passed.held;
-      after = λ x line at now. after_at told cut line all between fit will before_is all_is skipped whole went passed kept_is went' now;
-      keeps = keeps_again old between new went.keeps second.keeps;
-      owns = owns_again cutter.writer went.owns second.owns;
-      ready = second.ready;
+      after = λ x at now. after_at line now;
       size = omega (arith, empty, shorter);
       end = end_of next.style.suppress left all (cut.line - place) all_is skipped whole;
-    }
+    };
+  }
 
 -- The same of a cutter that is known by its fields.
-
-pub cut_next_stopped : (told : Bool) {cutter start mid now : CutterState} {writer next : WriterState} (cut : Cut) {place : ℕ} {left before : List ℕ} {kept : Bool} {old : List Slot} (between : List Slot) {new : List Slot} {fault : Fault} → start ≡ cutter → now ≡ mid → IsFit cutter → WillCut cutter cut
-    → before ≡ first_lines newline (cut.line - place) left → Went told start.writer (with_bytes before) old between writer → Passed start mid writer cut → kept ≡ kept_by (state_in now).operands → Stopped told now.writer (with_section kept) between new next fault
-    → CutNot told cutter cut place left old new (record now { writer = next }) fault
-cut_next_stopped told {start} {now} {writer} {next} cut {place} {left} {kept} {old} between {new} {fault} same same_mid fit will before_is went passed kept_is stopped =
-    subst (λ (c : CutterState). CutNot told c cut place left old new (record now { writer = next }) fault) same
-    (subst (λ (m : CutterState). CutNot told start cut place left old new (record m { writer = next }) fault) (sym same_mid)
-    (next_stopped told cut between (subst IsFit (sym same) fit) (subst (λ (c : CutterState). WillCut c cut) (sym same) will) before_is went passed
-    (kept_is ∙ ap (λ (m : CutterState). kept_by (state_in m).operands) same_mid) (subst (λ (m : CutterState). Stopped told m.writer (with_section kept) between new next fault) same_mid stopped)))
-
-pub cut_done : (told : Bool) {cutter start mid now : CutterState} {writer next : WriterState} (cut : Cut) {place : ℕ} {left before rest : List ℕ} (all : List ℕ) {kept : Bool} {old : List Slot} (between : List Slot) {new : List Slot} → start ≡ cutter → now ≡ mid → IsFit cutter → WillCut cutter cut
+pub cut_done : {told : Bool} {cutter start mid now : CutterState} {writer next : WriterState} {cut : Cut} {place : ℕ} {left before rest : List ℕ} (all : List ℕ) {kept : Bool} {old between new : List Slot} → start ≡ cutter → IsFit cutter → WillCut cutter cut
     → before ≡ first_lines newline (cut.line - place) left → all ≡ after_lines newline (cut.line - place) left → (next.style.suppress ≡ true → rest ≡ after_lines newline 1 all) → (next.style.suppress ≡ false → rest ≡ all)
-    → Went told start.writer (with_bytes before) old between writer → Passed start mid writer cut → kept ≡ kept_by (state_in now).operands → Went told now.writer (with_section kept) between new next → size_of next.current ≡ 0 → length rest ≤ length left
+    → Goes told start.writer (with_bytes before) old between writer None → now ≡ mid → Passed start mid writer cut → kept ≡ kept_by (state_in now).operands → Goes told now.writer (with_section kept) between new next None → size_of next.current ≡ 0 → length rest ≤ length left
     → CutAt told cutter cut place left old new (record now { writer = next }) rest
-cut_done told {start} {now} {writer} {next} cut {place} {left} {rest} all {kept} {old} between {new} same same_mid fit will before_is all_is skipped whole went passed kept_is went' empty shorter =
-    subst (λ (c : CutterState). CutAt told c cut place left old new (record now { writer = next }) rest) same
-    (subst (λ (m : CutterState). CutAt told start cut place left old new (record m { writer = next }) rest) (sym same_mid)
-    (cut_went told cut all between (subst IsFit (sym same) fit) (subst (λ (c : CutterState). WillCut c cut) (sym same) will) before_is all_is skipped whole went passed
-    (kept_is ∙ ap (λ (m : CutterState). kept_by (state_in m).operands) same_mid) (subst (λ (m : CutterState). Went told m.writer (with_section kept) between new next) same_mid went') empty shorter))
+cut_done {told} {cutter} {mid = mid} {writer = writer} {next} {cut} {place} {left} {rest = rest} all {kept} {old} {between} {new} same fit will before_is all_is skipped whole goes same_mid passed kept_is second empty shorter =
+    subst (λ (m : CutterState). CutAt told cutter cut place left old new (record m { writer = next }) rest) (sym same_mid)
+    (cut_went all fit will before_is all_is skipped whole (goes_here same goes) (subst (λ c. Passed c mid writer cut) same passed)
+    (kept_is ∙ ap (λ (m : CutterState). kept_by (state_in m).operands) same_mid) (subst (λ w. Goes told w (with_section kept) between new next None) (ap (λ (c : CutterState). c.writer) (same_mid ∙ passed.same)) second) empty shorter)

@@ -1,10 +1,14 @@
 -- Lemmas on the cutter of lines.
-use Rattle.std.proofs.Common.{◌≡◌, ◌⊎◌, inl, inr, ℕ, ◌+◌, ◌-◌, ◌≤◌, List, [], ◌++◌, sym, ◌∙◌, ap, subst, arith}
+use Rattle.std.proofs.Common.{◌≡◌, ◌⊎◌, inl, inr, ℕ, ◌+◌, ◌-◌, ◌≤◌, List, [], ◌++◌, Option, None, sym, ◌∙◌, ap, subst, arith}
 use Rattle.std.proofs.lemmas.List.{append-nil}
 use Rattle.seg_core.specs.Line.{line_count, first_lines, after_lines}
+use Rattle.ports_core.specs.Slot.{Slot}
+use Rattle.ports_core.specs.declared.fault.Fault.{Fault}
+use Rattle.csplit_core.specs.Csplit.{settled_of}
 use Rattle.csplit_core.specs.Draft.{Draft, draft_part}
 use Rattle.csplit_core.specs.inner.Draft.{with_bytes}
 use Rattle.csplit_core.specs.Input.{newline, all_lines}
+use Rattle.csplit_core.specs.Operand.{Operand}
 use Rattle.csplit_core.specs.Output.{Style}
 use Rattle.csplit_core.specs.Plan.{start, Runs}
 use Rattle.csplit_core.specs.laws.PlanLaws.{goes_on}
@@ -12,9 +16,21 @@ use Rattle.csplit_core.specs.Section.{most_waiting, settled_end}
 use Rattle.csplit_core.specs.declared.progress.Turn.{Turn}
 use Rattle.csplit_core.specs.Writer.{WriterState, Writes}
 use Rattle.csplit_core.specs.Cutter.{CutterState, suppress_in, state_in, kept_by, text_from, draft_by, IsAt, EndsNow, IsLive}
-use Rattle.csplit_core.specs.inner.Cutter.{settled_part, IsWhole, part_at}
+use Rattle.csplit_core.specs.inner.Cutter.{settled_part, IsWhole, Keeps, part_at}
 use Rattle.csplit_core.proofs.LineLemmas.{all_lines-append, count-append, count_from, first_still, rest_more, from_further, first_further}
+use Rattle.csplit_core.proofs.WriterLemmas.{leaves_again}
 use Rattle.csplit_core.proofs.SettledLemmas.{draft_is, settled_part_is, settled_count, ended_still}
+
+-- one call after another
+pub keeps_on : {one two three : CutterState} {old mid new : List Slot} {fault : Option Fault} → Keeps one two old mid None → Keeps two three mid new fault → Keeps one three old new fault
+keeps_on first second = record { operands = second.operands ∙ first.operands; writer = leaves_again first.writer second.writer }
+
+-- what style and operands decide stays
+pub same_by : {A : Type 0} {cutter next : CutterState} {old new : List Slot} {fault : Option Fault} (f : Style → List Operand → A) → Keeps cutter next old new fault → f next.writer.style next.operands ≡ f cutter.writer.style cutter.operands
+same_by {cutter = cutter} {next} f keeps = ap (λ (s : Style). f s next.operands) keeps.writer.style ∙ ap (f cutter.writer.style) keeps.operands
+
+pub settled_same : {cutter next : CutterState} {old new : List Slot} {fault : Option Fault} (x : List ℕ) → Keeps cutter next old new fault → settled_part next x ≡ settled_part cutter x
+settled_same x keeps = same_by (λ style operands. settled_of style operands (all_lines x)) keeps
 
 -- the plan up to where the cutter stands
 pub runs_to : {cutter : CutterState} {x left : List ℕ} (at : IsAt cutter x left) (ends : EndsNow cutter x) → Runs (suppress_in cutter) (all_lines x) (start cutter.operands) at.steps (state_in cutter) ends.ending

@@ -1,52 +1,48 @@
 -- A section ends, and the next begins.
-use Rattle.std.proofs.Common.{◌≡◌, ℕ, Bool, true, false, List, [], ◌∷◌, ◌++◌, length, decimal, Result, Ok, Err, OnOk, IfErr, refl, sym, ◌∙◌, ap, subst, arith}
+use Rattle.std.proofs.Common.{◌≡◌, ℕ, Bool, true, false, List, [], ◌∷◌, ◌++◌, length, decimal, Option, Some, None, refl, sym, ◌∙◌, ap, subst, arith}
 use Rattle.std.proofs.lemmas.List.{append-nil}
 use Rattle.ports_core.specs.Part.{File, Begins}
 use Rattle.ports_core.specs.inner.Part.{AllClosed}
-use Rattle.ports_core.specs.Slot.{Slot, changed_at, closes, told_of, with_written, with_broken}
+use Rattle.ports_core.specs.Slot.{Slot, changed_at, closes, told_of, with_broken}
 use Rattle.ports_core.specs.Swept.{SweptFrom, Removes, is_among}
 use Rattle.std.proofs.lemmas.Bool.{false≢true}
 use Rattle.ports_core.specs.declared.fault.Fault.{Fault}
 use Rattle.ports_core.specs.declared.fault.Fault.TheVariants as fault
 use Rattle.ports_core.specs.declared.slot.State.TheVariants as state
 use Rattle.csplit_core.specs.Input.{newline}
-use Rattle.csplit_core.specs.Output.{Style, makes_file, files_of, size_line, size_lines}
+use Rattle.csplit_core.specs.Output.{Style, makes_file, files_of, size_line, size_lines, part_by}
 use Rattle.csplit_core.specs.Draft.{Draft, draft_part, last_contents}
 use Rattle.csplit_core.specs.inner.Draft.{ended_part, with_section}
 use Rattle.csplit_core.specs.Writer.{WriterState, Writes, OwnsFiles, IsLast, IsReady}
-use Rattle.csplit_core.specs.inner.Writer.{KeepsFiles, Pauses, Went, Stopped, Goes, Ended, EndedNot, Ends}
-use Rattle.csplit_core.specs.inner.WriterSteps.{Started, StartedNot, Starts}
+use Rattle.csplit_core.specs.inner.Writer.{KeepsFiles, Leaves, Pauses, Goes, Ends}
+use Rattle.csplit_core.specs.inner.WriterSteps.{Starts, Wrote}
 use Rattle.csplit_core.specs.declared.section_writer.Current.{Current}
 use Rattle.csplit_core.specs.declared.section_writer.Current.TheVariants.{Skipped, Unmade, File as Filed}
-use Rattle.csplit_core.proofs.WriterLemmas.{moves_again, moves_as, moves_same, halts_after, halts_as, halts_wider, goes_by, stops_by, end_begins, breaks_later, owns_again, owns_still}
-use Rattle.csplit_core.proofs.OutputSteps.{becomes_again, falls_after, falls_wider, file_of, with_last, line_begins, close_begins, close_moves, line_moves, close_halts, line_halts}
-use Rattle.ports_core.proofs.SlotSteps.{KeepsMade, made_again, made_write, made_close, made_break, keeps_same, keeps_write, keeps_close, written_writable, writable_elsewhere, made_short, keeps_again}
+use Rattle.csplit_core.proofs.WriterLemmas.{leaves_again, leaves_still, reaches_again, reaches_as, reaches_by, reaches_still, stops_wider, end_begins, in_any, where_well}
+use Rattle.csplit_core.proofs.OutputSteps.{becomes_again, falls_wider, file_of, with_last, line_begins, close_begins, closes_last, closes_not, tells_line}
+use Rattle.ports_core.proofs.SlotSteps.{KeepsMade, made_again, made_write, made_close, made_break, keeps_write, keeps_close, written_writable, writable_elsewhere, made_short}
 use Rattle.ports_core.proofs.SweepLemmas.{all_cleared, left_apart, left_has, left_there, same_size}
-use Rattle.ports_core.specs.inner.Write.{WritesShort}
 use Rattle.csplit_core.proofs.DraftLemmas.{name_after, part_none, open_part, closed_part, line_of, count_made, count_none, closed_files, all_closed, more_begins}
 use Rattle.csplit_core.proofs.OwnLemmas.{at_file, last_file, there_same, owned_same, line_breaks, close_breaks}
 use Rattle.csplit_core.proofs.PutLemmas.{now_file, now_skipped, now_unmade, skips_file, elides_file}
 
 -- A section without a file
 
-end_none : (told : Bool) {writer : WriterState} {slots : List Slot} → ((draft : Draft) → Writes writer draft → (closed : Bool) → makes_file writer.style (last_contents closed draft) ≡ false) → IsReady writer slots → Ended told writer slots slots writer
-end_none told {writer} {slots} none ready = record {
-  style = refl;
-  moves = λ draft writes. moves_same told slots (part_none writer.style draft.ended (last_contents false draft) (none draft writes false) ∙ sym (part_none writer.style draft.ended (last_contents true draft) (none draft writes true)));
-  keeps = keeps_same slots slots refl;
-  owns = owns_still;
-  ready = ready;
+end_none : {told : Bool} {writer : WriterState} {slots : List Slot} → ((draft : Draft) → Writes writer draft → (closed : Bool) → makes_file writer.style (last_contents closed draft) ≡ false) → IsReady writer slots → Ends told writer slots slots writer None
+end_none {writer = writer} none ready = record {
+  leaves = leaves_still ready;
+  reaches = λ draft writes. reaches_still (part_none writer.style draft.ended (last_contents false draft) (none draft writes false) ∙ sym (part_none writer.style draft.ended (last_contents true draft) (none draft writes true)));
   pauses = λ draft writes. record {
     closed = all_closed draft.ended (last_contents true draft) writes.closed refl;
     made = writes.made ∙ count_none writer.style draft.ended (last_contents false draft) (none draft writes false) ∙ sym (count_none writer.style draft.ended (last_contents true draft) (none draft writes true));
   };
 }
 
-pub end_skipped : (told : Bool) {writer : WriterState} {slots : List Slot} → writer.current ≡ Skipped → IsReady writer slots → Ended told writer slots slots writer
-end_skipped told {writer} is ready = end_none told (λ draft writes closed. skips_file writer.style (last_contents closed draft) (now_skipped is writes)) ready
+pub end_skipped : {told : Bool} {writer : WriterState} {slots : List Slot} → writer.current ≡ Skipped → IsReady writer slots → Ends told writer slots slots writer None
+end_skipped {writer = writer} is ready = end_none (λ draft writes closed. skips_file writer.style (last_contents closed draft) (now_skipped is writes)) ready
 
-pub end_unmade : (told : Bool) {writer : WriterState} {slots : List Slot} → writer.current ≡ Unmade → IsReady writer slots → Ended told writer slots slots writer
-end_unmade told {writer} is ready = end_none told (λ draft writes closed. elides_file writer.style (last_contents closed draft) (now_unmade is writes).1 (now_unmade is writes).2) ready
+pub end_unmade : {told : Bool} {writer : WriterState} {slots : List Slot} → writer.current ≡ Unmade → IsReady writer slots → Ends told writer slots slots writer None
+end_unmade {writer = writer} is ready = end_none (λ draft writes closed. elides_file writer.style (last_contents closed draft) (now_unmade is writes).1 (now_unmade is writes).2) ready
 
 -- A section with one
 
@@ -71,14 +67,25 @@ closed_ready {writer} slot size {old} {new} is ready closed =
       current = tt;
     }
 
-line_ready : (writer : WriterState) (line : List ℕ) {old new : List Slot} → IsReady (ended_writer writer) old → new ≡ with_written 0 line old → IsReady (ended_writer writer) new
-line_ready writer line {old} {new} ready wrote =
-    let keeps = made_write 0 line old new wrote in record {
-      streams = (let size = keeps.size in let two = ready.streams in omega (arith, size, two));
-      output = written_writable old new 0 0 line ready.output wrote;
-      files = there_same writer.files keeps ready.files;
-      current = tt;
-    }
+closed_leaves : {writer : WriterState} (slot size : ℕ) {old new : List Slot} → writer.current ≡ Filed slot size → IsReady writer old → new ≡ changed_at slot closes old → Leaves writer (ended_writer writer) old new None
+closed_leaves slot size {old} {new} is ready closed =
+    record { style = refl; owns = file_closed (made_close slot old new (at_file is ready).1 closed); slots = keeps_close slot old new closed; ready = closed_ready slot size is ready closed }
+
+-- the same of the size line
+line_leaves : (told : Bool) (writer : WriterState) (line : List ℕ) {old new : List Slot} (fault : Option Fault) → writer.style.quiet ≡ false → IsReady (ended_writer writer) old → Wrote told 0 line old new fault → Leaves (ended_writer writer) (ended_writer writer) old new fault
+line_leaves told writer line {old} {new} None said_so ready wrote = let keeps = made_write 0 (told_of told line) old new wrote in record {
+  style = refl;
+  owns = owned_same refl (λ last. tt) keeps;
+  slots = keeps_write 0 (told_of told line) old new wrote;
+  ready = record {
+    streams = (let size = keeps.size in let two = ready.streams in omega (arith, size, two));
+    output = written_writable old new 0 0 (told_of told line) ready.output wrote;
+    files = there_same writer.files keeps ready.files;
+    current = tt;
+  };
+}
+line_leaves told writer line {old} {new} (Some why) said_so ready cut =
+    record { style = refl; owns = owned_same refl (λ last. tt) (made_short told 0 line old new why cut); slots = line_breaks told writer.style line said_so ready.output cut; ready = tt }
 
 -- the part of the ended section, with its size line
 size_part : {writer : WriterState} {draft : Draft} (slot size : ℕ) → writer.current ≡ Filed slot size → writer.style.quiet ≡ false → Writes writer draft
@@ -93,112 +100,63 @@ quiet_part {writer} {draft} slot size is quiet writes =
     closed_part writer.style draft [] (now_file is writes).0 (line_of writer.style draft true (now_file is writes).0 quiet)
     ∙ ap (λ out. with_last out (files_of writer.style 0 draft.ended) (file_of (name_after writer.style draft.ended) draft.bytes state.Closed)) (append-nil (size_lines writer.style draft.ended))
 
-pub end_quiet : (told : Bool) {writer : WriterState} (slot size : ℕ) {old new : List Slot} → writer.current ≡ Filed slot size → IsReady writer old → writer.style.quiet ≡ true → new ≡ changed_at slot closes old → Ended told writer old new (ended_writer writer)
-end_quiet told {writer} slot size {old} {new} is ready quiet closed = record {
-  style = refl;
-  moves = λ draft writes. moves_as told old new (open_part writer.style draft (now_file is writes).0) (quiet_part slot size is quiet writes)
-      (goes_by told (file_closed (made_close slot old new (at_file is ready).1 closed))
-      (λ last. close_moves told (size_lines writer.style draft.ended) (files_of writer.style 0 draft.ended) (name_after writer.style draft.ended) draft.bytes old (last_file writer old is last) closed));
-  keeps = keeps_close slot old new closed;
-  owns = file_closed (made_close slot old new (at_file is ready).1 closed);
-  ready = closed_ready slot size is ready closed;
+pub end_quiet : {told : Bool} {writer : WriterState} (slot size : ℕ) {old new : List Slot} → writer.current ≡ Filed slot size → IsReady writer old → writer.style.quiet ≡ true → new ≡ changed_at slot closes old → Ends told writer old new (ended_writer writer) None
+end_quiet {told} {writer} slot size {old} {new} is ready quiet closed = record {
+  leaves = closed_leaves slot size is ready closed;
+  reaches = λ draft writes. reaches_as (open_part writer.style draft (now_file is writes).0) (quiet_part slot size is quiet writes) (reaches_by (closed_leaves slot size is ready closed).owns
+      (λ last. closes_last told (size_lines writer.style draft.ended) (files_of writer.style 0 draft.ended) (name_after writer.style draft.ended) draft.bytes old (last_file writer old is last) closed));
   pauses = λ draft writes. file_pauses slot size is writes;
 }
 
-pub end_told : (told : Bool) {writer : WriterState} (slot size : ℕ) {old mid new : List Slot} → writer.current ≡ Filed slot size → IsReady writer old → writer.style.quiet ≡ false → mid ≡ changed_at slot closes old
-    → new ≡ with_written 0 (told_of told (decimal size ++ newline ∷ [])) mid → Ended told writer old new (ended_writer writer)
-end_told told {writer} slot size {old} {mid} {new} is ready said_so closed wrote = record {
-  style = refl;
-  moves = λ draft writes. moves_as told old new (open_part writer.style draft (now_file is writes).0) (size_part slot size is said_so writes)
-      (goes_by told (file_closed (made_again old mid new (made_close slot old mid (at_file is ready).1 closed) (made_write 0 _ mid new wrote)))
-      (λ last. becomes_again told old mid new
-      (close_moves told (size_lines writer.style draft.ended) (files_of writer.style 0 draft.ended) (name_after writer.style draft.ended) draft.bytes old (last_file writer old is last) closed)
-      (line_moves told (size_lines writer.style draft.ended) (decimal size ++ newline ∷ []) _ mid wrote)));
-  keeps = keeps_again old mid new (keeps_close slot old mid closed) (keeps_write 0 _ mid new wrote);
-  owns = file_closed (made_again old mid new (made_close slot old mid (at_file is ready).1 closed) (made_write 0 _ mid new wrote));
-  ready = line_ready writer _ (closed_ready slot size is ready closed) wrote;
-  pauses = λ draft writes. file_pauses slot size is writes;
-}
-
--- The file breaks as it is closed, or standard output as the size is written.
-
-pub close_not : (told : Bool) {writer : WriterState} (slot size : ℕ) {old new : List Slot} {f : Fault} → writer.current ≡ Filed slot size → IsReady writer old → f ≡ fault.Write slot → new ≡ with_broken slot (changed_at slot closes old)
-    → EndedNot told writer old new (ended_writer writer) f
-close_not told {writer} slot size {old} {new} is ready which broken = subst (EndedNot told writer old new (ended_writer writer)) (sym which) (record {
-  style = refl;
-  halts = λ draft writes. halts_as told (open_part writer.style draft (now_file is writes).0)
-      (closed_part writer.style draft (size_line writer.style (last_contents true draft)) (now_file is writes).0 refl)
-      (stops_by told (λ last. falls_wider told old new (fault.Write slot)
-      (close_halts told (size_lines writer.style draft.ended) (files_of writer.style 0 draft.ended) (name_after writer.style draft.ended) draft.bytes old (closed_files writer.style 0 draft.ended writes.closed) (last_file writer old is last) broken)
-      (line_begins (size_line writer.style (last_contents true draft)))));
-  breaks = close_breaks writer.style slot old (at_file is ready).0 (at_file is ready).1 broken;
-  owns = file_closed (made_again old (changed_at slot closes old) new (made_close slot old _ (at_file is ready).1 refl) (made_break slot _ new broken));
-})
+-- the file breaks as it is closed
+pub close_not : {told : Bool} {writer : WriterState} (slot size : ℕ) {old new : List Slot} {f : Fault} → writer.current ≡ Filed slot size → IsReady writer old → f ≡ fault.Write slot → new ≡ with_broken slot (changed_at slot closes old)
+    → Ends told writer old new (ended_writer writer) (Some f)
+close_not {told} {writer} slot size {old} {new} is ready which broken = subst (λ f. Ends told writer old new (ended_writer writer) (Some f)) (sym which) (record {
+  leaves = record { style = refl; owns = owns; slots = close_breaks writer.style slot old (at_file is ready).0 (at_file is ready).1 broken; ready = tt };
+  reaches = λ draft writes. reaches_as (open_part writer.style draft (now_file is writes).0) (closed_part writer.style draft (size_line writer.style (last_contents true draft)) (now_file is writes).0 refl)
+      (reaches_by owns (λ last. falls_wider (closes_not told (size_lines writer.style draft.ended) (files_of writer.style 0 draft.ended) (name_after writer.style draft.ended) draft.bytes old
+      (closed_files writer.style 0 draft.ended writes.closed) (last_file writer old is last) broken) (line_begins (size_line writer.style (last_contents true draft)))));
+  pauses = tt;
+}) where
+  owns : KeepsFiles writer (ended_writer writer) old new
+  owns = file_closed (made_again old (changed_at slot closes old) new (made_close slot old _ (at_file is ready).1 refl) (made_break slot _ new broken))
 
 last_closed : (files : List File) (file : File) → AllClosed files → file.state ≡ state.Closed → AllClosed (files ++ file ∷ [])
 last_closed [] file closed is = (is, tt)
 last_closed (first ∷ files) file closed is = (closed.0, last_closed files file closed.1 is)
 
-pub line_not : (told : Bool) {writer : WriterState} (slot size : ℕ) {old mid new : List Slot} {f : Fault} → writer.current ≡ Filed slot size → IsReady writer old → writer.style.quiet ≡ false → mid ≡ changed_at slot closes old
-    → WritesShort told 0 (decimal size ++ newline ∷ []) mid new f → EndedNot told writer old new (ended_writer writer) f
-line_not told {writer} slot size {old} {mid} {new} {f} is ready said_so closed cut = record {
-  style = refl;
-  halts = λ draft writes. halts_as told (open_part writer.style draft (now_file is writes).0) (size_part slot size is said_so writes)
-      (stops_by told (λ last. falls_after told old mid new f
+-- the size is written, or standard output breaks
+pub end_sized : {told : Bool} {writer : WriterState} (slot size : ℕ) {old mid new : List Slot} {fault : Option Fault} → writer.current ≡ Filed slot size → IsReady writer old → writer.style.quiet ≡ false → mid ≡ changed_at slot closes old
+    → Wrote told 0 (decimal size ++ newline ∷ []) mid new fault → Ends told writer old new (ended_writer writer) fault
+end_sized {told} {writer} slot size {old} {mid} {new} {fault} is ready said_so closed wrote = record {
+  leaves = leaves;
+  reaches = λ draft writes. reaches_as (open_part writer.style draft (now_file is writes).0) (size_part slot size is said_so writes) (reaches_by leaves.owns (λ last. becomes_again
       (close_begins (size_lines writer.style draft.ended) (files_of writer.style 0 draft.ended) (name_after writer.style draft.ended) draft.bytes)
-      (close_moves told (size_lines writer.style draft.ended) (files_of writer.style 0 draft.ended) (name_after writer.style draft.ended) draft.bytes old (last_file writer old is last) closed)
-      (line_halts told (size_lines writer.style draft.ended) (decimal size ++ newline ∷ [])
+      (closes_last told (size_lines writer.style draft.ended) (files_of writer.style 0 draft.ended) (name_after writer.style draft.ended) draft.bytes old (last_file writer old is last) closed)
+      (tells_line told (size_lines writer.style draft.ended) _ (decimal size ++ newline ∷ []) mid fault
       (last_closed (files_of writer.style 0 draft.ended) (file_of (name_after writer.style draft.ended) draft.bytes state.Closed) (closed_files writer.style 0 draft.ended writes.closed) refl)
-      (let two = (closed_ready slot size is ready closed).streams in omega (arith, two)) cut)));
-  breaks = breaks_later writer.style old mid new f (keeps_close slot old mid closed) (line_breaks told writer.style (decimal size ++ newline ∷ []) said_so (closed_ready slot size is ready closed).output cut);
-  owns = file_closed (made_again old mid new (made_close slot old mid (at_file is ready).1 closed) (made_short told 0 _ mid new f cut));
-}
-
--- the size was written, or standard output broke
-pub end_sized : (told : Bool) (writer : WriterState) (slot size : ℕ) (old mid new : List Slot) (result : Result (Unit {0}) Fault) → writer.current ≡ Filed slot size → IsReady writer old → writer.style.quiet ≡ false → mid ≡ changed_at slot closes old
-    → OnOk result (new ≡ with_written 0 (told_of told (decimal size ++ newline ∷ [])) mid) → IfErr result (WritesShort told 0 (decimal size ++ newline ∷ []) mid new) → Ends told writer old new (ended_writer writer) result
-end_sized told writer slot size old mid new (Ok done) is ready said_so closed wrote cut = end_told told {writer = writer} slot size {old = old} {mid = mid} {new = new} is ready said_so closed wrote
-end_sized told writer slot size old mid new (Err f) is ready said_so closed wrote cut = line_not told {writer = writer} slot size {old = old} {mid = mid} {new = new} {f = f} is ready said_so closed cut
+      (let two = (closed_ready slot size is ready closed).streams in omega (arith, two)) wrote)));
+  pauses = in_any fault (λ draft writes. file_pauses slot size is writes);
+} where
+  leaves : Leaves writer (ended_writer writer) old new fault
+  leaves = leaves_again (closed_leaves slot size is ready closed) (line_leaves told writer (decimal size ++ newline ∷ []) fault said_so (closed_ready slot size is ready closed) wrote)
 
 -- One section ends, and the next begins.
 
 next_begins : (style : Style) (kept : Bool) (draft : Draft) → Begins (ended_part style draft) (draft_part style (with_section kept draft))
 next_begins style kept draft = more_begins style (draft.ended ++ last_contents true draft ∷ []) (last_contents false (with_section kept draft))
 
-pub next_ok : (told : Bool) {writer mid next : WriterState} {kept : Bool} {old : List Slot} (between : List Slot) {new : List Slot} → Ended told writer old between mid → Started told mid.style mid kept between new next → Went told writer (with_section kept) old new next
-next_ok told {writer} {mid} {next} {kept} {old} between {new} ended start = by (subst (λ style. Started told style mid kept between new next) ended.style start) where
-  by : Started told writer.style mid kept between new next → Went told writer (with_section kept) old new next
-  by started = record {
-    style = started.asked;
-    writes = λ draft writes. started.writes (draft.ended ++ last_contents true draft ∷ []) (ended.pauses draft writes);
-    moves = λ draft writes. moves_again told _ _ _ old between new (ended.moves draft writes) (started.moves (draft.ended ++ last_contents true draft ∷ []) (ended.pauses draft writes));
-    keeps = keeps_again old between new ended.keeps started.keeps;
-    owns = owns_again writer ended.owns started.owns;
-    ready = started.ready;
-  }
+pub next_not_ended : {told : Bool} {writer next : WriterState} (kept : Bool) {old new : List Slot} {f : Fault} → Ends told writer old new next (Some f) → Goes told writer (with_section kept) old new next (Some f)
+next_not_ended {writer = writer} kept ended = record { leaves = ended.leaves; reaches = λ draft writes. stops_wider (ended.reaches draft writes) (next_begins writer.style kept draft); writes = tt }
 
-pub next_not_ended : (told : Bool) {writer next : WriterState} (kept : Bool) {old new : List Slot} {f : Fault} → EndedNot told writer old new next f → Stopped told writer (with_section kept) old new next f
-next_not_ended told {writer} kept ended = record {
-  style = ended.style;
-  halts = λ draft writes. halts_wider told (ended.halts draft writes) (next_begins writer.style kept draft);
-  breaks = ended.breaks;
-  owns = ended.owns;
+pub next_begun : {told : Bool} {writer mid next : WriterState} {kept : Bool} {old between new : List Slot} {fault : Option Fault} → Ends told writer old between mid None → Starts told mid kept between new next fault → Goes told writer (with_section kept) old new next fault
+next_begun {writer = writer} {kept = kept} {fault = fault} ended start = record {
+  leaves = leaves_again ended.leaves start.leaves;
+  reaches = λ draft writes. reaches_again (end_begins writer.style draft) (ended.reaches draft writes)
+      (reaches_as (ap (λ style. part_by style (draft.ended ++ last_contents true draft ∷ [])) (sym ended.leaves.style)) (ap (λ style. draft_part style (with_section kept draft)) (sym ended.leaves.style))
+      (start.reaches (draft.ended ++ last_contents true draft ∷ []) (ended.pauses draft writes)));
+  writes = where_well fault start.writes (λ started draft writes. started (draft.ended ++ last_contents true draft ∷ []) (ended.pauses draft writes));
 }
-
-pub next_not_begun : (told : Bool) {writer mid next : WriterState} {kept : Bool} {old : List Slot} (between : List Slot) {new : List Slot} {f : Fault} → Ended told writer old between mid → StartedNot told mid.style mid kept between new next f → Stopped told writer (with_section kept) old new next f
-next_not_begun told {writer} {mid} {next} {kept} {old} between {new} {f} ended start = by (subst (λ style. StartedNot told style mid kept between new next f) ended.style start) where
-  by : StartedNot told writer.style mid kept between new next f → Stopped told writer (with_section kept) old new next f
-  by started = record {
-    style = started.asked;
-    halts = λ draft writes. halts_after told (end_begins writer.style draft) (ended.moves draft writes) (started.halts (draft.ended ++ last_contents true draft ∷ []) (ended.pauses draft writes));
-    breaks = breaks_later writer.style old between new f ended.keeps started.breaks;
-    owns = owns_again writer ended.owns started.owns;
-  }
-
-pub next_begun : (told : Bool) (writer mid next : WriterState) (kept : Bool) (old between new : List Slot) (result : Result (Unit {0}) Fault) → Ended told writer old between mid → Starts told mid.style mid kept between new next result
-    → Goes told writer (with_section kept) old new next result
-next_begun told writer mid next kept old between new (Ok done) ended start = next_ok told {writer = writer} {mid = mid} {next = next} {kept = kept} {old = old} between {new = new} ended start
-next_begun told writer mid next kept old between new (Err f) ended start = next_not_begun told {writer = writer} {mid = mid} {next = next} {kept = kept} {old = old} between {new = new} {f = f} ended start
 
 -- The files are removed.
 

@@ -1,5 +1,5 @@
 -- What ending the cutter leaves: all lines that waited belong to the last section, which ends.
-use Rattle.std.proofs.Common.{◌≡◌, inl, inr, ℕ, suc, ◌+◌, ◌-◌, ◌≤◌, Bool, true, false, Result, Ok, Err, List, [], ◌∷◌, ◌++◌, length, map, take, refl, sym, ◌∙◌, ap, subst, arith}
+use Rattle.std.proofs.Common.{◌≡◌, inl, inr, ℕ, suc, ◌+◌, ◌-◌, ◌≤◌, Bool, true, false, Option, Some, None, List, [], ◌∷◌, ◌++◌, length, map, take, refl, sym, ◌∙◌, ap, subst, arith}
 use Rattle.std.proofs.lemmas.Bool.{false≢true}
 use Rattle.std.proofs.lemmas.List.{append-nil, map-append, take_all}
 use Rattle.seg_core.specs.Line.{lines_of, line_count, joined, first_lines, after_lines}
@@ -8,7 +8,6 @@ use Rattle.seg_core.proofs.LinesOf.{joined-lines_of}
 use Rattle.seg_core.proofs.FirstLines.{first_lines_then_rest}
 use Rattle.ports_core.specs.Slot.{Slot}
 use Rattle.ports_core.specs.declared.fault.Fault.{Fault}
-use Rattle.ports_core.proofs.SlotSteps.{keeps_again}
 use Rattle.csplit_core.specs.Csplit.{whole_of}
 use Rattle.csplit_core.specs.Draft.{Draft, draft_part}
 use Rattle.csplit_core.specs.inner.Draft.{ended_part, with_bytes}
@@ -21,15 +20,15 @@ use Rattle.csplit_core.specs.laws.PlanLaws.{plan_once}
 use Rattle.csplit_core.specs.Progress.{AimsAt}
 use Rattle.csplit_core.specs.Section.{section, section_of, lines_between, is_last_kept, settled_end, whole_end, is_final, bytes_of}
 use Rattle.csplit_core.specs.declared.progress.Turn.TheVariants.{Below}
-use Rattle.csplit_core.specs.Writer.{WriterState, Writes, Breaks}
-use Rattle.csplit_core.specs.inner.Writer.{Moves, Halts, Went, Stopped, Ended, EndedNot, Ends}
+use Rattle.csplit_core.specs.Writer.{WriterState, Writes}
+use Rattle.csplit_core.specs.inner.Writer.{Ends, Goes, Reaches}
 use Rattle.csplit_core.specs.Cutter.{CutterState, suppress_in, state_in, kept_by, text_from, draft_by, settled_draft, IsFit, IsLive, IsPast, Stands}
-use Rattle.csplit_core.specs.inner.Cutter.{settled_part, whole_part, IsJudged, EndedAll, EndedNone, EndsAll}
+use Rattle.csplit_core.specs.inner.Cutter.{settled_part, whole_part, IsJudged, EndsAll}
 use Rattle.csplit_core.proofs.LineLemmas.{count_from, from_further}
 use Rattle.csplit_core.proofs.SettledLemmas.{settled_part_is, draft_is, draft_to}
 use Rattle.csplit_core.proofs.CutterLemmas.{runs_to, live_part}
-use Rattle.csplit_core.proofs.HoldLemmas.{went_as, stopped_as}
-use Rattle.csplit_core.proofs.WriterLemmas.{moves_again, moves_as, halts_after, halts_as, halts_wider, bytes_begin, end_begins, breaks_later, owns_again}
+use Rattle.csplit_core.proofs.HoldLemmas.{goes_as}
+use Rattle.csplit_core.proofs.WriterLemmas.{bytes_begin, end_begins, in_any, leaves_again, reaches_again, reaches_as, stops_wider}
 use Rattle.csplit_core.proofs.WholeLemmas.{ends_after_all}
 
 whole_part_is : (style : Style) (operands : List Operand) (lines : List Line) → ended_part style (draft_to whole_end style.suppress operands lines) ≡ whole_of style operands lines
@@ -118,66 +117,30 @@ judged_later {cutter} {x} same stands =
       aims = subst (λ (style : Style). AimsAt cutter.aim (plan style.suppress cutter.operands (all_lines x)).ending) (sym same) judged.aims;
     }
 
--- What `end` does: the lines that wait are written, and then the section ends.
-
-end_ended : (told : Bool) {cutter : CutterState} (between : WriterState) {next : WriterState} {window : Window} {old mid new : List Slot} → IsFit cutter → Went told cutter.writer (with_bytes cutter.window.held) old mid between → Ended told between mid new next
-    → EndedAll told cutter old new (record cutter { writer = next; window = window })
-end_ended told {cutter} between {next} {old} {mid} {new} fit went ended = record {
-  same = record { operands = refl; style = ended.style ∙ went.style };
-  moves = λ x stands. let last = last_draft fit stands in
-      moves_as told old new (sym last.settled) (sym last.whole)
-      (moves_again told (draft_part cutter.writer.style last.draft) (draft_part cutter.writer.style (with_bytes cutter.window.held last.draft)) (ended_part cutter.writer.style (with_bytes cutter.window.held last.draft)) old mid new
-      (went.moves last.draft last.writes)
-      (subst (λ (style : Style). Moves told between next (draft_part style (with_bytes cutter.window.held last.draft)) (ended_part style (with_bytes cutter.window.held last.draft)) mid new) went.style
-      (ended.moves (with_bytes cutter.window.held last.draft) (went.writes last.draft last.writes))));
-  judged = λ x stands. judged_later (ended.style ∙ went.style) stands;
-  keeps = keeps_again old mid new went.keeps ended.keeps;
-  owns = owns_again cutter.writer went.owns ended.owns;
-  ready = ended.ready;
-}
-
-end_stopped : (told : Bool) {cutter : CutterState} (between : WriterState) {next : WriterState} {window : Window} {old mid new : List Slot} {fault : Fault} → IsFit cutter → Went told cutter.writer (with_bytes cutter.window.held) old mid between
-    → EndedNot told between mid new next fault → EndedNone told cutter old new (record cutter { writer = next; window = window }) fault
-end_stopped told {cutter} between {old} {mid} {new} {fault} fit went stopped = record {
-  same = record { operands = refl; style = stopped.style ∙ went.style };
-  halts = λ x stands. let last = last_draft fit stands in
-      halts_as told (sym last.settled) (sym last.whole) (halts_after told
-      (bytes_begin cutter.writer.style cutter.window.held last.draft) (went.moves last.draft last.writes)
-      (subst (λ (style : Style). Halts told between (draft_part style (with_bytes cutter.window.held last.draft)) (ended_part style (with_bytes cutter.window.held last.draft)) mid new fault) went.style
-      (stopped.halts (with_bytes cutter.window.held last.draft) (went.writes last.draft last.writes))));
-  breaks = breaks_later cutter.writer.style old mid new fault went.keeps (subst (λ (style : Style). Breaks style mid new fault) went.style stopped.breaks);
-  owns = owns_again cutter.writer went.owns stopped.owns;
-}
-
-end_short : (told : Bool) {cutter : CutterState} {next : WriterState} {window : Window} {old new : List Slot} {fault : Fault} → IsFit cutter → Stopped told cutter.writer (with_bytes cutter.window.held) old new next fault
-    → EndedNone told cutter old new (record cutter { writer = next; window = window }) fault
-end_short told {cutter} fit stopped = record {
-  same = record { operands = refl; style = stopped.style };
-  halts = λ x stands. let last = last_draft fit stands in
-      halts_as told (sym last.settled) (sym last.whole) (halts_wider told
-      (stopped.halts last.draft last.writes) (end_begins cutter.writer.style (with_bytes cutter.window.held last.draft)));
-  breaks = stopped.breaks;
-  owns = stopped.owns;
-}
-
-end_goes : (told : Bool) (cutter : CutterState) (between next : WriterState) (window : Window) (old mid new : List Slot) (result : Result (Unit {0}) Fault) → IsFit cutter → Went told cutter.writer (with_bytes cutter.window.held) old mid between
-    → Ends told between mid new next result → EndsAll told cutter old new (record cutter { writer = next; window = window }) result
-end_goes told cutter between next window old mid new (Ok done) fit went ended = end_ended told {cutter = cutter} between {next = next} {window = window} {old = old} {mid = mid} {new = new} fit went ended
-end_goes told cutter between next window old mid new (Err fault) fit went stopped = end_stopped told {cutter = cutter} between {next = next} {window = window} {old = old} {mid = mid} {new = new} {fault = fault} fit went stopped
-
--- The same of a cutter that is known by its fields.
+-- What `end` does, of a cutter that is known by its fields: the lines that wait are written, and then the section ends.
 
 all_held : (cutter : CutterState) {n : ℕ} → n ≡ length cutter.window.held → take n cutter.window.held ≡ cutter.window.held
 all_held cutter {n} all = take_all n cutter.window.held (omega (arith, all))
 
-pub end_goes_at : (told : Bool) (cutter now : CutterState) (between next : WriterState) (window : Window) (old mid new : List Slot) (n : ℕ) (result : Result (Unit {0}) Fault) → cutter ≡ now → IsFit now → n ≡ length cutter.window.held
-    → Went told cutter.writer (with_bytes (take n cutter.window.held)) old mid between → Ends told between mid new next result → EndsAll told now old new (record cutter { writer = next; window = window }) result
-end_goes_at told cutter now between next window old mid new n result is fit all went ends =
-    subst (λ (those : CutterState). EndsAll told those old new (record cutter { writer = next; window = window }) result) is
-    (end_goes told cutter between next window old mid new result (subst IsFit (sym is) fit) (went_as told {writer = cutter.writer} {next = between} {a = take n cutter.window.held} {b = cutter.window.held} {old = old} {new = mid} (all_held cutter {n = n} all) went) ends)
+pub end_goes : {told : Bool} {cutter now : CutterState} {between next : WriterState} (window : Window) {n : ℕ} {old mid new : List Slot} {fault : Option Fault} → cutter ≡ now → IsFit now → n ≡ length cutter.window.held
+    → Goes told cutter.writer (with_bytes (take n cutter.window.held)) old mid between None → Ends told between mid new next fault → EndsAll told now old new (record cutter { writer = next; window = window }) fault
+end_goes {told} {cutter} {between = between} {next} window {old = old} {mid} {new} {fault} is fit all goes ends =
+    let went = goes_as (all_held cutter all) goes in
+    subst (λ (those : CutterState). EndsAll told those old new (record cutter { writer = next; window = window }) fault) is (record {
+      keeps = record { operands = refl; writer = leaves_again went.leaves ends.leaves };
+      reaches = λ x stands. let last = last_draft (subst IsFit (sym is) fit) stands in let all = with_bytes cutter.window.held last.draft in
+          reaches_as (sym last.settled) (sym last.whole) (reaches_again (bytes_begin cutter.writer.style cutter.window.held last.draft) (went.reaches last.draft last.writes)
+          (subst (λ (style : Style). Reaches told between next (draft_part style all) (ended_part style all) mid new fault) went.leaves.style (ends.reaches all (went.writes last.draft last.writes))));
+      judged = in_any fault (λ x stands. judged_later (ends.leaves.style ∙ went.leaves.style) stands);
+    })
 
-pub end_short_at : (told : Bool) {cutter now : CutterState} {next : WriterState} {window : Window} {old new : List Slot} {n : ℕ} {fault : Fault} → cutter ≡ now → IsFit now → n ≡ length cutter.window.held
-    → Stopped told cutter.writer (with_bytes (take n cutter.window.held)) old new next fault → EndedNone told now old new (record cutter { writer = next; window = window }) fault
-end_short_at told {cutter} {next} {window} {old} {new} {fault} is fit all stopped =
-    subst (λ (those : CutterState). EndedNone told those old new (record cutter { writer = next; window = window }) fault) is
-    (end_short told (subst IsFit (sym is) fit) (stopped_as told (all_held cutter all) stopped))
+pub end_short : {told : Bool} {cutter now : CutterState} {next : WriterState} {window : Window} {n : ℕ} {old new : List Slot} {fault : Fault} → cutter ≡ now → IsFit now → n ≡ length cutter.window.held
+    → Goes told cutter.writer (with_bytes (take n cutter.window.held)) old new next (Some fault) → EndsAll told now old new (record cutter { writer = next; window = window }) (Some fault)
+end_short {told} {cutter} {next = next} {window} {old = old} {new} {fault} is fit all goes =
+    let stopped = goes_as (all_held cutter all) goes in
+    subst (λ (those : CutterState). EndsAll told those old new (record cutter { writer = next; window = window }) (Some fault)) is (record {
+      keeps = record { operands = refl; writer = stopped.leaves };
+      reaches = λ x stands. let last = last_draft (subst IsFit (sym is) fit) stands in
+          reaches_as (sym last.settled) (sym last.whole) (stops_wider (stopped.reaches last.draft last.writes) (end_begins cutter.writer.style (with_bytes cutter.window.held last.draft)));
+      judged = tt;
+    })

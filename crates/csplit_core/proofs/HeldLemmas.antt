@@ -1,5 +1,6 @@
 -- What `hold` leaves: all that is settled of the lines that came in is written, and the others wait.
-use Rattle.std.proofs.Common.{◌≡◌, inl, inr, ℕ, ◌+◌, ◌-◌, ◌≤◌, Bool, true, false, Result, Ok, Err, OnOk, List, [], ◌++◌, length, refl, sym, ◌∙◌, ap, subst, arith, length-append}
+use Rattle.std.proofs.Common.{◌≡◌, inl, inr, ℕ, ◌+◌, ◌-◌, ◌≤◌, Bool, true, false, Option, None, Result, OnOk, List, [], ◌++◌, length, refl, sym, ◌∙◌, ap, subst, arith, length-append}
+use Rattle.std.specs.Prelude.{IfNone}
 use Rattle.std.proofs.lemmas.List.{drop_all}
 use Rattle.seg_core.specs.Line.{line_count, first_lines, after_lines, but_last_lines, last_lines}
 use Rattle.seg_core.specs.Window.{Window, without_first}
@@ -17,13 +18,13 @@ use Rattle.csplit_core.specs.Section.{is_final, most_waiting, settled_end}
 use Rattle.csplit_core.specs.laws.SectionLaws.{ends_as}
 use Rattle.csplit_core.specs.declared.progress.Turn.TheVariants.{Below}
 use Rattle.csplit_core.specs.Writer.{WriterState, Writes, IsReady, size_of}
-use Rattle.csplit_core.specs.inner.Writer.{Went, Stopped, Goes}
-use Rattle.csplit_core.specs.Cutter.{CutterState, suppress_in, state_in, kept_by, text_from, draft_by, settled_draft, IsFit, IsAt, EndsNow, IsLive, IsPast}
-use Rattle.csplit_core.specs.inner.Cutter.{settled_part, Arrives, Held, HeldNot, Holds}
+use Rattle.csplit_core.specs.inner.Writer.{Goes, fault_in}
+use Rattle.csplit_core.specs.Cutter.{CutterState, suppress_in, state_in, kept_by, text_from, draft_by, settled_draft, IsFit, IsAt, IsLive, Stands}
+use Rattle.csplit_core.specs.inner.Cutter.{settled_part, Arrives, Holds}
 use Rattle.csplit_core.proofs.LineLemmas.{first_further}
 use Rattle.csplit_core.proofs.SettledLemmas.{draft_is, settled_part_is, settled_count, final_count, most_is, aims_live, aims_past}
 use Rattle.csplit_core.proofs.CutterLemmas.{runs_to, at_held, taken_all, left_count, few_taken}
-use Rattle.csplit_core.proofs.WriterLemmas.{moves_as, moves_same, halts_as, owns_still}
+use Rattle.csplit_core.proofs.WriterLemmas.{leaves_still, reaches_as, reaches_still, well_in, where_three, where_well}
 
 -- the cutter once `hold` has written and kept what it was to
 abbrev pub holding : CutterState → WriterState → List ℕ → CutterState
@@ -72,37 +73,26 @@ held_live {cutter} {writer} {x} {left} {bytes} {held} {at} arrives fit live same
   settled = taken_is arrives fit live;
 }
 
-hold_live : (told : Bool) {cutter : CutterState} {writer : WriterState} {window : Window} {left : List ℕ} {old new : List Slot} → IsFit cutter → (cutter.aim ≡ Below → ⊥)
-    → Went told cutter.writer (with_bytes (but_last_lines cutter.window.delim cutter.window.most left)) old new writer
-    → window ≡ record { most = cutter.window.most; delim = cutter.window.delim; held = last_lines cutter.window.delim cutter.window.most left }
-    → size_of writer.current + length window.held ≤ size_of cutter.writer.current + length left → Held told cutter left old new (record cutter { writer = writer; window = window })
-hold_live told {cutter} {writer} {window} {left} {old} {new} fit differs went kept size =
-    let bytes_is : but_last_lines cutter.window.delim cutter.window.most left ≡ first_lines newline (over_of cutter left) left = ap (λ d. but_last_lines d cutter.window.most left) fit.delim in
-    let held_is : window.held ≡ after_lines newline (over_of cutter left) left = ap (λ (w : Window). w.held) kept ∙ ap (λ d. last_lines d cutter.window.most left) fit.delim in
-    let window_is : window ≡ record cutter.window { held = window.held } = kept ∙ ap (λ held. record cutter.window { held = held }) (sym (ap (λ (w : Window). w.held) kept)) in record {
-      same = refl;
-      style = went.style;
-      window = window_is;
-      stands = λ x at arrives. let live = aims_live cutter.aim arrives.ends.ending arrives.ends.aims differs in
-          subst (λ w. Rattle.csplit_core.specs.Cutter.Stands (record cutter { writer = writer; window = w }) x) (sym window_is) (inl (held_live arrives fit live went.style bytes_is held_is went.writes));
-      moves = λ x at arrives. let live = aims_live cutter.aim arrives.ends.ending arrives.ends.aims differs in
-          moves_as told old new refl (sym (held_part arrives fit live bytes_is)) (went.moves (draft_by (all_lines x) at.steps (kept_by (state_in cutter).operands) at.written) at.writes);
-      keeps = went.keeps;
-      owns = went.owns;
-      ready = went.ready;
-      size = size;
-    }
-
-hold_stopped : (told : Bool) {cutter : CutterState} {writer : WriterState} {window : Window} {left : List ℕ} {old new : List Slot} {fault : Fault} → IsFit cutter → (cutter.aim ≡ Below → ⊥)
-    → Stopped told cutter.writer (with_bytes (but_last_lines cutter.window.delim cutter.window.most left)) old new writer fault → HeldNot told cutter left old new (record cutter { writer = writer; window = window }) fault
-hold_stopped told {cutter} {left} fit differs stopped =
-    let bytes_is : but_last_lines cutter.window.delim cutter.window.most left ≡ first_lines newline (over_of cutter left) left = ap (λ d. but_last_lines d cutter.window.most left) fit.delim in record {
-      same = record { operands = refl; style = stopped.style };
-      halts = λ x at arrives. let live = aims_live cutter.aim arrives.ends.ending arrives.ends.aims differs in
-          halts_as told refl (sym (held_part arrives fit live bytes_is)) (stopped.halts (draft_by (all_lines x) at.steps (kept_by (state_in cutter).operands) at.written) at.writes);
-      breaks = stopped.breaks;
-      owns = stopped.owns;
-    }
+hold_goes : {told : Bool} {cutter : CutterState} {writer : WriterState} {window : Window} {left : List ℕ} {old new : List Slot} {fault : Option Fault} → IsFit cutter → (cutter.aim ≡ Below → ⊥)
+    → Goes told cutter.writer (with_bytes (but_last_lines cutter.window.delim cutter.window.most left)) old new writer fault
+    → IfNone fault (window ≡ record { most = cutter.window.most; delim = cutter.window.delim; held = last_lines cutter.window.delim cutter.window.most left })
+    → IfNone fault (size_of writer.current + length window.held ≤ size_of cutter.writer.current + length left) → Holds told cutter left old new (record cutter { writer = writer; window = window }) fault
+hold_goes {cutter = cutter} {writer} {window} {left} {fault = fault} fit differs goes waits fewer = record {
+  keeps = record { operands = refl; writer = goes.leaves };
+  reaches = λ x at arrives. reaches_as refl (sym (held_part arrives fit (aims_live cutter.aim arrives.ends.ending arrives.ends.aims differs) bytes_is))
+      (goes.reaches (draft_by (all_lines x) at.steps (kept_by (state_in cutter).operands) at.written) at.writes);
+  went = where_three fault goes.writes waits fewer (λ writes kept size.
+      let held_is : window.held ≡ after_lines newline (over_of cutter left) left = ap (λ (w : Window). w.held) kept ∙ ap (λ d. last_lines d cutter.window.most left) fit.delim in
+      let window_is : window ≡ record cutter.window { held = window.held } = kept ∙ ap (λ held. record cutter.window { held = held }) (sym (ap (λ (w : Window). w.held) kept)) in record {
+        same = refl;
+        window = window_is;
+        stands = λ x at arrives. subst (λ w. Stands (record cutter { writer = writer; window = w }) x) (sym window_is)
+            (inl (held_live arrives fit (aims_live cutter.aim arrives.ends.ending arrives.ends.aims differs) goes.leaves.style bytes_is held_is writes));
+        size = size;
+      });
+} where
+  bytes_is : but_last_lines cutter.window.delim cutter.window.most left ≡ first_lines newline (over_of cutter left) left
+  bytes_is = ap (λ d. but_last_lines d cutter.window.most left) fit.delim
 
 -- where the cut is below the current line, none waits
 
@@ -112,52 +102,45 @@ past_draft {cutter} {x} {at} arrives past =
     draft_is settled_end cutter.operands x at.taken (runs_to at arrives.ends)
     (arrives.low past ∙ final_count (line_count newline x) cutter.progress.current arrives.ends.ending past) at.written_is
 
-hold_past : (told : Bool) {cutter : CutterState} {window : Window} {left : List ℕ} {slots : List Slot} {n : ℕ} → cutter.aim ≡ Below → IsReady cutter.writer slots → n ≡ length cutter.window.held → length cutter.window.held ≤ length left
-    → window ≡ without_first cutter.window n → Held told cutter left slots slots (record cutter { window = window })
-hold_past told {cutter} {window} {slots} {n} aim ready all less dropped =
-    let none : window.held ≡ [] = ap (λ (w : Window). w.held) dropped ∙ drop_all n cutter.window.held (omega (arith, all)) in
-    let window_is : window ≡ record cutter.window { held = window.held } = dropped ∙ ap (λ held. record cutter.window { held = held }) (sym (ap (λ (w : Window). w.held) dropped)) in record {
-      same = refl;
-      style = refl;
-      window = window_is;
-      stands = λ x at arrives.
-          let past = aims_past arrives.ends.ending (subst (λ a. AimsAt a arrives.ends.ending) aim arrives.ends.aims) in
-          let is = plan_once (suppress_in cutter) cutter.operands (all_lines x) at.steps (state_in cutter) arrives.ends.ending (runs_to at arrives.ends) in
-          inr (record {
-            aim = aim;
-            past = ap (λ (p : Plan). is_final p.ending) is ∙ past;
-            last = sym (ap (λ (p : Plan). p.last) is);
-            none = none;
-            writes = subst (Writes cutter.writer) (past_draft arrives past) at.writes;
-          });
-      moves = λ x at arrives.
-          let past = aims_past arrives.ends.ending (subst (λ a. AimsAt a arrives.ends.ending) aim arrives.ends.aims) in
-          moves_same told slots (ap (draft_part cutter.writer.style) (past_draft arrives past) ∙ settled_part_is cutter.writer.style cutter.operands (all_lines x));
-      keeps = λ place sound. sound;
-      owns = owns_still;
-      ready = ready;
-      size = (let e : length window.held ≡ 0 = ap length none in omega (arith, e));
-    }
+hold_past : {told : Bool} {cutter : CutterState} {window : Window} {left : List ℕ} {slots : List Slot} {n : ℕ} → cutter.aim ≡ Below → IsReady cutter.writer slots → n ≡ length cutter.window.held → length cutter.window.held ≤ length left
+    → window ≡ without_first cutter.window n → Holds told cutter left slots slots (record cutter { window = window }) None
+hold_past {cutter = cutter} {window} {left} {slots} {n} aim ready all less dropped = record {
+  keeps = record { operands = refl; writer = leaves_still ready };
+  reaches = λ x at arrives. reaches_still (ap (draft_part cutter.writer.style) (past_draft arrives (past x at arrives)) ∙ settled_part_is cutter.writer.style cutter.operands (all_lines x));
+  went = record {
+    same = refl;
+    window = dropped ∙ ap (λ held. record cutter.window { held = held }) (sym (ap (λ (w : Window). w.held) dropped));
+    stands = λ x at arrives. let is = plan_once (suppress_in cutter) cutter.operands (all_lines x) at.steps (state_in cutter) arrives.ends.ending (runs_to at arrives.ends) in inr (record {
+      aim = aim;
+      past = ap (λ (p : Plan). is_final p.ending) is ∙ past x at arrives;
+      last = sym (ap (λ (p : Plan). p.last) is);
+      none = none;
+      writes = subst (Writes cutter.writer) (past_draft arrives (past x at arrives)) at.writes;
+    });
+    size = (let e : length window.held ≡ 0 = ap length none in omega (arith, e));
+  };
+} where
+  none : window.held ≡ []
+  none = ap (λ (w : Window). w.held) dropped ∙ drop_all n cutter.window.held (omega (arith, all))
+
+  past : (x : List ℕ) (at : IsAt cutter x left) (arrives : Arrives cutter x left at) → is_final arrives.ends.ending ≡ true
+  past x at arrives = aims_past arrives.ends.ending (subst (λ a. AimsAt a arrives.ends.ending) aim arrives.ends.aims)
 
 -- The same of a cutter that is known by its fields.
 
-pub hold_goes_at : (told : Bool) (cutter now : CutterState) (writer : WriterState) (window : Window) (text : List ℕ) (old new : List Slot) (result : Result (Unit {0}) Fault) → cutter ≡ now → IsFit now → (now.aim ≡ Below → ⊥)
-    → Goes told cutter.writer (with_bytes (but_last_lines cutter.window.delim cutter.window.most (cutter.window.held ++ text))) old new writer result
+pub hold_goes_at : {told : Bool} {cutter now : CutterState} {writer : WriterState} {window : Window} (text : List ℕ) {old new : List Slot} (result : Result (Unit {0}) Fault) → cutter ≡ now → IsFit now → (now.aim ≡ Below → ⊥)
+    → Goes told cutter.writer (with_bytes (but_last_lines cutter.window.delim cutter.window.most (cutter.window.held ++ text))) old new writer (fault_in result)
     → OnOk result (window ≡ record { most = cutter.window.most; delim = cutter.window.delim; held = last_lines cutter.window.delim cutter.window.most (cutter.window.held ++ text) })
-    → OnOk result (size_of writer.current + length window.held ≤ size_of cutter.writer.current + length cutter.window.held + length text) → Holds told now (now.window.held ++ text) old new (record cutter { writer = writer; window = window }) result
-hold_goes_at told cutter now writer window text old new (Ok done) is fit differs went kept size =
-    subst (λ (those : CutterState). Held told those (those.window.held ++ text) old new (record cutter { writer = writer; window = window })) is
-    (hold_live told {cutter = cutter} {writer = writer} {window = window} {left = cutter.window.held ++ text} {old = old} {new = new} (subst IsFit (sym is) fit)
-    (λ below. differs (sym (ap (λ (those : CutterState). those.aim) is) ∙ below)) went kept
-    (let e : length (cutter.window.held ++ text) ≡ length cutter.window.held + length text = length-append cutter.window.held text in omega (arith, e, size)))
-hold_goes_at told cutter now writer window text old new (Err fault) is fit differs stopped kept size =
-    subst (λ (those : CutterState). HeldNot told those (those.window.held ++ text) old new (record cutter { writer = writer; window = window }) fault) is
-    (hold_stopped told {cutter = cutter} {writer = writer} {window = window} {left = cutter.window.held ++ text} {old = old} {new = new} {fault = fault} (subst IsFit (sym is) fit)
-    (λ below. differs (sym (ap (λ (those : CutterState). those.aim) is) ∙ below)) stopped)
+    → OnOk result (size_of writer.current + length window.held ≤ size_of cutter.writer.current + length cutter.window.held + length text)
+    → Holds told now (now.window.held ++ text) old new (record cutter { writer = writer; window = window }) (fault_in result)
+hold_goes_at {told} {cutter} {writer = writer} {window} text {old} {new} result is fit differs goes kept size =
+    subst (λ (those : CutterState). Holds told those (those.window.held ++ text) old new (record cutter { writer = writer; window = window }) (fault_in result)) is
+    (hold_goes (subst IsFit (sym is) fit) (λ below. differs (sym (ap (λ (those : CutterState). those.aim) is) ∙ below)) goes (well_in _ result kept)
+    (where_well (fault_in result) (well_in _ result size) (λ fewer. let e : length (cutter.window.held ++ text) ≡ length cutter.window.held + length text = length-append cutter.window.held text in omega (arith, e, fewer))))
 
-pub hold_past_at : (told : Bool) {cutter now : CutterState} {window : Window} (text : List ℕ) {slots : List Slot} {n : ℕ} → cutter ≡ now → now.aim ≡ Below → IsReady now.writer slots → n ≡ length cutter.window.held
-    → window ≡ without_first cutter.window n → Held told now (now.window.held ++ text) slots slots (record cutter { window = window })
-hold_past_at told {cutter} {window} text {slots} is aim ready all dropped =
-    subst (λ (those : CutterState). Held told those (those.window.held ++ text) slots slots (record cutter { window = window })) is
-    (hold_past told (ap (λ (those : CutterState). those.aim) is ∙ aim) (subst (λ (those : CutterState). IsReady those.writer slots) (sym is) ready) all
+pub hold_past_at : {told : Bool} {cutter now : CutterState} {window : Window} (text : List ℕ) {slots : List Slot} {n : ℕ} → cutter ≡ now → now.aim ≡ Below → IsReady now.writer slots → n ≡ length cutter.window.held
+    → window ≡ without_first cutter.window n → Holds told now (now.window.held ++ text) slots slots (record cutter { window = window }) None
+hold_past_at {told} {cutter} {window = window} text {slots} is aim ready all dropped =
+    subst (λ (those : CutterState). Holds told those (those.window.held ++ text) slots slots (record cutter { window = window }) None) is
+    (hold_past (ap (λ (those : CutterState). those.aim) is ∙ aim) (subst (λ (those : CutterState). IsReady those.writer slots) (sym is) ready) all
     (let e : length (cutter.window.held ++ text) ≡ length cutter.window.held + length text = length-append cutter.window.held text in omega (arith, e)) dropped)

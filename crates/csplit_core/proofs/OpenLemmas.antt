@@ -32,7 +32,7 @@ use Rattle.csplit_core.proofs.MoveLemmas.{repeated_anew}
 use Rattle.csplit_core.proofs.SettledLemmas.{draft_is, settled_part_is}
 use Rattle.ports_core.proofs.SlotSteps.{none_past}
 use Rattle.csplit_core.proofs.TryLemmas.{advance_ends, no_cut_aims}
-use Rattle.csplit_core.proofs.WriterLemmas.{moves_as, halts_wider}
+use Rattle.csplit_core.proofs.WriterLemmas.{reaches_as, stops_wider}
 
 -- Over no line a plan has no step.
 
@@ -133,7 +133,7 @@ first_opened told {style} {operands} {old} {new} {writer} aim begun says moves =
       asked = begun.asked;
       operands_are = refl;
       stands = first_stands operands begun.writes ends (is_final ends.ending) refl;
-      moves = moves_as told old new refl (sym (first_part style operands)) begun.moves;
+      reaches = reaches_as refl (sym (first_part style operands)) begun.reaches;
       owns = begun.owns;
       ready = begun.ready;
       sound = record { fit = first_fit operands writer aim; aim = no_cut_aims operands 0 first_progress aim (first_no_cut operands aim moves) moves };
@@ -172,7 +172,7 @@ opened_not told {style} operands {old} {new} {fault} next_is kept_is begun =
 -- where there is no memory, nothing was done
 pub opened_lacks : (told : Bool) {style : Style} (operands : List Operand) {slots : List Slot} {fault : Fault} → fault ≡ Memory → BegunNot told style (settled_of style operands []) slots slots fault
 opened_lacks told {style} operands {slots} lacks = subst (BegunNot told style (settled_of style operands []) slots slots) (sym lacks) (record {
-  halts = halts_wider told (in_turn told 0 (record { closed = tt; within = omega arith; last = omega arith })) (nothing_begins_part (settled_of style operands []));
+  reaches = stops_wider (in_turn 0 (record { closed = tt; within = omega arith; last = omega arith })) (nothing_begins_part (settled_of style operands []));
   breaks = tt;
   none = none_past slots;
 })

@@ -1,11 +1,12 @@
 -- Taking lines in.
-use Rattle.std.proofs.Common.{◌≡◌, ◌⊎◌, inl, inr, ℕ, suc, ◌+◌, ◌-◌, ◌<◌, ◌≤◌, max, Bool, true, false, Result, Ok, Err, Some, None, List, [], ◌∷◌, ◌++◌, length, refl, sym, ◌∙◌, ap, subst, arith, append_assoc, length-append}
+use Rattle.std.proofs.Common.{◌≡◌, ◌⊎◌, inl, inr, ℕ, suc, ◌+◌, ◌-◌, ◌<◌, ◌≤◌, max, Bool, true, false, Option, Some, None, List, [], ◌∷◌, ◌++◌, length, refl, sym, ◌∙◌, ap, subst, arith, append_assoc, length-append}
 use Rattle.std.proofs.lemmas.List.{append-nil}
 use Rattle.std.proofs.lemmas.Bool.{false≢true, cases_lt}
 use Rattle.seg_core.specs.Line.{line_count, delimiters}
 use Rattle.seg_core.specs.Window.{Window}
 use Rattle.std.proofs.Math.Nat.{max-le, le-max_left, le-max_right}
 use Rattle.seg_core.proofs.LineCounts.{line_count-le-length}
+use Rattle.ports_core.specs.Part.{Part}
 use Rattle.ports_core.specs.Slot.{Slot}
 use Rattle.ports_core.specs.declared.fault.Fault.{Fault}
 use Rattle.csplit_core.specs.Input.{newline, all_lines}
@@ -26,12 +27,12 @@ use Rattle.csplit_core.specs.Writer.{Writes, IsReady, size_of}
 use Rattle.csplit_core.specs.declared.line_cutter.Cut.{Cut}
 use Rattle.csplit_core.specs.declared.progress.Turn.{Turn}
 use Rattle.csplit_core.specs.declared.progress.Turn.TheVariants.{Below}
-use Rattle.csplit_core.specs.Cutter.{CutterState, suppress_in, state_in, settled_draft, draft_by, AimHolds, IsFit, IsSound, IsLive, IsPast, Stands, EndsNow, kept_by}
-use Rattle.csplit_core.specs.inner.Cutter.{settled_part, IsWhole, IsLine, Arrives, Held, HeldNot, Holds, CutsNow, CutAll, CutAllNot, CutsAll, WillCut, TriesNext, search_after, Took, TookNot, Takes}
+use Rattle.csplit_core.specs.Cutter.{CutterState, suppress_in, state_in, settled_draft, draft_by, AimHolds, IsFit, IsSound, IsAt, IsLive, IsPast, Stands, EndsNow, kept_by}
+use Rattle.csplit_core.specs.inner.Cutter.{settled_part, part_at, IsWhole, IsLine, Arrives, Held, Holds, CutsNow, CutsAll, WillCut, TriesNext, search_after, Takes}
 use Rattle.csplit_core.proofs.CutterLemmas.{runs_to, at_more, part_more, live_part, left_count, few_taken}
 use Rattle.csplit_core.proofs.LineLemmas.{all_lines-append, all_lines-line, length-all_lines, count-line, whole_count, whole_from, whole-append}
 use Rattle.csplit_core.proofs.SettledLemmas.{settled_count, settled_part_is, most_is, aims_past, draft_is, final_count, ended_still}
-use Rattle.csplit_core.proofs.WriterLemmas.{moves_as, moves_same, halts_as, owns_still}
+use Rattle.csplit_core.proofs.WriterLemmas.{leaves_still, reaches_as, reaches_still, where_well}
 use Rattle.csplit_core.proofs.StayLemmas.{EndsStill, stays}
 
 -- What is settled stands before each cut of the next operand.
@@ -132,46 +133,39 @@ live_of differs (inr past) = absurd (differs past.aim)
 most_load : (lines size held more_lines more most : ℕ) → more_lines ≤ lines + more → size ≤ held + more → max more_lines size ≤ max lines held + more
 most_load lines size held count more most few less = max-le (let a = le-max_left lines held in omega (arith, a, few)) (let b = le-max_right lines held in omega (arith, b, less))
 
-pub took_held : (told : Bool) {cutter next : CutterState} {lines : ℕ} (aim : Turn) {t : List ℕ} {old new : List Slot} → IsSound (more_lines cutter lines aim) → IsFit cutter → (cutter.aim ≡ Below → ⊥) → lines ≤ cutter.lines + length t
-    → ((x : List ℕ) → IsWhole x → IsLive cutter x → (lines ≡ line_count newline (x ++ t)) × EndsNow (more_lines cutter lines aim) (x ++ t)) → Held told (more_lines cutter lines aim) (cutter.window.held ++ t) old new next → Took told cutter t old new next
-unfolding at_more
-took_held told {cutter} {next} {lines} aim {t} {old} {new} sound fit differs few ends held = record {
-  same = record { operands = ap (λ (c : CutterState). c.operands) held.same; style = held.style };
-  stands = λ x whole stands.
-      let live = live_of differs stands in
-      let there = ends x whole live in
-      held.stands (x ++ t) (at_more cutter lines aim x t cutter.window.held whole fit.fits.some live.at live.ends there.0) (arrives_more t live whole fit there.0 there.1);
-  moves = λ x whole stands.
-      let live = live_of differs stands in
-      let there = ends x whole live in
-      moves_as told old new (sym (live_part live) ∙ part_more aim t whole fit.fits.some live.at live.ends there.0) refl
-      (held.moves (x ++ t) (at_more cutter lines aim x t cutter.window.held whole fit.fits.some live.at live.ends there.0) (arrives_more t live whole fit there.0 there.1));
-  keeps = held.keeps;
-  owns = held.owns;
-  ready = held.ready;
-  sound = subst IsSound (sym held.same) (record {
-    fit = record { fits = sound.fit.fits; most = ap (λ (w : Window). w.most) held.window ∙ sound.fit.most; delim = ap (λ (w : Window). w.delim) held.window ∙ sound.fit.delim; sought = sound.fit.sought };
-    aim = sound.aim;
-  });
-  size = (let lines_is : next.lines ≡ lines = ap (λ (c : CutterState). c.lines) held.same in
-      let joined : length (cutter.window.held ++ t) ≡ length cutter.window.held + length t = length-append cutter.window.held t in
-      let s = held.size in
-      most_load cutter.lines (size_of next.writer.current + length next.window.held) (size_of cutter.writer.current + length cutter.window.held) next.lines (length t) 0 (omega (arith, lines_is, few)) (omega (arith, joined, s)));
-}
+pub sound_held : {mid next : CutterState} {left : List ℕ} → Held mid left next → IsSound mid → IsSound next
+sound_held held sound = subst IsSound (sym held.same) (record {
+  fit = record { fits = sound.fit.fits; most = ap (λ (w : Window). w.most) held.window ∙ sound.fit.most; delim = ap (λ (w : Window). w.delim) held.window ∙ sound.fit.delim; sought = sound.fit.sought };
+  aim = sound.aim;
+})
 
-pub took_not_held : (told : Bool) {cutter next : CutterState} {lines : ℕ} (aim : Turn) {t : List ℕ} {old new : List Slot} {fault : Fault} → IsFit cutter → (cutter.aim ≡ Below → ⊥)
-    → ((x : List ℕ) → IsWhole x → IsLive cutter x → (lines ≡ line_count newline (x ++ t)) × EndsNow (more_lines cutter lines aim) (x ++ t)) → HeldNot told (more_lines cutter lines aim) (cutter.window.held ++ t) old new next fault → TookNot told cutter t old new next fault
-unfolding at_more
-took_not_held told {cutter} {lines} aim {t} fit differs ends held = record {
-  same = record { operands = held.same.operands; style = held.same.style };
-  halts = λ x whole stands.
-      let live = live_of differs stands in
-      let there = ends x whole live in
-      halts_as told (sym (live_part live) ∙ part_more aim t whole fit.fits.some live.at live.ends there.0) refl
-      (held.halts (x ++ t) (at_more cutter lines aim x t cutter.window.held whole fit.fits.some live.at live.ends there.0) (arrives_more t live whole fit there.0 there.1));
-  breaks = held.breaks;
-  owns = held.owns;
-}
+-- these lines are left where outputs have this part
+pub record Reached (low : Part) (cutter : CutterState) (x left : List ℕ) : Type 0 where
+  pub at : IsAt cutter x left
+  pub arrives : Arrives cutter x left at
+  pub same : low ≡ part_at cutter x left at
+
+pub took_held : {told : Bool} {cutter next : CutterState} {lines : ℕ} {aim : Turn} {t : List ℕ} {old new : List Slot} {fault : Option Fault} → IsSound (more_lines cutter lines aim) → IsFit cutter → (cutter.aim ≡ Below → ⊥) → lines ≤ cutter.lines + length t
+    → ((x : List ℕ) → IsWhole x → IsLive cutter x → (lines ≡ line_count newline (x ++ t)) × EndsNow (more_lines cutter lines aim) (x ++ t)) → Holds told (more_lines cutter lines aim) (cutter.window.held ++ t) old new next fault
+    → Takes told cutter t old new next fault
+took_held {cutter = cutter} {next} {lines} {aim} {t} {fault = fault} sound fit differs few ends held = record {
+  keeps = record { operands = held.keeps.operands; writer = held.keeps.writer };
+  reaches = λ x whole stands. let there = reached x whole stands in reaches_as there.same refl (held.reaches (x ++ t) there.at there.arrives);
+  went = where_well fault held.went (λ went. record {
+    stands = λ x whole stands. let there = reached x whole stands in went.stands (x ++ t) there.at there.arrives;
+    sound = sound_held went sound;
+    size = (let lines_is : next.lines ≡ lines = ap (λ (c : CutterState). c.lines) went.same in
+        let joined : length (cutter.window.held ++ t) ≡ length cutter.window.held + length t = length-append cutter.window.held t in
+        let s = went.size in
+        most_load cutter.lines (size_of next.writer.current + length next.window.held) (size_of cutter.writer.current + length cutter.window.held) next.lines (length t) 0 (omega (arith, lines_is, few)) (omega (arith, joined, s)));
+  });
+} where
+  reached : (x : List ℕ) → IsWhole x → Stands cutter x → Reached (settled_part cutter x) (more_lines cutter lines aim) (x ++ t) (cutter.window.held ++ t)
+  reached x whole stands = let live = live_of differs stands in let there = ends x whole live in record {
+    at = at_more cutter lines aim x t cutter.window.held whole fit.fits.some live.at live.ends there.0;
+    arrives = arrives_more t live whole fit there.0 there.1;
+    same = sym (live_part live) ∙ part_more aim t whole fit.fits.some live.at live.ends there.0;
+  }
 
 -- Once a line came that is cut.
 
@@ -193,72 +187,58 @@ cuts_there {cutter} {lines} aim {x} line cut live whole fit one count from goes 
       goes = goes;
     }
 
-pub took_cut : (told : Bool) {cutter next : CutterState} {lines : ℕ} (aim : Turn) (line more : List ℕ) (cut : Cut) {old new : List Slot} → IsFit cutter → (cutter.aim ≡ Below → ⊥) → IsLine line → lines ≡ cutter.lines + 1 → WillCut (more_lines cutter lines aim) cut
-    → TriesNext cutter line (more_lines cutter lines aim) (Some cut) → CutAll told (more_lines cutter lines aim) cut (lines - delimiters newline cutter.window.held) (cutter.window.held ++ line) line more old new next → Took told cutter (line ++ more) old new next
-unfolding at_more
-took_cut told {cutter} {next} {lines} aim line more cut {old} {new} fit differs one counted will tries all = record {
-  same = record { operands = all.same.operands; style = all.same.style };
-  stands = λ x whole stands.
-      let live = live_of differs stands in
-      let count : lines ≡ line_count newline (x ++ line) = counted ∙ ap (λ n. n + 1) live.at.counted ∙ sym (count-line line whole one) in
-      subst (Stands next) (append_assoc x line more)
-      (all.stands (x ++ line) (at_more cutter lines aim x line cutter.window.held whole fit.fits.some live.at live.ends count) (cuts_there aim line cut live whole fit one count will.from (tries x whole live).0 (tries x whole live).1));
-  moves = λ x whole stands.
-      let live = live_of differs stands in
-      let count : lines ≡ line_count newline (x ++ line) = counted ∙ ap (λ n. n + 1) live.at.counted ∙ sym (count-line line whole one) in
-      moves_as told old new (sym (live_part live) ∙ part_more aim line whole fit.fits.some live.at live.ends count) (ap (settled_part cutter) (sym (append_assoc x line more)))
-      (all.moves (x ++ line) (at_more cutter lines aim x line cutter.window.held whole fit.fits.some live.at live.ends count) (cuts_there aim line cut live whole fit one count will.from (tries x whole live).0 (tries x whole live).1));
-  keeps = all.keeps;
-  owns = all.owns;
-  ready = all.ready;
-  sound = all.sound;
-  size = (let some : 1 ≤ length line = (let l = line_count-le-length newline line in let e : line_count newline line ≡ 1 = ap length one in omega (arith, l, e)) in
-      let joined : length (cutter.window.held ++ line) ≡ length cutter.window.held + length line = length-append cutter.window.held line in
-      let both : length (line ++ more) ≡ length line + length more = length-append line more in
-      let n = all.lines in let s = all.size in
-      most_load cutter.lines (size_of next.writer.current + length next.window.held) (size_of cutter.writer.current + length cutter.window.held) next.lines (length (line ++ more)) 0 (omega (arith, n, counted, some, both)) (omega (arith, joined, both, s)));
-}
+record CutThere (low : Part) (cutter : CutterState) (x left line : List ℕ) (cut : Cut) (place : ℕ) : Type 0 where
+  at : IsAt cutter x left
+  now : CutsNow cutter x left line cut place at
+  same : low ≡ part_at cutter x left at
 
-pub took_not_cut : (told : Bool) {cutter next : CutterState} {lines : ℕ} (aim : Turn) (line more : List ℕ) (cut : Cut) {old new : List Slot} {fault : Fault} → IsFit cutter → (cutter.aim ≡ Below → ⊥) → IsLine line → lines ≡ cutter.lines + 1 → WillCut (more_lines cutter lines aim) cut
-    → TriesNext cutter line (more_lines cutter lines aim) (Some cut) → CutAllNot told (more_lines cutter lines aim) cut (lines - delimiters newline cutter.window.held) (cutter.window.held ++ line) line more old new next fault → TookNot told cutter (line ++ more) old new next fault
-unfolding at_more
-took_not_cut told {cutter} {lines} aim line more cut fit differs one counted will tries all = record {
-  same = record { operands = all.same.operands; style = all.same.style };
-  halts = λ x whole stands.
-      let live = live_of differs stands in
-      let count : lines ≡ line_count newline (x ++ line) = counted ∙ ap (λ n. n + 1) live.at.counted ∙ sym (count-line line whole one) in
-      halts_as told (sym (live_part live) ∙ part_more aim line whole fit.fits.some live.at live.ends count) (ap (settled_part cutter) (sym (append_assoc x line more)))
-      (all.halts (x ++ line) (at_more cutter lines aim x line cutter.window.held whole fit.fits.some live.at live.ends count) (cuts_there aim line cut live whole fit one count will.from (tries x whole live).0 (tries x whole live).1));
-  breaks = all.breaks;
-  owns = all.owns;
-}
+line_has : (line : List ℕ) → IsLine line → 1 ≤ length line
+line_has line one = let l = line_count-le-length newline line in let e : line_count newline line ≡ 1 = ap length one in omega (arith, l, e)
 
--- What `take_line` owes.
+took_cut : {told : Bool} {cutter next : CutterState} {lines : ℕ} {aim : Turn} (line more : List ℕ) {cut : Cut} {old new : List Slot} {fault : Option Fault} → IsFit cutter → (cutter.aim ≡ Below → ⊥) → IsLine line → lines ≡ cutter.lines + 1 → WillCut (more_lines cutter lines aim) cut
+    → TriesNext cutter line (more_lines cutter lines aim) (Some cut) → CutsAll told (more_lines cutter lines aim) cut (lines - delimiters newline cutter.window.held) (cutter.window.held ++ line) line more old new next fault
+    → Takes told cutter (line ++ more) old new next fault
+took_cut {cutter = cutter} {next} {lines} {aim} line more {cut} {fault = fault} fit differs one counted will tries all = record {
+  keeps = record { operands = all.keeps.operands; writer = all.keeps.writer };
+  reaches = λ x whole stands. let there = reached x whole stands in reaches_as there.same (ap (settled_part cutter) (sym (append_assoc x line more))) (all.reaches (x ++ line) there.at there.now);
+  went = where_well fault all.went (λ went. record {
+    stands = λ x whole stands. let there = reached x whole stands in subst (Stands next) (append_assoc x line more) (went.stands (x ++ line) there.at there.now);
+    sound = went.sound;
+    size = (let some = line_has line one in
+        let joined : length (cutter.window.held ++ line) ≡ length cutter.window.held + length line = length-append cutter.window.held line in
+        let both : length (line ++ more) ≡ length line + length more = length-append line more in
+        let n = went.lines in let s = went.size in
+        most_load cutter.lines (size_of next.writer.current + length next.window.held) (size_of cutter.writer.current + length cutter.window.held) next.lines (length (line ++ more)) 0 (omega (arith, n, counted, some, both)) (omega (arith, joined, both, s)));
+  });
+} where
+  reached : (x : List ℕ) → IsWhole x → Stands cutter x → CutThere (settled_part cutter x) (more_lines cutter lines aim) (x ++ line) (cutter.window.held ++ line) line cut (lines - delimiters newline cutter.window.held)
+  reached x whole stands = let live = live_of differs stands in
+      let count : lines ≡ line_count newline (x ++ line) = counted ∙ ap (λ n. n + 1) live.at.counted ∙ sym (count-line line whole one) in record {
+        at = at_more cutter lines aim x line cutter.window.held whole fit.fits.some live.at live.ends count;
+        now = cuts_there aim line cut live whole fit one count will.from (tries x whole live).0 (tries x whole live).1;
+        same = sym (live_part live) ∙ part_more aim line whole fit.fits.some live.at live.ends count;
+      }
 
-line_some' : (line : List ℕ) → IsLine line → 1 ≤ length line
-line_some' line one = let l = line_count-le-length newline line in let e : line_count newline line ≡ 1 = ap length one in omega (arith, l, e)
+-- What `take_line` owes, where the cutter counted the line and tried the next operand.
 
-next_ends : {cutter : CutterState} (aim : Turn) (line : List ℕ) → IsLine line → TriesNext cutter line (more_lines cutter (cutter.lines + 1) aim) None
-    → (x : List ℕ) → IsWhole x → IsLive cutter x → (cutter.lines + 1 ≡ line_count newline (x ++ line)) × EndsNow (more_lines cutter (cutter.lines + 1) aim) (x ++ line)
-next_ends aim line one tries x whole live = (ap (λ n. n + 1) live.at.counted ∙ sym (count-line line whole one), tries x whole live)
+pub take_none : {told : Bool} {cutter mid next : CutterState} (line : List ℕ) {old new : List Slot} {fault : Option Fault} → IsFit cutter → (cutter.aim ≡ Below → ⊥) → IsLine line → mid ≡ record cutter { lines = cutter.lines + 1; aim = mid.aim } → IsFit mid
+    → AimHolds mid.operands mid.lines mid.progress mid.aim → TriesNext cutter line mid None → Holds told mid (mid.window.held ++ line) old new next fault → Takes told cutter line old new next fault
+take_none {told} {cutter} {mid} {next} line {old} {new} {fault} fit differs one is fit' aim tries held =
+    took_held (subst IsSound is (record { fit = fit'; aim = aim })) fit differs (let l = line_has line one in omega (arith, l))
+    (λ x whole live. (ap (λ n. n + 1) live.at.counted ∙ sym (count-line line whole one), subst (λ (m : CutterState). TriesNext cutter line m None) is tries x whole live))
+    (subst (λ (m : CutterState). Holds told m (m.window.held ++ line) old new next fault) is held)
 
-pub take_none : (told : Bool) (cutter mid next : CutterState) (line : List ℕ) (old new : List Slot) (result : Result (Unit {0}) Fault) → IsFit cutter → (cutter.aim ≡ Below → ⊥) → IsLine line → mid ≡ record cutter { lines = cutter.lines + 1; aim = mid.aim } → IsFit mid
-    → AimHolds mid.operands mid.lines mid.progress mid.aim → TriesNext cutter line mid None → Holds told mid (mid.window.held ++ line) old new next result → Takes told cutter line old new next result
-take_none told cutter mid next line old new (Ok done) fit differs one is fit' aim tries held =
-    took_held told {cutter = cutter} {next = next} {lines = cutter.lines + 1} mid.aim {t = line} {old = old} {new = new} (subst IsSound is (record { fit = fit'; aim = aim })) fit differs (let l = line_some' line one in omega (arith, l))
-    (next_ends {cutter = cutter} mid.aim line one (subst (λ (m : CutterState). TriesNext cutter line m None) is tries)) (subst (λ (m : CutterState). Held told m (m.window.held ++ line) old new next) is held)
-take_none told cutter mid next line old new (Err fault) fit differs one is fit' aim tries held =
-    took_not_held told {cutter = cutter} {next = next} {lines = cutter.lines + 1} mid.aim {t = line} {old = old} {new = new} {fault = fault} fit differs
-    (next_ends {cutter = cutter} mid.aim line one (subst (λ (m : CutterState). TriesNext cutter line m None) is tries)) (subst (λ (m : CutterState). HeldNot told m (m.window.held ++ line) old new next fault) is held)
+-- more lines came after it
+pub take_cut : {told : Bool} {cutter mid next : CutterState} (line more : List ℕ) {cut : Cut} {old new : List Slot} {fault : Option Fault} → IsFit cutter → (cutter.aim ≡ Below → ⊥) → IsLine line → mid ≡ record cutter { lines = cutter.lines + 1; aim = mid.aim }
+    → WillCut mid cut → TriesNext cutter line mid (Some cut) → CutsAll told mid cut (mid.lines - delimiters newline mid.window.held) (mid.window.held ++ line) line more old new next fault → Takes told cutter (line ++ more) old new next fault
+take_cut {told} {cutter} {next = next} line more {cut} {old} {new} {fault} fit differs one is will tries all =
+    took_cut line more fit differs one refl (subst (λ (m : CutterState). WillCut m cut) is will) (subst (λ (m : CutterState). TriesNext cutter line m (Some cut)) is tries)
+    (subst (λ (m : CutterState). CutsAll told m cut (m.lines - delimiters newline m.window.held) (m.window.held ++ line) line more old new next fault) is all)
 
-pub take_some : (told : Bool) (cutter mid next : CutterState) (line : List ℕ) (cut : Cut) (old new : List Slot) (result : Result (Unit {0}) Fault) → IsFit cutter → (cutter.aim ≡ Below → ⊥) → IsLine line → mid ≡ record cutter { lines = cutter.lines + 1; aim = mid.aim }
-    → WillCut mid cut → TriesNext cutter line mid (Some cut) → CutsAll told mid cut (mid.lines - delimiters newline mid.window.held) (mid.window.held ++ line) line old new next result → Takes told cutter line old new next result
-take_some told cutter mid next line cut old new (Ok done) fit differs one is will tries all =
-    subst (λ those. Took told cutter those old new next) (append-nil line) (took_cut told {cutter = cutter} {next = next} {lines = cutter.lines + 1} mid.aim line [] cut {old = old} {new = new} fit differs one refl (subst (λ (m : CutterState). WillCut m cut) is will) (subst (λ (m : CutterState). TriesNext cutter line m (Some cut)) is tries)
-    (subst (λ (m : CutterState). CutAll told m cut (m.lines - delimiters newline m.window.held) (m.window.held ++ line) line [] old new next) is all))
-take_some told cutter mid next line cut old new (Err fault) fit differs one is will tries all =
-    subst (λ those. TookNot told cutter those old new next fault) (append-nil line) (took_not_cut told {cutter = cutter} {next = next} {lines = cutter.lines + 1} mid.aim line [] cut {old = old} {new = new} {fault = fault} fit differs one refl (subst (λ (m : CutterState). WillCut m cut) is will) (subst (λ (m : CutterState). TriesNext cutter line m (Some cut)) is tries)
-    (subst (λ (m : CutterState). CutAllNot told m cut (m.lines - delimiters newline m.window.held) (m.window.held ++ line) line [] old new next fault) is all))
+pub take_some : {told : Bool} {cutter mid next : CutterState} (line : List ℕ) {cut : Cut} {old new : List Slot} {fault : Option Fault} → IsFit cutter → (cutter.aim ≡ Below → ⊥) → IsLine line → mid ≡ record cutter { lines = cutter.lines + 1; aim = mid.aim }
+    → WillCut mid cut → TriesNext cutter line mid (Some cut) → CutsAll told mid cut (mid.lines - delimiters newline mid.window.held) (mid.window.held ++ line) line [] old new next fault → Takes told cutter line old new next fault
+take_some {told} {cutter} {next = next} line {old = old} {new} {fault} fit differs one is will tries all =
+    subst (λ those. Takes told cutter those old new next fault) (append-nil line) (take_cut line [] fit differs one is will tries all)
 
 -- Where the cut is below the current line, later lines go nowhere.
 
@@ -307,14 +287,9 @@ still_past {cutter} t whole past =
       writes = subst (Writes cutter.writer) (past_draft cutter.writer.style cutter.operands t whole past.past) past.writes;
     }
 
-pub took_past : (told : Bool) {cutter : CutterState} {t : List ℕ} {slots : List Slot} → cutter.aim ≡ Below → IsSound cutter → IsReady cutter.writer slots → Took told cutter t slots slots cutter
-took_past told {t} {slots} aim sound ready = record {
-  same = record { operands = refl; style = refl };
-  stands = λ x whole stands. inr (still_past t whole (is_past aim stands));
-  moves = λ x whole stands. moves_same told slots (past_part t whole (is_past aim stands));
-  keeps = λ place sound. sound;
-  owns = owns_still;
-  ready = ready;
-  sound = sound;
-  size = omega arith;
+pub took_past : {told : Bool} {cutter : CutterState} {t : List ℕ} {slots : List Slot} → cutter.aim ≡ Below → IsSound cutter → IsReady cutter.writer slots → Takes told cutter t slots slots cutter None
+took_past {t = t} aim sound ready = record {
+  keeps = record { operands = refl; writer = leaves_still ready };
+  reaches = λ x whole stands. reaches_still (past_part t whole (is_past aim stands));
+  went = record { stands = λ x whole stands. inr (still_past t whole (is_past aim stands)); sound = sound; size = omega arith };
 }

@@ -27,7 +27,7 @@ pub returns-clause-owns : goal.returns-clause-owns
 returns-clause-owns g c = subst (λ (guard : GuardState CsplitState). Owns guard.stage (length (g.O.Outs.slots c.args.outs.now)) (g.O.Outs.slots c.open.new.outs)) (sym c.new-2.ensures) c.in_ok-cutter.ensures.owns
 
 pub returns-clause-outputs : goal.returns-clause-outputs
-returns-clause-outputs g c = begins_at g.O.Outs.told c.args.style c.as_slice.ensures c.requires.streams c.in_ok-cutter.ensures.moves
+returns-clause-outputs g c = begins_at g.O.Outs.told c.args.style c.as_slice.ensures c.requires.streams c.in_ok-cutter.ensures.reaches
 
 pub returns-in_err-cutter-clause-cut : goal.returns-in_err-cutter-clause-cut
 returns-in_err-cutter-clause-cut g c = fault_is c.from_residual.result (λ fault. (before : List Slot) → OutputsAt g.O.Outs.told before nothing _ → StoppedBetween g.O.Outs.told before nothing (settled_by c.args.style c.args.operands.now []) fault _) _ c.from_residual.ensures.1
