@@ -10,7 +10,7 @@ use Rattle.csplit_core.specs.Output.{Style, Contents, makes_file, file_at, files
 use Rattle.csplit_core.specs.Draft.{Draft, draft_part, last_contents, AreClosed}
 use Rattle.csplit_core.specs.inner.Draft.{ended_part}
 use Rattle.csplit_core.specs.laws.SectionLaws.{size_lines-append}
-use Rattle.csplit_core.proofs.OutputSteps.{file_of, with_last, more_files}
+use Rattle.csplit_core.proofs.WriterLemmas.{file_of, with_last, more_files}
 
 -- the files of sections, and then of those after them
 

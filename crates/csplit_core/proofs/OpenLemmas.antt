@@ -27,9 +27,8 @@ use Rattle.csplit_core.specs.Writer.{WriterState, Writes, size_of}
 use Rattle.csplit_core.specs.inner.Writer.{Begun, BegunNot}
 use Rattle.csplit_core.specs.Cutter.{CutterState, most_next, pattern_next, kept_next, next_of, most_by, pattern_by, kept_by, settled_draft, IsFit, Stands}
 use Rattle.csplit_core.specs.inner.Cutter.{IsNoCut, Opened}
-use Rattle.csplit_core.proofs.AdvanceLemmas.{advances}
-use Rattle.csplit_core.proofs.MoveLemmas.{repeated_anew}
-use Rattle.csplit_core.proofs.SettledLemmas.{draft_is, settled_part_is}
+use Rattle.csplit_core.proofs.TurnLemmas.{advances, repeated_anew}
+use Rattle.csplit_core.proofs.CutterLemmas.{draft_is, settled_part_is}
 use Rattle.ports_core.proofs.SlotSteps.{none_past}
 use Rattle.csplit_core.proofs.TryLemmas.{advance_ends, no_cut_aims}
 use Rattle.csplit_core.proofs.WriterLemmas.{reaches_as, stops_wider}

@@ -20,11 +20,10 @@ use Rattle.csplit_core.specs.declared.progress.Turn.{Turn}
 use Rattle.csplit_core.specs.declared.progress.Turn.TheVariants.{UsedUp, Missed, Above, Cuts}
 use Rattle.csplit_core.specs.Cutter.{CutterState, suppress_in, state_in, pattern_in, pattern_by, AimHolds, IsFit, IsLive, EndsNow}
 use Rattle.csplit_core.specs.inner.Cutter.{IsWhole, IsLine, Looked, IsFound, IsNoCut, search_after, StaysNear, Tries, TriesNext}
-use Rattle.csplit_core.proofs.AdvanceLemmas.{advances}
+use Rattle.csplit_core.proofs.TurnLemmas.{advances, capped}
 use Rattle.csplit_core.proofs.CutterLemmas.{runs_to}
 use Rattle.csplit_core.proofs.LineLemmas.{all_lines-line, length-all_lines, count-line, whole-append}
 use Rattle.csplit_core.proofs.StayLemmas.{search_grows, ends_still, EndsStill}
-use Rattle.csplit_core.proofs.TurnLemmas.{capped}
 
 -- the mark of the last line
 last_mark : (operand : Operand) {lines : List Line} {total : ℕ} (line : List ℕ) (front : List Line) → lines ≡ front ++ marked line ∷ [] → length lines ≡ total → is_match operand lines total ≡ is_match_of line operand.target

@@ -1,14 +1,38 @@
--- No line is lost.
-use Rattle.std.proofs.Common.{◌≡◌, ℕ, suc, ◌+◌, ◌-◌, ◌≤◌, Bool, true, false, List, [], ◌∷◌, ◌++◌, length, map, drop, refl, sym, ◌∙◌, ap, arith, append_assoc, cond}
-use Rattle.std.proofs.lemmas.Bool.{false≢true}
-use Rattle.std.proofs.lemmas.List.{append-nil, take-append-drop, take_all, drop-drop}
-use Rattle.std.proofs.Common.{length-drop}
-use Rattle.csplit_core.specs.Operand.{Operand, Line}
-use Rattle.csplit_core.specs.Plan.{State, start, Step, Ending, below, Runs, cuts}
-use Rattle.csplit_core.specs.Planned.{plan}
-use Rattle.csplit_core.specs.Section.{Section, section, section_of, lines_between, is_last_kept, whole_end, settled_end, whole_sections, settled_sections, is_final, waiting_lines, lines_in}
+-- The last section and the lines that wait are all lines that are left.
+use Rattle.std.proofs.Common.{ℕ, suc, ◌≤◌, Bool, true, false, arith, ◌≡◌, ◌-◌, List, length, drop, refl, sym, subst, length-drop, ◌+◌, [], ◌∷◌, ◌++◌, map, ◌∙◌, ap, append_assoc, cond}
+use Rattle.csplit_core.specs.Plan.{line_after, start, Ending, missed, below, State, Step, Runs, cuts}
+use Rattle.csplit_core.specs.Operand.{Operand, Line, most_held}
+use Rattle.csplit_core.specs.Planned.{Plan, plan}
+use Rattle.csplit_core.specs.Section.{waiting_lines, most_waiting, Section, section, section_of, lines_between, is_last_kept, whole_end, settled_end, whole_sections, settled_sections, is_final, lines_in}
 use Rattle.csplit_core.specs.laws.PlanLaws.{plan_runs}
 use Rattle.csplit_core.specs.laws.SectionLaws.{are_within}
+use Rattle.std.proofs.lemmas.Bool.{false≢true}
+use Rattle.std.proofs.lemmas.List.{append-nil, take-append-drop, take_all, drop-drop}
+
+-- The last section: all of its lines but the last ones are settled, as many as the offset goes back.
+
+-- the current line is at most one past the last
+pub after_within : (suppress : Bool) (cut total : ℕ) → cut ≤ total → line_after suppress cut ≤ suc total
+after_within true cut total within = omega (arith, within)
+after_within false cut total within = omega (arith, within)
+
+-- Few lines wait.
+
+left_over : (lines : List Line) (current past : ℕ) → 1 ≤ current → length (drop (past - current) (drop (current - 1) lines)) ≤ suc (length lines) - past
+left_over lines current past some =
+    let one : length (drop (past - current) (drop (current - 1) lines)) ≡ length (drop (current - 1) lines) - (past - current) = length-drop (past - current) (drop (current - 1) lines) in
+    let other : length (drop (current - 1) lines) ≡ length lines - (current - 1) = length-drop (current - 1) lines in omega (arith, one, other, some)
+
+few_at : (lines : List Line) (plan' : Plan) (ending : Ending) → plan'.ending ≡ ending → 1 ≤ plan'.last.current → length (waiting_lines lines plan') ≤ most_waiting ending
+few_at lines plan' (missed operand repetition) is some = subst (λ e. length (waiting_lines lines (record plan' { ending = e })) ≤ most_held operand.target) (sym is)
+    (let few : length (drop (suc (length lines) - most_held operand.target - plan'.last.current) (drop (plan'.last.current - 1) lines)) ≤ suc (length lines) - (suc (length lines) - most_held operand.target) = left_over lines plan'.last.current (suc (length lines) - most_held operand.target) some in omega (arith, few))
+few_at lines plan' (below operand repetition) is some = subst (λ e. length (waiting_lines lines (record plan' { ending = e })) ≤ 0) (sym is) (omega arith)
+few_at lines plan' ending is some = subst (λ e. length (waiting_lines lines (record plan' { ending = e })) ≤ 0) (sym is) (let few : length (drop (suc (length lines) - plan'.last.current) (drop (plan'.last.current - 1) lines)) ≤ suc (length lines) - suc (length lines) = left_over lines plan'.last.current (suc (length lines)) some in omega (arith, few))
+
+pub few_wait : (suppress : Bool) (operands : List Operand) (x : List Line) → length (waiting_lines x (plan suppress operands x)) ≤ most_waiting (plan suppress operands x).ending
+few_wait suppress operands x = few_at x (plan suppress operands x) (plan suppress operands x).ending refl (are_within suppress x (start operands) _ _ _ (plan_runs suppress operands x) (omega arith)).1
+
+-- No line is lost.
 
 lines_in-append : (a b : List Section) → lines_in (a ++ b) ≡ lines_in a ++ lines_in b
 lines_in-append [] b = refl

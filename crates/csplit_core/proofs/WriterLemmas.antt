@@ -1,14 +1,20 @@
--- Lemmas on the writer of sections.
-use Rattle.std.proofs.Common.{◌≡◌, ℕ, Bool, true, false, List, [], ◌∷◌, length, Option, Some, None, Result, Ok, Err, OnOk, IsErrAnd, refl, sym, ◌∙◌, subst, append_assoc}
+-- From one state of the outputs to another: what their steps do, and what is so of a writer before and after.
+use Rattle.std.proofs.Common.{◌≡◌, ℕ, ◌+◌, ◌<◌, suc, Bool, false, List, [], ◌∷◌, ◌++◌, length, take, Option, Some, None, inl, inr, refl, sym, ◌∙◌, arith, length-append, true, Result, Ok, Err, OnOk, IsErrAnd, subst, append_assoc}
+use Rattle.ports_core.specs.Slot.{Slot, broke, numberless, opened, changed_at, adds, closes, with_written, with_broken, told_of}
+use Rattle.ports_core.specs.Part.{File, Part, OutputsAt, Begins, FilesBegin, IsNext, Marks, IsAt}
+use Rattle.ports_core.specs.inner.Part.{AllClosed, InTurn, StoppedInTurn}
+use Rattle.ports_core.specs.declared.fault.Fault.{Fault}
+use Rattle.ports_core.specs.declared.slot.Mode.TheVariants.{Fresh}
+use Rattle.ports_core.specs.declared.slot.State.{State}
+use Rattle.ports_core.proofs.SlotLemmas.{length-changed_at}
+use Rattle.ports_core.proofs.FileLemmas.{gets, ended, file_more, last_changes, write_makes, close_makes}
+use Rattle.ports_core.proofs.PartLemmas.{begins_itself, begins_more, take_begins_after, files_begin_themselves, part_begins_itself, out_more, outputs_count, turn_between, turn_last, turn_next}
+use Rattle.csplit_core.specs.inner.WriterSteps.{MakesNone, unnamed, failed, Wrote}
 use Rattle.std.specs.Prelude.{IfNone}
 use Rattle.std.proofs.lemmas.List.{append-nil}
-use Rattle.ports_core.specs.Slot.{Slot}
 use Rattle.ports_core.specs.inner.Slot.{KeepsBroken}
-use Rattle.ports_core.specs.Part.{Part, Begins}
-use Rattle.ports_core.specs.declared.fault.Fault.{Fault}
 use Rattle.ports_core.specs.declared.fault.Fault.TheVariants.{Memory, Write, Open}
 use Rattle.ports_core.proofs.HandedOn.{handed_on}
-use Rattle.ports_core.proofs.PartLemmas.{part_begins_itself, turn_between}
 use Rattle.ports_core.proofs.SlotSteps.{keeps_again, keeps_same, rose_later}
 use Rattle.csplit_core.specs.Output.{Style, part_by}
 use Rattle.csplit_core.specs.Draft.{Draft, draft_part, last_contents}
@@ -16,7 +22,148 @@ use Rattle.csplit_core.specs.inner.Draft.{ended_part, with_bytes, with_section}
 use Rattle.csplit_core.specs.laws.SectionLaws.{part_grows}
 use Rattle.csplit_core.specs.Writer.{WriterState, IsLast, IsReady}
 use Rattle.csplit_core.specs.inner.Writer.{At, IsThere, KeepsFiles, KeepsOrBreaks, Leaves, Reaches, fault_in}
-use Rattle.csplit_core.proofs.OutputSteps.{Becomes, GetsTo}
+use Rattle.ports_core.specs.declared.fault.Fault.TheVariants as fault
+use Rattle.ports_core.specs.declared.slot.State.TheVariants as state
+use Rattle.ports_core.specs.inner.Write as short
+
+-- Outputs that have a part have another, as their last file is opened, written and closed, and standard output gets a line; or a fault stops
+-- them in between.
+
+-- where outputs are that were to get from one part to another: there, or a fault stopped them between the two
+abbrev pub GetsTo : Bool → List Slot → Part → Part → List Slot → Option Fault → Type 0
+GetsTo told before low high new None = OutputsAt told before high new
+GetsTo told before low high new (Some fault) = StoppedInTurn told before low high fault new
+
+pub record Becomes (told : Bool) (low high : Part) (old new : List Slot) (fault : Option Fault) : Type 0 where
+  pub gets : (before : List Slot) → OutputsAt told before low old → GetsTo told before low high new fault
+
+gets_from : (told : Bool) (before : List Slot) {low middle : Part} (high : Part) (new : List Slot) (fault : Option Fault) → Begins low middle → GetsTo told before middle high new fault → GetsTo told before low high new fault
+gets_from told before high new None begins at = at
+gets_from told before {low} {middle} high new (Some fault) begins at = turn_between told before low middle high high fault new begins at (part_begins_itself high)
+
+pub becomes_again : {told : Bool} {low middle high : Part} {old mid new : List Slot} {fault : Option Fault} → Begins low middle → Becomes told low middle old mid None → Becomes told middle high mid new fault → Becomes told low high old new fault
+becomes_again {told} {high = high} {new = new} {fault} begins first second = record { gets = λ before at. gets_from told before high new fault begins (second.gets before (first.gets before at)) }
+
+pub falls_wider : {told : Bool} {low middle high : Part} {old new : List Slot} {fault : Fault} → Becomes told low middle old new (Some fault) → Begins middle high → Becomes told low high old new (Some fault)
+falls_wider {told} {low} {middle} {high} {new = new} {fault = fault} falls begins =
+    record { gets = λ before at. turn_between told before low low middle high fault new (part_begins_itself low) (falls.gets before at) begins }
+
+-- a file with this name
+abbrev pub file_of : List ℕ → List ℕ → State → File
+file_of name bytes state = record { name = name; mode = Fresh; bytes = bytes; state = state; is_broken = false }
+
+-- these files, and a last one
+abbrev pub with_last : List ℕ → List File → File → Part
+with_last out front file = record { out = out; files = front ++ file ∷ [] }
+
+-- What begins what
+
+pub front_begins : (front low high : List File) → FilesBegin low high → FilesBegin (front ++ low) (front ++ high)
+front_begins [] low high begins = begins
+front_begins (file ∷ front) low high begins = (refl, refl, refl, inr refl, begins_itself file.bytes, front_begins front low high begins)
+
+pub more_files : (front more : List File) → FilesBegin front (front ++ more)
+more_files [] more = tt
+more_files (file ∷ front) more = (refl, refl, refl, inr refl, begins_itself file.bytes, more_files front more)
+
+pub line_begins : {out : List ℕ} (line : List ℕ) {files : List File} → Begins (record { out = out; files = files }) (record { out = out ++ line; files = files })
+line_begins {out} line {files} = record { out = begins_more out line; files = files_begin_themselves files }
+
+pub file_begins : {out : List ℕ} (front : List File) (file : File) → Begins (record { out = out; files = front }) (with_last out front file)
+file_begins {out} front file = record { out = begins_itself out; files = more_files front (file ∷ []) }
+
+pub bytes_more : (out : List ℕ) (front : List File) (name bytes more : List ℕ) → Begins (with_last out front (file_of name bytes state.Open)) (with_last out front (file_of name (bytes ++ more) state.Open))
+bytes_more out front name bytes more = record { out = begins_itself out; files = front_begins front (file_of name bytes state.Open ∷ []) (file_of name (bytes ++ more) state.Open ∷ []) (refl, refl, refl, inl refl, begins_more bytes more, tt) }
+
+taken_more : (out : List ℕ) (front : List File) (name bytes more : List ℕ) (n : ℕ) → Begins (with_last out front (file_of name (bytes ++ take n more) state.Open)) (with_last out front (file_of name (bytes ++ more) state.Open))
+taken_more out front name bytes more n = record { out = begins_itself out; files = front_begins front (file_of name (bytes ++ take n more) state.Open ∷ []) (file_of name (bytes ++ more) state.Open ∷ []) (refl, refl, refl, inl refl, take_begins_after n bytes more, tt) }
+
+pub close_begins : (out : List ℕ) (front : List File) (name bytes : List ℕ) → Begins (with_last out front (file_of name bytes state.Open)) (with_last out front (file_of name bytes state.Closed))
+close_begins out front name bytes = record { out = begins_itself out; files = front_begins front (file_of name bytes state.Open ∷ []) (file_of name bytes state.Closed ∷ []) (refl, refl, refl, inl refl, begins_itself bytes, tt) }
+
+-- Steps
+
+-- a fault that comes while the outputs have the lower part still
+halts_here : {told : Bool} {low high : Part} {old new : List Slot} {fault : Fault} {place : ℕ} → Begins low high → InTurn low.files place → Marks (IsNext low high) fault old new
+    → ((before : List Slot) → OutputsAt told before low old → IsAt fault (length before) place (length low.files)) → Becomes told low high old new (Some fault)
+halts_here {low = low} {old = old} {place = place} begins turn marks from = record {
+  gets = λ before at. record {
+    part = low;
+    above = part_begins_itself low;
+    below = begins;
+    place = place;
+    turn = turn;
+    reached = old;
+    outputs = at;
+    marks = marks;
+    from = from before at;
+  };
+}
+
+module _ (told : Bool) (out : List ℕ) (front : List File) where
+  -- the last slot is that of the last file
+  last_place : (file : File) {before old : List Slot} {slot : ℕ} → suc slot ≡ length old → OutputsAt told before (with_last out front file) old → slot ≡ length before + length front
+  last_place file {before} {old} last at =
+      let all : length old ≡ length before + length (front ++ file ∷ []) = outputs_count told before (with_last out front file) old at in
+      let files : length (front ++ file ∷ []) ≡ length front + 1 = length-append front (file ∷ []) in omega (arith, last)
+
+  -- a file is opened, or isn't
+  pub opens : (name : List ℕ) {old new : List Slot} → new ≡ old ++ opened name Fresh ∷ [] → Becomes told (record { out = out; files = front }) (with_last out front (file_of name [] state.Open)) old new None
+  opens name {old} {new} is = record { gets = λ before at. file_more told before (record { out = out; files = front }) old new name Fresh at is }
+
+  pub opens_not : {name : List ℕ} {high : Part} {old new : List Slot} {fault : Fault} → AllClosed front → Begins (record { out = out; files = front }) high → IsNext (record { out = out; files = front }) high name
+      → MakesNone old name new fault → Becomes told (record { out = out; files = front }) high old new (Some fault)
+  opens_not closed begins next (unnamed same) = halts_here begins (turn_next front closed) same (λ before at. tt)
+  opens_not {name} closed begins next (failed _ (broke slot kept number is added)) =
+      halts_here begins (turn_next front closed) (number, (name, kept, next, is, added)) (λ before at. refl)
+  opens_not closed begins next (failed _ (numberless full same)) = halts_here begins (turn_next front closed) same (λ before at. tt)
+
+  -- the last file gets bytes
+  bytes_added : (name bytes more : List ℕ) {slot : ℕ} (old : List Slot) {new : List Slot} → suc slot ≡ length old → new ≡ with_written slot (told_of told more) old
+      → Becomes told (with_last out front (file_of name bytes state.Open)) (with_last out front (file_of name (bytes ++ more) state.Open)) old new None
+  bytes_added name bytes more {slot} old {new} last wrote = record {
+    gets = λ before at.
+        last_changes told (adds (told_of told more)) (gets more) (write_makes told more) before (with_last out front (file_of name bytes state.Open)) front (file_of name bytes state.Open) old new slot refl last at wrote;
+  }
+
+  pub writes_to : (name bytes more : List ℕ) {slot : ℕ} (old : List Slot) {new : List Slot} (fault : Option Fault) → AllClosed front → suc slot ≡ length old → Wrote told slot more old new fault
+      → Becomes told (with_last out front (file_of name bytes state.Open)) (with_last out front (file_of name (bytes ++ more) state.Open)) old new fault
+  writes_to name bytes more old None closed last wrote = bytes_added name bytes more old last wrote
+  writes_to name bytes more {slot} old (Some _) closed last (short.broke n cut) =
+      becomes_again (bytes_more out front name bytes (take n more)) (bytes_added name bytes (take n more) old last refl) (halts_here (taken_more out front name bytes more n)
+      (turn_last front (file_of name (bytes ++ take n more) state.Open) (length front) refl closed)
+      (let size : length (with_written slot (told_of told (take n more)) old) ≡ length old = length-changed_at slot _ old in omega (arith, last), cut.slots)
+      (λ before at. inr (last_place (file_of name (bytes ++ take n more) state.Open) (last ∙ sym (length-changed_at slot _ old)) at)))
+
+  -- it is closed, or breaks as it is
+  pub closes_last : (name bytes : List ℕ) {slot : ℕ} (old : List Slot) {new : List Slot} → suc slot ≡ length old → new ≡ changed_at slot closes old
+      → Becomes told (with_last out front (file_of name bytes state.Open)) (with_last out front (file_of name bytes state.Closed)) old new None
+  closes_last name bytes {slot} old {new} last closed = record {
+    gets = λ before at.
+        last_changes told closes ended (close_makes told) before (with_last out front (file_of name bytes state.Open)) front (file_of name bytes state.Open) old new slot refl last at closed;
+  }
+
+  pub closes_not : (name bytes : List ℕ) {slot : ℕ} (old : List Slot) {new : List Slot} → AllClosed front → suc slot ≡ length old → new ≡ with_broken slot (changed_at slot closes old)
+      → Becomes told (with_last out front (file_of name bytes state.Open)) (with_last out front (file_of name bytes state.Closed)) old new (Some (fault.Write slot))
+  closes_not name bytes {slot} old closed last is =
+      becomes_again (close_begins out front name bytes) (closes_last name bytes old last refl) (halts_here (part_begins_itself _)
+      (turn_last front (file_of name bytes state.Closed) (length front) refl closed)
+      (let size : length (changed_at slot closes old) ≡ length old = length-changed_at slot closes old in omega (arith, last), is)
+      (λ before at. inr (last_place (file_of name bytes state.Closed) (last ∙ sym (length-changed_at slot closes old)) at)))
+
+  -- standard output gets a line
+  line_added : (line : List ℕ) (old : List Slot) {new : List Slot} → new ≡ with_written 0 (told_of told line) old → Becomes told (record { out = out; files = front }) (record { out = out ++ line; files = front }) old new None
+  line_added line old {new} wrote = record { gets = λ before at. out_more told before (record { out = out; files = front }) old new line at wrote }
+
+  pub tells_line : (line : List ℕ) (old : List Slot) {new : List Slot} (fault : Option Fault) → AllClosed front → 0 < length old → Wrote told 0 line old new fault
+      → Becomes told (record { out = out; files = front }) (record { out = out ++ line; files = front }) old new fault
+  tells_line line old None closed some wrote = line_added line old wrote
+  tells_line line old (Some _) closed some (short.broke n cut) =
+      becomes_again (line_begins (take n line)) (line_added (take n line) old refl) (halts_here (record { out = take_begins_after n out line; files = files_begin_themselves front })
+      (turn_next front closed) (let size : length (with_written 0 (told_of told (take n line)) old) ≡ length old = length-changed_at 0 _ old in omega (arith, some), cut.slots)
+      (λ before at. inl refl))
+
+-- Lemmas on the writer of sections.
 
 -- a `?` handed a fault on
 pub stop_is : {T : Type 0} (P : Option Fault → Type 0) (result : Result T Fault) (fault : Fault) → IsErrAnd result (λ given. given ≡ fault) → P (Some fault) → P (fault_in result)

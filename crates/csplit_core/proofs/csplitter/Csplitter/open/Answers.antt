@@ -7,7 +7,7 @@ use Rattle.ports_core.proofs.HandedOn.{fault_is}
 use Rattle.csplit_core.specs.Csplit.{settled_by}
 use Rattle.csplit_core.specs.CsplitState.{CsplitState, Holds, IsReady, Owns}
 use Rattle.csplit_core.specs.Input.{newline}
-use Rattle.csplit_core.proofs.StageClauses.{begins_at, cannot_begin}
+use Rattle.csplit_core.proofs.StageLemmas.{begins_at, cannot_begin}
 use Rattle.csplit_core.proofs.csplitter.Csplitter.open.Goals as goal
 
 pub returns-clause-holds : goal.returns-clause-holds

@@ -1,5 +1,5 @@
 use Rattle.std.proofs.Common.{sym, ◌∙◌, arith}
-use Rattle.csplit_core.proofs.StageSteps.{last_line, last_none}
+use Rattle.csplit_core.proofs.StageLemmas.{last_line, last_none}
 use Rattle.csplit_core.proofs.csplitter.Csplitter.take_last.Goals as goal
 
 pub returns-then-is_empty-clause-takes : goal.returns-then-is_empty-clause-takes

@@ -4,8 +4,8 @@ use Rattle.csplit_core.proofs.WriterLemmas.{stop_is}
 use Rattle.seg_core.proofs.LineCounts.{ends_with-some}
 use Rattle.csplit_core.specs.inner.Cutter.{Takes}
 use Rattle.csplit_core.specs.Input.{newline}
-use Rattle.csplit_core.proofs.ByteLemmas.{first_line, others_whole}
-use Rattle.csplit_core.proofs.StageSteps.{lines_alone, lines_stop, lines_after}
+use Rattle.csplit_core.proofs.LineLemmas.{first_line, others_whole}
+use Rattle.csplit_core.proofs.StageLemmas.{lines_alone, lines_stop, lines_after}
 use Rattle.csplit_core.proofs.csplitter.Csplitter.take_lines.Goals as goal
 
 pub returns-then-is_empty-clause-rest : goal.returns-then-is_empty-clause-rest

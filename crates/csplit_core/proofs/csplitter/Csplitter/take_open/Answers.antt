@@ -1,7 +1,7 @@
 use Rattle.std.proofs.Common.{◌∙◌}
 use Rattle.csplit_core.proofs.WriterLemmas.{stop_is}
 use Rattle.csplit_core.specs.inner.Cutter.{Takes}
-use Rattle.csplit_core.proofs.StageSteps.{line_at, lacks_at}
+use Rattle.csplit_core.proofs.StageLemmas.{line_at, lacks_at}
 use Rattle.csplit_core.proofs.csplitter.Csplitter.take_open.Goals as goal
 
 pub returns-in_err-extend_from_slice-clause-takes : goal.returns-in_err-extend_from_slice-clause-takes

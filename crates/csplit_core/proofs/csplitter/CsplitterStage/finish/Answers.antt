@@ -2,8 +2,7 @@ use Rattle.std.proofs.Common.{ap, subst}
 use Rattle.ports_core.proofs.HandedOn.{result_is}
 use Rattle.csplit_core.specs.CsplitState.{CsplitState}
 use Rattle.csplit_core.specs.inner.CsplitState.{Closes, Judges, ended_well, ended_short}
-use Rattle.csplit_core.proofs.StageLemmas.{closed_on, closed_short}
-use Rattle.csplit_core.proofs.StageSteps.{judged_by}
+use Rattle.csplit_core.proofs.StageLemmas.{closed_on, closed_short, judged_by}
 use Rattle.csplit_core.proofs.csplitter.CsplitterStage.finish.Goals as goal
 
 pub returns-in_err-take_last-clause-closes : goal.returns-in_err-take_last-clause-closes

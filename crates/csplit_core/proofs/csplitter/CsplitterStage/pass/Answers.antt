@@ -7,9 +7,8 @@ use Rattle.csplit_core.specs.Cutter.{IsSound}
 use Rattle.csplit_core.specs.Input.{newline}
 use Rattle.csplit_core.specs.Writer.{IsReady}
 use Rattle.csplit_core.specs.inner.CsplitState.{Passes}
-use Rattle.csplit_core.proofs.ByteLemmas.{piece_ends}
-use Rattle.csplit_core.proofs.StageSteps.{none_passes, past_passes, some_passes, some_stopped}
-use Rattle.csplit_core.proofs.LineLemmas.{rest_all}
+use Rattle.csplit_core.proofs.LineLemmas.{piece_ends, rest_all}
+use Rattle.csplit_core.proofs.StageLemmas.{none_passes, past_passes, some_passes, some_stopped}
 use Rattle.csplit_core.proofs.csplitter.CsplitterStage.pass.Goals as goal
 
 pub returns-then-is_past-clause-passes : goal.returns-then-is_past-clause-passes

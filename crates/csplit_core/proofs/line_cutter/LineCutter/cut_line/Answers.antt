@@ -3,7 +3,7 @@ use Rattle.std.proofs.lemmas.Grind.{common_steps}
 use Rattle.csplit_core.specs.Cutter.{CutterState}
 use Rattle.csplit_core.specs.Writer.{IsReady}
 use Rattle.csplit_core.specs.inner.Cutter.{CutsAll}
-use Rattle.csplit_core.proofs.CutLineLemmas.{none_there, cut_alone, cut_drained, cut_lacks, waiting_count, waiting_size}
+use Rattle.csplit_core.proofs.SpreadLemmas.{none_there, cut_alone, cut_drained, cut_lacks, waiting_count, waiting_size}
 use Rattle.csplit_core.proofs.WriterLemmas.{stop_is}
 use Rattle.csplit_core.proofs.line_cutter.LineCutter.cut_line.Goals as goal
 

@@ -1,4 +1,4 @@
-use Rattle.csplit_core.proofs.HeldLemmas.{hold_goes_at, hold_past_at}
+use Rattle.csplit_core.proofs.HoldLemmas.{hold_goes_at, hold_past_at}
 use Rattle.csplit_core.proofs.line_cutter.LineCutter.hold.Goals as goal
 
 pub returns-then-is_past : goal.returns-then-is_past

@@ -1,6 +1,6 @@
 use Rattle.std.proofs.Common.{arith}
 use Rattle.std.proofs.lemmas.Grind.{common_steps}
-use Rattle.csplit_core.proofs.PassOnLemmas.{goes_on_by, fit_again, fit_next, fewer_again, fewer_next}
+use Rattle.csplit_core.proofs.TurnLemmas.{goes_on_by, fit_again, fit_next, fewer_again, fewer_next}
 use Rattle.csplit_core.proofs.line_cutter.LineCutter.pass.Goals as goal
 
 pub returns-then-self-done-clause-state : goal.returns-then-self-done-clause-state

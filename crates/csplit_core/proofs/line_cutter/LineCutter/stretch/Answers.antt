@@ -4,8 +4,7 @@ use Rattle.ports_core.proofs.HandedOn.{result_is}
 use Rattle.csplit_core.specs.Cutter.{CutterState}
 use Rattle.csplit_core.specs.Writer.{IsReady}
 use Rattle.csplit_core.specs.inner.Cutter.{IsWhole, Stretches}
-use Rattle.csplit_core.proofs.CutLineLemmas.{none_there}
-use Rattle.csplit_core.proofs.GoLemmas.{stretch_cut, stretch_first, stretch_on}
+use Rattle.csplit_core.proofs.SpreadLemmas.{none_there, stretch_cut, stretch_first, stretch_on}
 use Rattle.csplit_core.proofs.LineLemmas.{whole_drop}
 use Rattle.std.proofs.Math.Seq.{take-length}
 use Rattle.csplit_core.proofs.TakeLemmas.{take_some, took_past}

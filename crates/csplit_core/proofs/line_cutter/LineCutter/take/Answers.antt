@@ -1,7 +1,7 @@
 use Rattle.std.proofs.Common.{◌^◌}
 use Rattle.csplit_core.specs.inner.Cutter.{Takes}
-use Rattle.csplit_core.proofs.CutLineLemmas.{none_there}
-use Rattle.csplit_core.proofs.StretchLemmas.{takes_all, takes_more, takes_stopped, takes_end, takes_fit, takes_fewer, found_next}
+use Rattle.csplit_core.proofs.SpreadLemmas.{none_there}
+use Rattle.csplit_core.proofs.TakeLemmas.{takes_all, takes_more, takes_stopped, takes_end, takes_fit, takes_fewer, found_next}
 use Rattle.csplit_core.proofs.WriterLemmas.{stop_is}
 use Rattle.csplit_core.proofs.line_cutter.LineCutter.take.Goals as goal
 

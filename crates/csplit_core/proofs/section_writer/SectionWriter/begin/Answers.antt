@@ -3,8 +3,7 @@ use Rattle.csplit_core.proofs.WriterLemmas.{stop_is}
 use Rattle.csplit_core.specs.Writer.{WriterState}
 use Rattle.csplit_core.specs.inner.WriterSteps.{Starts}
 use Rattle.csplit_core.specs.declared.section_writer.Current.TheVariants.{Skipped, Unmade}
-use Rattle.csplit_core.proofs.MakeLemmas.{state_of}
-use Rattle.csplit_core.proofs.BeginLemmas.{begin_skipped, begin_unmade, begin_made, begin_not}
+use Rattle.csplit_core.proofs.WriterCalls.{state_of, begin_skipped, begin_unmade, begin_made, begin_not}
 use Rattle.csplit_core.proofs.section_writer.SectionWriter.begin.Goals as goal
 
 pub returns-then-not-is_kept : goal.returns-then-not-is_kept

@@ -1,6 +1,6 @@
 use Rattle.std.proofs.Common.{◌∙◌, ap, sym}
 use Rattle.csplit_core.specs.Writer.{WriterState}
-use Rattle.csplit_core.proofs.EndLemmas.{end_skipped, end_unmade}
+use Rattle.csplit_core.proofs.WriterCalls.{end_skipped, end_unmade}
 use Rattle.csplit_core.proofs.section_writer.SectionWriter.end.Goals as goal
 
 pub returns-in-Skipped : goal.returns-in-Skipped

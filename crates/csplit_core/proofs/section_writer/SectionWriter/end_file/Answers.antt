@@ -4,8 +4,7 @@ use Rattle.csplit_core.proofs.WriterLemmas.{stop_is}
 use Rattle.csplit_core.specs.Writer.{WriterState}
 use Rattle.csplit_core.specs.inner.Writer.{Ends, fault_in}
 use Rattle.csplit_core.specs.declared.section_writer.Current.TheVariants.{Skipped}
-use Rattle.csplit_core.proofs.MakeLemmas.{state_of}
-use Rattle.csplit_core.proofs.EndLemmas.{close_not, end_quiet, end_sized}
+use Rattle.csplit_core.proofs.WriterCalls.{state_of, close_not, end_quiet, end_sized}
 use Rattle.csplit_core.proofs.section_writer.SectionWriter.end_file.Goals as goal
 
 pub returns-in_err-close : goal.returns-in_err-close

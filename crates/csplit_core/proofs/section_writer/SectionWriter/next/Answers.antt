@@ -1,7 +1,7 @@
 use Rattle.csplit_core.proofs.WriterLemmas.{stop_is}
 use Rattle.csplit_core.specs.inner.Draft.{with_section}
 use Rattle.csplit_core.specs.inner.Writer.{Goes}
-use Rattle.csplit_core.proofs.EndLemmas.{next_not_ended, next_begun}
+use Rattle.csplit_core.proofs.WriterCalls.{next_not_ended, next_begun}
 use Rattle.csplit_core.proofs.section_writer.SectionWriter.next.Goals as goal
 
 pub returns-in_err-end-clause-goes : goal.returns-in_err-end-clause-goes

@@ -1,6 +1,6 @@
 use Rattle.ports_core.proofs.HandedOn.{result_is}
 use Rattle.csplit_core.specs.inner.Writer.{Begins}
-use Rattle.csplit_core.proofs.BeginLemmas.{empty_ready, opens_begun, opens_not_begun}
+use Rattle.csplit_core.proofs.WriterCalls.{empty_ready, opens_begun, opens_not_begun}
 use Rattle.csplit_core.proofs.section_writer.SectionWriter.open.Goals as goal
 
 pub begin-requires : goal.begin-requires

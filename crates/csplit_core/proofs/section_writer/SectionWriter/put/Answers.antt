@@ -4,8 +4,7 @@ use Rattle.csplit_core.proofs.WriterLemmas.{stop_is}
 use Rattle.csplit_core.specs.inner.Draft.{with_bytes}
 use Rattle.csplit_core.specs.Writer.{WriterState}
 use Rattle.csplit_core.specs.inner.Writer.{Goes}
-use Rattle.csplit_core.proofs.PutLemmas.{put_skipped, put_file, some_bytes}
-use Rattle.csplit_core.proofs.BeginLemmas.{put_first, put_unmade}
+use Rattle.csplit_core.proofs.WriterCalls.{put_skipped, put_file, some_bytes, put_first, put_unmade}
 use Rattle.csplit_core.proofs.section_writer.SectionWriter.put.Goals as goal
 
 pub returns-in-Skipped-clause-goes : goal.returns-in-Skipped-clause-goes
