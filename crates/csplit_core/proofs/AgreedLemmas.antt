@@ -10,14 +10,12 @@ use Rattle.std.proofs.Math.Seq.{get_or-append_seam}
 use Rattle.bre_core.specs.Pattern.{Pattern}
 use Rattle.csplit_core.specs.Operand.{Minus, Target, Number, Search, Operand, Line, unmarked, Plus, most_held, is_kept}
 use Rattle.csplit_core.specs.Plan.{State, start, Step, Ending, below, search_line, IsFirst, MatchesNone, CutsAt, line_after, state_after, step_of, Runs, is_below, cuts, missed, Misses}
-use Rattle.csplit_core.specs.laws.MatchLaws.{search_some, match_still}
-use Rattle.csplit_core.specs.laws.PlanLaws.{line_some, runs, goes_on, plan_runs, plan_once}
-use Rattle.csplit_core.specs.inner.PlanLaws.{needed}
+use Rattle.csplit_core.specs.laws.PlanLaws.{search_some, match_still, line_some, runs, goes_on, plan_runs, plan_once}
+use Rattle.csplit_core.specs.inner.PlanLaws.{needed, EndsAs, Grow}
 use Rattle.std.proofs.lemmas.List.{append-nil, map-append}
 use Rattle.csplit_core.specs.Planned.{plan}
 use Rattle.csplit_core.specs.Section.{Section, section, section_of, lines_between, is_last_kept, whole_end, settled_end, sections_by, whole_sections}
 use Rattle.csplit_core.specs.laws.SectionLaws.{between_still, ends_as, are_within, closed_still, plan_grows, whole_covers}
-use Rattle.csplit_core.specs.inner.SectionLaws.{EndsAs, Grow}
 
 -- One more line that every operand finds.
 

@@ -10,7 +10,7 @@ use Rattle.ports_core.specs.declared.fault.Fault.TheVariants.{Memory}
 use Rattle.ports_core.proofs.PartLemmas.{part_trans}
 use Rattle.csplit_core.specs.Csplit.{settled_of}
 use Rattle.csplit_core.specs.Draft.{Draft, draft_part}
-use Rattle.csplit_core.specs.inner.Draft.{with_bytes, with_section}
+use Rattle.csplit_core.specs.inner.Writer.{with_bytes, with_section, Goes, Leaves, Reaches}
 use Rattle.csplit_core.specs.Input.{newline, all_lines}
 use Rattle.csplit_core.specs.Operand.{Operand, Line, is_kept}
 use Rattle.csplit_core.specs.Output.{Style, contents_of, part_by, part_of}
@@ -22,7 +22,6 @@ use Rattle.csplit_core.specs.inner.Progress.{GoesPast}
 use Rattle.csplit_core.specs.Section.{Section, section, section_of, lines_between, bytes_of, is_last_kept, settled_end, settled_sections}
 use Rattle.csplit_core.specs.laws.SectionLaws.{part_grows, ends_as}
 use Rattle.csplit_core.specs.Writer.{WriterState, Writes, size_of}
-use Rattle.csplit_core.specs.inner.Writer.{Goes, Leaves, Reaches}
 use Rattle.csplit_core.specs.declared.line_cutter.Cut.{Cut}
 use Rattle.csplit_core.specs.Cutter.{CutterState, suppress_in, state_in, kept_by, text_from, Leads, draft_by, IsFit, IsAt}
 use Rattle.csplit_core.specs.inner.Cutter.{settled_part, part_at, search_after, CutsNow, PassesOn, IsAfter, CutAt, CutsAll, WillCut, IsEnd}

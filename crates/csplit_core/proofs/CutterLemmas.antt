@@ -15,14 +15,14 @@ use Rattle.csplit_core.specs.Progress.{AimsAt}
 use Rattle.csplit_core.specs.declared.progress.Turn.{Turn}
 use Rattle.csplit_core.specs.declared.progress.Turn.TheVariants.{Below}
 use Rattle.csplit_core.specs.laws.PlanLaws.{plan_once, goes_on}
-use Rattle.csplit_core.specs.inner.SectionLaws.{EndsAs}
+use Rattle.csplit_core.specs.inner.PlanLaws.{EndsAs}
 use Rattle.csplit_core.specs.laws.SectionLaws.{ends_as, closed_still, are_within}
 use Rattle.csplit_core.specs.Cutter.{kept_by, most_by, text_from, draft_by, settled_draft, CutterState, suppress_in, state_in, IsAt, EndsNow, IsLive}
 use Rattle.csplit_core.specs.inner.Cutter.{IsWhole, settled_part, Keeps, part_at}
 use Rattle.csplit_core.proofs.LineLemmas.{all_lines-append, bytes_between, length-all_lines, count-append, count_from, first_still, rest_more, from_further, first_further}
 use Rattle.ports_core.specs.Slot.{Slot}
 use Rattle.ports_core.specs.declared.fault.Fault.{Fault}
-use Rattle.csplit_core.specs.inner.Draft.{with_bytes}
+use Rattle.csplit_core.specs.inner.Writer.{with_bytes}
 use Rattle.csplit_core.specs.Writer.{WriterState, Writes}
 use Rattle.csplit_core.proofs.WriterLemmas.{leaves_again}
 

@@ -8,7 +8,7 @@ use Rattle.ports_core.specs.declared.slot.State.TheVariants as state
 use Rattle.csplit_core.specs.Input.{newline}
 use Rattle.csplit_core.specs.Output.{Style, Contents, makes_file, file_at, files_of, size_line, size_lines, part_by}
 use Rattle.csplit_core.specs.Draft.{Draft, draft_part, last_contents, AreClosed}
-use Rattle.csplit_core.specs.inner.Draft.{ended_part}
+use Rattle.csplit_core.specs.inner.Writer.{ended_part}
 use Rattle.csplit_core.specs.laws.SectionLaws.{size_lines-append}
 use Rattle.csplit_core.proofs.WriterLemmas.{file_of, with_last, more_files}
 

@@ -10,7 +10,7 @@ use Rattle.ports_core.specs.Slot.{Slot}
 use Rattle.ports_core.specs.declared.fault.Fault.{Fault}
 use Rattle.csplit_core.specs.Csplit.{whole_of, verdict_of}
 use Rattle.csplit_core.specs.Draft.{Draft, draft_part}
-use Rattle.csplit_core.specs.inner.Draft.{ended_part, with_bytes}
+use Rattle.csplit_core.specs.inner.Writer.{ended_part, with_bytes, Ends, Goes, Reaches}
 use Rattle.csplit_core.specs.Input.{newline, all_lines}
 use Rattle.csplit_core.specs.Operand.{Operand, Line}
 use Rattle.csplit_core.specs.Output.{Style, contents_of, part_by}
@@ -21,7 +21,6 @@ use Rattle.csplit_core.specs.Progress.{AimsAt}
 use Rattle.csplit_core.specs.Section.{section, section_of, lines_between, is_last_kept, settled_end, whole_end, is_final, bytes_of}
 use Rattle.csplit_core.specs.declared.progress.Turn.TheVariants.{Below, UsedUp, Missed, Above}
 use Rattle.csplit_core.specs.Writer.{WriterState, Writes}
-use Rattle.csplit_core.specs.inner.Writer.{Ends, Goes, Reaches}
 use Rattle.csplit_core.specs.Cutter.{CutterState, suppress_in, state_in, kept_by, text_from, draft_by, settled_draft, IsFit, IsLive, IsPast, Stands}
 use Rattle.csplit_core.specs.inner.Cutter.{settled_part, whole_part, IsJudged, EndsAll}
 use Rattle.csplit_core.proofs.LineLemmas.{count_from, from_further}

@@ -16,9 +16,8 @@ use Rattle.ports_core.specs.declared.fault.Fault.TheVariants.{Memory}
 use Rattle.ports_core.proofs.PartLemmas.{part_begins_itself, turn_last, turn_next}
 use Rattle.csplit_core.specs.Output.{Style, makes_file, files_of}
 use Rattle.csplit_core.specs.Draft.{Draft, draft_part, last_contents, AreClosed}
-use Rattle.csplit_core.specs.inner.Draft.{with_bytes}
+use Rattle.csplit_core.specs.inner.Writer.{with_bytes, Goes, Reaches, fault_in}
 use Rattle.csplit_core.specs.Writer.{WriterState, Writes, IsReady, size_of}
-use Rattle.csplit_core.specs.inner.Writer.{Goes, Reaches, fault_in}
 use Rattle.csplit_core.proofs.WriterLemmas.{bytes_begin, leaves_again, leaves_lacking, leaves_still, reaches_again, reaches_as, reaches_still, stops_wider, where_well, well_in, where_three}
 use Rattle.csplit_core.proofs.DraftLemmas.{open_part, part_none, closed_files}
 use Rattle.std.specs.Prelude.{IfNone}

@@ -10,7 +10,7 @@ use Rattle.ports_core.proofs.PartLemmas.{nothing_begins_part}
 use Rattle.csplit_core.proofs.HoldLemmas.{in_turn}
 use Rattle.csplit_core.specs.Csplit.{settled_of}
 use Rattle.csplit_core.specs.Draft.{draft_part}
-use Rattle.csplit_core.specs.inner.Draft.{first_draft}
+use Rattle.csplit_core.specs.inner.Writer.{first_draft, Begun, BegunNot}
 use Rattle.csplit_core.specs.Input.{newline}
 use Rattle.csplit_core.specs.Operand.{Operand, Line}
 use Rattle.csplit_core.specs.Output.{Style}
@@ -24,7 +24,6 @@ use Rattle.csplit_core.specs.declared.progress.Progress.{Progress}
 use Rattle.csplit_core.specs.declared.progress.Turn.{Turn}
 use Rattle.csplit_core.specs.declared.progress.Turn.TheVariants.{Below, Cuts}
 use Rattle.csplit_core.specs.Writer.{WriterState, Writes, size_of}
-use Rattle.csplit_core.specs.inner.Writer.{Begun, BegunNot}
 use Rattle.csplit_core.specs.Cutter.{CutterState, most_next, pattern_next, kept_next, next_of, most_by, pattern_by, kept_by, settled_draft, IsFit, Stands}
 use Rattle.csplit_core.specs.inner.Cutter.{IsNoCut, Opened}
 use Rattle.csplit_core.proofs.TurnLemmas.{advances, repeated_anew}

@@ -8,8 +8,7 @@ use Rattle.ports_core.specs.declared.fault.Fault.TheVariants as fault
 use Rattle.ports_core.specs.declared.slot.Mode.TheVariants.{Fresh}
 use Rattle.csplit_core.specs.Output.{Style}
 use Rattle.csplit_core.specs.Writer.{WriterState, IsReady, IsOpenAt, IsLast, Breaks}
-use Rattle.csplit_core.specs.inner.Writer.{KeepsFiles}
-use Rattle.csplit_core.specs.inner.WriterSteps.{MakesNone, unnamed, failed, Made, next_name}
+use Rattle.csplit_core.specs.inner.Writer.{KeepsFiles, MakesNone, unnamed, failed, Made, next_name}
 use Rattle.ports_core.specs.inner.Write as short
 use Rattle.csplit_core.specs.declared.section_writer.Current.TheVariants.{File, Unopened}
 use Rattle.ports_core.proofs.SlotSteps.{KeepsMade, none_past, none_opened, file_before, at_end, opened_last, writable_within, open_rose, write_rose, close_rose}

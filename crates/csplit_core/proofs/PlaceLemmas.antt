@@ -11,7 +11,7 @@ use Rattle.csplit_core.specs.Section.{whole_end, settled_end, is_final, waiting_
 use Rattle.csplit_core.specs.Agreed.{CanCome}
 use Rattle.csplit_core.specs.Place.{Place, in_section, left_out, nowhere, place_from, place_of, IsUndecided, is_in, lines_into, ArePlaced}
 use Rattle.csplit_core.specs.laws.PlanLaws.{line_some, cuts_still, plan_runs, plan_once, goes_on, from_not_less, less_test, not_less_test}
-use Rattle.csplit_core.specs.inner.SectionLaws.{EndsAs}
+use Rattle.csplit_core.specs.inner.PlanLaws.{EndsAs}
 use Rattle.csplit_core.specs.laws.SectionLaws.{ends_as, are_within, plan_goes_on, missed_cut, front_of, none_there, cut_once, cuts_or_misses}
 use Rattle.csplit_core.proofs.AgreedLemmas.{search_within, search_at_start, matching_line, none_comes, matching_comes, Turned, too_low, turns, turned}
 use Rattle.csplit_core.proofs.WholeLemmas.{between_rest, after_within}

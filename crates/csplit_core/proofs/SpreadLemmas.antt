@@ -19,9 +19,8 @@ use Rattle.std.proofs.lemmas.Bool.{eqb-true}
 use Rattle.seg_core.specs.Line.{delimiters, first_lines, line_count, ends_with}
 use Rattle.ports_core.specs.declared.fault.Fault.TheVariants.{Memory}
 use Rattle.csplit_core.specs.Draft.{draft_part}
-use Rattle.csplit_core.specs.inner.Draft.{with_bytes}
+use Rattle.csplit_core.specs.inner.Writer.{with_bytes, Leaves, fault_in}
 use Rattle.csplit_core.specs.Input.{newline, all_lines}
-use Rattle.csplit_core.specs.inner.Writer.{Leaves, fault_in}
 use Rattle.csplit_core.proofs.CutLemmas.{before_begins, cut_stopped}
 use Rattle.csplit_core.proofs.HoldLemmas.{lacks_memory}
 use Rattle.std.proofs.Math.Seq.{take-add}

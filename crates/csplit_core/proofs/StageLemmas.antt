@@ -15,7 +15,7 @@ use Rattle.csplit_core.specs.Plan.{start, Step, Ending, below}
 use Rattle.csplit_core.specs.Planned.{Plan, plan}
 use Rattle.csplit_core.specs.laws.PlanLaws.{plan_runs}
 use Rattle.csplit_core.specs.Section.{section, section_of, lines_between, is_last_kept, whole_end, is_final, whole_sections}
-use Rattle.csplit_core.specs.inner.SectionLaws.{AreWithin}
+use Rattle.csplit_core.specs.inner.PlanLaws.{AreWithin}
 use Rattle.csplit_core.specs.laws.SectionLaws.{are_within, closed_still, ends_with as whole_grows}
 use Rattle.csplit_core.specs.Writer.{WriterState, IsReady as CanWrite, Breaks, OwnsFiles}
 use Rattle.csplit_core.specs.inner.Writer.{Reaches, fault_in, At, BegunNot, KeepsFiles, new_writer}

@@ -7,8 +7,7 @@ use Rattle.std.proofs.Math.Seq.{get_or-append_right}
 use Rattle.csplit_core.specs.Operand.{Target, Number, Search, Operand, Line, unmarked, is_match}
 use Rattle.csplit_core.specs.Plan.{State, Step, Ending, missed, above, search_line, IsFirst, MatchesNone, Misses, line_after, Runs, is_used_up, misses, is_above, is_below, cuts}
 use Rattle.csplit_core.specs.Planned.{plan}
-use Rattle.csplit_core.specs.laws.MatchLaws.{search_some, match_still}
-use Rattle.csplit_core.specs.laws.PlanLaws.{cuts_still, goes_on, plan_runs, plan_once}
+use Rattle.csplit_core.specs.laws.PlanLaws.{search_some, match_still, cuts_still, goes_on, plan_runs, plan_once}
 use Rattle.std.proofs.lemmas.Bool.{and_parts}
 
 -- `count` lines come before these, and none of these has the operand's pattern, from the line on of number `from`

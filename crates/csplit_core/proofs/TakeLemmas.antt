@@ -16,12 +16,11 @@ use Rattle.csplit_core.specs.Draft.{draft_part}
 use Rattle.csplit_core.specs.Output.{Style}
 use Rattle.csplit_core.specs.Planned.{Plan, plan, plan_within}
 use Rattle.csplit_core.specs.laws.PlanLaws.{cuts_still, runs, line_some, plan_runs}
-use Rattle.csplit_core.specs.inner.PlanLaws.{needed}
+use Rattle.csplit_core.specs.inner.PlanLaws.{needed, EndsAs}
 use Rattle.seg_core.proofs.EndLines.{line_count-grows}
 use Rattle.csplit_core.specs.inner.Progress.{GoesPast}
 use Rattle.csplit_core.specs.Progress.{AimsAt}
 use Rattle.csplit_core.specs.Section.{is_final, most_waiting, settled_end}
-use Rattle.csplit_core.specs.inner.SectionLaws.{EndsAs}
 use Rattle.csplit_core.specs.laws.SectionLaws.{ends_as, front_of, none_there, missed_cut, cut_once, grows}
 use Rattle.csplit_core.specs.Writer.{Writes, IsReady, size_of}
 use Rattle.csplit_core.specs.declared.line_cutter.Cut.{Cut}

@@ -7,15 +7,13 @@ use Rattle.ports_core.specs.declared.fault.Fault.{Fault}
 use Rattle.ports_core.specs.declared.fault.Fault.TheVariants.{Memory}
 use Rattle.csplit_core.specs.Output.{Style, Contents, is_empty, makes_file, files_of, size_lines, file_at, part_by, size_line}
 use Rattle.csplit_core.specs.Writer.{WriterState, Writes, IsCurrent, IsLast, IsReady, OwnsFiles, IsOpenAt, size_of}
-use Rattle.csplit_core.specs.inner.WriterSteps.{MakesNone, unnamed, failed, Appends, Wrote, Made, Makes, Starts, next_name, begun_after}
+use Rattle.csplit_core.specs.inner.Writer.{MakesNone, unnamed, failed, Appends, Wrote, Made, Makes, Starts, next_name, begun_after, with_bytes, first_draft, ended_part, with_section, Goes, KeepsOrBreaks, Leaves, KeepsFiles, Pauses, Begun, BegunNot, new_writer, Ends}
 use Rattle.csplit_core.specs.declared.section_writer.Current.{Current}
 use Rattle.std.proofs.lemmas.Bool.{false≢true, eq-eqb}
 use Rattle.std.specs.Prelude.{IfNone}
 use Rattle.ports_core.specs.Part.{Part, OutputsAt, IsNext, File as PartFile, Begins}
 use Rattle.csplit_core.specs.Draft.{Draft, draft_part, last_contents, AreClosed}
-use Rattle.csplit_core.specs.inner.Draft.{with_bytes, first_draft, ended_part, with_section}
 use Rattle.csplit_core.specs.laws.SectionLaws.{made_more}
-use Rattle.csplit_core.specs.inner.Writer.{Goes, KeepsOrBreaks, Leaves, KeepsFiles, Pauses, Begun, BegunNot, new_writer, Ends}
 use Rattle.csplit_core.specs.declared.section_writer.Current.TheVariants.{Skipped, Unmade, File}
 use Rattle.csplit_core.proofs.WriterLemmas.{leaves_still, reaches_as, reaches_by, reaches_still, where_well, writes_to, leaves_again, stops_in, Becomes, becomes_again, file_of, with_last, file_begins, opens, opens_not, reaches_again, stops_wider, end_begins, in_any, falls_wider, line_begins, close_begins, closes_last, closes_not, tells_line}
 use Rattle.ports_core.proofs.SlotSteps.{KeepsMade, keeps_write, made_write, written_writable, made_short, keeps_same, keeps_open, writable_before, opened_writable, opened_last, none_past, made_same, made_again, made_close, made_break, keeps_close, writable_elsewhere}

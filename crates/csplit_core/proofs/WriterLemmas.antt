@@ -9,7 +9,7 @@ use Rattle.ports_core.specs.declared.slot.State.{State}
 use Rattle.ports_core.proofs.SlotLemmas.{length-changed_at}
 use Rattle.ports_core.proofs.FileLemmas.{gets, ended, file_more, last_changes, write_makes, close_makes}
 use Rattle.ports_core.proofs.PartLemmas.{begins_itself, begins_more, take_begins_after, files_begin_themselves, part_begins_itself, out_more, outputs_count, turn_between, turn_last, turn_next}
-use Rattle.csplit_core.specs.inner.WriterSteps.{MakesNone, unnamed, failed, Wrote}
+use Rattle.csplit_core.specs.inner.Writer.{MakesNone, unnamed, failed, Wrote, ended_part, with_bytes, with_section, At, IsThere, KeepsFiles, KeepsOrBreaks, Leaves, Reaches, fault_in}
 use Rattle.std.specs.Prelude.{IfNone}
 use Rattle.std.proofs.lemmas.List.{append-nil}
 use Rattle.ports_core.specs.inner.Slot.{KeepsBroken}
@@ -18,10 +18,8 @@ use Rattle.ports_core.proofs.HandedOn.{handed_on}
 use Rattle.ports_core.proofs.SlotSteps.{keeps_again, keeps_same, rose_later}
 use Rattle.csplit_core.specs.Output.{Style, part_by}
 use Rattle.csplit_core.specs.Draft.{Draft, draft_part, last_contents}
-use Rattle.csplit_core.specs.inner.Draft.{ended_part, with_bytes, with_section}
 use Rattle.csplit_core.specs.laws.SectionLaws.{part_grows}
 use Rattle.csplit_core.specs.Writer.{WriterState, IsLast, IsReady}
-use Rattle.csplit_core.specs.inner.Writer.{At, IsThere, KeepsFiles, KeepsOrBreaks, Leaves, Reaches, fault_in}
 use Rattle.ports_core.specs.declared.fault.Fault.TheVariants as fault
 use Rattle.ports_core.specs.declared.slot.State.TheVariants as state
 use Rattle.ports_core.specs.inner.Write as short

@@ -2,8 +2,7 @@
 ghost use Rattle.std.specs.Prelude.{◌≡◌, ◌+◌, ◌<◌, ◌≤◌, ◌^◌, ◌++◌, [], length, take, IfOk, IfErr, OnOk};
 ghost use Rattle.seg_core.specs.Line.{but_last_lines, last_lines};
 ghost use Rattle.seg_core.specs.Window.{without_first};
-ghost use Rattle.csplit_core.specs.inner.Draft.{with_bytes};
-ghost use Rattle.csplit_core.specs.inner.Writer.{Goes, fault_in};
+ghost use Rattle.csplit_core.specs.inner.Writer.{with_bytes, Goes, fault_in};
 ghost use Rattle.csplit_core.specs.Writer.{IsReady, size_of};
 
 use crate::section_writer::SectionWriter;

@@ -2,11 +2,9 @@
 ghost use Rattle.std.specs.Prelude.{◌≡◌, ◌+◌, ◌<◌, ◌≤◌, ◌^◌, ◌++◌, ◌∷◌, [], length, decimal, vec_capacity, vec_len, IsTrue, OnOk};
 ghost use Rattle.ports_core.specs.Slot.{is_writable};
 ghost use Rattle.ports_core.specs.Swept.{AreThere, Removes};
-ghost use Rattle.csplit_core.specs.inner.Draft.{with_bytes, with_section};
+ghost use Rattle.csplit_core.specs.inner.Writer.{with_bytes, with_section, Begins, Ends, Goes, fault_in, Appends, Makes, Starts, Wrote};
 ghost use Rattle.csplit_core.specs.Input.{newline};
-ghost use Rattle.csplit_core.specs.inner.Writer.{Begins, Ends, Goes, fault_in};
 ghost use Rattle.csplit_core.specs.Writer.{IsReady, size_of};
-ghost use Rattle.csplit_core.specs.inner.WriterSteps.{Appends, Makes, Starts, Wrote};
 ghost use Rattle.csplit_core.specs.declared.section_writer.Current.TheVariants.{File};
 
 use crate::Style;

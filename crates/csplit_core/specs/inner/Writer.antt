@@ -1,16 +1,39 @@
 -- What private calls say: what contracts see of the writer of sections, and what its calls do.
-use Rattle.std.specs.Prelude.{◌≡◌, ℕ, Bool, true, List, [], ◌∷◌, ◌++◌, length, Option, Some, None, IfNone, Result, Ok, Err}
+use Rattle.std.specs.Prelude.{Bool, true, List, [], ◌∷◌, ◌++◌, ℕ, ◌≡◌, length, Option, Some, None, IfNone, Result, Ok, Err, ◌+◌, IfSome}
 use Rattle.ports_core.specs.Part.{Part, OutputsAt, nothing}
+use Rattle.csplit_core.specs.Output.{Style, part_by, Contents, files_of}
+use Rattle.csplit_core.specs.Draft.{Draft, last_contents, draft_part, AreClosed}
 use Rattle.ports_core.specs.inner.Part.{StoppedInTurn}
-use Rattle.ports_core.specs.Slot.{Slot}
+use Rattle.ports_core.specs.Slot.{Slot, FailsToOpen, opened, told_of, with_written}
 use Rattle.ports_core.specs.inner.Slot.{KeepsBroken}
 use Rattle.ports_core.specs.Swept.{AreThere, HasNoFiles}
 use Rattle.ports_core.specs.declared.fault.Fault.{Fault}
-use Rattle.csplit_core.specs.Draft.{Draft, draft_part, last_contents, AreClosed}
-use Rattle.csplit_core.specs.inner.Draft.{ended_part, first_draft}
-use Rattle.csplit_core.specs.Output.{Style, Contents, files_of}
 use Rattle.csplit_core.specs.Writer.{WriterState, size_of, Writes, OwnsFiles, IsReady, Breaks}
-use Rattle.csplit_core.specs.declared.section_writer.Current.TheVariants.{Skipped}
+use Rattle.csplit_core.specs.declared.section_writer.Current.TheVariants.{Skipped, File, Unopened}
+use Rattle.ports_core.specs.Name.{numbered_name}
+use Rattle.ports_core.specs.inner.Write.{WritesShort}
+use Rattle.ports_core.specs.declared.fault.Fault.TheVariants.{Memory}
+use Rattle.ports_core.specs.declared.slot.Mode.TheVariants.{Fresh}
+
+-- What private calls say: what stands of all sections at some moment: those that ended, and the one that is open.
+
+-- what is written of it once the open section ended as well
+abbrev pub ended_part : Style → Draft → Part
+ended_part style draft = part_by style (draft.ended ++ last_contents true draft ∷ [])
+
+-- before anything: no section ended, and one is open
+abbrev pub first_draft : Bool → Draft
+first_draft kept = record { ended = []; is_kept = kept; bytes = [] }
+
+-- the open section gets more bytes
+abbrev pub with_bytes : List ℕ → Draft → Draft
+with_bytes bytes draft = record { ended = draft.ended; is_kept = draft.is_kept; bytes = draft.bytes ++ bytes }
+
+-- the open section ends, and another begins
+abbrev pub with_section : Bool → Draft → Draft
+with_section kept draft = record { ended = draft.ended ++ last_contents true draft ∷ []; is_kept = kept; bytes = [] }
+
+-- What private calls say: what contracts see of the writer of sections, and what its calls do.
 
 -- The outputs have this part, and those after the first ones are the writer's own.
 pub record At (told : Bool) (writer : WriterState) (before : List Slot) (part : Part) (now : List Slot) : Type 0 where
@@ -92,3 +115,49 @@ abbrev pub Begins : Bool → Style → Bool → List Slot → List Slot → Resu
 Begins told style is_kept old new (Ok writer) = Begun told style is_kept old new writer
 Begins told style is_kept old new (Err fault) =
     BegunNot told style (draft_part style (first_draft is_kept)) old new fault
+
+-- What the steps of the writer of sections do.
+
+-- a slot got these bytes, or broke among them
+abbrev pub Wrote : Bool → ℕ → List ℕ → List Slot → List Slot → Option Fault → Type 0
+Wrote told slot bytes old new None = new ≡ with_written slot (told_of told bytes) old
+Wrote told slot bytes old new (Some fault) = WritesShort told slot bytes old new fault
+
+-- the file of the open section, which has `size` bytes, got these as well, or broke among them
+pub record Appends (told : Bool) (writer : WriterState) (slot size : ℕ) (bytes : List ℕ) (old new : List Slot) (next : WriterState) (fault : Option Fault) : Type 0 where
+  pub same : next ≡ record writer { current = next.current }
+  pub current : IfNone fault (next.current ≡ File slot (size + length bytes))
+  pub still : IfSome fault (λ why. next.current ≡ writer.current)
+  pub wrote : Wrote told slot bytes old new fault
+
+abbrev pub next_name : WriterState → List ℕ
+next_name writer = numbered_name writer.style.prefix writer.style.digits (length writer.files)
+
+-- the next file was made
+pub record Made (writer : WriterState) (old new : List Slot) (next : WriterState) (slot : ℕ) : Type 0 where
+  pub place : slot ≡ length old
+  pub added : new ≡ old ++ opened (next_name writer) Fresh ∷ []
+  pub same : next ≡ record writer { files = writer.files ++ slot ∷ []; current = File slot 0 }
+
+-- why a file with this name wasn't made: there was no memory for the name, or it couldn't be opened
+pub data MakesNone (old : List Slot) (name : List ℕ) (new : List Slot) : Fault → Type 0 where
+  unnamed : new ≡ old → MakesNone old name new Memory
+  failed : (fault : Fault) → FailsToOpen old name new fault → MakesNone old name new fault
+
+abbrev pub Makes : WriterState → List Slot → List Slot → WriterState → Result ℕ Fault → Type 0
+Makes writer old new next (Ok slot) = Made writer old new next slot
+Makes writer old new next (Err fault) = (next ≡ record writer { current = Unopened })
+    × MakesNone old (next_name writer) new fault
+
+-- these sections, and one more that began
+abbrev pub begun_after : List Contents → Bool → Draft
+begun_after ended kept = record { ended = ended; is_kept = kept; bytes = [] }
+
+-- A section began, after those that ended; or it could not, since its file wasn't made.
+pub record Starts (told : Bool) (writer : WriterState) (kept : Bool) (old new : List Slot) (next : WriterState) (fault : Option Fault) : Type 0 where
+  pub leaves : Leaves writer next old new fault
+  pub reaches : (ended : List Contents) → Pauses writer ended
+      → Reaches told writer next (part_by writer.style ended) (draft_part writer.style (begun_after ended kept)) old new fault
+  pub writes : IfNone fault ((ended : List Contents) → Pauses writer ended → Writes next (begun_after ended kept))
+  pub size : IfNone fault (size_of next.current ≡ 0)
+  pub none_made : IfSome fault (λ why. next.files ≡ writer.files)

@@ -1,7 +1,7 @@
 use Rattle.std.proofs.Common.{refl}
 use Rattle.ports_core.proofs.HandedOn.{of_write}
 use Rattle.ports_core.specs.inner.Write.{broke}
-use Rattle.csplit_core.specs.inner.WriterSteps.{Appends}
+use Rattle.csplit_core.specs.inner.Writer.{Appends}
 use Rattle.csplit_core.proofs.WriterLemmas.{stop_is}
 use Rattle.csplit_core.proofs.section_writer.SectionWriter.append.Goals as goal
 

@@ -1,7 +1,7 @@
 use Rattle.std.proofs.Common.{None, ◌∙◌, ap, sym, subst}
 use Rattle.csplit_core.proofs.WriterLemmas.{stop_is}
 use Rattle.csplit_core.specs.Writer.{WriterState}
-use Rattle.csplit_core.specs.inner.WriterSteps.{Starts}
+use Rattle.csplit_core.specs.inner.Writer.{Starts}
 use Rattle.csplit_core.specs.declared.section_writer.Current.TheVariants.{Skipped, Unmade}
 use Rattle.csplit_core.proofs.WriterCalls.{state_of, begin_skipped, begin_unmade, begin_made, begin_not}
 use Rattle.csplit_core.proofs.section_writer.SectionWriter.begin.Goals as goal

@@ -2,7 +2,7 @@ use Rattle.std.proofs.Common.{◌≡◌, ◌∙◌, ℕ, List, length, ap, refl,
 use Rattle.ports_core.specs.Name.{numbered_name}
 use Rattle.ports_core.proofs.HandedOn.{result_is}
 use Rattle.csplit_core.specs.Writer.{WriterState}
-use Rattle.csplit_core.specs.inner.WriterSteps.{Makes, next_name, unnamed}
+use Rattle.csplit_core.specs.inner.Writer.{Makes, next_name, unnamed}
 use Rattle.csplit_core.specs.declared.section_writer.Current.TheVariants.{Unopened}
 use Rattle.csplit_core.proofs.WriterCalls.{not_named, not_opened, state_of, with_room}
 use Rattle.csplit_core.proofs.section_writer.SectionWriter.make_file.Goals as goal

@@ -1,6 +1,5 @@
 use Rattle.csplit_core.proofs.WriterLemmas.{stop_is}
-use Rattle.csplit_core.specs.inner.Draft.{with_section}
-use Rattle.csplit_core.specs.inner.Writer.{Goes}
+use Rattle.csplit_core.specs.inner.Writer.{with_section, Goes}
 use Rattle.csplit_core.proofs.WriterCalls.{next_not_ended, next_begun}
 use Rattle.csplit_core.proofs.section_writer.SectionWriter.next.Goals as goal
 

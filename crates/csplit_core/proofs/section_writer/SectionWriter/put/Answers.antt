@@ -1,9 +1,8 @@
 use Rattle.std.proofs.Common.{◌∙◌, ap, sym, arith}
 use Rattle.std.proofs.lemmas.Grind.{common_steps}
 use Rattle.csplit_core.proofs.WriterLemmas.{stop_is}
-use Rattle.csplit_core.specs.inner.Draft.{with_bytes}
+use Rattle.csplit_core.specs.inner.Writer.{with_bytes, Goes}
 use Rattle.csplit_core.specs.Writer.{WriterState}
-use Rattle.csplit_core.specs.inner.Writer.{Goes}
 use Rattle.csplit_core.proofs.WriterCalls.{put_skipped, put_file, some_bytes, put_first, put_unmade}
 use Rattle.csplit_core.proofs.section_writer.SectionWriter.put.Goals as goal
 
