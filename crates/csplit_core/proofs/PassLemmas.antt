@@ -25,7 +25,7 @@ use Rattle.csplit_core.specs.declared.progress.Turn.{Turn}
 use Rattle.csplit_core.specs.declared.progress.Turn.TheVariants.{UsedUp, Missed, Above, Cuts}
 use Rattle.csplit_core.proofs.LineLemmas.{whole_drop, all_lines-append, all_lines-line, count-append, count-line, length-all_lines, whole_count, whole-append, whole_by}
 use Rattle.csplit_core.proofs.StayLemmas.{NoneFrom, EndsStill, ends_still}
-use Rattle.csplit_core.proofs.TryLemmas.{found_is}
+use Rattle.csplit_core.proofs.TryLemmas.{StaysOver, ends_over, found_is}
 use Rattle.scan_core.specs.Clear.{IsClear}
 use Rattle.seg_core.proofs.LinesOf.{AreLines-lines_of, joined-lines_of}
 
@@ -53,12 +53,6 @@ moves_more : (total more : ℕ) (state : State) (target : Target) (matched cut :
 moves_more total more state (Number n) matched cut less at = at
 moves_more total more state (Search pattern kept offset) matched cut less at = (at.0, omega (arith, at.1, less))
 
--- With the lines of this text too there are `lines`, and the next operand stands as it did.
-abbrev pub StaysOver : CutterState → (text : List ℕ) (lines : ℕ) → Turn → Type 0
-StaysOver cutter text lines Missed = (operand : Operand) → cutter.sought ≡ pattern_in operand.target → NoneFrom operand cutter.lines (all_lines text) (search_line (suppress_in cutter) (state_in cutter))
-StaysOver cutter text lines (Above matched line) = lines < line
-StaysOver cutter text lines turn = Unit {0}
-
 aim_more : (cutter : CutterState) (text : List ℕ) (lines : ℕ) (aim : Turn) → cutter.lines ≤ lines → AimHolds cutter.operands cutter.lines cutter.progress aim → StaysOver cutter text lines aim → AimHolds cutter.operands lines cutter.progress aim
 aim_more cutter text lines (Above matched line) less will stays = record {
   operand = will.operand;
@@ -73,17 +67,6 @@ aim_more cutter text lines (Above matched line) less will stays = record {
 }
 aim_more cutter text lines (Cuts matched line) less holds stays = holds
 aim_more cutter text lines _ less holds stays = tt
-
--- that is so where the next operand stands as it did
-still_by : {cutter : CutterState} (x text : List ℕ) {lines : ℕ} (aim : Turn) (ending : Ending) → IsFit cutter → cutter.lines ≡ length (all_lines x) → lines ≡ length (all_lines x ++ all_lines text) → AimsAt aim ending
-    → StaysOver cutter text lines aim → EndsStill (suppress_in cutter) (length (all_lines x)) (all_lines text) (length (all_lines x ++ all_lines text)) (state_in cutter) ending
-still_by x text aim used_up fit count all aims stays = tt
-still_by x text aim (below operand repetition) fit count all aims stays = tt
-still_by {cutter} x text Missed (missed operand repetition) fit count all aims stays = λ next rest are.
-    subst (λ n. NoneFrom next n (all_lines text) (search_line (suppress_in cutter) (state_in cutter))) count (stays next (fit.sought ∙ ap pattern_by are))
-still_by x text (Above last line) (above operand repetition matched cut) fit count all aims stays =
-    let least : min cut (2 ^ 64 - 1) ≤ cut = min-le_left cut (2 ^ 64 - 1) in omega (arith, least, aims.1, stays, all)
-still_by x text _ _ fit count all aims stays = absurd aims
 
 pub passes : {cutter : CutterState} {text : List ℕ} {lines n : ℕ} → IsSound cutter → n ≤ length text → IsWhole (take n text) → lines ≡ cutter.lines + line_count newline (take n text) → StaysOver cutter (take n text) lines cutter.aim
     → PassesOver cutter text (record cutter { lines = lines }) n
@@ -101,20 +84,7 @@ passes {cutter} {text} {lines} {n} sound within whole count stays = record {
     };
     aim = aim_more cutter (take n text) lines cutter.aim (omega (arith, count)) sound.aim stays;
   };
-  ends = λ x before counted ends.
-      let sum : line_count newline (x ++ take n text) ≡ line_count newline x + line_count newline (take n text) = count-append (take n text) before in
-      let here : length (all_lines x) ≡ line_count newline x = length-all_lines x in
-      let there : length (all_lines (take n text)) ≡ line_count newline (take n text) = length-all_lines (take n text) in
-      let both : length (all_lines x ++ all_lines (take n text)) ≡ length (all_lines x) + length (all_lines (take n text)) = length-append (all_lines x) (all_lines (take n text)) in (
-        omega (arith, count, counted, sum),
-        record {
-          ending = ends.ending;
-          runs = subst (λ those. Runs (suppress_in cutter) those (state_in cutter) [] (state_in cutter) ends.ending) (sym (all_lines-append (take n text) before))
-              (ends_still (all_lines (take n text)) ends.runs
-              (still_by x (take n text) cutter.aim ends.ending sound.fit (omega (arith, counted, here)) (omega (arith, count, counted, here, there, both)) ends.aims stays));
-          aims = ends.aims;
-        },
-      );
+  ends = ends_over (take n text) sound.fit count stays;
 }
 
 -- All lines of a text

@@ -2,13 +2,14 @@
 use Rattle.std.proofs.Common.{◌≡◌, inl, inr, ℕ, suc, ◌+◌, ◌-◌, ◌<◌, ◌≤◌, ◌^◌, Bool, true, false, Option, Some, None, List, [], ◌∷◌, ◌++◌, length, get_or, refl, sym, ◌∙◌, ap, subst, arith, length-append, cond}
 use Rattle.std.specs.Prelude.{min, max, eqb, ◌&&◌}
 use Rattle.std.proofs.lemmas.Bool.{false≢true, cases_lt, eqb-true, and_parts}
-use Rattle.std.proofs.Math.Nat.{le-max_left}
+use Rattle.std.proofs.Math.Nat.{le-max_left, min-le_left}
 use Rattle.std.proofs.Math.Seq.{get_or-append_seam}
 use Rattle.bre_core.specs.Search.{contains}
-use Rattle.csplit_core.specs.Input.{without_newline, marked, all_lines, is_match_of}
+use Rattle.seg_core.specs.Line.{line_count}
+use Rattle.csplit_core.specs.Input.{newline, without_newline, marked, all_lines, is_match_of}
 use Rattle.csplit_core.specs.laws.PlanLaws.{search_past, search_some, match_still, cuts_still}
 use Rattle.csplit_core.specs.Operand.{Target, Number, Search, Operand, Line, unmarked, is_match}
-use Rattle.csplit_core.specs.Plan.{State, start, Ending, used_up, missed, above, search_line, line_after, CutsAt, Misses, Runs, cuts}
+use Rattle.csplit_core.specs.Plan.{State, start, Ending, used_up, missed, above, below, search_line, line_after, CutsAt, Misses, Runs, cuts}
 use Rattle.csplit_core.specs.inner.Progress.{AreSeen, Turns, MovesOn, GoesPast, Advances}
 use Rattle.csplit_core.specs.Progress.{AimsAt, EndsHere}
 use Rattle.csplit_core.specs.inner.PlanLaws.{EndsAs}
@@ -21,8 +22,8 @@ use Rattle.csplit_core.specs.Cutter.{CutterState, suppress_in, state_in, pattern
 use Rattle.csplit_core.specs.inner.Cutter.{IsWhole, IsLine, Looked, IsFound, IsNoCut, search_after, StaysNear, Tries, TriesNext}
 use Rattle.csplit_core.proofs.TurnLemmas.{advances, capped}
 use Rattle.csplit_core.proofs.CutterLemmas.{runs_to}
-use Rattle.csplit_core.proofs.LineLemmas.{all_lines-line, length-all_lines, count-line, whole-append}
-use Rattle.csplit_core.proofs.StayLemmas.{search_grows, ends_still, EndsStill}
+use Rattle.csplit_core.proofs.LineLemmas.{all_lines-append, all_lines-line, length-all_lines, count-append, count-line, whole-append}
+use Rattle.csplit_core.proofs.StayLemmas.{NoneFrom, search_grows, ends_still, EndsStill}
 
 -- the mark of the last line
 last_mark : (operand : Operand) {lines : List Line} {total : ℕ} (line : List ℕ) (front : List Line) → lines ≡ front ++ marked line ∷ [] → length lines ≡ total → is_match operand lines total ≡ is_match_of line operand.target
@@ -114,50 +115,50 @@ tries_none {cutter} line number {turn} first same number_is is fit says turns no
 
 -- One more line comes.
 
-line_stays : {cutter : CutterState} {x : List ℕ} (line : List ℕ) (live : IsLive cutter x) → IsWhole x → IsLine line
-    → EndsStill (suppress_in cutter) (length (all_lines x)) (marked line ∷ []) (suc (length (all_lines x))) (state_in cutter) live.ends.ending
-    → EndsNow cutter (x ++ line)
-line_stays {cutter} {x} line live whole one stays =
-    let runs = runs_to live.at live.ends in
-    let more : length (all_lines x ++ marked line ∷ []) ≡ suc (length (all_lines x)) = (let e : length (all_lines x ++ marked line ∷ []) ≡ length (all_lines x) + 1 = length-append (all_lines x) (marked line ∷ []) in omega (arith, e)) in record {
-      ending = live.ends.ending;
-      runs = subst (λ lines. Runs (suppress_in cutter) lines (state_in cutter) [] (state_in cutter) live.ends.ending) (sym (all_lines-line line whole one))
-          (ends_still (marked line ∷ []) runs
-          (subst (λ n. EndsStill (suppress_in cutter) (length (all_lines x)) (marked line ∷ []) n (state_in cutter) live.ends.ending) (sym more) stays));
-      aims = live.ends.aims;
-    }
+-- With the lines of this text too there are `lines`, and the next operand stands as it did.
+abbrev pub StaysOver : CutterState → (text : List ℕ) (lines : ℕ) → Turn → Type 0
+StaysOver cutter text lines Missed = (operand : Operand) → cutter.sought ≡ pattern_in operand.target → NoneFrom operand cutter.lines (all_lines text) (search_line (suppress_in cutter) (state_in cutter))
+StaysOver cutter text lines (Above matched line) = lines < line
+StaysOver cutter text lines turn = Unit {0}
+
+-- that is so where the next operand stands as it did
+still_by : {cutter : CutterState} (x text : List ℕ) {lines : ℕ} (aim : Turn) (ending : Ending) → IsFit cutter → cutter.lines ≡ length (all_lines x) → lines ≡ length (all_lines x ++ all_lines text) → AimsAt aim ending
+    → StaysOver cutter text lines aim → EndsStill (suppress_in cutter) (length (all_lines x)) (all_lines text) (length (all_lines x ++ all_lines text)) (state_in cutter) ending
+still_by x text aim used_up fit count all aims stays = tt
+still_by x text aim (below operand repetition) fit count all aims stays = tt
+still_by {cutter} x text Missed (missed operand repetition) fit count all aims stays = λ next rest are.
+    subst (λ n. NoneFrom next n (all_lines text) (search_line (suppress_in cutter) (state_in cutter))) count (stays next (fit.sought ∙ ap pattern_by are))
+still_by x text (Above last line) (above operand repetition matched cut) fit count all aims stays =
+    let least : min cut (2 ^ 64 - 1) ≤ cut = min-le_left cut (2 ^ 64 - 1) in omega (arith, least, aims.1, stays, all)
+still_by x text _ _ fit count all aims stays = absurd aims
+
+-- what passing over a text leaves of the plan
+pub ends_over : {cutter : CutterState} {lines : ℕ} (text : List ℕ) → IsFit cutter → lines ≡ cutter.lines + line_count newline text → StaysOver cutter text lines cutter.aim → (x : List ℕ) → IsWhole x → cutter.lines ≡ line_count newline x → EndsNow cutter x
+    → (lines ≡ line_count newline (x ++ text)) × EndsNow (record cutter { lines = lines }) (x ++ text)
+ends_over {cutter} {lines} text fit count stays x before counted ends =
+    let sum : line_count newline (x ++ text) ≡ line_count newline x + line_count newline text = count-append text before in
+    let here : length (all_lines x) ≡ line_count newline x = length-all_lines x in
+    let there : length (all_lines text) ≡ line_count newline text = length-all_lines text in
+    let both : length (all_lines x ++ all_lines text) ≡ length (all_lines x) + length (all_lines text) = length-append (all_lines x) (all_lines text) in (
+      omega (arith, count, counted, sum),
+      record {
+        ending = ends.ending;
+        runs = subst (λ those. Runs (suppress_in cutter) those (state_in cutter) [] (state_in cutter) ends.ending) (sym (all_lines-append text before))
+            (ends_still (all_lines text) ends.runs (still_by x text cutter.aim ends.ending fit (omega (arith, counted, here)) (omega (arith, count, counted, here, there, both)) ends.aims stays));
+        aims = ends.aims;
+      },
+    )
+
+pub next_stays : {cutter before now : CutterState} {x : List ℕ} (line : List ℕ) {turn : Turn} → before ≡ cutter → now ≡ record cutter { lines = cutter.lines + 1 } → IsFit cutter → IsLive cutter x → IsWhole x → IsLine line → before.aim ≡ turn → StaysOver before line (before.lines + 1) turn
+    → EndsNow now (x ++ line)
+next_stays {cutter} {before} {x = x} line same now_is fit live whole one aim stays =
+    let stays' = subst (λ (c : CutterState). StaysOver c line (c.lines + 1) c.aim) same (subst (StaysOver before line (before.lines + 1)) (sym aim) stays) in
+    let count : line_count newline line ≡ 1 = ap length one in
+    subst (λ (c : CutterState). EndsNow c (x ++ line)) (sym now_is) (ends_over line fit (omega (arith, count)) stays' x whole live.at.counted live.ends).1
 
 -- the lines as they are counted
 lines_are : {cutter : CutterState} {x : List ℕ} (live : IsLive cutter x) → length (all_lines x) ≡ cutter.lines
 lines_are {x} live = length-all_lines x ∙ sym live.at.counted
-
-above_stays : (suppress : Bool) (count : ℕ) (last : State) (b : List Line) (total matched at : ℕ) (ending : Ending) → AimsAt (Above matched at) ending
-    → suc total < at → EndsStill suppress count b (suc total) last ending
-above_stays suppress count last b total matched at (above operand repetition matched' cut) aims far = elim (cases_lt cut (2 ^ 64 - 1)) [
-  | inl less ↦ let e : min cut (2 ^ 64 - 1) ≡ cut = Rattle.std.proofs.Math.Nat.min-eq_left (omega (arith, less)) in omega (arith, e, aims.1, far)
-  | inr more ↦ let e : min cut (2 ^ 64 - 1) ≡ 2 ^ 64 - 1 = Rattle.std.proofs.Math.Nat.min-eq_right more in omega (arith, e, aims.1, far, more)
-]
-above_stays suppress count last b total matched at _ aims far = absurd aims
-
-used_up_stays : (suppress : Bool) (count : ℕ) (last : State) (b : List Line) (total : ℕ) (ending : Ending) → AimsAt UsedUp ending
-    → EndsStill suppress count b total last ending
-used_up_stays suppress count last b total used_up aims = tt
-used_up_stays suppress count last b total _ aims = absurd aims
-
-pub next_above : {cutter before now : CutterState} {x : List ℕ} (line : List ℕ) (matched at : ℕ) → before ≡ cutter → now ≡ record cutter { lines = cutter.lines + 1 } → IsLive cutter x → IsWhole x → IsLine line → before.aim ≡ Above matched at → before.lines + 1 < at → EndsNow now (x ++ line)
-next_above {cutter} {before} {x} line matched at same now_is live whole one aim far =
-    let aim' : cutter.aim ≡ Above matched at = ap (λ (c : CutterState). c.aim) (sym same) ∙ aim in
-    let count = lines_are live in
-    let lines' : before.lines ≡ cutter.lines = ap (λ (c : CutterState). c.lines) same in
-    let ends = line_stays line live whole one
-    (above_stays (suppress_in cutter) (length (all_lines x)) (state_in cutter) (marked line ∷ []) (length (all_lines x)) matched at live.ends.ending
-    (subst (λ a. AimsAt a live.ends.ending) aim' live.ends.aims) (omega (arith, count, lines', far))) in
-    subst (λ (c : CutterState). EndsNow c (x ++ line)) (sym now_is) ends
-
-pub next_used_up : {cutter before now : CutterState} {x : List ℕ} (line : List ℕ) → before ≡ cutter → now ≡ record cutter { lines = cutter.lines + 1 } → IsLive cutter x → IsWhole x → IsLine line → before.aim ≡ UsedUp → EndsNow now (x ++ line)
-next_used_up {cutter} {x} line same now_is live whole one aim =
-    let aim' : cutter.aim ≡ UsedUp = ap (λ (c : CutterState). c.aim) (sym same) ∙ aim in
-    subst (λ (c : CutterState). EndsNow c (x ++ line)) (sym now_is) (line_stays line live whole one (used_up_stays (suppress_in cutter) (length (all_lines x)) (state_in cutter) (marked line ∷ []) (suc (length (all_lines x))) live.ends.ending (subst (λ a. AimsAt a live.ends.ending) aim' live.ends.aims)))
 
 -- the line of a cut that was above the last one came in
 above_cuts : {suppress : Bool} (lines : List Line) (line : Line) {state : State} {total matched at : ℕ} (ending : Ending) → length lines ≡ total → state.current ≤ total + 1 → EndsAs suppress lines state ending → AimsAt (Above matched at) ending → at ≤ total + 1 → total + 1 < 2 ^ 64 - 1

@@ -9,17 +9,14 @@ use Rattle.csplit_core.specs.Writer.{size_of}
 pub returns-in_err-left : goal.returns-in_err-left
 returns-in_err-left g c = stop_is (CutsAll _ _ _ _ _ _ _ _ _ _) _ _ c.from_residual.ensures.1 c.in_err-left.ensures.err
 
-pub hold-requires-clause-fits : goal.hold-requires-clause-fits
-hold-requires-clause-fits g c =
+pub hold-requires : goal.hold-requires
+hold-requires g c =
     let spread = c.in_ok-left.ensures.ok in
-    let same = ap (λ (cutter : CutterState). size_of cutter.writer.current + length cutter.window.held) spread.is in
-    omega (arith, same, ap length spread.so_far.held, spread.so_far.size, c.requires.fits)
-
-pub hold-requires-clause-fit : goal.hold-requires-clause-fit
-hold-requires-clause-fit g c = let spread = c.in_ok-left.ensures.ok in spread_fit spread.is spread.so_far.fit
-
-pub hold-requires-clause-ready : goal.hold-requires-clause-ready
-hold-requires-clause-ready g c = let spread = c.in_ok-left.ensures.ok in spread_ready spread.now spread.is spread.so_far.keeps.writer.ready
+    let same = ap (λ (cutter : CutterState). size_of cutter.writer.current + length cutter.window.held) spread.is in record {
+      fits = omega (arith, same, ap length spread.so_far.held, spread.so_far.size, c.requires.fits);
+      fit = spread_fit spread.is spread.so_far.fit;
+      ready = spread_ready spread.now spread.is spread.so_far.keeps.writer.ready;
+    }
 
 pub returns : goal.returns
 returns g c = spread_held c.in_ok-left.ensures.ok c.hold.ensures

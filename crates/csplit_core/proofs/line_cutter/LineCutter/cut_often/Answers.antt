@@ -1,4 +1,4 @@
-use Rattle.std.proofs.Common.{◌∙◌, ap, arith}
+use Rattle.std.proofs.Common.{◌∙◌, ap, arith, rules}
 use Rattle.ports_core.proofs.HandedOn.{fault_is}
 use Rattle.csplit_core.specs.Cutter.{CutterState}
 use Rattle.csplit_core.proofs.SpreadLemmas.{spread_more, spread_stopped, spread_fit, spread_ready, spread_fewer}
@@ -17,22 +17,15 @@ try_last-requires-clause-few g c = omega (arith, c.loop-cut.invariant.lines, c.r
 pub try_last-requires-clause-fit : goal.try_last-requires-clause-fit
 try_last-requires-clause-fit g c = c.loop-cut.invariant.fit
 
-pub cut_at-requires-in-Some-clause-few : goal.cut_at-requires-in-Some-clause-few
-cut_at-requires-in-Some-clause-few g c =
-    omega (arith, ap (λ (cutter : CutterState). cutter.lines) c.try_last.ensures.same, c.loop-cut.invariant.lines, c.requires.few)
-
-pub cut_at-requires-in-Some-clause-fits : goal.cut_at-requires-in-Some-clause-fits
-cut_at-requires-in-Some-clause-fits g c =
-    omega (arith, ap (λ (cutter : CutterState). size_of cutter.writer.current) c.try_last.ensures.same, c.loop-cut.invariant.size, c.requires.fits)
-
-pub cut_at-requires-in-Some-clause-fit : goal.cut_at-requires-in-Some-clause-fit
-cut_at-requires-in-Some-clause-fit g c = spread_fit c.try_last.ensures.same c.loop-cut.invariant.fit
-
-pub cut_at-requires-in-Some-clause-none : goal.cut_at-requires-in-Some-clause-none
-cut_at-requires-in-Some-clause-none g c = ap (λ (cutter : CutterState). cutter.window.held) c.try_last.ensures.same ∙ c.loop-cut.invariant.held
-
-pub cut_at-requires-in-Some-clause-ready : goal.cut_at-requires-in-Some-clause-ready
-cut_at-requires-in-Some-clause-ready g c = spread_ready c.loop-cut.self c.try_last.ensures.same c.loop-cut.invariant.keeps.writer.ready
+pub cut_at-requires-in-Some : goal.cut_at-requires-in-Some
+cut_at-requires-in-Some g c = let same = c.try_last.ensures.same in record {
+  few = omega (arith, ap (λ (cutter : CutterState). cutter.lines) same, c.loop-cut.invariant.lines, c.requires.few);
+  fits = omega (arith, ap (λ (cutter : CutterState). size_of cutter.writer.current) same, c.loop-cut.invariant.size, c.requires.fits);
+  fit = spread_fit same c.loop-cut.invariant.fit;
+  none = ap (λ (cutter : CutterState). cutter.window.held) same ∙ c.loop-cut.invariant.held;
+  cuts = search rules;
+  ready = spread_ready c.loop-cut.self same c.loop-cut.invariant.keeps.writer.ready;
+}
 
 pub returns-in_err-left-2-clause-err : goal.returns-in_err-left-2-clause-err
 returns-in_err-left-2-clause-err g c = fault_is _ _ _ c.from_residual-in_err-left-2.ensures.1
