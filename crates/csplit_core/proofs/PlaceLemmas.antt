@@ -10,7 +10,7 @@ use Rattle.csplit_core.specs.Planned.{Plan, plan}
 use Rattle.csplit_core.specs.Section.{whole_end, settled_end, is_final, waiting_lines, Section, lines_between, sections_by}
 use Rattle.csplit_core.specs.Agreed.{CanCome}
 use Rattle.csplit_core.specs.Place.{Place, in_section, left_out, nowhere, place_from, place_of, IsUndecided, is_in, lines_into, ArePlaced}
-use Rattle.csplit_core.specs.laws.PlanLaws.{line_some, cuts_still, plan_runs, plan_once, goes_on, from_not_less, less_test, not_less_test}
+use Rattle.csplit_core.specs.laws.PlanLaws.{run_once, line_some, cuts_still, plan_runs, plan_once, goes_on, from_not_less, less_test, not_less_test}
 use Rattle.csplit_core.specs.inner.PlanLaws.{EndsAs}
 use Rattle.csplit_core.specs.laws.SectionLaws.{ends_as, are_within, plan_goes_on, missed_cut, front_of, none_there, cut_once, cuts_or_misses}
 use Rattle.csplit_core.proofs.AgreedLemmas.{search_within, search_at_start, matching_line, none_comes, matching_comes, Turned, too_low, turns, turned}
@@ -80,44 +80,30 @@ settled_with {suppress} a b {operand} past within is cut_at more end (cuts state
     let most : past ≤ cut = cut_at matched cut (subst (λ o. CutsAt suppress (a ++ b) state o o.target matched cut) (sym same) at) in
     ap (λ has. cond has (in_section index) (cond (suppress && nat_le line cut) (left_out index) (place_from suppress (length (a ++ b)) (index + 1) steps' ending' line))) (less_test line cut (omega (arith, most, before)))
 
-settled_used_up : {suppress : Bool} (a b : List Line) {first : State} → first.operands ≡ [] → (more : List Step) (end : State) {how : Ending} → Runs suppress (a ++ b) first more end how
+settled_used_up : {suppress : Bool} (a b : List Line) {first : State} → 1 ≤ first.current → first.operands ≡ [] → (more : List Step) (end : State) {how : Ending} → Runs suppress (a ++ b) first more end how
     → {index : ℕ} (line : ℕ) → line ≤ length a → place_from suppress (length (a ++ b)) index more how line ≡ in_section index
-settled_used_up a b is more end (is_used_up state none) line within =
-    in_rest (length (a ++ b)) line used_up (let e : length (a ++ b) ≡ length a + length b = length-append a b in omega (arith, e, within))
-settled_used_up a b is more end (misses state operand operands are none) line within = absurd (none_there operand (sym is ∙ are))
-settled_used_up a b is more end (is_above state operand operands matched cut are at far) line within = absurd (none_there operand (sym is ∙ are))
-settled_used_up a b is more end (is_below state operand operands matched cut are at in_lines low) line within = absurd (none_there operand (sym is ∙ are))
-settled_used_up a b is more end (cuts state operand operands matched cut steps' last' ending' are at least in_lines rest) line within = absurd (none_there operand (sym is ∙ are))
+settled_used_up {suppress} a b {first} some is more end run {index} line within =
+    ap (λ (p : Plan). place_from suppress (length (a ++ b)) index p.steps p.ending line) (run_once some (is_used_up first is) run)
+    ∙ in_rest (length (a ++ b)) line used_up (let e : length (a ++ b) ≡ length a + length b = length-append a b in omega (arith, e, within))
 
-settled_place : {suppress : Bool} (a b : List Line) {last : State} (ending : Ending) → EndsAs suppress a last ending → (more : List Step) (end : State) {how : Ending} → Runs suppress (a ++ b) last more end how
+settled_place : {suppress : Bool} (a b : List Line) {last : State} (ending : Ending) → 1 ≤ last.current → EndsAs suppress a last ending → (more : List Step) (end : State) {how : Ending} → Runs suppress (a ++ b) last more end how
     → {index : ℕ} (line : ℕ) → last.current ≤ line → line ≤ length a → line < settled_end (length a) ending → place_from suppress (length (a ++ b)) index more how line ≡ in_section index
-settled_place a b used_up is more end rest line from within before = settled_used_up a b is more end rest line within
-settled_place {suppress} a b {last} (missed operand repetition) (operands, is, none) more end rest line from within before =
+settled_place a b used_up some is more end rest line from within before = settled_used_up a b some is more end rest line within
+settled_place {suppress} a b {last} (missed operand repetition) some (operands, is, none) more end rest line from within before =
     settled_with a b (suc (length a) - most_held operand.target) (omega arith) is (missed_cut suppress a b last operand operand.target none) more end rest line from before
-settled_place {suppress} a b {last} (above operand repetition matched cut) (operands, is, at, far) more end rest line from within before =
+settled_place {suppress} a b {last} (above operand repetition matched cut) some (operands, is, at, far) more end rest line from within before =
     settled_with a b (suc (length a)) (omega arith) is
     (λ matched' cut' at'. let same : cut ≡ cut' = (cut_once suppress (a ++ b) last operand operand.target cut (cuts_still suppress a b last operand operand.target matched cut at) at').1 in omega (arith, far, same))
     more end rest line from before
-settled_place a b (below operand repetition) is more end rest line from within before = absurd (omega (arith, before))
+settled_place a b (below operand repetition) some is more end rest line from within before = absurd (omega (arith, before))
 
 -- where the cut is below the current line all lines go nowhere
 
 nowhere_by : {suppress : Bool} {lines : List Line} {first : State} {operand : Operand} {operands : List Operand} (matched cut : ℕ) → first.operands ≡ operand ∷ operands → CutsAt suppress lines first operand operand.target matched cut → cut ≤ length lines → cut < first.current
     → (more : List Step) (end : State) {how : Ending} → Runs suppress lines first more end how → (index line : ℕ) → place_from suppress (length lines) index more how line ≡ nowhere
-nowhere_by {operand} matched cut is at within low more end (is_used_up state none) index line = absurd (none_there operand (sym none ∙ is))
-nowhere_by {suppress} {lines} {operand} matched cut is at within low more end (misses state operand' operands' are none) index line =
-    let same = front_of operand' operand (sym are ∙ is) in
-    absurd (cuts_or_misses suppress lines state operand operand.target matched cut at (subst (λ o. Misses suppress lines state o o.target) same none))
-nowhere_by {suppress} {lines} {operand} matched cut is at within low more end (is_above state operand' operands' matched' cut' are at' far) index line =
-    let same = front_of operand' operand (sym are ∙ is) in
-    let one = cut_once suppress lines state operand operand.target cut at (subst (λ o. CutsAt suppress lines state o o.target matched' cut') same at') in
-    absurd (omega (arith, one.1, within, far))
-nowhere_by matched cut is at within low more end (is_below state operand' operands' matched' cut' are at' in_lines low') index line =
-    ap (λ b. cond b (in_section index) nowhere) (not_less_test line 0 (omega arith))
-nowhere_by {suppress} {lines} {operand} matched cut is at within low more end (cuts state operand' operands' matched' cut' steps' last' ending' are at' least in_lines rest) index line =
-    let same = front_of operand' operand (sym are ∙ is) in
-    let one = cut_once suppress lines state operand operand.target cut at (subst (λ o. CutsAt suppress lines state o o.target matched' cut') same at') in
-    absurd (omega (arith, one.1, low, least))
+nowhere_by {suppress} {lines} {first} {operand} {operands} matched cut is at within low more end run index line =
+    ap (λ (p : Plan). place_from suppress (length lines) index p.steps p.ending line) (run_once (omega (arith, low)) (is_below first operand operands matched cut is at within low) run)
+    ∙ ap (λ b. cond b (in_section index) nowhere) (not_less_test line 0 (omega arith))
 
 -- One place for each line that doesn't wait
 
@@ -125,26 +111,26 @@ nowhere_by {suppress} {lines} {operand} matched cut is at within low more end (c
 abbrev WaitsAt : (total : ℕ) → Plan → ℕ → Type 0
 WaitsAt total plan line = (is_final plan.ending ≡ false) × (plan.last.current ≤ line) × (settled_end total plan.ending ≤ line) × (line ≤ total)
 
-decided_by : (suppress : Bool) (a b : List Line) (last : State) (ending : Ending) → EndsAs suppress a last ending → (line : ℕ) → last.current ≤ line → line ≤ length a → ((is_final ending ≡ false) → settled_end (length a) ending ≤ line → ⊥)
-    → (index : ℕ) (more : List Step) (end : State) (how : Ending) → Runs suppress (a ++ b) last more end how → place_from suppress (length (a ++ b)) index more how line ≡ cond (is_final ending) nowhere (in_section index)
-decided_by suppress a b last (missed operand repetition) is line from within not index more end how rest =
-    settled_place {suppress = suppress} a b {last = last} (missed operand repetition) is more end {how = how} rest {index = index} line from within
+decided_by : (suppress : Bool) (a b : List Line) {last : State} (ending : Ending) → 1 ≤ last.current → EndsAs suppress a last ending → (line : ℕ) → last.current ≤ line → line ≤ length a → ((is_final ending ≡ false) → settled_end (length a) ending ≤ line → ⊥)
+    → (index : ℕ) (more : List Step) (end : State) {how : Ending} → Runs suppress (a ++ b) last more end how → place_from suppress (length (a ++ b)) index more how line ≡ cond (is_final ending) nowhere (in_section index)
+decided_by suppress a b (missed operand repetition) some is line from within not index more end rest = settled_place a b (missed operand repetition) some is more end rest line from within
     (elim (cases_lt line (suc (length a) - most_held operand.target)) [ inl less ↦ less | inr beyond ↦ absurd (not refl beyond) ])
-decided_by suppress a b last (below operand repetition) (operands, matched, cut, is, at, in_lines, low) line from within not index more end how rest =
-    nowhere_by {suppress = suppress} {lines = a ++ b} {first = last} {operand = operand} {operands = operands} matched cut is (cuts_still suppress a b last operand operand.target matched cut at) (let e : length (a ++ b) ≡ length a + length b = length-append a b in omega (arith, e, in_lines)) low more end {how = how} rest index line
-decided_by suppress a b last ending is line from within not index more end how rest = settled_place {suppress = suppress} a b {last = last} ending is more end {how = how} rest {index = index} line from within (omega (arith, within))
+decided_by suppress a b {last} (below operand repetition) some (operands, matched, cut, is, at, in_lines, low) line from within not index more end rest =
+    nowhere_by matched cut is (cuts_still suppress a b last operand operand.target matched cut at) (let e : length (a ++ b) ≡ length a + length b = length-append a b in omega (arith, e, in_lines)) low more end rest index line
+decided_by suppress a b ending some is line from within not index more end rest = settled_place a b ending some is more end rest line from within (omega (arith, within))
 
 place_here : (suppress : Bool) (operands : List Operand) (x y : List Line) (line : ℕ) → 1 ≤ line → line ≤ length x → (WaitsAt (length x) (plan suppress operands x) line → ⊥) → place_of suppress operands (x ++ y) line ≡ place_of suppress operands x line
 place_here suppress operands x y line some within not =
     let goes = plan_goes_on operands x y in
     let here = plan_runs suppress operands x in
     let over = plan_goes_on operands x [] in
+    let first = (are_within suppress x (start operands) _ _ _ here (omega arith)).1 in
     ap (λ (p : Plan). place_from suppress (length (x ++ y)) 0 p.steps p.ending line) goes.is ∙ elim (cases_lt line (plan suppress operands x).last.current) [
       | inl before ↦ place_front here (length (x ++ y)) (length x) 0 line goes.more [] goes.how (plan suppress operands x).ending some before
           ∙ ap (λ those. place_from suppress (length x) 0 those (plan suppress operands x).ending line) (append-nil (plan suppress operands x).steps)
       | inr from ↦ place_after here (length (x ++ y)) 0 line goes.more goes.how from
-          ∙ decided_by suppress x y _ _ (ends_as suppress x (start operands) _ _ _ here) line from within (λ live past. not (live, from, past, within)) _ goes.more goes.end goes.how goes.rest
-          ∙ sym (decided_by suppress x [] _ _ (ends_as suppress x (start operands) _ _ _ here) line from within (λ live past. not (live, from, past, within)) _ over.more over.end over.how over.rest)
+          ∙ decided_by suppress x y _ first (ends_as suppress x (start operands) _ _ _ here) line from within (λ live past. not (live, from, past, within)) _ goes.more goes.end goes.rest
+          ∙ sym (decided_by suppress x [] _ first (ends_as suppress x (start operands) _ _ _ here) line from within (λ live past. not (live, from, past, within)) _ over.more over.end over.rest)
           ∙ sym (place_after here (length (x ++ [])) 0 line over.more over.how from)
           ∙ sym (ap (λ (p : Plan). place_from suppress (length (x ++ [])) 0 p.steps p.ending line) over.is)
           ∙ ap (λ those. place_of suppress operands those line) (append-nil x)

@@ -355,6 +355,12 @@ pub plan_once : (suppress : Bool) (operands : List Operand) (lines : List Line) 
 plan_once suppress operands lines steps last ending is =
     computed steps last is (length operands * (length lines + 1)) (enough_at_start (length lines) operands) (omega arith)
 
+-- so is one from any state on
+pub run_once : {suppress : Bool} {lines : List Line} {first : State} {one : List Step} {last : State} {ending : Ending} {other : List Step} {end : State} {how : Ending} → 1 ≤ first.current
+    → Runs suppress lines first one last ending → Runs suppress lines first other end how → so other end how ≡ so one last ending
+run_once {lines = lines} {first} {one} {last} {other = other} {end} some runs again =
+    sym (computed other end again (needed (length lines) first) (omega arith) some) ∙ computed one last runs (needed (length lines) first) (omega arith) some
+
 -- What was cut off stays so
 
 pub cuts_still : (suppress : Bool) (a b : List Line) (state : State) (operand : Operand) (target : Target)

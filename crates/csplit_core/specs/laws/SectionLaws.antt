@@ -10,7 +10,7 @@ use Rattle.csplit_core.specs.Planned.{plan_within, plan}
 use Rattle.csplit_core.specs.Section.{Section, section, section_of, lines_between, bytes_of, is_last_kept, whole_end, settled_end, sections_by, settled_sections}
 use Rattle.csplit_core.specs.Output.{Style, Contents, contents_of, is_empty, makes_file, file_at, files_of, size_line, size_lines, part_by, part_of}
 use Rattle.csplit_core.specs.Csplit.{settled_of, whole_of}
-use Rattle.csplit_core.specs.laws.PlanLaws.{one_first, search_some, first_beyond, line_some, cuts_still, goes_on, runs, plan_runs, plan_once}
+use Rattle.csplit_core.specs.laws.PlanLaws.{run_once, one_first, search_some, first_beyond, line_some, cuts_still, goes_on, runs, plan_runs, plan_once}
 use Rattle.csplit_core.specs.inner.PlanLaws.{needed, EndsAs, AreWithin, Next, Covers, Grow, GoesOn}
 
 -- Stretches of lines
@@ -130,16 +130,11 @@ next_used_up : {suppress : Bool} (closed : Bool) (end_of : ℕ → Ending → �
     → 1 ≤ first.current → first.operands ≡ [] → (more : List Step) (end : State) {how : Ending} → Runs suppress (a ++ b) first more end how
     → Next (section true false (lines_between first.current (suc (length a)) a))
     (sections_by closed end_of (a ++ b) (record { steps = more; last = end; ending = how }))
-next_used_up closed end_of covers a b some is more end (is_used_up state none) =
+next_used_up {suppress} closed end_of covers a b {first} some is more end run =
     let most : suc (length (a ++ b)) ≤ end_of (length (a ++ b)) used_up = covers (length (a ++ b)) used_up in
     let longer : length (a ++ b) ≡ length a + length b = length-append a b in
-    next_by a b state.current (suc (length a)) (end_of (length (a ++ b)) used_up) closed some (omega arith) (inl (omega (arith, most, longer))) refl
-next_used_up closed end_of covers a b some is more end (misses state operand operands are none) = absurd (none_there operand (sym is ∙ are))
-next_used_up closed end_of covers a b some is more end (is_above state operand operands matched cut are at far) = absurd (none_there operand (sym is ∙ are))
-next_used_up closed end_of covers a b some is more end (is_below state operand operands matched cut are at within low) =
-    absurd (none_there operand (sym is ∙ are))
-next_used_up closed end_of covers a b some is more end (cuts state operand operands matched cut steps' last' ending' are at from within rest) =
-    absurd (none_there operand (sym is ∙ are))
+    subst (λ plan. Next (section true false (lines_between first.current (suc (length a)) a)) (sections_by closed end_of (a ++ b) plan)) (sym (run_once some (is_used_up first is) run))
+    (next_by a b first.current (suc (length a)) (end_of (length (a ++ b)) used_up) closed some (omega arith) (inl (omega (arith, most, longer))) refl)
 
 -- where a pattern matched no line, the cut is past what is settled
 pub missed_cut : (suppress : Bool) (a b : List Line) (state : State) (operand : Operand) (target : Target)
