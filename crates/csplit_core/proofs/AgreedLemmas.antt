@@ -1,16 +1,92 @@
 -- What is settled is what all continuations agree on.
-use Rattle.std.proofs.Common.{◌≡◌, inl, inr, ℕ, zero, suc, ◌+◌, ◌-◌, ◌<◌, ◌≤◌, Bool, true, false, cond, List, [], ◌∷◌, ◌++◌, length, map, take, drop, refl, sym, ◌∙◌, ap, subst, arith, append_assoc, length-append}
+use Rattle.std.proofs.Common.{◌≡◌, inl, inr, ℕ, suc, ◌+◌, ◌-◌, ◌<◌, ◌≤◌, max, eqb, ◌&&◌, Bool, true, false, cond, List, [], ◌∷◌, ◌++◌, All, length, get_or, refl, sym, ◌∙◌, ap, subst, arith, length-append, lit<, zero, map, take, drop, append_assoc}
+use Rattle.std.proofs.lemmas.List.Elements.{All-nil, All-cons}
+use Rattle.seg_core.specs.Line.{IsComplete}
+use Rattle.csplit_core.specs.Agreed.{CanCome, kept_lines, whole_outputs, settled_outputs, IsFront, AreFronts, output_at, IsAgreed}
+use Rattle.csplit_core.specs.Input.{newline}
 use Rattle.std.proofs.lemmas.Bool.{cases_lt}
+use Rattle.std.proofs.Math.Nat.{max-le}
+use Rattle.std.proofs.Math.Seq.{get_or-append_seam}
+use Rattle.bre_core.specs.Pattern.{Pattern}
+use Rattle.csplit_core.specs.Operand.{Minus, Target, Number, Search, Operand, Line, unmarked, Plus, most_held, is_kept}
+use Rattle.csplit_core.specs.Plan.{State, start, Step, Ending, below, search_line, IsFirst, MatchesNone, CutsAt, line_after, state_after, step_of, Runs, is_below, cuts, missed, Misses}
+use Rattle.csplit_core.specs.laws.PlanLaws.{search_some, match_still, line_some, runs, goes_on, plan_runs, plan_once}
+use Rattle.csplit_core.specs.inner.PlanLaws.{needed, EndsAs, Grow}
 use Rattle.std.proofs.lemmas.List.{append-nil, map-append}
-use Rattle.csplit_core.specs.Operand.{Plus, Minus, Target, Number, Search, Operand, Line, most_held, is_kept}
-use Rattle.csplit_core.specs.Plan.{State, start, Step, Ending, missed, search_line, Misses, step_of, Runs}
 use Rattle.csplit_core.specs.Planned.{plan}
 use Rattle.csplit_core.specs.Section.{Section, section, section_of, lines_between, is_last_kept, whole_end, settled_end, sections_by, whole_sections}
-use Rattle.csplit_core.specs.Agreed.{CanCome, kept_lines, whole_outputs, settled_outputs, IsFront, AreFronts, output_at, IsAgreed}
-use Rattle.csplit_core.proofs.TurnedLemmas.{search_within, search_at_start, matching_line, none_comes, matching_comes, Turned, too_low, turns, turned}
-use Rattle.csplit_core.specs.laws.PlanLaws.{goes_on, plan_runs, plan_once}
 use Rattle.csplit_core.specs.laws.SectionLaws.{between_still, ends_as, are_within, closed_still, plan_grows, whole_covers}
-use Rattle.csplit_core.specs.inner.SectionLaws.{EndsAs, Grow}
+
+-- One more line that every operand finds.
+
+-- a search never begins further than one past the lines that are there
+search_by : (total : ℕ) (state : State) (first : Bool) → state.current ≤ total → state.matched ≤ total → cond first 1 (suc (max state.current state.matched)) ≤ suc total
+search_by total state true within matched = omega arith
+search_by total state false within matched = let most : max state.current state.matched ≤ total = max-le within matched in omega (arith, most)
+
+search_past_cut : (suppress : Bool) (total : ℕ) (state : State) (cut : ℕ) → state.current ≡ line_after suppress cut → cut ≤ total → state.matched ≤ total → search_line suppress state ≤ suc total
+search_past_cut true total state cut is within matched = let e : state.current - 1 ≤ total = omega (arith, is, within) in let most : max (state.current - 1) state.matched ≤ total = max-le e matched in omega (arith, most)
+search_past_cut false total state cut is within matched = search_by total state (eqb state.current 1 && eqb state.matched 0) (omega (arith, is, within)) matched
+
+matched_within : (suppress : Bool) (lines : List Line) (state : State) (operand : Operand) (target : Target) (matched cut : ℕ) → CutsAt suppress lines state operand target matched cut → state.matched ≤ length lines → matched ≤ length lines
+matched_within suppress lines state operand (Number n) matched cut at within = omega (arith, at.0, within)
+matched_within suppress lines state operand (Search pattern kept offset) matched cut at within = at.0.within
+
+pub search_within : {suppress : Bool} {lines : List Line} {first : State} {steps : List Step} {last : State} {ending : Ending} → Runs suppress lines first steps last ending → first.matched ≤ length lines → search_line suppress first ≤ suc (length lines)
+    → search_line suppress last ≤ suc (length lines)
+search_within {suppress} {lines} (cuts state operand operands matched' cut steps' last' ending' is at from in_lines rest) matched within =
+    let few = matched_within suppress lines state operand operand.target matched' cut at matched in
+    search_within rest few (search_past_cut suppress (length lines) (state_after suppress operand operands state.repetition matched' cut) cut refl in_lines few)
+search_within run matched within = within
+
+pub search_at_start : (suppress : Bool) (operands : List Operand) (total : ℕ) → search_line suppress (start operands) ≤ suc total
+search_at_start true operands total = omega arith
+search_at_start false operands total = omega arith
+
+-- a line that each operand finds
+abbrev pub matching_line : Line
+matching_line = record { text = 10 ∷ []; marks = λ operand. true }
+
+pub none_comes : CanCome []
+none_comes = All-nil (λ (line : Line). All (λ byte. byte < 256) line.text × IsComplete newline line.text)
+
+pub matching_comes : CanCome (matching_line ∷ [])
+matching_comes = All-cons (λ (line : Line). All (λ byte. byte < 256) line.text × IsComplete newline line.text) matching_line []
+    (All-cons (λ byte. byte < 256) 10 [] (lit< tt) (All-nil (λ byte. byte < 256)), ([], refl, tt)) none_comes
+
+matches_first : (suppress : Bool) (x : List Line) (state : State) {operand : Operand} → MatchesNone operand x (search_line suppress state) → search_line suppress state ≤ suc (length x)
+    → IsFirst operand (x ++ matching_line ∷ []) (search_line suppress state) (suc (length x))
+matches_first suppress x state {operand} none within = record {
+  not_before = within;
+  within = let e : length (x ++ matching_line ∷ []) ≡ length x + 1 = length-append x (matching_line ∷ []) in omega (arith, e);
+  match = ap (λ i. (get_or (x ++ matching_line ∷ []) i unmarked).marks operand) (let e : suc (length x) - 1 ≡ length x = omega arith in e) ∙ ap (λ (line : Line). line.marks operand) (get_or-append_seam x matching_line [] unmarked);
+  first = λ other from less. match_still operand x (matching_line ∷ []) other (let some : 1 ≤ search_line suppress state = search_some suppress state in omega (arith, some, from)) (omega (arith, less)) ∙ none other from (omega (arith, less));
+}
+
+-- the cut falls within the lines that are there: the section ends there, or the cut is below it
+pub data Turned (suppress : Bool) (x : List Line) (state : State) (operand : Operand) (cut : ℕ) : Type 0 where
+  too_low : cut < state.current → Runs suppress (x ++ matching_line ∷ []) state [] state (below operand state.repetition) → Turned suppress x state operand cut
+  turns : state.current ≤ cut → (rest : List Step) (end : State) (how : Ending) → Runs suppress (x ++ matching_line ∷ []) state (step_of state operand (suc (length x)) cut ∷ rest) end how → Turned suppress x state operand cut
+
+turned_by : {suppress : Bool} {x : List Line} {state : State} {operand : Operand} {operands : List Operand} (cut : ℕ) → 1 ≤ state.current → state.operands ≡ operand ∷ operands
+    → CutsAt suppress (x ++ matching_line ∷ []) state operand operand.target (suc (length x)) cut → cut ≤ length (x ++ matching_line ∷ []) → Turned suppress x state operand cut
+turned_by {suppress} {x} {state} {operand} {operands} cut some is at within = elim (cases_lt cut state.current) [
+  | inl low ↦ too_low low (is_below state operand operands (suc (length x)) cut is at within low)
+  | inr from ↦
+      let least : cut ≤ line_after suppress cut = line_some suppress cut in
+      turns from _ _ _ (cuts state operand operands (suc (length x)) cut _ _ _ is at from within
+      (runs (needed (length (x ++ matching_line ∷ [])) (state_after suppress operand operands state.repetition (suc (length x)) cut)) suppress (x ++ matching_line ∷ [])
+      (state_after suppress operand operands state.repetition (suc (length x)) cut) (omega arith) (omega (arith, some, from, least))))
+]
+
+pub turned : {suppress : Bool} {x : List Line} {state : State} {operand : Operand} {operands : List Operand} (pattern : Pattern) (kept : Bool) (k : ℕ) → 1 ≤ state.current → state.operands ≡ operand ∷ operands → operand.target ≡ Search pattern kept (Minus k)
+    → MatchesNone operand x (search_line suppress state) → search_line suppress state ≤ suc (length x) → Turned suppress x state operand (suc (length x) - k)
+turned {suppress} {x} {state} {operand} pattern kept k some is target none within =
+    turned_by (suc (length x) - k) some is
+    (subst (λ t. CutsAt suppress (x ++ matching_line ∷ []) state operand t (suc (length x)) (suc (length x) - k)) (sym target) (matches_first suppress x state none within, refl))
+    (let e : length (x ++ matching_line ∷ []) ≡ length x + 1 = length-append x (matching_line ∷ []) in omega (arith, e))
+
+-- What is settled is what all continuations agree on.
 
 -- Outputs
 
@@ -26,8 +102,8 @@ kept_grow : (front : List Section) (begun other : Section) (more : List Section)
 kept_grow [] begun other more same begins = subst (λ has. AreFronts (cond begun.is_kept (begun.lines ∷ []) []) (cond has (other.lines ∷ kept_lines more) (kept_lines more))) same (last_by begun.is_kept begun.lines other.lines (kept_lines more) begins)
 kept_grow (one ∷ front) begun other more same begins = kept_by one.is_kept one.lines _ _ (kept_grow front begun other more same begins)
 
-outputs_grow : (low high : List Section) → Grow low high → AreFronts (kept_lines low) (kept_lines high)
-outputs_grow low high grow =
+outputs_grow : {low high : List Section} → Grow low high → AreFronts (kept_lines low) (kept_lines high)
+outputs_grow {high} grow =
     subst (λ those. AreFronts (kept_lines those) (kept_lines high)) (sym grow.low_is)
     (subst (λ those. AreFronts (kept_lines (grow.front ++ grow.begun ∷ [])) (kept_lines those)) (sym (grow.high_is ∙ ap (λ those. grow.front ++ those) grow.next.are))
     (kept_grow grow.front grow.begun grow.next.other grow.next.more grow.next.kept (grow.next.rest, grow.next.lines)))
@@ -109,17 +185,17 @@ longest suppress operands x decides place less = (
 
 -- Such a continuation is there: none at all, or under an offset back one line that the operand finds
 
-decides_by : (suppress : Bool) (operands : List Operand) (x y : List Line) (more : List Step) (end : State) (how : Ending) → CanCome y → Runs suppress (x ++ y) (plan suppress operands x).last more end how
-    → (next : Section) (rest' : List Section) → sections_by true whole_end (x ++ y) (record { steps = more; last = end; ending = how }) ≡ next ∷ rest' → is_last_kept (plan suppress operands x).ending ≡ next.is_kept
+decides_by : {suppress : Bool} {operands : List Operand} {x : List Line} (y : List Line) (more : List Step) (end : State) {how : Ending} → CanCome y → Runs suppress (x ++ y) (plan suppress operands x).last more end how
+    → {next : Section} {rest' : List Section} → sections_by true whole_end (x ++ y) (record { steps = more; last = end; ending = how }) ≡ next ∷ rest' → is_last_kept (plan suppress operands x).ending ≡ next.is_kept
     → length next.lines ≤ length (lines_between (plan suppress operands x).last.current (settled_end (length x) (plan suppress operands x).ending) x) → Decides suppress operands x
-decides_by suppress operands x y more end how comes rest next rest' are kept short =
+decides_by {suppress} {operands} {x} y more end {how} comes rest {next} {rest'} are kept short =
     let here = plan_runs suppress operands x in
     let within = are_within suppress x (start operands) _ _ _ here (omega arith) in record {
       y = y;
       comes = comes;
       next = next;
       more = rest';
-      are = ap (whole_sections (x ++ y)) (plan_once suppress operands (x ++ y) _ _ _ (goes_on suppress x y (start operands) _ _ _ _ _ _ here rest))
+      are = ap (whole_sections (x ++ y)) (plan_once suppress operands (x ++ y) _ _ _ (goes_on y _ _ here rest))
           ∙ ap (λ those. those ++ section (is_last_kept how) true (lines_between end.current (whole_end (length (x ++ y)) how) (x ++ y)) ∷ [])
           (map-append (section_of (x ++ y)) (plan suppress operands x).steps more ∙ ap (λ those. those ++ map (section_of (x ++ y)) more) (closed_still x y (plan suppress operands x).steps within.0))
           ∙ append_assoc (map (section_of x) (plan suppress operands x).steps) (map (section_of (x ++ y)) more) _
@@ -128,8 +204,8 @@ decides_by suppress operands x y more end how comes rest next rest' are kept sho
       short = short;
     }
 
-decides_now : (suppress : Bool) (operands : List Operand) (x : List Line) → whole_end (length x) (plan suppress operands x).ending ≡ settled_end (length x) (plan suppress operands x).ending → Decides suppress operands x
-decides_now suppress operands x same = record {
+decides_now : {suppress : Bool} {operands : List Operand} {x : List Line} → whole_end (length x) (plan suppress operands x).ending ≡ settled_end (length x) (plan suppress operands x).ending → Decides suppress operands x
+decides_now {suppress} {operands} {x} same = record {
   y = [];
   comes = none_comes;
   next = section (is_last_kept (plan suppress operands x).ending) true (lines_between (plan suppress operands x).last.current (whole_end (length x) (plan suppress operands x).ending) x);
@@ -143,41 +219,41 @@ decides_now suppress operands x same = record {
 none_taken : (first : ℕ) (lines : List Line) → length (lines_between first 0 lines) ≡ 0
 none_taken first lines = ap (λ n. length (take n (drop (first - 1) lines))) (let e : 0 - first ≡ 0 = omega arith in e)
 
-decides_back : (suppress : Bool) (operands : List Operand) (x : List Line) (operand : Operand) (k : ℕ) → 1 ≤ (plan suppress operands x).last.current → is_last_kept (plan suppress operands x).ending ≡ is_kept operand.target
+decides_back : {suppress : Bool} {operands : List Operand} {x : List Line} {operand : Operand} (k : ℕ) → 1 ≤ (plan suppress operands x).last.current → is_last_kept (plan suppress operands x).ending ≡ is_kept operand.target
     → settled_end (length x) (plan suppress operands x).ending ≡ suc (length x) - k → Turned suppress x (plan suppress operands x).last operand (suc (length x) - k) → Decides suppress operands x
-decides_back suppress operands x operand k some kept past (too_low low rest) =
-    decides_by suppress operands x (matching_line ∷ []) _ _ _ matching_comes rest _ [] refl kept
+decides_back {suppress} {operands} {x} k some kept past (too_low low rest) =
+    decides_by (matching_line ∷ []) _ _ matching_comes rest refl kept
     (let e : length (lines_between (plan suppress operands x).last.current 0 (x ++ matching_line ∷ [])) ≡ 0 = none_taken (plan suppress operands x).last.current (x ++ matching_line ∷ []) in omega (arith, e))
-decides_back suppress operands x operand k some kept past (turns from steps end how rest) =
-    decides_by suppress operands x (matching_line ∷ []) _ _ _ matching_comes rest (section_of (x ++ matching_line ∷ []) (step_of (plan suppress operands x).last operand (suc (length x)) (suc (length x) - k))) _ refl kept
+decides_back {suppress} {operands} {x} k some kept past (turns from steps end how rest) =
+    decides_by (matching_line ∷ []) _ _ matching_comes rest refl kept
     (let e : length (lines_between (plan suppress operands x).last.current (suc (length x) - k) (x ++ matching_line ∷ [])) ≡ length (lines_between (plan suppress operands x).last.current (settled_end (length x) (plan suppress operands x).ending) x)
     = ap length (between_still (plan suppress operands x).last.current (suc (length x) - k) x (matching_line ∷ []) some (omega arith) ∙ ap (λ p. lines_between (plan suppress operands x).last.current p x) (sym past)) in omega (arith, e))
 
-decides_missed : (suppress : Bool) (operands : List Operand) (x : List Line) (operand : Operand) (repetition : ℕ) (left : List Operand) → (plan suppress operands x).ending ≡ missed operand repetition → (plan suppress operands x).last.operands ≡ operand ∷ left
+decides_missed : {suppress : Bool} {operands : List Operand} {x : List Line} {operand : Operand} {repetition : ℕ} {left : List Operand} → (plan suppress operands x).ending ≡ missed operand repetition → (plan suppress operands x).last.operands ≡ operand ∷ left
     → 1 ≤ (plan suppress operands x).last.current → search_line suppress (plan suppress operands x).last ≤ suc (length x)
     → (target : Target) → operand.target ≡ target → Misses suppress x (plan suppress operands x).last operand target → Decides suppress operands x
-decides_missed suppress operands x operand repetition left ending is some within (Number n) target none = absurd none
-decides_missed suppress operands x operand repetition left ending is some within (Search pattern kept (Plus k)) target none =
-    decides_now suppress operands x (ap (whole_end (length x)) ending ∙ sym (ap (settled_end (length x)) ending ∙ ap (λ t. suc (length x) - most_held t) target ∙ (let e : suc (length x) - 0 ≡ suc (length x) = omega arith in e)))
-decides_missed suppress operands x operand repetition left ending is some within (Search pattern kept (Minus k)) target none =
-    decides_back suppress operands x operand k some (ap is_last_kept ending) (ap (settled_end (length x)) ending ∙ ap (λ t. suc (length x) - most_held t) target)
-    (turned suppress x (plan suppress operands x).last operand left pattern kept k some is target none within)
+decides_missed ending is some within (Number n) target none = absurd none
+decides_missed {x} ending is some within (Search pattern kept (Plus k)) target none =
+    decides_now (ap (whole_end (length x)) ending ∙ sym (ap (settled_end (length x)) ending ∙ ap (λ t. suc (length x) - most_held t) target ∙ (let e : suc (length x) - 0 ≡ suc (length x) = omega arith in e)))
+decides_missed {x} ending is some within (Search pattern kept (Minus k)) target none =
+    decides_back k some (ap is_last_kept ending) (ap (settled_end (length x)) ending ∙ ap (λ t. suc (length x) - most_held t) target)
+    (turned pattern kept k some is target none within)
 
-decides_at : (suppress : Bool) (operands : List Operand) (x : List Line) (ending : Ending) → (plan suppress operands x).ending ≡ ending → EndsAs suppress x (plan suppress operands x).last ending
+decides_at : {suppress : Bool} {operands : List Operand} {x : List Line} (ending : Ending) → (plan suppress operands x).ending ≡ ending → EndsAs suppress x (plan suppress operands x).last ending
     → 1 ≤ (plan suppress operands x).last.current → search_line suppress (plan suppress operands x).last ≤ suc (length x) → Decides suppress operands x
-decides_at suppress operands x (missed operand repetition) is (left, are, none) some within = decides_missed suppress operands x operand repetition left is are some within operand.target refl none
-decides_at suppress operands x _ is ends some within = decides_now suppress operands x (ap (whole_end (length x)) is ∙ sym (ap (settled_end (length x)) is))
+decides_at (missed operand repetition) is (left, are, none) some within = decides_missed is are some within operand.target refl none
+decides_at {x} _ is ends some within = decides_now (ap (whole_end (length x)) is ∙ sym (ap (settled_end (length x)) is))
 
-decides : (suppress : Bool) (operands : List Operand) (x : List Line) → Decides suppress operands x
-decides suppress operands x =
+decides : {suppress : Bool} {operands : List Operand} {x : List Line} → Decides suppress operands x
+decides {suppress} {operands} {x} =
     let here = plan_runs suppress operands x in
-    decides_at suppress operands x (plan suppress operands x).ending refl (ends_as suppress x (start operands) _ _ _ here) (are_within suppress x (start operands) _ _ _ here (omega arith)).1
-    (search_within suppress x (start operands) _ _ _ here (omega arith) (search_at_start suppress operands (length x)))
+    decides_at (plan suppress operands x).ending refl (ends_as suppress x (start operands) _ _ _ here) (are_within suppress x (start operands) _ _ _ here (omega arith)).1
+    (search_within here (omega arith) (search_at_start suppress operands (length x)))
 
 -- What is settled is what all continuations agree on
 pub settled_is_agreed : (suppress : Bool) (operands : List Operand) (x : List Line) → IsAgreed (whole_outputs suppress operands) x (settled_outputs suppress operands x)
 settled_is_agreed suppress operands x = record {
-  common = λ y comes. outputs_grow _ _ (plan_grows suppress true whole_end whole_covers operands x y);
+  common = λ y comes. outputs_grow (plan_grows suppress true whole_end whole_covers operands x y);
   fewest = ([], none_comes, fewest suppress operands x);
-  longest = longest suppress operands x (decides suppress operands x);
+  longest = longest suppress operands x (decides);
 }

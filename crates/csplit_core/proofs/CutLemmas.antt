@@ -1,5 +1,5 @@
 -- A cut ends the open section, and the next one begins.
-use Rattle.std.proofs.Common.{◌≡◌, ℕ, suc, ◌+◌, ◌-◌, ◌<◌, ◌≤◌, max, eqb, ◌&&◌, cond, Bool, true, false, List, [], ◌∷◌, ◌++◌, length, map, refl, sym, ◌∙◌, ap, subst, arith, append_assoc}
+use Rattle.std.proofs.Common.{◌≡◌, ℕ, suc, ◌+◌, ◌-◌, ◌<◌, ◌≤◌, max, eqb, ◌&&◌, cond, Bool, true, false, List, [], ◌∷◌, ◌++◌, length, map, Option, Some, None, refl, sym, ◌∙◌, ap, subst, arith, append_assoc}
 use Rattle.std.proofs.lemmas.List.{map-append, append-nil}
 use Rattle.seg_core.specs.Line.{first_lines, after_lines}
 use Rattle.seg_core.proofs.FirstLines.{first_lines-zero, first_lines_then_rest}
@@ -8,10 +8,9 @@ use Rattle.ports_core.specs.Slot.{Slot}
 use Rattle.ports_core.specs.declared.fault.Fault.{Fault}
 use Rattle.ports_core.specs.declared.fault.Fault.TheVariants.{Memory}
 use Rattle.ports_core.proofs.PartLemmas.{part_trans}
-use Rattle.ports_core.proofs.SlotSteps.{keeps_again}
 use Rattle.csplit_core.specs.Csplit.{settled_of}
 use Rattle.csplit_core.specs.Draft.{Draft, draft_part}
-use Rattle.csplit_core.specs.inner.Draft.{with_bytes, with_section}
+use Rattle.csplit_core.specs.inner.Writer.{with_bytes, with_section, Goes, Leaves, Reaches}
 use Rattle.csplit_core.specs.Input.{newline, all_lines}
 use Rattle.csplit_core.specs.Operand.{Operand, Line, is_kept}
 use Rattle.csplit_core.specs.Output.{Style, contents_of, part_by, part_of}
@@ -23,24 +22,23 @@ use Rattle.csplit_core.specs.inner.Progress.{GoesPast}
 use Rattle.csplit_core.specs.Section.{Section, section, section_of, lines_between, bytes_of, is_last_kept, settled_end, settled_sections}
 use Rattle.csplit_core.specs.laws.SectionLaws.{part_grows, ends_as}
 use Rattle.csplit_core.specs.Writer.{WriterState, Writes, size_of}
-use Rattle.csplit_core.specs.inner.Writer.{KeepsFiles, Went, Stopped}
 use Rattle.csplit_core.specs.declared.line_cutter.Cut.{Cut}
 use Rattle.csplit_core.specs.Cutter.{CutterState, suppress_in, state_in, kept_by, text_from, Leads, draft_by, IsFit, IsAt}
-use Rattle.csplit_core.specs.inner.Cutter.{settled_part, part_at, search_after, CutsNow, PassesOn, IsAfter, CutAt, CutNot, WillCut, IsEnd}
-use Rattle.csplit_core.proofs.HoldLemmas.{memory_halts}
-use Rattle.csplit_core.proofs.LastSectionLemmas.{after_within}
+use Rattle.csplit_core.specs.inner.Cutter.{settled_part, part_at, search_after, CutsNow, PassesOn, IsAfter, CutAt, CutsAll, WillCut, IsEnd}
+use Rattle.csplit_core.proofs.HoldLemmas.{lacks_memory}
+use Rattle.csplit_core.proofs.WholeLemmas.{after_within}
 use Rattle.csplit_core.proofs.LineLemmas.{bytes_between, first_further, from_further}
-use Rattle.csplit_core.proofs.SettledLemmas.{last_kept}
-use Rattle.csplit_core.proofs.WriterLemmas.{moves_again, moves_as, halts_after, halts_wider, halts_as, bytes_begin, section_begins, breaks_later, owns_again}
+use Rattle.csplit_core.proofs.CutterLemmas.{last_kept}
+use Rattle.csplit_core.proofs.WriterLemmas.{bytes_begin, leaves_again, leaves_lacking, reaches_again, reaches_as, section_begins, stops_wider}
 
 -- What is settled begins with what stands where a section has begun.
 
-first_kept : (suppress : Bool) (lines : List Line) (state : State) (step : Step) (steps : List Step) (last : State) (ending : Ending) → Runs suppress lines state (step ∷ steps) last ending → kept_by state.operands ≡ is_kept step.operand.target
-first_kept suppress lines state step steps last ending (cuts state' operand operands matched cut steps' last' ending' are at from within rest) = ap kept_by are
+first_kept : {suppress : Bool} {lines : List Line} {state : State} {step : Step} {steps : List Step} {last : State} {ending : Ending} → Runs suppress lines state (step ∷ steps) last ending → kept_by state.operands ≡ is_kept step.operand.target
+first_kept (cuts state' operand operands matched cut steps' last' ending' are at from within rest) = ap kept_by are
 
-settled_by_plan : (style : Style) (operands : List Operand) (lines : List Line) (steps : List Step) (last : State) (ending : Ending) → Runs style.suppress lines (start operands) steps last ending
+settled_by_plan : (style : Style) (operands : List Operand) {lines : List Line} {steps : List Step} {last : State} {ending : Ending} → Runs style.suppress lines (start operands) steps last ending
     → settled_of style operands lines ≡ part_by style (map contents_of (map (section_of lines) steps ++ section (is_last_kept ending) false (lines_between last.current (settled_end (length lines) ending) lines) ∷ []))
-settled_by_plan style operands lines steps last ending runs = ap (λ (p : Plan). part_of style (settled_sections lines p)) (plan_once style.suppress operands lines steps last ending runs)
+settled_by_plan style operands {lines} {steps} {last} {ending} runs = ap (λ (p : Plan). part_of style (settled_sections lines p)) (plan_once style.suppress operands lines steps last ending runs)
 
 -- one section, and those after it
 begins_with : (style : Style) (front : List Section) (one : Section) (more : List Section) (kept : Bool) → kept ≡ one.is_kept → Begins (draft_part style (record { ended = map contents_of front; is_kept = kept; bytes = [] })) (part_by style (map contents_of (front ++ one ∷ more)))
@@ -48,10 +46,10 @@ begins_with style front one more kept same =
     subst (λ those. Begins (draft_part style (record { ended = map contents_of front; is_kept = kept; bytes = [] })) (part_by style those)) (sym (map-append contents_of front (one ∷ more)))
     (part_grows style (map contents_of front) (record { is_kept = kept; is_closed = false; bytes = [] }) (contents_of one) (map contents_of more) refl same (bytes_of one.lines) refl)
 
-begun_by : (style : Style) (operands : List Operand) (lines : List Line) (steps : List Step) (state : State) (more : List Step) (last : State) (ending : Ending) → Runs style.suppress lines state more last ending → Runs style.suppress lines (start operands) (steps ++ more) last ending
+begun_by : (style : Style) (operands : List Operand) {lines : List Line} (steps : List Step) {state : State} (more : List Step) {last : State} {ending : Ending} → Runs style.suppress lines state more last ending → Runs style.suppress lines (start operands) (steps ++ more) last ending
     → Begins (draft_part style (draft_by lines steps (kept_by state.operands) [])) (settled_of style operands lines)
-begun_by style operands lines steps state [] last ending rest all =
-    subst (Begins (draft_part style (draft_by lines steps (kept_by state.operands) []))) (sym (settled_by_plan style operands lines (steps ++ []) last ending all))
+begun_by style operands {lines} steps {state} [] {last} {ending} rest all =
+    subst (Begins (draft_part style (draft_by lines steps (kept_by state.operands) []))) (sym (settled_by_plan style operands all))
     (subst (λ those. Begins (draft_part style (draft_by lines steps (kept_by state.operands) [])) (part_by style (map contents_of (map (section_of lines) those ++ section (is_last_kept ending) false (lines_between last.current (settled_end (length lines) ending) lines) ∷ [])))) (sym (append-nil steps))
     (begins_with style (map (section_of lines) steps) (section (is_last_kept ending) false (lines_between last.current (settled_end (length lines) ending) lines)) [] (kept_by state.operands) (at_end state last ending rest))) where
       at_end : (state last : State) (ending : Ending) → Runs style.suppress lines state [] last ending → kept_by state.operands ≡ is_last_kept ending
@@ -59,19 +57,19 @@ begun_by style operands lines steps state [] last ending rest all =
       at_end state last ending (misses state' operand those is none) = ap kept_by is
       at_end state last ending (is_above state' operand those matched cut is at far) = ap kept_by is
       at_end state last ending (is_below state' operand those matched cut is at within low) = ap kept_by is
-begun_by style operands lines steps state (step ∷ more) last ending rest all =
+begun_by style operands {lines} steps {state} (step ∷ more) {last} {ending} rest all =
     let tail = map (section_of lines) more ++ section (is_last_kept ending) false (lines_between last.current (settled_end (length lines) ending) lines) ∷ [] in
-    subst (Begins (draft_part style (draft_by lines steps (kept_by state.operands) []))) (sym (settled_by_plan style operands lines (steps ++ step ∷ more) last ending all
+    subst (Begins (draft_part style (draft_by lines steps (kept_by state.operands) []))) (sym (settled_by_plan style operands all
     ∙ ap (λ those. part_by style (map contents_of (those ++ section (is_last_kept ending) false (lines_between last.current (settled_end (length lines) ending) lines) ∷ []))) (map-append (section_of lines) steps (step ∷ more))
     ∙ ap (λ those. part_by style (map contents_of those)) (append_assoc (map (section_of lines) steps) (section_of lines step ∷ map (section_of lines) more) _)))
-    (begins_with style (map (section_of lines) steps) (section_of lines step) tail (kept_by state.operands) (first_kept style.suppress lines state step more last ending rest))
+    (begins_with style (map (section_of lines) steps) (section_of lines step) tail (kept_by state.operands) (first_kept rest))
 
 pub begun_begins : (style : Style) (operands : List Operand) (lines : List Line) (steps : List Step) (state : State) → Leads style.suppress lines operands steps state → 1 ≤ state.current
     → Begins (draft_part style (draft_by lines steps (kept_by state.operands) [])) (settled_of style operands lines)
 begun_begins style operands lines steps state leads some =
     let p = plan_within (needed (length lines) state) style.suppress lines state in
     let rest = runs (needed (length lines) state) style.suppress lines state (omega arith) some in
-    begun_by style operands lines steps state p.steps p.last p.ending rest (leads p.steps p.last p.ending rest)
+    begun_by style operands {lines = lines} steps {state = state} p.steps {last = p.last} {ending = p.ending} rest (leads p.steps p.last p.ending rest)
 
 -- The sections once one more ended
 
@@ -79,10 +77,10 @@ begun_begins style operands lines steps state leads some =
 abbrev step_at : CutterState → Operand → Cut → Step
 step_at cutter operand cut = step_of (state_in cutter) operand cut.matched cut.line
 
-cut_draft : (cutter : CutterState) (x left before : List ℕ) (at : IsAt cutter x left) (cut : Cut) (operand : Operand) (operands : List Operand) (kept : Bool) → (state_in cutter).operands ≡ operand ∷ operands → 1 ≤ cutter.progress.current
+cut_draft : {cutter : CutterState} {x left before : List ℕ} (at : IsAt cutter x left) (cut : Cut) {operand : Operand} {operands : List Operand} (kept : Bool) → (state_in cutter).operands ≡ operand ∷ operands → 1 ≤ cutter.progress.current
     → cutter.progress.current + at.taken ≤ cut.line → before ≡ first_lines newline (cut.line - (cutter.progress.current + at.taken)) left
     → with_section kept (with_bytes before (draft_by (all_lines x) at.steps (kept_by (state_in cutter).operands) at.written)) ≡ draft_by (all_lines x) (at.steps ++ step_at cutter operand cut ∷ []) kept []
-cut_draft cutter x left before at cut operand operands kept are some on before_is =
+cut_draft {cutter} {x} {before} at cut {operand} kept are some on before_is =
     let bytes : at.written ++ before ≡ bytes_of (lines_between cutter.progress.current cut.line (all_lines x)) =
     ap (λ those. those ++ before) at.written_is
     ∙ ap (λ those. first_lines newline at.taken (text_from cutter.progress.current x) ++ those) (before_is ∙ ap (first_lines newline (cut.line - (cutter.progress.current + at.taken))) at.left_is)
@@ -94,23 +92,23 @@ cut_draft cutter x left before at cut operand operands kept are some on before_i
     ∙ ap (λ ended. record { ended = ended; is_kept = kept; bytes = [] })
     (sym (ap (map contents_of) (map-append (section_of (all_lines x)) at.steps (step_at cutter operand cut ∷ [])) ∙ map-append contents_of (map (section_of (all_lines x)) at.steps) (section_of (all_lines x) (step_at cutter operand cut) ∷ [])))
 
-leads_on : (cutter : CutterState) (x left : List ℕ) (at : IsAt cutter x left) (cut : Cut) (goes : GoesPast (suppress_in cutter) (all_lines x) (state_in cutter) cut.matched cut.line)
+leads_on : {cutter : CutterState} {x left : List ℕ} (at : IsAt cutter x left) (cut : Cut) (goes : GoesPast (suppress_in cutter) (all_lines x) (state_in cutter) cut.matched cut.line)
     → Leads (suppress_in cutter) (all_lines x) cutter.operands (at.steps ++ step_at cutter goes.operand cut ∷ []) (state_after (suppress_in cutter) goes.operand goes.operands cutter.progress.repetition cut.matched cut.line)
-leads_on cutter x left at cut goes more last ending run =
+leads_on {cutter} {x} at cut goes more last ending run =
     subst (λ steps. Runs (suppress_in cutter) (all_lines x) (start cutter.operands) steps last ending) (sym (append_assoc at.steps (step_at cutter goes.operand cut ∷ []) more))
     (at.leads (step_at cutter goes.operand cut ∷ more) last ending (goes.runs more last ending run))
 
 -- what is settled begins with the sections after the cut
-pub cut_begins : (cutter : CutterState) (x left line before : List ℕ) (at : IsAt cutter x left) (cut : Cut) (place : ℕ) (now : CutsNow cutter x left line cut place at) → IsFit cutter → WillCut cutter cut → before ≡ first_lines newline (cut.line - place) left
+pub cut_begins : {cutter : CutterState} {x left : List ℕ} (line : List ℕ) {before : List ℕ} {at : IsAt cutter x left} (cut : Cut) {place : ℕ} (now : CutsNow cutter x left line cut place at) → IsFit cutter → WillCut cutter cut → before ≡ first_lines newline (cut.line - place) left
     → Begins (draft_part cutter.writer.style (with_section (kept_by (state_after (suppress_in cutter) now.goes.operand now.goes.operands cutter.progress.repetition cut.matched cut.line).operands)
     (with_bytes before (draft_by (all_lines x) at.steps (kept_by (state_in cutter).operands) at.written)))) (settled_part cutter x)
-cut_begins cutter x left line before at cut place now fit will before_is =
+cut_begins {cutter} {x} {left} line {at} cut now fit will before_is =
     let state = state_after (suppress_in cutter) now.goes.operand now.goes.operands cutter.progress.repetition cut.matched cut.line in
     let on : cutter.progress.current + at.taken ≤ cut.line = (let p = now.place_is in let b = now.before in omega (arith, p, b)) in
     let some : 1 ≤ state.current = (let least = Rattle.csplit_core.specs.laws.PlanLaws.line_some (suppress_in cutter) cut.line in let s = fit.fits.some in let f = will.from in omega (arith, least, s, f)) in
     subst (λ draft. Begins (draft_part cutter.writer.style draft) (settled_part cutter x))
-    (sym (cut_draft cutter x left before at cut now.goes.operand now.goes.operands (kept_by state.operands) now.goes.are fit.fits.some on (before_is ∙ ap (λ n. first_lines newline (cut.line - n) left) now.place_is)))
-    (begun_begins cutter.writer.style cutter.operands (all_lines x) (at.steps ++ step_at cutter now.goes.operand cut ∷ []) state (leads_on cutter x left at cut now.goes) some)
+    (sym (cut_draft at cut (kept_by state.operands) now.goes.are fit.fits.some on (before_is ∙ ap (λ n. first_lines newline (cut.line - n) left) now.place_is)))
+    (begun_begins cutter.writer.style cutter.operands (all_lines x) (at.steps ++ step_at cutter now.goes.operand cut ∷ []) state (leads_on at cut now.goes) some)
 
 -- What `cut_at` owes, by how far it came. First the lines before the cut are written; then the run goes on; then the next section begins.
 
@@ -118,38 +116,16 @@ cut_begins cutter x left line before at cut place now fit will before_is =
 abbrev draft_at : (cutter : CutterState) (x left : List ℕ) → IsAt cutter x left → Draft
 draft_at cutter x left at = draft_by (all_lines x) at.steps (kept_by (state_in cutter).operands) at.written
 
-pub before_begins : (cutter : CutterState) (x left line before : List ℕ) (at : IsAt cutter x left) (cut : Cut) (place : ℕ) (now : CutsNow cutter x left line cut place at) → IsFit cutter → WillCut cutter cut → before ≡ first_lines newline (cut.line - place) left
+pub before_begins : {cutter : CutterState} {x left : List ℕ} (line : List ℕ) {before : List ℕ} {at : IsAt cutter x left} (cut : Cut) {place : ℕ} (now : CutsNow cutter x left line cut place at) → IsFit cutter → WillCut cutter cut → before ≡ first_lines newline (cut.line - place) left
     → Begins (draft_part cutter.writer.style (with_bytes before (draft_at cutter x left at))) (settled_part cutter x)
-before_begins cutter x left line before at cut place now fit will before_is =
-    part_trans (draft_part cutter.writer.style (with_bytes before (draft_at cutter x left at))) _ (settled_part cutter x) (section_begins cutter.writer.style _ (with_bytes before (draft_at cutter x left at))) (cut_begins cutter x left line before at cut place now fit will before_is)
+before_begins {cutter} {x} {left} line {before} {at} cut now fit will before_is =
+    part_trans (draft_part cutter.writer.style (with_bytes before (draft_at cutter x left at))) _ (settled_part cutter x) (section_begins cutter.writer.style _ (with_bytes before (draft_at cutter x left at))) (cut_begins line cut now fit will before_is)
 
-pub cut_put_stopped : (told : Bool) (cutter start : CutterState) (writer : WriterState) (cut : Cut) (place : ℕ) (left before : List ℕ) (old new : List Slot) (fault : Fault) → start ≡ cutter → IsFit cutter → WillCut cutter cut
-    → before ≡ first_lines newline (cut.line - place) left → Stopped told start.writer (with_bytes before) old new writer fault → CutNot told cutter cut place left old new (record start { writer = writer }) fault
-cut_put_stopped told cutter start writer cut place left before old new fault is fit will before_is stopped =
-    subst (λ (c : CutterState). CutNot told c cut place left old new (record start { writer = writer }) fault) is (record {
-      same = record { operands = refl; style = stopped.style };
-      halts = λ x line at now. halts_wider told (part_at start x left at) (draft_part start.writer.style (with_bytes before (draft_at start x left at))) (settled_part start x) old new fault (stopped.halts (draft_at start x left at) at.writes)
-          (before_begins start x left line before at cut place now (subst IsFit (sym is) fit)
-          (subst (λ (c : CutterState). WillCut c cut) (sym is) will) before_is);
-      breaks = stopped.breaks;
-      owns = stopped.owns;
-    })
-
-pub cut_pass_stopped : (told : Bool) (cutter start mid : CutterState) (writer : WriterState) (cut : Cut) (place : ℕ) (left before : List ℕ) (old new : List Slot) (fault : Fault) → start ≡ cutter → IsFit cutter → WillCut cutter cut → before ≡ first_lines newline (cut.line - place) left
-    → Went told start.writer (with_bytes before) old new writer → (fault ≡ Memory) × (mid.writer ≡ writer) × (mid.operands ≡ start.operands) → CutNot told cutter cut place left old new mid fault
-cut_pass_stopped told cutter start mid writer cut place left before old new fault is fit will before_is went (is_memory, same_writer, same_operands) =
-    subst (λ (c : CutterState). CutNot told c cut place left old new mid fault) is
-    (subst (λ why. CutNot told start cut place left old new mid why) (sym is_memory) (record {
-      same = record { operands = same_operands; style = ap (λ (w : WriterState). w.style) same_writer ∙ went.style };
-      halts = λ x line at now.
-          halts_after told (part_at start x left at) (draft_part start.writer.style (with_bytes before (draft_at start x left at))) (settled_part start x) old new new Memory (bytes_begin start.writer.style before (draft_at start x left at)) (went.moves (draft_at start x left at) at.writes)
-          (halts_wider told _ _ (settled_part start x) new new Memory
-          (memory_halts told start.writer.style (with_bytes before (draft_at start x left at)) new at.writes.closed)
-          (before_begins start x left line before at cut place now (subst IsFit (sym is) fit)
-          (subst (λ (c : CutterState). WillCut c cut) (sym is) will) before_is));
-      breaks = tt;
-      owns = subst (λ w. KeepsFiles start.writer w old new) (sym same_writer) went.owns;
-    }))
+pub cut_stopped : {told : Bool} {cutter next : CutterState} {cut : Cut} {place : ℕ} {left line : List ℕ} {old new : List Slot} {fault : Fault} → next.operands ≡ cutter.operands → Leaves cutter.writer next.writer old new (Some fault)
+    → ((x : List ℕ) (at : IsAt cutter x left) → CutsNow cutter x left line cut place at → Reaches told cutter.writer next.writer (part_at cutter x left at) (settled_part cutter x) old new (Some fault))
+    → CutsAll told cutter cut place left line [] old new next (Some fault)
+cut_stopped {cutter = cutter} operands leaves reaches =
+    record { keeps = record { operands = operands; writer = leaves }; reaches = λ x at now. reaches_as refl (ap (settled_part cutter) (append-nil x)) (reaches x at now); went = tt }
 
 -- the run went on after the cut
 pub record Passed (cutter mid : CutterState) (writer : WriterState) (cut : Cut) : Type 0 where
@@ -159,29 +135,45 @@ pub record Passed (cutter mid : CutterState) (writer : WriterState) (cut : Cut) 
   pub fewer : needed mid.lines (state_in mid) < needed cutter.lines (state_in cutter)
   pub state : PassesOn (record cutter { writer = writer }) cut mid
 
--- where the run stands then
-passed_state : (told : Bool) (cutter mid : CutterState) (writer : WriterState) (cut : Cut) (before : List ℕ) (old new : List Slot) → Went told cutter.writer (with_bytes before) old new writer → Passed cutter mid writer cut → (operand : Operand) (operands : List Operand) → (state_in cutter).operands ≡ operand ∷ operands
-    → state_in mid ≡ state_after (suppress_in cutter) operand operands cutter.progress.repetition cut.matched cut.line
-passed_state told cutter mid writer cut before old new went passed operand operands are =
-    passed.state operand operands are ∙ ap (λ (s : Style). state_after s.suppress operand operands cutter.progress.repetition cut.matched cut.line) went.style
+goes_here : {told : Bool} {cutter start : CutterState} {writer : WriterState} {before : List ℕ} {old new : List Slot} {fault : Option Fault} → start ≡ cutter → Goes told start.writer (with_bytes before) old new writer fault → Goes told cutter.writer (with_bytes before) old new writer fault
+goes_here {told} {writer = writer} {before} {old} {new} {fault} same goes = subst (λ (c : CutterState). Goes told c.writer (with_bytes before) old new writer fault) same goes
 
-pub next_stopped : (told : Bool) (cutter mid : CutterState) (writer next : WriterState) (cut : Cut) (place : ℕ) (left before : List ℕ) (kept : Bool) (old between new : List Slot) (fault : Fault) → IsFit cutter → WillCut cutter cut → before ≡ first_lines newline (cut.line - place) left
-    → Went told cutter.writer (with_bytes before) old between writer → Passed cutter mid writer cut → kept ≡ kept_by (state_in mid).operands → Stopped told mid.writer (with_section kept) between new next fault → CutNot told cutter cut place left old new (record mid { writer = next }) fault
-next_stopped told cutter mid writer next cut place left before kept old between new fault fit will before_is went passed kept_is stopped =
-    let writer_is : mid.writer ≡ writer = ap (λ (c : CutterState). c.writer) passed.same in
-    let stopped' : Stopped told writer (with_section kept) between new next fault = subst (λ w. Stopped told w (with_section kept) between new next fault) writer_is stopped in record {
-      same = record { operands = ap (λ (c : CutterState). c.operands) passed.same; style = stopped'.style ∙ went.style };
-      halts = λ x line at now.
-          let state = passed_state told cutter mid writer cut before old between went passed now.goes.operand now.goes.operands now.goes.are in
-          let kept' : kept ≡ kept_by (state_after (suppress_in cutter) now.goes.operand now.goes.operands cutter.progress.repetition cut.matched cut.line).operands = kept_is ∙ ap (λ (s : State). kept_by s.operands) state in
-          let draft = draft_at cutter x left at in
-          halts_after told (part_at cutter x left at) (draft_part cutter.writer.style (with_bytes before draft)) (settled_part cutter x) old between new fault (bytes_begin cutter.writer.style before draft) (went.moves draft at.writes)
-          (halts_wider told (draft_part cutter.writer.style (with_bytes before draft)) (draft_part cutter.writer.style (with_section kept (with_bytes before draft))) (settled_part cutter x) between new fault
-          (halts_as told _ _ _ _ between new fault (ap (λ (s : Style). draft_part s (with_bytes before draft)) (sym went.style)) (ap (λ (s : Style). draft_part s (with_section kept (with_bytes before draft))) (sym went.style)) (stopped'.halts (with_bytes before draft) (went.writes draft at.writes)))
-          (subst (λ k. Begins (draft_part cutter.writer.style (with_section k (with_bytes before draft))) (settled_part cutter x)) (sym kept') (cut_begins cutter x left line before at cut place now fit will before_is)));
-      breaks = breaks_later cutter.writer.style old between new fault went.keeps (subst (λ (s : Style). Rattle.csplit_core.specs.Writer.Breaks s between new fault) went.style stopped'.breaks);
-      owns = owns_again cutter.writer writer next old between new went.owns stopped'.owns;
-    }
+-- where the run stands after the cut
+passed_state : {told : Bool} {cutter start mid : CutterState} {writer : WriterState} {cut : Cut} {before : List ℕ} {old new : List Slot} → start ≡ cutter → Goes told start.writer (with_bytes before) old new writer None → Passed start mid writer cut
+    → {operand : Operand} {operands : List Operand} → (state_in cutter).operands ≡ operand ∷ operands → state_in mid ≡ state_after (suppress_in cutter) operand operands cutter.progress.repetition cut.matched cut.line
+passed_state {cutter = cutter} {mid = mid} {writer} {cut} same goes passed {operand} {operands} are =
+    let here = subst (λ c. Passed c mid writer cut) same passed in
+    here.state operand operands are ∙ ap (λ (s : Style). state_after s.suppress operand operands cutter.progress.repetition cut.matched cut.line) (goes_here same goes).leaves.style
+
+-- a cut of this cutter, which is known by its fields too, is due, and stands after these bytes of the lines that are left
+module _ {cutter start : CutterState} {cut : Cut} {place : ℕ} {left before : List ℕ} (same : start ≡ cutter) (fit : IsFit cutter) (will : WillCut cutter cut) (before_is : before ≡ first_lines newline (cut.line - place) left) where
+  pub cut_put_stopped : {told : Bool} {writer : WriterState} {old new : List Slot} {fault : Fault} (line : List ℕ) → Goes told start.writer (with_bytes before) old new writer (Some fault)
+      → CutsAll told cutter cut place left line [] old new (record start { writer = writer }) (Some fault)
+  cut_put_stopped line goes = let stopped = goes_here same goes in cut_stopped (ap (λ (c : CutterState). c.operands) same) stopped.leaves
+      (λ x at now. stops_wider (stopped.reaches (draft_at cutter x left at) at.writes) (before_begins line cut now fit will before_is))
+
+  pub cut_pass_stopped : {told : Bool} {mid : CutterState} {writer : WriterState} {old new : List Slot} {fault : Fault} (line : List ℕ) → Goes told start.writer (with_bytes before) old new writer None
+      → (fault ≡ Memory) × (mid.writer ≡ writer) × (mid.operands ≡ start.operands) → CutsAll told cutter cut place left line [] old new mid (Some fault)
+  cut_pass_stopped {told} {mid} {writer} {old} {new} line goes (is_memory, same_writer, same_operands) =
+      let went = subst (λ w. Goes told cutter.writer (with_bytes before) old new w None) (sym same_writer) (goes_here same goes) in
+      subst (λ why. CutsAll told cutter cut place left line [] old new mid (Some why)) (sym is_memory)
+      (cut_stopped (same_operands ∙ ap (λ (c : CutterState). c.operands) same) (leaves_again went.leaves leaves_lacking)
+      (λ x at now. let draft = draft_at cutter x left at in reaches_again (bytes_begin cutter.writer.style before draft) (went.reaches draft at.writes)
+      (stops_wider (lacks_memory cutter.writer.style (with_bytes before draft) at.writes.closed) (before_begins line cut now fit will before_is))))
+
+  pub cut_next_stopped : {told : Bool} {mid now : CutterState} {writer next : WriterState} {kept : Bool} {old between new : List Slot} {fault : Fault} (line : List ℕ) → Goes told start.writer (with_bytes before) old between writer None → now ≡ mid → Passed start mid writer cut
+      → kept ≡ kept_by (state_in now).operands → Goes told now.writer (with_section kept) between new next (Some fault) → CutsAll told cutter cut place left line [] old new (record now { writer = next }) (Some fault)
+  cut_next_stopped {told} {mid} {now} {writer} {next} {kept} {old} {between} {new} {fault} line goes same_mid passed kept_is stops =
+      let went = goes_here same goes in
+      let stopped : Goes told writer (with_section kept) between new next (Some fault) = subst (λ w. Goes told w (with_section kept) between new next (Some fault)) (ap (λ (c : CutterState). c.writer) (same_mid ∙ passed.same)) stops in
+      cut_stopped (ap (λ (c : CutterState). c.operands) (same_mid ∙ passed.same) ∙ ap (λ (c : CutterState). c.operands) same) (leaves_again went.leaves stopped.leaves)
+      (λ x at due.
+      let kept' = kept_is ∙ ap (λ (m : CutterState). kept_by (state_in m).operands) same_mid ∙ ap (λ (s : State). kept_by s.operands) (passed_state same goes passed due.goes.are) in
+      let draft = draft_at cutter x left at in
+      reaches_again (bytes_begin cutter.writer.style before draft) (went.reaches draft at.writes)
+      (stops_wider
+      (reaches_as (ap (λ (s : Style). draft_part s (with_bytes before draft)) (sym went.leaves.style)) (ap (λ (s : Style). draft_part s (with_section kept (with_bytes before draft))) (sym went.leaves.style)) (stopped.reaches (with_bytes before draft) (went.writes draft at.writes)))
+      (subst (λ k. Begins (draft_part cutter.writer.style (with_section k (with_bytes before draft))) (settled_part cutter x)) (sym kept') (cut_begins line cut due fit will before_is))))
 
 -- the next section began
 
@@ -189,117 +181,95 @@ search_same : (suppress : Bool) (a b : State) → a.current ≡ b.current → a.
 search_same true a b current matched = ap (λ n. suc (max (n - 1) a.matched)) current ∙ ap (λ n. suc (max (b.current - 1) n)) matched
 search_same false a b current matched = ap (λ n. cond (eqb n 1 && eqb a.matched 0) 1 (suc (max n a.matched))) current ∙ ap (λ n. cond (eqb b.current 1 && eqb n 0) 1 (suc (max b.current n))) matched
 
-leads_as : (suppress suppress' : Bool) (lines : List Line) (operands operands' : List Operand) (steps : List Step) (state state' : State) → suppress' ≡ suppress → operands' ≡ operands → state' ≡ state → Leads suppress lines operands steps state → Leads suppress' lines operands' steps state'
-leads_as suppress suppress' lines operands operands' steps state state' one two three leads =
+leads_as : {suppress suppress' : Bool} {lines : List Line} {operands operands' : List Operand} (steps : List Step) {state state' : State} → suppress' ≡ suppress → operands' ≡ operands → state' ≡ state → Leads suppress lines operands steps state → Leads suppress' lines operands' steps state'
+leads_as {suppress} {lines} {operands} {operands'} steps {state'} one two three leads =
     subst (λ s. Leads s lines operands' steps state') (sym one) (subst (λ o. Leads suppress lines o steps state') (sym two) (subst (Leads suppress lines operands steps) (sym three) leads))
 
-rest_from : (suppress : Bool) (rest all : List ℕ) (cut : ℕ) (x : List ℕ) → 1 ≤ cut → all ≡ text_from cut x → (suppress ≡ true → rest ≡ after_lines newline 1 all) → (suppress ≡ false → rest ≡ all) → rest ≡ text_from (line_after suppress cut) x
-rest_from true rest all cut x some is skipped whole = skipped refl ∙ ap (after_lines newline 1) is ∙ from_further cut 1 x some ∙ ap (λ n. text_from n x) (let e : cut + 1 ≡ suc cut = omega arith in e)
-rest_from false rest all cut x some is skipped whole = whole refl ∙ is
-
-abbrev next_of_cut : CutterState → WriterState → CutterState
-next_of_cut mid next = record mid { writer = next }
-
-after_at : (told : Bool) (cutter mid : CutterState) (writer next : WriterState) (cut : Cut) (place : ℕ) (x left line before rest all : List ℕ) (kept : Bool) (old between new : List Slot) → IsFit cutter → WillCut cutter cut → before ≡ first_lines newline (cut.line - place) left
-    → all ≡ after_lines newline (cut.line - place) left → (next.style.suppress ≡ true → rest ≡ after_lines newline 1 all) → (next.style.suppress ≡ false → rest ≡ all)
-    → Went told cutter.writer (with_bytes before) old between writer → Passed cutter mid writer cut → kept ≡ kept_by (state_in mid).operands → Went told mid.writer (with_section kept) between new next
-    → (at : IsAt cutter x left) (now : CutsNow cutter x left line cut place at) → IsAfter told cutter x line (next_of_cut mid next) rest (part_at cutter x left at) old new
-after_at told cutter mid writer next cut place x left line before rest all kept old between new fit will before_is all_is skipped whole went passed kept_is went' at now =
-    let writer_is : mid.writer ≡ writer = ap (λ (c : CutterState). c.writer) passed.same in
-    let second : Went told writer (with_section kept) between new next = subst (λ w. Went told w (with_section kept) between new next) writer_is went' in
-    let style_is : next.style ≡ cutter.writer.style = second.style ∙ went.style in
-    let suppress_is : next.style.suppress ≡ suppress_in cutter = ap (λ (s : Style). s.suppress) style_is in
-    let state = passed_state told cutter mid writer cut before old between went passed now.goes.operand now.goes.operands now.goes.are in
-    let current : mid.progress.current ≡ line_after (suppress_in cutter) cut.line = ap (λ (s : State). s.current) state in
-    let lines_is : mid.lines ≡ cutter.lines = ap (λ (c : CutterState). c.lines) passed.same in
-    let on : cutter.progress.current + at.taken ≤ cut.line = (let p = now.place_is in let b = now.before in omega (arith, p, b)) in
-    let first : 1 ≤ cut.line = (let s = fit.fits.some in let f = will.from in omega (arith, s, f)) in
-    let same_count : cut.line - place ≡ cut.line - (cutter.progress.current + at.taken) = ap (λ n. cut.line - n) now.place_is in
-    let left_after : all ≡ text_from cut.line x = all_is ∙ ap (λ n. after_lines newline n left) same_count ∙ ap (after_lines newline (cut.line - (cutter.progress.current + at.taken))) at.left_is
-    ∙ from_further (cutter.progress.current + at.taken) (cut.line - (cutter.progress.current + at.taken)) x (let s = fit.fits.some in omega (arith, s))
-    ∙ ap (λ n. text_from n x) (let e : cutter.progress.current + at.taken + (cut.line - (cutter.progress.current + at.taken)) ≡ cut.line = omega (arith, on) in e) in
-    let draft_is = cut_draft cutter x left before at cut now.goes.operand now.goes.operands kept now.goes.are fit.fits.some on (before_is ∙ ap (λ n. first_lines newline n left) same_count) in
-    let near : mid.lines ≤ search_line next.style.suppress (state_in mid) =
-    (let e : search_line next.style.suppress (state_in mid) ≡ search_after (suppress_in cutter) cut = ap (λ b. search_line b (state_in mid)) suppress_is
-    ∙ search_same (suppress_in cutter) (state_in mid) _ (ap (λ (s : State). s.current) state) (ap (λ (s : State). s.matched) state) in let n = now.near in omega (arith, e, n, lines_is)) in record {
-      now = record {
-        steps = at.steps ++ step_at cutter now.goes.operand cut ∷ [];
-        leads = leads_as (suppress_in cutter) next.style.suppress (all_lines x) cutter.operands mid.operands _ _ (state_in mid) suppress_is (ap (λ (c : CutterState). c.operands) passed.same) state (leads_on cutter x left at cut now.goes);
-        counted = lines_is ∙ at.counted;
-        taken = 0;
-        written = [];
-        few = (let w : line_after (suppress_in cutter) cut.line ≤ suc cutter.lines = after_within (suppress_in cutter) cut.line cutter.lines will.within in let c = at.counted in omega (arith, current, w, c));
-        written_is = sym (first_lines-zero newline (text_from mid.progress.current x));
-        left_is = rest_from next.style.suppress rest all cut.line x first left_after skipped whole
-            ∙ ap (λ n. text_from n x) (ap (λ b. line_after b cut.line) suppress_is ∙ sym current ∙ (let e : mid.progress.current ≡ mid.progress.current + 0 = omega arith in e));
-        writes = subst (Writes next) (draft_is ∙ ap (λ k. draft_by (all_lines x) (at.steps ++ step_at cutter now.goes.operand cut ∷ []) k []) kept_is)
-            (second.writes (with_bytes before (draft_at cutter x left at)) (went.writes (draft_at cutter x left at) at.writes));
-      };
-      looked = record {
-        counted = lines_is ∙ at.counted;
-        last = now.last;
-        others = λ operand operands are other from less. absurd (omega (arith, near, from, less));
-      };
-      near = near;
-      none = refl;
-      grows = subst (Begins (part_at cutter x left at))
-          (ap (draft_part cutter.writer.style) (draft_is ∙ ap (λ k. draft_by (all_lines x) (at.steps ++ step_at cutter now.goes.operand cut ∷ []) k []) kept_is)
-          ∙ ap (λ (s : Style). draft_part s (draft_by (all_lines x) (at.steps ++ step_at cutter now.goes.operand cut ∷ []) (kept_by (state_in mid).operands) [])) (sym style_is))
-          (part_trans (part_at cutter x left at) (draft_part cutter.writer.style (with_bytes before (draft_at cutter x left at))) _ (bytes_begin cutter.writer.style before (draft_at cutter x left at)) (section_begins cutter.writer.style kept (with_bytes before (draft_at cutter x left at))));
-      moves = moves_again told (part_at cutter x left at) (draft_part cutter.writer.style (with_bytes before (draft_at cutter x left at))) _ old between new (went.moves (draft_at cutter x left at) at.writes)
-          (moves_as told _ _ _ _ between new (ap (λ (s : Style). draft_part s (with_bytes before (draft_at cutter x left at))) (sym went.style))
-          (ap (λ (s : Style). draft_part s (draft_by (all_lines x) (at.steps ++ step_at cutter now.goes.operand cut ∷ []) (kept_by (state_in mid).operands) [])) (second.style)
-          ∙ ap (draft_part writer.style) (sym (draft_is ∙ ap (λ k. draft_by (all_lines x) (at.steps ++ step_at cutter now.goes.operand cut ∷ []) k []) kept_is)))
-          (second.moves (with_bytes before (draft_at cutter x left at)) (went.writes (draft_at cutter x left at) at.writes)));
-    }
+rest_from : (suppress : Bool) {rest : List ℕ} (all : List ℕ) (cut : ℕ) (x : List ℕ) → 1 ≤ cut → all ≡ text_from cut x → (suppress ≡ true → rest ≡ after_lines newline 1 all) → (suppress ≡ false → rest ≡ all) → rest ≡ text_from (line_after suppress cut) x
+rest_from true all cut x some is skipped whole = skipped refl ∙ ap (after_lines newline 1) is ∙ from_further cut 1 x some ∙ ap (λ n. text_from n x) (let e : cut + 1 ≡ suc cut = omega arith in e)
+rest_from false all cut x some is skipped whole = whole refl ∙ is
 
 -- What is left is the end of the lines.
-end_of : (suppress : Bool) (left rest all : List ℕ) (n : ℕ) → all ≡ after_lines newline n left → (suppress ≡ true → rest ≡ after_lines newline 1 all) → (suppress ≡ false → rest ≡ all) → IsEnd rest left
-end_of true left rest all n all_is skipped whole = (
+end_of : (suppress : Bool) (left : List ℕ) {rest : List ℕ} (all : List ℕ) (n : ℕ) → all ≡ after_lines newline n left → (suppress ≡ true → rest ≡ after_lines newline 1 all) → (suppress ≡ false → rest ≡ all) → IsEnd rest left
+end_of true left {rest} all n all_is skipped whole = (
   first_lines newline n left ++ first_lines newline 1 all,
   sym (first_lines_then_rest newline n left)
       ∙ ap (λ those. first_lines newline n left ++ those) (sym all_is ∙ sym (first_lines_then_rest newline 1 all) ∙ ap (λ those. first_lines newline 1 all ++ those) (sym (skipped refl)))
       ∙ sym (append_assoc (first_lines newline n left) (first_lines newline 1 all) rest),
 )
-end_of false left rest all n all_is skipped whole = (first_lines newline n left, sym (first_lines_then_rest newline n left) ∙ ap (λ those. first_lines newline n left ++ those) (sym all_is ∙ sym (whole refl)))
+end_of false left all n all_is skipped whole = (first_lines newline n left, sym (first_lines_then_rest newline n left) ∙ ap (λ those. first_lines newline n left ++ those) (sym all_is ∙ sym (whole refl)))
 
-cut_went : (told : Bool) (cutter mid : CutterState) (writer next : WriterState) (cut : Cut) (place : ℕ) (left before rest all : List ℕ) (kept : Bool) (old between new : List Slot) → IsFit cutter → WillCut cutter cut → before ≡ first_lines newline (cut.line - place) left
-    → all ≡ after_lines newline (cut.line - place) left → (next.style.suppress ≡ true → rest ≡ after_lines newline 1 all) → (next.style.suppress ≡ false → rest ≡ all)
-    → Went told cutter.writer (with_bytes before) old between writer → Passed cutter mid writer cut → kept ≡ kept_by (state_in mid).operands → Went told mid.writer (with_section kept) between new next → size_of next.current ≡ 0 → length rest ≤ length left
-    → CutAt told cutter cut place left old new (next_of_cut mid next) rest
-cut_went told cutter mid writer next cut place left before rest all kept old between new fit will before_is all_is skipped whole went passed kept_is went' empty shorter =
-    let writer_is : mid.writer ≡ writer = ap (λ (c : CutterState). c.writer) passed.same in
-    let second : Went told writer (with_section kept) between new next = subst (λ w. Went told w (with_section kept) between new next) writer_is went' in record {
-      same = record { operands = ap (λ (c : CutterState). c.operands) passed.same; style = second.style ∙ went.style };
+module _ {told : Bool} {cutter mid : CutterState} {writer next : WriterState} {cut : Cut} {place : ℕ} {left before rest : List ℕ} (all : List ℕ) {kept : Bool} {old between new : List Slot} (fit : IsFit cutter) (will : WillCut cutter cut)
+    (before_is : before ≡ first_lines newline (cut.line - place) left) (all_is : all ≡ after_lines newline (cut.line - place) left) (skipped : next.style.suppress ≡ true → rest ≡ after_lines newline 1 all) (whole : next.style.suppress ≡ false → rest ≡ all)
+    (went : Goes told cutter.writer (with_bytes before) old between writer None) (passed : Passed cutter mid writer cut) (kept_is : kept ≡ kept_by (state_in mid).operands) (second : Goes told writer (with_section kept) between new next None) where
+  after_at : {x : List ℕ} (line : List ℕ) {at : IsAt cutter x left} (now : CutsNow cutter x left line cut place at) → IsAfter told cutter x line (record mid { writer = next }) rest (part_at cutter x left at) old new
+  after_at {x} line {at} now =
+      let style_is : next.style ≡ cutter.writer.style = second.leaves.style ∙ went.leaves.style in
+      let suppress_is : next.style.suppress ≡ suppress_in cutter = ap (λ (s : Style). s.suppress) style_is in
+      let state = passed_state refl went passed now.goes.are in
+      let current : mid.progress.current ≡ line_after (suppress_in cutter) cut.line = ap (λ (s : State). s.current) state in
+      let lines_is : mid.lines ≡ cutter.lines = ap (λ (c : CutterState). c.lines) passed.same in
+      let on : cutter.progress.current + at.taken ≤ cut.line = (let p = now.place_is in let b = now.before in omega (arith, p, b)) in
+      let first : 1 ≤ cut.line = (let s = fit.fits.some in let f = will.from in omega (arith, s, f)) in
+      let same_count : cut.line - place ≡ cut.line - (cutter.progress.current + at.taken) = ap (λ n. cut.line - n) now.place_is in
+      let left_after : all ≡ text_from cut.line x = all_is ∙ ap (λ n. after_lines newline n left) same_count ∙ ap (after_lines newline (cut.line - (cutter.progress.current + at.taken))) at.left_is
+      ∙ from_further (cutter.progress.current + at.taken) (cut.line - (cutter.progress.current + at.taken)) x (let s = fit.fits.some in omega (arith, s))
+      ∙ ap (λ n. text_from n x) (let e : cutter.progress.current + at.taken + (cut.line - (cutter.progress.current + at.taken)) ≡ cut.line = omega (arith, on) in e) in
+      let draft = draft_at cutter x left at in
+      let steps = at.steps ++ step_at cutter now.goes.operand cut ∷ [] in
+      let draft_is : with_section kept (with_bytes before draft) ≡ draft_by (all_lines x) steps (kept_by (state_in mid).operands) [] =
+      cut_draft at cut kept now.goes.are fit.fits.some on (before_is ∙ ap (λ n. first_lines newline n left) same_count) ∙ ap (λ k. draft_by (all_lines x) steps k []) kept_is in
+      let near : mid.lines ≤ search_line next.style.suppress (state_in mid) =
+      (let e : search_line next.style.suppress (state_in mid) ≡ search_after (suppress_in cutter) cut = ap (λ b. search_line b (state_in mid)) suppress_is
+      ∙ search_same (suppress_in cutter) (state_in mid) _ (ap (λ (s : State). s.current) state) (ap (λ (s : State). s.matched) state) in let n = now.near in omega (arith, e, n, lines_is)) in record {
+        now = record {
+          steps = steps;
+          leads = leads_as _ suppress_is (ap (λ (c : CutterState). c.operands) passed.same) state (leads_on at cut now.goes);
+          counted = lines_is ∙ at.counted;
+          taken = 0;
+          written = [];
+          few = (let w : line_after (suppress_in cutter) cut.line ≤ suc cutter.lines = after_within (suppress_in cutter) cut.line cutter.lines will.within in let c = at.counted in omega (arith, current, w, c));
+          written_is = sym (first_lines-zero newline (text_from mid.progress.current x));
+          left_is = rest_from next.style.suppress all cut.line x first left_after skipped whole
+              ∙ ap (λ n. text_from n x) (ap (λ b. line_after b cut.line) suppress_is ∙ sym current ∙ (let e : mid.progress.current ≡ mid.progress.current + 0 = omega arith in e));
+          writes = subst (Writes next) draft_is (second.writes (with_bytes before draft) (went.writes draft at.writes));
+        };
+        looked = record {
+          counted = lines_is ∙ at.counted;
+          last = now.last;
+          others = λ operand operands are other from less. absurd (omega (arith, near, from, less));
+        };
+        near = near;
+        none = refl;
+        grows = subst (Begins (part_at cutter x left at))
+            (ap (draft_part cutter.writer.style) draft_is ∙ ap (λ (s : Style). draft_part s (draft_by (all_lines x) steps (kept_by (state_in mid).operands) [])) (sym style_is))
+            (part_trans (part_at cutter x left at) (draft_part cutter.writer.style (with_bytes before draft)) _ (bytes_begin cutter.writer.style before draft) (section_begins cutter.writer.style kept (with_bytes before draft)));
+        reaches = reaches_again (bytes_begin cutter.writer.style before draft) (went.reaches draft at.writes)
+            (reaches_as (ap (λ (s : Style). draft_part s (with_bytes before draft)) (sym went.leaves.style))
+            (ap (λ (s : Style). draft_part s (draft_by (all_lines x) steps (kept_by (state_in mid).operands) [])) second.leaves.style ∙ ap (draft_part writer.style) (sym draft_is))
+            (second.reaches (with_bytes before draft) (went.writes draft at.writes)));
+      }
+
+  cut_went : size_of next.current ≡ 0 → length rest ≤ length left → CutAt told cutter cut place left old new (record mid { writer = next }) rest
+  cut_went empty shorter = record {
+    fewer = passed.fewer;
+    spreading = λ line. record {
+      keeps = record { operands = ap (λ (c : CutterState). c.operands) passed.same; writer = leaves_again went.leaves second.leaves };
       lines = ap (λ (c : CutterState). c.lines) passed.same;
       fit = record { fits = passed.fit.fits; most = passed.fit.most; delim = passed.fit.delim; sought = passed.fit.sought };
-      fewer = passed.fewer;
       held = passed.held;
-      after = λ x line at now. after_at told cutter mid writer next cut place x left line before rest all kept old between new fit will before_is all_is skipped whole went passed kept_is went' at now;
-      keeps = keeps_again old between new went.keeps second.keeps;
-      owns = owns_again cutter.writer writer next old between new went.owns second.owns;
-      ready = second.ready;
+      after = λ x at now. after_at line now;
       size = omega (arith, empty, shorter);
-      end = end_of next.style.suppress left rest all (cut.line - place) all_is skipped whole;
-    }
+      end = end_of next.style.suppress left all (cut.line - place) all_is skipped whole;
+    };
+  }
 
 -- The same of a cutter that is known by its fields.
-
-pub cut_next_stopped : (told : Bool) (cutter start mid now : CutterState) (writer next : WriterState) (cut : Cut) (place : ℕ) (left before : List ℕ) (kept : Bool) (old between new : List Slot) (fault : Fault) → start ≡ cutter → now ≡ mid → IsFit cutter → WillCut cutter cut
-    → before ≡ first_lines newline (cut.line - place) left → Went told start.writer (with_bytes before) old between writer → Passed start mid writer cut → kept ≡ kept_by (state_in now).operands → Stopped told now.writer (with_section kept) between new next fault
-    → CutNot told cutter cut place left old new (record now { writer = next }) fault
-cut_next_stopped told cutter start mid now writer next cut place left before kept old between new fault same same_mid fit will before_is went passed kept_is stopped =
-    subst (λ (c : CutterState). CutNot told c cut place left old new (record now { writer = next }) fault) same
-    (subst (λ (m : CutterState). CutNot told start cut place left old new (record m { writer = next }) fault) (sym same_mid)
-    (next_stopped told start mid writer next cut place left before kept old between new fault (subst IsFit (sym same) fit) (subst (λ (c : CutterState). WillCut c cut) (sym same) will) before_is went passed
-    (kept_is ∙ ap (λ (m : CutterState). kept_by (state_in m).operands) same_mid) (subst (λ (m : CutterState). Stopped told m.writer (with_section kept) between new next fault) same_mid stopped)))
-
-pub cut_done : (told : Bool) (cutter start mid now : CutterState) (writer next : WriterState) (cut : Cut) (place : ℕ) (left before rest all : List ℕ) (kept : Bool) (old between new : List Slot) → start ≡ cutter → now ≡ mid → IsFit cutter → WillCut cutter cut
+pub cut_done : {told : Bool} {cutter start mid now : CutterState} {writer next : WriterState} {cut : Cut} {place : ℕ} {left before rest : List ℕ} (all : List ℕ) {kept : Bool} {old between new : List Slot} → start ≡ cutter → IsFit cutter → WillCut cutter cut
     → before ≡ first_lines newline (cut.line - place) left → all ≡ after_lines newline (cut.line - place) left → (next.style.suppress ≡ true → rest ≡ after_lines newline 1 all) → (next.style.suppress ≡ false → rest ≡ all)
-    → Went told start.writer (with_bytes before) old between writer → Passed start mid writer cut → kept ≡ kept_by (state_in now).operands → Went told now.writer (with_section kept) between new next → size_of next.current ≡ 0 → length rest ≤ length left
+    → Goes told start.writer (with_bytes before) old between writer None → now ≡ mid → Passed start mid writer cut → kept ≡ kept_by (state_in now).operands → Goes told now.writer (with_section kept) between new next None → size_of next.current ≡ 0 → length rest ≤ length left
     → CutAt told cutter cut place left old new (record now { writer = next }) rest
-cut_done told cutter start mid now writer next cut place left before rest all kept old between new same same_mid fit will before_is all_is skipped whole went passed kept_is went' empty shorter =
-    subst (λ (c : CutterState). CutAt told c cut place left old new (record now { writer = next }) rest) same
-    (subst (λ (m : CutterState). CutAt told start cut place left old new (record m { writer = next }) rest) (sym same_mid)
-    (cut_went told start mid writer next cut place left before rest all kept old between new (subst IsFit (sym same) fit) (subst (λ (c : CutterState). WillCut c cut) (sym same) will) before_is all_is skipped whole went passed
-    (kept_is ∙ ap (λ (m : CutterState). kept_by (state_in m).operands) same_mid) (subst (λ (m : CutterState). Went told m.writer (with_section kept) between new next) same_mid went') empty shorter))
+cut_done {told} {cutter} {mid = mid} {writer = writer} {next} {cut} {place} {left} {rest = rest} all {kept} {old} {between} {new} same fit will before_is all_is skipped whole goes same_mid passed kept_is second empty shorter =
+    subst (λ (m : CutterState). CutAt told cutter cut place left old new (record m { writer = next }) rest) (sym same_mid)
+    (cut_went all fit will before_is all_is skipped whole (goes_here same goes) (subst (λ c. Passed c mid writer cut) same passed)
+    (kept_is ∙ ap (λ (m : CutterState). kept_by (state_in m).operands) same_mid) (subst (λ w. Goes told w (with_section kept) between new next None) (ap (λ (c : CutterState). c.writer) (same_mid ∙ passed.same)) second) empty shorter)

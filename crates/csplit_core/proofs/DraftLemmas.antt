@@ -8,9 +8,9 @@ use Rattle.ports_core.specs.declared.slot.State.TheVariants as state
 use Rattle.csplit_core.specs.Input.{newline}
 use Rattle.csplit_core.specs.Output.{Style, Contents, makes_file, file_at, files_of, size_line, size_lines, part_by}
 use Rattle.csplit_core.specs.Draft.{Draft, draft_part, last_contents, AreClosed}
-use Rattle.csplit_core.specs.inner.Draft.{ended_part}
+use Rattle.csplit_core.specs.inner.Writer.{ended_part}
 use Rattle.csplit_core.specs.laws.SectionLaws.{size_lines-append}
-use Rattle.csplit_core.proofs.OutputSteps.{file_of, with_last, more_files}
+use Rattle.csplit_core.proofs.WriterLemmas.{file_of, with_last, more_files}
 
 -- the files of sections, and then of those after them
 
@@ -30,8 +30,7 @@ files_of-append style place (one ∷ a) b = files_by style place one a b (makes_
 -- the files of one more section
 last_file : (style : Style) (ended : List Contents) (one : Contents) → files_of style 0 (ended ++ one ∷ []) ≡ files_of style 0 ended ++ cond (makes_file style one) (file_at style (length (files_of style 0 ended)) one ∷ []) []
 last_file style ended one =
-    files_of-append style 0 ended (one ∷ [])
-    ∙ ap (λ n. files_of style 0 ended ++ cond (makes_file style one) (file_at style n one ∷ []) [])
+    files_of-append style 0 ended (one ∷ []) ∙ ap (λ n. files_of style 0 ended ++ cond (makes_file style one) (file_at style n one ∷ []) [])
     (let e : 0 + length (files_of style 0 ended) ≡ length (files_of style 0 ended) = omega arith in e)
 
 abbrev pub name_after : Style → List Contents → List ℕ
@@ -40,23 +39,23 @@ name_after style ended = numbered_name style.prefix style.digits (length (files_
 abbrev part_with : List ℕ → List File → Part
 part_with out files = record { out = out; files = files }
 
-both : (out out' : List ℕ) (files files' : List File) → out ≡ out' → files ≡ files' → part_with out files ≡ part_with out' files'
-both out out' files files' first second = ap (λ those. part_with those files) first ∙ ap (λ those. part_with out' those) second
+both : {out out' : List ℕ} {files files' : List File} → out ≡ out' → files ≡ files' → part_with out files ≡ part_with out' files'
+both {out'} {files} first second = ap (λ those. part_with those files) first ∙ ap (λ those. part_with out' those) second
 
 -- a section without a file changes nothing
 
-no_size : (makes other : Bool) (line : List ℕ) → makes ≡ false → cond (makes && other) line [] ≡ []
-no_size makes other line is = ap (λ m. cond (m && other) line []) is
+no_size : {makes : Bool} (other : Bool) (line : List ℕ) → makes ≡ false → cond (makes && other) line [] ≡ []
+no_size other line is = ap (λ m. cond (m && other) line []) is
 
 pub part_none : (style : Style) (ended : List Contents) (one : Contents) → makes_file style one ≡ false → part_by style (ended ++ one ∷ []) ≡ part_by style ended
-part_none style ended one none = both _ _ _ _
-    (size_lines-append style ended (one ∷ []) ∙ ap (λ line. size_lines style ended ++ (line ++ [])) (no_size (makes_file style one) (one.is_closed && not style.quiet) _ none) ∙ append-nil (size_lines style ended))
+part_none style ended one none = both
+    (size_lines-append style ended (one ∷ []) ∙ ap (λ line. size_lines style ended ++ (line ++ [])) (no_size (one.is_closed && not style.quiet) _ none) ∙ append-nil (size_lines style ended))
     (last_file style ended one ∙ ap (λ makes. files_of style 0 ended ++ cond makes (file_at style (length (files_of style 0 ended)) one ∷ []) []) none ∙ append-nil (files_of style 0 ended))
 
 -- a section with one
 
 pub part_made : (style : Style) (ended : List Contents) (one : Contents) → makes_file style one ≡ true → part_by style (ended ++ one ∷ []) ≡ with_last (size_lines style ended ++ size_line style one) (files_of style 0 ended) (file_at style (length (files_of style 0 ended)) one)
-part_made style ended one makes = both _ _ _ _
+part_made style ended one makes = both
     (size_lines-append style ended (one ∷ []) ∙ ap (λ line. size_lines style ended ++ line) (append-nil (size_line style one)))
     (last_file style ended one ∙ ap (λ made. files_of style 0 ended ++ cond made (file_at style (length (files_of style 0 ended)) one ∷ []) []) makes)
 

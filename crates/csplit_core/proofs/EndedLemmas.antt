@@ -1,36 +1,38 @@
--- What ending the cutter leaves: all lines that waited belong to the last section, which ends.
-use Rattle.std.proofs.Common.{◌≡◌, inl, inr, ℕ, suc, ◌+◌, ◌-◌, ◌≤◌, Bool, true, false, Result, Ok, Err, List, [], ◌∷◌, ◌++◌, length, map, take, refl, sym, ◌∙◌, ap, subst, arith}
+-- What ending the cutter leaves: all lines that waited belong to the last section, which ends; and the fault with which the work ends.
+use Rattle.std.proofs.Common.{◌≡◌, inl, inr, ℕ, suc, ◌+◌, ◌-◌, ◌≤◌, Bool, true, false, Option, Some, None, List, [], ◌∷◌, ◌++◌, length, map, take, refl, sym, ◌∙◌, ap, subst, arith, ◌<◌, nat_lt, drop, get_or}
 use Rattle.std.proofs.lemmas.Bool.{false≢true}
-use Rattle.std.proofs.lemmas.List.{append-nil, map-append, take_all}
+use Rattle.std.proofs.lemmas.List.{append-nil, map-append, take_all, drop_all}
 use Rattle.seg_core.specs.Line.{lines_of, line_count, joined, first_lines, after_lines}
 use Rattle.seg_core.specs.Window.{Window}
 use Rattle.seg_core.proofs.LinesOf.{joined-lines_of}
 use Rattle.seg_core.proofs.FirstLines.{first_lines_then_rest}
 use Rattle.ports_core.specs.Slot.{Slot}
 use Rattle.ports_core.specs.declared.fault.Fault.{Fault}
-use Rattle.ports_core.proofs.SlotSteps.{keeps_again}
-use Rattle.csplit_core.specs.Csplit.{whole_of}
+use Rattle.csplit_core.specs.Csplit.{whole_of, verdict_of}
 use Rattle.csplit_core.specs.Draft.{Draft, draft_part}
-use Rattle.csplit_core.specs.inner.Draft.{ended_part, with_bytes}
+use Rattle.csplit_core.specs.inner.Writer.{ended_part, with_bytes, Ends, Goes, Reaches}
 use Rattle.csplit_core.specs.Input.{newline, all_lines}
 use Rattle.csplit_core.specs.Operand.{Operand, Line}
 use Rattle.csplit_core.specs.Output.{Style, contents_of, part_by}
-use Rattle.csplit_core.specs.Plan.{Ending, below}
+use Rattle.csplit_core.specs.Plan.{Ending, below, State, start, Step, used_up, missed, above, state_after, Runs, is_used_up, misses, is_above, is_below, cuts}
 use Rattle.csplit_core.specs.Planned.{Plan, plan}
-use Rattle.csplit_core.specs.laws.PlanLaws.{plan_once}
+use Rattle.csplit_core.specs.laws.PlanLaws.{plan_once, plan_runs}
 use Rattle.csplit_core.specs.Progress.{AimsAt}
 use Rattle.csplit_core.specs.Section.{section, section_of, lines_between, is_last_kept, settled_end, whole_end, is_final, bytes_of}
-use Rattle.csplit_core.specs.declared.progress.Turn.TheVariants.{Below}
-use Rattle.csplit_core.specs.Writer.{WriterState, Writes, Breaks}
-use Rattle.csplit_core.specs.inner.Writer.{Moves, Halts, Went, Stopped, Ended, EndedNot, Ends}
+use Rattle.csplit_core.specs.declared.progress.Turn.TheVariants.{Below, UsedUp, Missed, Above}
+use Rattle.csplit_core.specs.Writer.{WriterState, Writes}
 use Rattle.csplit_core.specs.Cutter.{CutterState, suppress_in, state_in, kept_by, text_from, draft_by, settled_draft, IsFit, IsLive, IsPast, Stands}
-use Rattle.csplit_core.specs.inner.Cutter.{settled_part, whole_part, IsJudged, EndedAll, EndedNone, EndsAll}
+use Rattle.csplit_core.specs.inner.Cutter.{settled_part, whole_part, IsJudged, EndsAll}
 use Rattle.csplit_core.proofs.LineLemmas.{count_from, from_further}
-use Rattle.csplit_core.proofs.SettledLemmas.{settled_part_is, draft_is, draft_to}
-use Rattle.csplit_core.proofs.CutterLemmas.{runs_to, live_part}
-use Rattle.csplit_core.proofs.HoldLemmas.{went_as, stopped_as}
-use Rattle.csplit_core.proofs.WriterLemmas.{moves_again, moves_as, halts_after, halts_as, halts_wider, bytes_begin, end_begins, breaks_later, owns_again}
+use Rattle.csplit_core.proofs.CutterLemmas.{settled_part_is, draft_is, draft_to, runs_to, live_part}
+use Rattle.csplit_core.proofs.HoldLemmas.{goes_as}
+use Rattle.csplit_core.proofs.WriterLemmas.{bytes_begin, end_begins, in_any, leaves_again, reaches_again, reaches_as, stops_wider}
 use Rattle.csplit_core.proofs.WholeLemmas.{ends_after_all}
+use Rattle.std.proofs.lemmas.Bool.Decides.{nat_tests}
+use Rattle.csplit_core.specs.declared.progress.Turn.{Turn}
+use Rattle.csplit_core.proofs.TurnLemmas.{left_is}
+
+-- What ending the cutter leaves: all lines that waited belong to the last section, which ends.
 
 whole_part_is : (style : Style) (operands : List Operand) (lines : List Line) → ended_part style (draft_to whole_end style.suppress operands lines) ≡ whole_of style operands lines
 whole_part_is style operands lines =
@@ -43,18 +45,18 @@ whole_past : (total : ℕ) (ending : Ending) → is_final ending ≡ true → se
 whole_past total (below operand repetition) past = refl
 whole_past total _ past = absurd (false≢true past)
 
-all_first : (n : ℕ) (y : List ℕ) → line_count newline y ≤ n → first_lines newline n y ≡ y
-all_first n y few = ap joined (take_all n (lines_of newline y) few) ∙ joined-lines_of newline y
+all_first : (n : ℕ) {y : List ℕ} → line_count newline y ≤ n → first_lines newline n y ≡ y
+all_first n {y} few = ap joined (take_all n (lines_of newline y) few) ∙ joined-lines_of newline y
 
-all_written : (x written held : List ℕ) (current taken : ℕ) (ending : Ending) → 1 ≤ current → is_final ending ≡ false → written ≡ first_lines newline taken (text_from current x) → held ≡ text_from (current + taken) x
+all_written : (x : List ℕ) {written held : List ℕ} (current taken : ℕ) (ending : Ending) → 1 ≤ current → is_final ending ≡ false → written ≡ first_lines newline taken (text_from current x) → held ≡ text_from (current + taken) x
     → written ++ held ≡ first_lines newline (whole_end (line_count newline x) ending - current) (text_from current x)
-all_written x written held current taken ending some live written_is held_is =
+all_written x {held} current taken ending some live written_is held_is =
     let all : first_lines newline taken (text_from current x) ++ after_lines newline taken (text_from current x) ≡ text_from current x = first_lines_then_rest newline taken (text_from current x) in
     let end : whole_end (line_count newline x) ending ≡ suc (line_count newline x) = ends_after_all (line_count newline x) ending live in
     let count : line_count newline (text_from current x) ≡ line_count newline x - (current - 1) = count_from current x in
     ap (λ those. those ++ held) written_is
     ∙ ap (λ those. first_lines newline taken (text_from current x) ++ those) (held_is ∙ sym (from_further current taken x some))
-    ∙ all ∙ sym (all_first (whole_end (line_count newline x) ending - current) (text_from current x) (omega (arith, end, count, some)))
+    ∙ all ∙ sym (all_first (whole_end (line_count newline x) ending - current) (omega (arith, end, count, some)))
 
 -- What is written before the end, and with the lines that wait, is what is settled and the whole.
 record LastDraft (cutter : CutterState) (x : List ℕ) : Type 0 where
@@ -63,19 +65,18 @@ record LastDraft (cutter : CutterState) (x : List ℕ) : Type 0 where
   settled : draft_part cutter.writer.style draft ≡ settled_part cutter x
   whole : ended_part cutter.writer.style (with_bytes cutter.window.held draft) ≡ whole_part cutter x
 
-live_draft : (cutter : CutterState) (x : List ℕ) → IsFit cutter → IsLive cutter x → LastDraft cutter x
-live_draft cutter x fit live = record {
+live_draft : {cutter : CutterState} {x : List ℕ} → IsFit cutter → IsLive cutter x → LastDraft cutter x
+live_draft {cutter} {x} fit live = record {
   draft = draft_by (all_lines x) live.at.steps (kept_by (state_in cutter).operands) live.at.written;
   writes = live.at.writes;
-  settled = live_part cutter x live;
-  whole = ap (ended_part cutter.writer.style) (draft_is whole_end (suppress_in cutter) cutter.operands x live.at.steps (state_in cutter) live.ends.ending _ (live.at.written ++ cutter.window.held)
-      (runs_to cutter x cutter.window.held live.at live.ends) refl
-      (all_written x live.at.written cutter.window.held cutter.progress.current live.at.taken live.ends.ending fit.fits.some live.live live.at.written_is live.at.left_is))
+  settled = live_part live;
+  whole = ap (ended_part cutter.writer.style) (draft_is whole_end cutter.operands x _ (runs_to live.at live.ends) refl
+      (all_written x cutter.progress.current live.at.taken live.ends.ending fit.fits.some live.live live.at.written_is live.at.left_is))
       ∙ whole_part_is cutter.writer.style cutter.operands (all_lines x);
 }
 
-past_whole : (cutter : CutterState) (x : List ℕ) → IsPast cutter x → with_bytes cutter.window.held (settled_draft (suppress_in cutter) cutter.operands (all_lines x)) ≡ draft_to whole_end (suppress_in cutter) cutter.operands (all_lines x)
-past_whole cutter x past =
+past_whole : {cutter : CutterState} {x : List ℕ} → IsPast cutter x → with_bytes cutter.window.held (settled_draft (suppress_in cutter) cutter.operands (all_lines x)) ≡ draft_to whole_end (suppress_in cutter) cutter.operands (all_lines x)
+past_whole {cutter} {x} past =
     let lines = all_lines x in
     let p = plan (suppress_in cutter) cutter.operands (all_lines x) in
     ap (λ bytes. draft_by (all_lines x) p.steps (is_last_kept p.ending) bytes)
@@ -83,17 +84,17 @@ past_whole cutter x past =
     ∙ append-nil (bytes_of (lines_between p.last.current (settled_end (length lines) p.ending) lines))
     ∙ ap (λ end. bytes_of (lines_between p.last.current end lines)) (whole_past (length lines) p.ending past.past))
 
-past_draft : (cutter : CutterState) (x : List ℕ) → IsPast cutter x → LastDraft cutter x
-past_draft cutter x past = record {
+past_draft : {cutter : CutterState} {x : List ℕ} → IsPast cutter x → LastDraft cutter x
+past_draft {cutter} {x} past = record {
   draft = settled_draft (suppress_in cutter) cutter.operands (all_lines x);
   writes = past.writes;
   settled = settled_part_is cutter.writer.style cutter.operands (all_lines x);
-  whole = ap (ended_part cutter.writer.style) (past_whole cutter x past) ∙ whole_part_is cutter.writer.style cutter.operands (all_lines x);
+  whole = ap (ended_part cutter.writer.style) (past_whole past) ∙ whole_part_is cutter.writer.style cutter.operands (all_lines x);
 }
 
-last_draft : (cutter : CutterState) (x : List ℕ) → IsFit cutter → Stands cutter x → LastDraft cutter x
-last_draft cutter x fit (inl live) = live_draft cutter x fit live
-last_draft cutter x fit (inr past) = past_draft cutter x past
+last_draft : {cutter : CutterState} {x : List ℕ} → IsFit cutter → Stands cutter x → LastDraft cutter x
+last_draft fit (inl live) = live_draft fit live
+last_draft fit (inr past) = past_draft past
 
 -- how the plan ends
 
@@ -101,86 +102,124 @@ final_aims : (ending : Ending) → is_final ending ≡ true → AimsAt Below end
 final_aims (below operand repetition) past = tt
 final_aims ending past = absurd (false≢true past)
 
-judged_now : (cutter : CutterState) (x : List ℕ) → Stands cutter x → IsJudged cutter x
-judged_now cutter x (inl live) =
-    let is = plan_once (suppress_in cutter) cutter.operands (all_lines x) live.at.steps (state_in cutter) live.ends.ending (runs_to cutter x cutter.window.held live.at live.ends) in record {
+judged_now : {cutter : CutterState} {x : List ℕ} → Stands cutter x → IsJudged cutter x
+judged_now {cutter} {x} (inl live) =
+    let is = plan_once (suppress_in cutter) cutter.operands (all_lines x) live.at.steps (state_in cutter) live.ends.ending (runs_to live.at live.ends) in record {
       last = sym (ap (λ (p : Plan). p.last) is);
       aims = subst (λ (p : Plan). AimsAt cutter.aim p.ending) (sym is) live.ends.aims;
     }
-judged_now cutter x (inr past) = record {
+judged_now {cutter} {x} (inr past) = record {
   last = past.last;
   aims = subst (λ aim. AimsAt aim (plan (suppress_in cutter) cutter.operands (all_lines x)).ending) (sym past.aim) (final_aims (plan (suppress_in cutter) cutter.operands (all_lines x)).ending past.past);
 }
 
-judged_later : (cutter : CutterState) (writer : WriterState) (window : Window) (x : List ℕ) → writer.style ≡ cutter.writer.style → Stands cutter x → IsJudged (record cutter { writer = writer; window = window }) x
-judged_later cutter writer window x same stands =
-    let judged = judged_now cutter x stands in record {
+judged_later : {cutter : CutterState} {writer : WriterState} {window : Window} {x : List ℕ} → writer.style ≡ cutter.writer.style → Stands cutter x → IsJudged (record cutter { writer = writer; window = window }) x
+judged_later {cutter} {x} same stands =
+    let judged = judged_now stands in record {
       last = subst (λ (style : Style). state_in cutter ≡ (plan style.suppress cutter.operands (all_lines x)).last) (sym same) judged.last;
       aims = subst (λ (style : Style). AimsAt cutter.aim (plan style.suppress cutter.operands (all_lines x)).ending) (sym same) judged.aims;
     }
 
--- What `end` does: the lines that wait are written, and then the section ends.
+-- What `end` does, of a cutter that is known by its fields: the lines that wait are written, and then the section ends.
 
-end_ended : (told : Bool) (cutter : CutterState) (between next : WriterState) (window : Window) (old mid new : List Slot) → IsFit cutter → Went told cutter.writer (with_bytes cutter.window.held) old mid between → Ended told between mid new next
-    → EndedAll told cutter old new (record cutter { writer = next; window = window })
-end_ended told cutter between next window old mid new fit went ended = record {
-  same = record { operands = refl; style = ended.style ∙ went.style };
-  moves = λ x stands. let last = last_draft cutter x fit stands in
-      moves_as told _ _ _ _ old new (sym last.settled) (sym last.whole)
-      (moves_again told (draft_part cutter.writer.style last.draft) (draft_part cutter.writer.style (with_bytes cutter.window.held last.draft)) (ended_part cutter.writer.style (with_bytes cutter.window.held last.draft)) old mid new
-      (went.moves last.draft last.writes)
-      (subst (λ (style : Style). Moves told between next (draft_part style (with_bytes cutter.window.held last.draft)) (ended_part style (with_bytes cutter.window.held last.draft)) mid new) went.style
-      (ended.moves (with_bytes cutter.window.held last.draft) (went.writes last.draft last.writes))));
-  judged = λ x stands. judged_later cutter next window x (ended.style ∙ went.style) stands;
-  keeps = keeps_again old mid new went.keeps ended.keeps;
-  owns = owns_again cutter.writer between next old mid new went.owns ended.owns;
-  ready = ended.ready;
-}
+all_held : (cutter : CutterState) {n : ℕ} → n ≡ length cutter.window.held → take n cutter.window.held ≡ cutter.window.held
+all_held cutter {n} all = take_all n cutter.window.held (omega (arith, all))
 
-end_stopped : (told : Bool) (cutter : CutterState) (between next : WriterState) (window : Window) (old mid new : List Slot) (fault : Fault) → IsFit cutter → Went told cutter.writer (with_bytes cutter.window.held) old mid between
-    → EndedNot told between mid new next fault → EndedNone told cutter old new (record cutter { writer = next; window = window }) fault
-end_stopped told cutter between next window old mid new fault fit went stopped = record {
-  same = record { operands = refl; style = stopped.style ∙ went.style };
-  halts = λ x stands. let last = last_draft cutter x fit stands in
-      halts_as told _ _ _ _ old new fault (sym last.settled) (sym last.whole)
-      (halts_after told (draft_part cutter.writer.style last.draft) (draft_part cutter.writer.style (with_bytes cutter.window.held last.draft)) (ended_part cutter.writer.style (with_bytes cutter.window.held last.draft)) old mid new fault
-      (bytes_begin cutter.writer.style cutter.window.held last.draft) (went.moves last.draft last.writes)
-      (subst (λ (style : Style). Halts told between (draft_part style (with_bytes cutter.window.held last.draft)) (ended_part style (with_bytes cutter.window.held last.draft)) mid new fault) went.style
-      (stopped.halts (with_bytes cutter.window.held last.draft) (went.writes last.draft last.writes))));
-  breaks = breaks_later cutter.writer.style old mid new fault went.keeps (subst (λ (style : Style). Breaks style mid new fault) went.style stopped.breaks);
-  owns = owns_again cutter.writer between next old mid new went.owns stopped.owns;
-}
+pub end_goes : {told : Bool} {cutter now : CutterState} {between next : WriterState} (window : Window) {n : ℕ} {old mid new : List Slot} {fault : Option Fault} → cutter ≡ now → IsFit now → n ≡ length cutter.window.held
+    → Goes told cutter.writer (with_bytes (take n cutter.window.held)) old mid between None → Ends told between mid new next fault → EndsAll told now old new (record cutter { writer = next; window = window }) fault
+end_goes {told} {cutter} {between = between} {next} window {old = old} {mid} {new} {fault} is fit all goes ends =
+    let went = goes_as (all_held cutter all) goes in
+    subst (λ (those : CutterState). EndsAll told those old new (record cutter { writer = next; window = window }) fault) is (record {
+      keeps = record { operands = refl; writer = leaves_again went.leaves ends.leaves };
+      reaches = λ x stands. let last = last_draft (subst IsFit (sym is) fit) stands in let all = with_bytes cutter.window.held last.draft in
+          reaches_as (sym last.settled) (sym last.whole) (reaches_again (bytes_begin cutter.writer.style cutter.window.held last.draft) (went.reaches last.draft last.writes)
+          (subst (λ (style : Style). Reaches told between next (draft_part style all) (ended_part style all) mid new fault) went.leaves.style (ends.reaches all (went.writes last.draft last.writes))));
+      judged = in_any fault (λ x stands. judged_later (ends.leaves.style ∙ went.leaves.style) stands);
+    })
 
-end_short : (told : Bool) (cutter : CutterState) (next : WriterState) (window : Window) (old new : List Slot) (fault : Fault) → IsFit cutter → Stopped told cutter.writer (with_bytes cutter.window.held) old new next fault
-    → EndedNone told cutter old new (record cutter { writer = next; window = window }) fault
-end_short told cutter next window old new fault fit stopped = record {
-  same = record { operands = refl; style = stopped.style };
-  halts = λ x stands. let last = last_draft cutter x fit stands in
-      halts_as told _ _ _ _ old new fault (sym last.settled) (sym last.whole)
-      (halts_wider told (draft_part cutter.writer.style last.draft) (draft_part cutter.writer.style (with_bytes cutter.window.held last.draft)) (ended_part cutter.writer.style (with_bytes cutter.window.held last.draft)) old new fault
-      (stopped.halts last.draft last.writes) (end_begins cutter.writer.style (with_bytes cutter.window.held last.draft)));
-  breaks = stopped.breaks;
-  owns = stopped.owns;
-}
+pub end_short : {told : Bool} {cutter now : CutterState} {next : WriterState} {window : Window} {n : ℕ} {old new : List Slot} {fault : Fault} → cutter ≡ now → IsFit now → n ≡ length cutter.window.held
+    → Goes told cutter.writer (with_bytes (take n cutter.window.held)) old new next (Some fault) → EndsAll told now old new (record cutter { writer = next; window = window }) (Some fault)
+end_short {told} {cutter} {next = next} {window} {old = old} {new} {fault} is fit all goes =
+    let stopped = goes_as (all_held cutter all) goes in
+    subst (λ (those : CutterState). EndsAll told those old new (record cutter { writer = next; window = window }) (Some fault)) is (record {
+      keeps = record { operands = refl; writer = stopped.leaves };
+      reaches = λ x stands. let last = last_draft (subst IsFit (sym is) fit) stands in
+          reaches_as (sym last.settled) (sym last.whole) (stops_wider (stopped.reaches last.draft last.writes) (end_begins cutter.writer.style (with_bytes cutter.window.held last.draft)));
+      judged = tt;
+    })
 
-end_goes : (told : Bool) (cutter : CutterState) (between next : WriterState) (window : Window) (old mid new : List Slot) (result : Result (Unit {0}) Fault) → IsFit cutter → Went told cutter.writer (with_bytes cutter.window.held) old mid between
-    → Ends told between mid new next result → EndsAll told cutter old new (record cutter { writer = next; window = window }) result
-end_goes told cutter between next window old mid new (Ok done) fit went ended = end_ended told cutter between next window old mid new fit went ended
-end_goes told cutter between next window old mid new (Err fault) fit went stopped = end_stopped told cutter between next window old mid new fault fit went stopped
+-- The fault with which the work ends, from where the cutter stands.
 
--- The same of a cutter that is known by its fields.
+-- the ending is that of the next operand, which was performed as often
+abbrev pub IsNext : State → Operand → ℕ → Type 0
+IsNext state operand repetition = ((operands : List Operand) × (state.operands ≡ operand ∷ operands)) × (repetition ≡ state.repetition)
 
-all_held : (cutter : CutterState) (n : ℕ) → n ≡ length cutter.window.held → take n cutter.window.held ≡ cutter.window.held
-all_held cutter n all = take_all n cutter.window.held (omega (arith, all))
+abbrev pub IsOf : State → Ending → Type 0
+IsOf state used_up = Unit {0}
+IsOf state (missed operand repetition) = IsNext state operand repetition
+IsOf state (above operand repetition matched cut) = IsNext state operand repetition
+IsOf state (below operand repetition) = IsNext state operand repetition
 
-pub end_goes_at : (told : Bool) (cutter now : CutterState) (between next : WriterState) (window : Window) (old mid new : List Slot) (n : ℕ) (result : Result (Unit {0}) Fault) → cutter ≡ now → IsFit now → n ≡ length cutter.window.held
-    → Went told cutter.writer (with_bytes (take n cutter.window.held)) old mid between → Ends told between mid new next result → EndsAll told now old new (record cutter { writer = next; window = window }) result
-end_goes_at told cutter now between next window old mid new n result is fit all went ends =
-    subst (λ (those : CutterState). EndsAll told those old new (record cutter { writer = next; window = window }) result) is
-    (end_goes told cutter between next window old mid new result (subst IsFit (sym is) fit) (went_as told cutter.writer between (take n cutter.window.held) cutter.window.held old mid (all_held cutter n all) went) ends)
+ends_of : (suppress : Bool) (lines : List Line) (first : State) (steps : List Step) (last : State) (ending : Ending) → Runs suppress lines first steps last ending → IsOf last ending
+ends_of suppress lines first steps last ending (is_used_up state none) = tt
+ends_of suppress lines first steps last ending (misses state operand operands is none) = ((operands, is), refl)
+ends_of suppress lines first steps last ending (is_above state operand operands matched cut is at far) = ((operands, is), refl)
+ends_of suppress lines first steps last ending (is_below state operand operands matched cut is at within low) = ((operands, is), refl)
+ends_of suppress lines first steps last ending (cuts state operand operands matched cut steps' last' ending' is at from within rest) =
+    ends_of suppress lines (state_after suppress operand operands state.repetition matched cut) steps' last' ending' rest
 
-pub end_short_at : (told : Bool) (cutter now : CutterState) (next : WriterState) (window : Window) (old new : List Slot) (n : ℕ) (fault : Fault) → cutter ≡ now → IsFit now → n ≡ length cutter.window.held
-    → Stopped told cutter.writer (with_bytes (take n cutter.window.held)) old new next fault → EndedNone told now old new (record cutter { writer = next; window = window }) fault
-end_short_at told cutter now next window old new n fault is fit all stopped =
-    subst (λ (those : CutterState). EndedNone told those old new (record cutter { writer = next; window = window }) fault) is
-    (end_short told cutter next window old new fault (subst IsFit (sym is) fit) (stopped_as told cutter.writer next (take n cutter.window.held) cutter.window.held old new fault (all_held cutter n all) stopped))
+-- how the plan ends, where its ending is known from the cutter
+abbrev ending_in : CutterState → List ℕ → Ending
+ending_in cutter x = (plan (suppress_in cutter) cutter.operands (all_lines x)).ending
+
+of_it : {cutter : CutterState} {x : List ℕ} → IsJudged cutter x → IsOf (state_in cutter) (ending_in cutter x)
+of_it {cutter} {x} judged =
+    subst (λ state. IsOf state (ending_in cutter x)) (sym judged.last)
+    (ends_of (suppress_in cutter) (all_lines x) (start cutter.operands) (plan (suppress_in cutter) cutter.operands (all_lines x)).steps (plan (suppress_in cutter) cutter.operands (all_lines x)).last (ending_in cutter x)
+    (plan_runs (suppress_in cutter) cutter.operands (all_lines x)))
+
+-- where no operand is left
+none_of : (state : State) (ending : Ending) → IsOf state ending → state.operands ≡ [] → None ≡ verdict_of ending
+none_of state used_up of none = refl
+none_of state ending of none = absurd (cc of.0.1)
+
+-- what is said of the operand of an ending and of how often it was performed is said of the next one
+next_one : (f : Operand → ℕ → Option Fault) (state : State) (other : Operand) {operand : Operand} {operands : List Operand} {repetition : ℕ} → IsNext state other repetition
+    → state.operands ≡ operand ∷ operands → f operand state.repetition ≡ f other repetition
+next_one f state other {operand} of are = let same : operand ≡ other = cc of.0.1 in ap (λ o. f o state.repetition) same ∙ ap (f other) (sym of.1)
+
+-- the fault of the next operand, by what it did
+abbrev pub verdict_at : Turn → Operand → ℕ → Option Fault
+verdict_at Missed operand repetition = verdict_of (missed operand repetition)
+verdict_at (Above matched line) operand repetition = verdict_of (above operand repetition 0 0)
+verdict_at Below operand repetition = verdict_of (below operand repetition)
+verdict_at turn operand repetition = None
+
+verdict_is : (state : State) {operand : Operand} {operands : List Operand} (aim : Turn) (ending : Ending) → IsOf state ending → state.operands ≡ operand ∷ operands → AimsAt aim ending → verdict_at aim operand state.repetition ≡ verdict_of ending
+verdict_is state UsedUp used_up of are aims = refl
+verdict_is state Missed (missed other repetition) of are aims = next_one (λ o n. verdict_of (missed o n)) state other of are
+verdict_is state (Above matched line) (above other repetition matched' cut) of are aims = next_one (λ o n. verdict_of (above o n 0 0)) state other of are
+verdict_is state Below (below other repetition) of are aims = next_one (λ o n. verdict_of (below o n)) state other of are
+verdict_is state aim ending of are aims = absurd aims
+
+-- What `verdict` returns: the cutter is known by its fields.
+
+pub judged_none : {cutter now : CutterState} {result : Option Fault} {x : List ℕ} → cutter ≡ now → false ≡ nat_lt cutter.progress.done (length cutter.operands) → result ≡ None → IsJudged now x
+    → result ≡ verdict_of (plan (suppress_in now) now.operands (all_lines x)).ending
+judged_none {cutter} {now} {x} is over none judged =
+    let beyond : length cutter.operands ≤ cutter.progress.done = grind (arith, nat_tests, over) in
+    let left : (state_in now).operands ≡ [] = subst (λ (those : CutterState). (state_in those).operands ≡ []) is (drop_all cutter.progress.done cutter.operands beyond) in
+    none ∙ none_of (state_in now) (ending_in now x) (of_it judged) left
+
+-- the operand that was looked up is the next
+next_is : {cutter now : CutterState} {operand : Operand} → cutter ≡ now → cutter.progress.done < length cutter.operands → operand ≡ get_or cutter.operands cutter.progress.done operand
+    → (state_in now).operands ≡ operand ∷ drop (now.progress.done + 1) now.operands
+next_is {cutter} {operand} is within here =
+    subst (λ (those : CutterState). (state_in those).operands ≡ operand ∷ drop (those.progress.done + 1) those.operands) is (left_is cutter.operands cutter.progress.done within here)
+
+pub judged_next : {cutter now : CutterState} {operand : Operand} {aim : Turn} {result : Option Fault} {x : List ℕ} → cutter ≡ now → cutter.progress.done < length cutter.operands → operand ≡ get_or cutter.operands cutter.progress.done operand
+    → cutter.aim ≡ aim → result ≡ verdict_at aim operand cutter.progress.repetition → IsJudged now x → result ≡ verdict_of (plan (suppress_in now) now.operands (all_lines x)).ending
+judged_next {now} {operand} {aim} {x} is within here aimed made judged =
+    let aims : AimsAt aim (ending_in now x) = subst (λ a. AimsAt a (ending_in now x)) (sym (ap (λ (those : CutterState). those.aim) is) ∙ aimed) judged.aims in
+    made ∙ ap (λ (those : CutterState). verdict_at aim operand those.progress.repetition) is
+    ∙ verdict_is (state_in now) aim (ending_in now x) (of_it judged) (next_is is within here) aims

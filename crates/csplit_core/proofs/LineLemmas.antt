@@ -1,51 +1,57 @@
--- Lines of a text as operands see them, and their bytes.
-use Rattle.std.proofs.Common.{◌≡◌, ◌⊎◌, inl, inr, ℕ, suc, ◌+◌, ◌-◌, ◌<◌, ◌≤◌, List, [], ◌∷◌, ◌++◌, length, map, take, drop, refl, sym, ◌∙◌, ap, subst, arith, length-append}
-use Rattle.std.proofs.lemmas.Bool.{cases_lt}
-use Rattle.std.proofs.lemmas.List.{take-append-drop, take_all, map-append, take-map, drop-map, length-map, length-drop, drop_at, drop_all, drop-append-le, take-append-le, drop-drop}
+-- Lines of a text as operands see them, their bytes, and what follows the last newline, where more bytes come.
+use Rattle.std.proofs.Common.{◌≡◌, ◌⊎◌, inl, inr, ℕ, suc, ◌+◌, ◌-◌, ◌<◌, ◌≤◌, List, [], ◌∷◌, ◌++◌, length, map, take, drop, refl, sym, ◌∙◌, ap, subst, arith, length-append, Bool, true, false, cond, append_assoc}
+use Rattle.std.proofs.lemmas.Bool.{cases_lt, false≢true, cases_eq, eq-eqb, ne_eqb}
+use Rattle.std.proofs.lemmas.List.{take-append-drop, take_all, map-append, take-map, drop-map, length-map, length-drop, drop_at, drop_all, drop-append-le, take-append-le, drop-drop, append-nil, append_cancel_left, length-take, length-take-le}
 use Rattle.std.proofs.Math.Seq.{take-add}
-use Rattle.seg_core.specs.Line.{lines_of, line_count, delimiters, joined, first_lines, after_lines, ends_with, EndsAt, FallsShort}
-use Rattle.seg_core.proofs.LinesOf.{lines_of-append, joined-lines_of}
-use Rattle.seg_core.proofs.LineCounts.{line_count-closed, ends_with-append, line_count-le-length}
-use Rattle.seg_core.proofs.FirstLines.{first_lines-short, first_lines_then_rest, joined-append, lines_of-after_lines}
+use Rattle.seg_core.specs.Line.{lines_of, line_count, delimiters, joined, first_lines, after_lines, ends_with, EndsAt, FallsShort, HasNone, AreLines, LastEndsAt}
+use Rattle.seg_core.proofs.LinesOf.{lines_of-append, joined-lines_of, AreLines-lines_of, lines_of-joined}
+use Rattle.seg_core.proofs.LineCounts.{line_count-closed, ends_with-append, line_count-le-length, line_count-open, ends_with-some}
+use Rattle.seg_core.proofs.FirstLines.{first_lines-short, first_lines_then_rest, joined-append, lines_of-after_lines, first_lines-zero, delimiters-first_lines, lines_of-first_lines}
 use Rattle.seg_core.proofs.EndLines.{after_lines-past, after_lines-append}
 use Rattle.csplit_core.specs.Section.{lines_between, bytes_of}
-use Rattle.csplit_core.specs.Input.{newline, marked, all_lines}
+use Rattle.csplit_core.specs.Input.{newline, marked, all_lines, complete_lines, open_line}
 use Rattle.csplit_core.specs.inner.Cutter.{IsWhole, IsLine}
 use Rattle.csplit_core.specs.Cutter.{text_from}
+use Rattle.seg_core.proofs.Delimiters.{delimiters-append}
+use Rattle.seg_core.proofs.LastLines.{first_lines-whole}
+use Rattle.csplit_core.specs.CsplitState.{whole_lines}
+use Rattle.std.proofs.Math.Nat.{min-le_left}
+
+-- Lines of a text as operands see them, and their bytes.
 
 -- the lines of complete lines and of what follows them
-pub lines-append : (x t : List ℕ) → IsWhole x → lines_of newline (x ++ t) ≡ lines_of newline x ++ lines_of newline t
-lines-append x t (inl none) = subst (λ those. lines_of newline (those ++ t) ≡ lines_of newline those ++ lines_of newline t) (sym none) refl
-lines-append x t (inr whole) = lines_of-append newline x t whole
+pub lines-append : {x : List ℕ} (t : List ℕ) → IsWhole x → lines_of newline (x ++ t) ≡ lines_of newline x ++ lines_of newline t
+lines-append t (inl none) = subst (λ those. lines_of newline (those ++ t) ≡ lines_of newline those ++ lines_of newline t) (sym none) refl
+lines-append {x} t (inr whole) = lines_of-append newline x t whole
 
-pub all_lines-append : (x t : List ℕ) → IsWhole x → all_lines (x ++ t) ≡ all_lines x ++ all_lines t
-all_lines-append x t whole = ap (map marked) (lines-append x t whole) ∙ map-append marked (lines_of newline x) (lines_of newline t)
+pub all_lines-append : {x : List ℕ} (t : List ℕ) → IsWhole x → all_lines (x ++ t) ≡ all_lines x ++ all_lines t
+all_lines-append {x} t whole = ap (map marked) (lines-append t whole) ∙ map-append marked (lines_of newline x) (lines_of newline t)
 
-pub all_lines-line : (x line : List ℕ) → IsWhole x → IsLine line → all_lines (x ++ line) ≡ all_lines x ++ marked line ∷ []
-all_lines-line x line whole one = all_lines-append x line whole ∙ ap (λ those. all_lines x ++ map marked those) one
+pub all_lines-line : {x : List ℕ} (line : List ℕ) → IsWhole x → IsLine line → all_lines (x ++ line) ≡ all_lines x ++ marked line ∷ []
+all_lines-line {x} line whole one = all_lines-append line whole ∙ ap (λ those. all_lines x ++ map marked those) one
 
 pub length-all_lines : (x : List ℕ) → length (all_lines x) ≡ line_count newline x
 length-all_lines x = length-map (lines_of newline x) marked
 
-pub count-append : (x t : List ℕ) → IsWhole x → line_count newline (x ++ t) ≡ line_count newline x + line_count newline t
-count-append x t whole = ap length (lines-append x t whole) ∙ length-append (lines_of newline x) (lines_of newline t)
+pub count-append : {x : List ℕ} (t : List ℕ) → IsWhole x → line_count newline (x ++ t) ≡ line_count newline x + line_count newline t
+count-append {x} t whole = ap length (lines-append t whole) ∙ length-append (lines_of newline x) (lines_of newline t)
 
-pub count-line : (x line : List ℕ) → IsWhole x → IsLine line → line_count newline (x ++ line) ≡ line_count newline x + 1
-count-line x line whole one = count-append x line whole ∙ ap (λ those. line_count newline x + length those) one
+pub count-line : {x : List ℕ} (line : List ℕ) → IsWhole x → IsLine line → line_count newline (x ++ line) ≡ line_count newline x + 1
+count-line {x} line whole one = count-append line whole ∙ ap (λ those. line_count newline x + length those) one
 
 -- complete lines have as many delimiters
-pub whole_count : (x : List ℕ) → IsWhole x → line_count newline x ≡ delimiters newline x
-whole_count x (inl none) = subst (λ those. line_count newline those ≡ delimiters newline those) (sym none) refl
-whole_count x (inr whole) = line_count-closed newline x whole
+pub whole_count : {x : List ℕ} → IsWhole x → line_count newline x ≡ delimiters newline x
+whole_count (inl none) = subst (λ those. line_count newline those ≡ delimiters newline those) (sym none) refl
+whole_count {x} (inr whole) = line_count-closed newline x whole
 
-pub whole-append : (x t : List ℕ) → IsWhole x → IsWhole t → IsWhole (x ++ t)
-whole-append x [] whole other = subst IsWhole (sym (Rattle.std.proofs.lemmas.List.append-nil x)) whole
-whole-append x (byte ∷ t) whole (inl none) = absurd (cc)
-whole-append x (byte ∷ t) whole (inr ends) = inr (ends_with-append newline x (byte ∷ t) (omega arith) ∙ ends)
+pub whole-append : {x : List ℕ} (t : List ℕ) → IsWhole x → IsWhole t → IsWhole (x ++ t)
+whole-append {x} [] whole other = subst IsWhole (sym (Rattle.std.proofs.lemmas.List.append-nil x)) whole
+whole-append (byte ∷ t) whole (inl none) = absurd (cc)
+whole-append {x} (byte ∷ t) whole (inr ends) = inr (ends_with-append newline x (byte ∷ t) (omega arith) ∙ ends)
 
-pub whole_drop : (n : ℕ) (text : List ℕ) → IsWhole text → IsWhole (drop n text)
-whole_drop n text (inl none) = inl (ap (drop n) none ∙ drop_all n [] (omega arith))
-whole_drop n text (inr ends) = elim (cases_lt n (length text)) [
+pub whole_drop : (n : ℕ) {text : List ℕ} → IsWhole text → IsWhole (drop n text)
+whole_drop n (inl none) = inl (ap (drop n) none ∙ drop_all n [] (omega arith))
+whole_drop n {text} (inr ends) = elim (cases_lt n (length text)) [
   | inl within ↦ inr (sym (ends_with-append newline (take n text) (drop n text) (let e : length (drop n text) ≡ length text - n = length-drop n text in omega (arith, e, within))) ∙ ap (ends_with newline) (take-append-drop n text) ∙ ends)
   | inr past ↦ inl (drop_all n text past)
 ]
@@ -68,17 +74,17 @@ count_from first x = ap length (lines_of-after_lines newline (first - 1) x) ∙ 
 
 -- the first lines of a text, and what follows them
 
-pub rest_is : (n : ℕ) (x : List ℕ) (end : ℕ) → EndsAt newline n x end → drop end x ≡ after_lines newline n x
-rest_is n x end ends =
+pub rest_is : {n : ℕ} {x : List ℕ} (end : ℕ) → EndsAt newline n x end → drop end x ≡ after_lines newline n x
+rest_is {n} {x} end ends =
     let whole : first_lines newline n x ++ after_lines newline n x ≡ x = first_lines_then_rest newline n x in
     let long : length (first_lines newline n x) ≡ end = ap length (sym ends.lines) ∙ Rattle.std.proofs.lemmas.List.length-take-le end x ends.within in
     ap (drop end) (sym whole) ∙ drop_at (first_lines newline n x) (after_lines newline n x) end long
 
-pub short_all : (n : ℕ) (x : List ℕ) (count : ℕ) → FallsShort newline n x count → x ≡ first_lines newline n x
-short_all n x count short = sym (first_lines-short newline n x (let c = short.counted in let f = short.fewer in omega (arith, c, f)))
+pub short_all : {n : ℕ} {x : List ℕ} {count : ℕ} → FallsShort newline n x count → x ≡ first_lines newline n x
+short_all {n} {x} short = sym (first_lines-short newline n x (let c = short.counted in let f = short.fewer in omega (arith, c, f)))
 
-pub short_none : (n : ℕ) (x : List ℕ) (count : ℕ) → FallsShort newline n x count → [] ≡ after_lines newline n x
-short_none n x count short = sym (after_lines-past newline n x (let c = short.counted in let f = short.fewer in omega (arith, c, f)))
+pub short_none : {n : ℕ} {x : List ℕ} {count : ℕ} → FallsShort newline n x count → [] ≡ after_lines newline n x
+short_none {n} {x} short = sym (after_lines-past newline n x (let c = short.counted in let f = short.fewer in omega (arith, c, f)))
 
 -- the first lines from a line on
 
@@ -86,18 +92,16 @@ pub first_from : (n first : ℕ) (x : List ℕ) → first_lines newline n (text_
 first_from n first x = ap (λ those. joined (take n those)) (lines_of-after_lines newline (first - 1) x)
 
 -- what follows complete lines changes nothing among them
-pub first_still : (n first : ℕ) (x t : List ℕ) → IsWhole x → 1 ≤ first → first + n ≤ line_count newline x + 1 → first_lines newline n (text_from first (x ++ t)) ≡ first_lines newline n (text_from first x)
-first_still n first x t whole some within =
+pub first_still : (n first : ℕ) {x : List ℕ} (t : List ℕ) → IsWhole x → 1 ≤ first → first + n ≤ line_count newline x + 1 → first_lines newline n (text_from first (x ++ t)) ≡ first_lines newline n (text_from first x)
+first_still n first {x} t whole some within =
     let on : first - 1 ≤ line_count newline x = omega (arith, some, within) in
     let left : length (drop (first - 1) (lines_of newline x)) ≡ line_count newline x - (first - 1) = length-drop (first - 1) (lines_of newline x) in
-    first_from n first (x ++ t)
-    ∙ ap (λ those. joined (take n (drop (first - 1) those))) (lines-append x t whole)
+    first_from n first (x ++ t) ∙ ap (λ those. joined (take n (drop (first - 1) those))) (lines-append t whole)
     ∙ ap (λ those. joined (take n those)) (drop-append-le (first - 1) (lines_of newline x) (lines_of newline t) on)
-    ∙ ap joined (take-append-le n (drop (first - 1) (lines_of newline x)) (lines_of newline t) (omega (arith, left, some, within)))
-    ∙ sym (first_from n first x)
+    ∙ ap joined (take-append-le n (drop (first - 1) (lines_of newline x)) (lines_of newline t) (omega (arith, left, some, within))) ∙ sym (first_from n first x)
 
-pub rest_more : (first : ℕ) (x t : List ℕ) → IsWhole x → 1 ≤ first → first ≤ line_count newline x + 1 → text_from first x ++ t ≡ text_from first (x ++ t)
-rest_more first x t whole some within = after_lines-append newline (first - 1) x t (let e : line_count newline x ≡ delimiters newline x = whole_count x whole in omega (arith, e, some, within))
+pub rest_more : (first : ℕ) {x : List ℕ} (t : List ℕ) → IsWhole x → 1 ≤ first → first ≤ line_count newline x + 1 → text_from first x ++ t ≡ text_from first (x ++ t)
+rest_more first {x} t whole some within = after_lines-append newline (first - 1) x t (let e : line_count newline x ≡ delimiters newline x = whole_count whole in omega (arith, e, some, within))
 
 pub from_further : (first n : ℕ) (x : List ℕ) → 1 ≤ first → after_lines newline n (text_from first x) ≡ text_from (first + n) x
 from_further first n x some =
@@ -112,8 +116,8 @@ first_further first a b x some =
     (sym (lines_of-after_lines newline a (text_from first x)) ∙ ap (lines_of newline) (from_further first a x some))
 
 -- all that is left is from a line on
-pub whole_from : (first : ℕ) (x : List ℕ) → IsWhole x → IsWhole (text_from first x)
-whole_from first x whole = by (cases_lt (first - 1) (line_count newline x)) where
+pub whole_from : (first : ℕ) {x : List ℕ} → IsWhole x → IsWhole (text_from first x)
+whole_from first {x} whole = by (cases_lt (first - 1) (line_count newline x)) where
   by : (first - 1 < line_count newline x) ⊎ (line_count newline x ≤ first - 1) → IsWhole (text_from first x)
   by (inr beyond) = inl (ap joined (drop_all (first - 1) (lines_of newline x) beyond))
   by (inl on) = split whole where
@@ -125,13 +129,154 @@ whole_from first x whole = by (cases_lt (first - 1) (line_count newline x)) wher
         inr (sym (ends_with-append newline (first_lines newline (first - 1) x) (text_from first x) (let less = line_count-le-length newline (text_from first x) in omega (arith, less, some))) ∙ ap (ends_with newline) both ∙ ends)
 
 -- what follows the first line
-pub after_first : (text line rest : List ℕ) → text ≡ line ++ rest → (0 < length text → lines_of newline text ≡ line ∷ lines_of newline rest) → rest ≡ after_lines newline 1 text
-after_first [] line rest is first = by line rest is where
+pub after_first : (text line : List ℕ) {rest : List ℕ} → text ≡ line ++ rest → (0 < length text → lines_of newline text ≡ line ∷ lines_of newline rest) → rest ≡ after_lines newline 1 text
+after_first [] line {rest} is first = by line rest is where
   by : (line rest : List ℕ) → [] ≡ line ++ rest → rest ≡ []
   by line [] is = refl
   by line (byte ∷ rest) is = let e : 0 ≡ length line + suc (length rest) = ap length is ∙ length-append line (byte ∷ rest) in absurd (omega (arith, e))
-after_first (byte ∷ text) line rest is first = sym (joined-lines_of newline rest) ∙ sym (ap (λ those. joined (drop 1 those)) (first (omega arith)))
+after_first (byte ∷ text) line {rest} is first = sym (joined-lines_of newline rest) ∙ sym (ap (λ those. joined (drop 1 those)) (first (omega arith)))
 
 -- what is left of a slice
 pub rest_all : (n : ℕ) (left : List ℕ) → take (length left - n) (drop n left) ≡ drop n left
 rest_all n left = take_all (length left - n) (drop n left) (let e : length (drop n left) ≡ length left - n = length-drop n left in omega (arith, e))
+
+-- The complete lines of a text and what follows them, where more bytes come.
+
+take_few : {X : Type 0} (n : ℕ) (xs : List X) → length (take n xs) ≤ n
+take_few n xs = let e = length-take n xs in let least = min-le_left n (length xs) in omega (arith, e, least)
+
+pub whole_by : (x : List ℕ) (ends : Bool) → ends_with newline x ≡ ends → line_count newline x ≤ delimiters newline x → IsWhole x
+whole_by [] ends is few = inl refl
+whole_by (byte ∷ x) true is few = inr is
+whole_by (byte ∷ x) false is few = absurd (let count = line_count-open newline (byte ∷ x) (omega arith) is in omega (arith, count, few))
+
+pub lines_whole : (x : List ℕ) → IsWhole (whole_lines x)
+lines_whole x = whole_by (whole_lines x) (ends_with newline (whole_lines x)) refl
+    (let count : line_count newline (whole_lines x) ≡ length (take (delimiters newline x) (lines_of newline x)) = ap length (lines_of-first_lines newline (delimiters newline x) x) in
+    let few : length (take (delimiters newline x) (lines_of newline x)) ≤ delimiters newline x = take_few (delimiters newline x) (lines_of newline x) in
+    let all : delimiters newline (whole_lines x) ≡ delimiters newline x = delimiters-first_lines newline (delimiters newline x) x (omega arith) in omega (arith, count, few, all))
+
+pub lines_then_open : {x : List ℕ} → whole_lines x ++ open_line x ≡ x
+lines_then_open {x} = first_lines_then_rest newline (delimiters newline x) x
+
+pub open_unbroken : (x : List ℕ) → delimiters newline (open_line x) ≡ 0
+open_unbroken x =
+    let sum : delimiters newline (whole_lines x ++ open_line x) ≡ delimiters newline (whole_lines x) + delimiters newline (open_line x) = delimiters-append newline (whole_lines x) (open_line x) in
+    let same : delimiters newline (whole_lines x ++ open_line x) ≡ delimiters newline x = ap (delimiters newline) (lines_then_open {x = x}) in
+    let all : delimiters newline (whole_lines x) ≡ delimiters newline x = delimiters-first_lines newline (delimiters newline x) x (omega arith) in omega (arith, sum, same, all)
+
+pub all_complete : (x : List ℕ) → all_lines (whole_lines x) ≡ complete_lines x
+all_complete x = ap (map marked) (lines_of-first_lines newline (delimiters newline x) x)
+
+-- there is one way to part complete lines from what follows them
+
+pub front_is : (front rest : List ℕ) → IsWhole front → delimiters newline rest ≡ 0 → whole_lines (front ++ rest) ≡ front
+front_is front rest (inl empty) none = subst (λ those. whole_lines (those ++ rest) ≡ those) (sym empty) (ap (λ n. first_lines newline n rest) none ∙ first_lines-zero newline rest)
+front_is front rest (inr ends) none = first_lines-whole newline front rest (delimiters newline (front ++ rest)) ends
+    (let sum : delimiters newline (front ++ rest) ≡ delimiters newline front + delimiters newline rest = delimiters-append newline front rest in omega (arith, sum, none))
+
+pub tail_is : (front : List ℕ) {rest : List ℕ} → IsWhole front → delimiters newline rest ≡ 0 → open_line (front ++ rest) ≡ rest
+tail_is front {rest} whole none = append_cancel_left front (open_line (front ++ rest)) rest
+    (ap (λ those. those ++ open_line (front ++ rest)) (sym (front_is front rest whole none)) ∙ lines_then_open)
+
+-- more bytes complete the open line, or not
+
+parted : (x y : List ℕ) → x ++ y ≡ (whole_lines x ++ whole_lines (open_line x ++ y)) ++ open_line (open_line x ++ y)
+parted x y =
+    ap (λ those. those ++ y) (sym (lines_then_open)) ∙ append_assoc (whole_lines x) (open_line x) y
+    ∙ ap (λ those. whole_lines x ++ those) (sym (lines_then_open))
+    ∙ sym (append_assoc (whole_lines x) (whole_lines (open_line x ++ y)) (open_line (open_line x ++ y)))
+
+both_whole : (x y : List ℕ) → IsWhole (whole_lines x ++ whole_lines (open_line x ++ y))
+both_whole x y = whole-append (whole_lines (open_line x ++ y)) (lines_whole x) (lines_whole (open_line x ++ y))
+
+pub lines_more : (x y : List ℕ) → whole_lines (x ++ y) ≡ whole_lines x ++ whole_lines (open_line x ++ y)
+lines_more x y = ap whole_lines (parted x y) ∙ front_is (whole_lines x ++ whole_lines (open_line x ++ y)) (open_line (open_line x ++ y)) (both_whole x y) (open_unbroken (open_line x ++ y))
+
+pub open_more : (x y : List ℕ) → open_line (x ++ y) ≡ open_line (open_line x ++ y)
+open_more x y = ap open_line (parted x y) ∙ tail_is (whole_lines x ++ whole_lines (open_line x ++ y)) (both_whole x y) (open_unbroken (open_line x ++ y))
+
+-- a piece without a newline
+
+pub no_newline : (rest piece : List ℕ) → delimiters newline rest ≡ 0 → delimiters newline piece ≡ 0 → delimiters newline (rest ++ piece) ≡ 0
+no_newline rest piece none also = let sum : delimiters newline (rest ++ piece) ≡ delimiters newline rest + delimiters newline piece = delimiters-append newline rest piece in omega (arith, sum, none, also)
+
+pub none_lines : (rest piece : List ℕ) → delimiters newline rest ≡ 0 → delimiters newline piece ≡ 0 → whole_lines (rest ++ piece) ≡ []
+none_lines rest piece none also = front_is [] (rest ++ piece) (inl refl) (no_newline rest piece none also)
+
+pub none_open : (rest piece : List ℕ) → delimiters newline rest ≡ 0 → delimiters newline piece ≡ 0 → open_line (rest ++ piece) ≡ rest ++ piece
+none_open rest piece none also = tail_is [] (inl refl) (no_newline rest piece none also)
+
+-- a piece with one
+
+take_some : (n : ℕ) (x : List ℕ) → 0 < n → n ≤ length x → 0 < length (take n x)
+take_some n x some within = let e = length-take-le n x within in omega (arith, e, some)
+
+ends_by : (x : List ℕ) → IsWhole x → 0 < length x → ends_with newline x ≡ true
+ends_by x (inl empty) some = absurd (let e : length x ≡ 0 = ap length empty in omega (arith, e, some))
+ends_by x (inr ends) some = ends
+
+pub piece_ends : {piece : List ℕ} (end : ℕ) → LastEndsAt newline piece end → ends_with newline (take end piece) ≡ true
+piece_ends {piece} end last = ends_by (take end piece) (subst IsWhole (sym last.complete) (lines_whole piece)) (take_some end piece last.some last.within)
+
+some_ends : (rest text : List ℕ) → ends_with newline text ≡ true → ends_with newline (rest ++ text) ≡ true
+some_ends rest text ends = ends_with-append newline rest text (ends_with-some newline text ends) ∙ ends
+
+split_piece : (rest piece : List ℕ) (end : ℕ) → rest ++ piece ≡ (rest ++ take end piece) ++ drop end piece
+split_piece rest piece end = ap (λ those. rest ++ those) (sym (take-append-drop end piece)) ∙ sym (append_assoc rest (take end piece) (drop end piece))
+
+pub piece_lines : (rest : List ℕ) {piece : List ℕ} (end : ℕ) → LastEndsAt newline piece end → whole_lines (rest ++ piece) ≡ rest ++ take end piece
+piece_lines rest {piece} end last = ap whole_lines (split_piece rest piece end) ∙ front_is (rest ++ take end piece) (drop end piece) (inr (some_ends rest (take end piece) (piece_ends end last))) last.none_after
+
+pub piece_open : (rest : List ℕ) {piece : List ℕ} (end : ℕ) → LastEndsAt newline piece end → open_line (rest ++ piece) ≡ drop end piece
+piece_open rest {piece} end last = ap open_line (split_piece rest piece end) ∙ tail_is (rest ++ take end piece) (inr (some_ends rest (take end piece) (piece_ends end last))) last.none_after
+
+-- lines
+
+none_in : (x : List ℕ) → delimiters newline x ≡ 0 → HasNone newline x
+none_in [] is = tt
+none_in (byte ∷ x) is = elim (cases_eq byte newline) [
+  | inl same ↦ absurd (let more : delimiters newline (byte ∷ x) ≡ delimiters newline x + 1 = ap (λ (c : Bool). cond c (delimiters newline x + 1) (delimiters newline x)) (eq-eqb byte newline same) in omega (arith, more, is))
+  | inr other ↦ (other, none_in x (sym (ap (λ (c : Bool). cond c (delimiters newline x + 1) (delimiters newline x)) (ne_eqb byte newline other)) ∙ is))
+]
+
+none-append : (a b : List ℕ) → HasNone newline a → HasNone newline b → HasNone newline (a ++ b)
+none-append [] b none also = also
+none-append (byte ∷ a) b (other, none) also = (other, none-append a b none also)
+
+line_by : (line : List ℕ) → AreLines newline (line ∷ []) → IsLine line
+line_by line is = ap (lines_of newline) (sym (append-nil line)) ∙ lines_of-joined newline (line ∷ []) is
+
+first_by : (line : List ℕ) (lines : List (List ℕ)) → AreLines newline (line ∷ lines) → IsLine line
+first_by line [] is = line_by line is
+first_by line (next ∷ lines) is = line_by line (inl is.0)
+
+-- the first line of a text is one
+pub first_line : (text line rest : List ℕ) → lines_of newline text ≡ line ∷ lines_of newline rest → IsLine line
+first_line text line rest is = first_by line (lines_of newline rest) (subst (AreLines newline) is (AreLines-lines_of newline text))
+
+pub open_is_line : (rest : List ℕ) → 0 < length rest → delimiters newline rest ≡ 0 → IsLine rest
+open_is_line rest some none = line_by rest (inr (some, none_in rest none))
+
+joined_by : (rest end : List ℕ) → HasNone newline rest → AreLines newline (end ∷ []) → AreLines newline ((rest ++ end) ∷ [])
+joined_by rest end none (inl (text, is, also)) = inl (rest ++ text, ap (λ those. rest ++ those) is ∙ sym (append_assoc rest text (newline ∷ [])), none-append rest text none also)
+joined_by rest end none (inr (some, also)) = inr (let e : length (rest ++ end) ≡ length rest + length end = length-append rest end in omega (arith, e, some), none-append rest end none also)
+
+pub joined_line : (rest end : List ℕ) → delimiters newline rest ≡ 0 → IsLine end → IsLine (rest ++ end)
+joined_line rest end none is = line_by (rest ++ end) (joined_by rest end (none_in rest none) (subst (AreLines newline) is (AreLines-lines_of newline end)))
+
+-- the first of complete lines is complete, and so are those after it
+
+complete_by : {text : List ℕ} (line : List ℕ) {rest : List ℕ} (ends : Bool) → ends_with newline line ≡ ends → (ends_with newline line ≡ false → rest ≡ []) → text ≡ line ++ rest → ends_with newline text ≡ true → ends_with newline line ≡ true
+complete_by line true is last joined whole = is
+complete_by line false is last joined whole = absurd (false≢true (sym is ∙ ap (ends_with newline) (sym (joined ∙ ap (λ those. line ++ those) (last is) ∙ append-nil line)) ∙ whole))
+
+pub first_complete : {text : List ℕ} (line : List ℕ) {rest : List ℕ} → (ends_with newline line ≡ false → rest ≡ []) → text ≡ line ++ rest → ends_with newline text ≡ true → ends_with newline line ≡ true
+first_complete line last joined whole = complete_by line (ends_with newline line) refl last joined whole
+
+pub others_whole : {text : List ℕ} (line rest : List ℕ) → text ≡ line ++ rest → ends_with newline text ≡ true → IsWhole rest
+others_whole line [] joined whole = inl refl
+others_whole line (byte ∷ rest) joined whole = inr (sym (ends_with-append newline line (byte ∷ rest) (omega arith)) ∙ ap (ends_with newline) (sym joined) ∙ whole)
+
+pub open_complete : (rest line : List ℕ) → ends_with newline line ≡ true → IsWhole (rest ++ line)
+open_complete rest line ends = inr (some_ends rest line ends)

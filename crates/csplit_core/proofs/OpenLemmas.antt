@@ -3,7 +3,6 @@ use Rattle.std.proofs.Common.{◌≡◌, inl, inr, ◌+◌, ◌-◌, ◌≤◌, 
 use Rattle.std.proofs.lemmas.Bool.{false≢true}
 use Rattle.bre_core.specs.Pattern.{Pattern}
 use Rattle.seg_core.specs.Window.{Window}
-use Rattle.ports_core.specs.Part.{nothing}
 use Rattle.ports_core.specs.Slot.{Slot}
 use Rattle.ports_core.specs.declared.fault.Fault.{Fault}
 use Rattle.ports_core.specs.declared.fault.Fault.TheVariants.{Memory}
@@ -11,7 +10,7 @@ use Rattle.ports_core.proofs.PartLemmas.{nothing_begins_part}
 use Rattle.csplit_core.proofs.HoldLemmas.{in_turn}
 use Rattle.csplit_core.specs.Csplit.{settled_of}
 use Rattle.csplit_core.specs.Draft.{draft_part}
-use Rattle.csplit_core.specs.inner.Draft.{first_draft}
+use Rattle.csplit_core.specs.inner.Writer.{first_draft, Begun, BegunNot}
 use Rattle.csplit_core.specs.Input.{newline}
 use Rattle.csplit_core.specs.Operand.{Operand, Line}
 use Rattle.csplit_core.specs.Output.{Style}
@@ -25,21 +24,19 @@ use Rattle.csplit_core.specs.declared.progress.Progress.{Progress}
 use Rattle.csplit_core.specs.declared.progress.Turn.{Turn}
 use Rattle.csplit_core.specs.declared.progress.Turn.TheVariants.{Below, Cuts}
 use Rattle.csplit_core.specs.Writer.{WriterState, Writes, size_of}
-use Rattle.csplit_core.specs.inner.Writer.{Begun, BegunNot}
 use Rattle.csplit_core.specs.Cutter.{CutterState, most_next, pattern_next, kept_next, next_of, most_by, pattern_by, kept_by, settled_draft, IsFit, Stands}
 use Rattle.csplit_core.specs.inner.Cutter.{IsNoCut, Opened}
-use Rattle.csplit_core.proofs.AdvanceLemmas.{advances}
-use Rattle.csplit_core.proofs.MoveLemmas.{repeated_anew}
-use Rattle.csplit_core.proofs.SettledLemmas.{draft_is, settled_part_is}
+use Rattle.csplit_core.proofs.TurnLemmas.{advances, repeated_anew}
+use Rattle.csplit_core.proofs.CutterLemmas.{draft_is, settled_part_is}
 use Rattle.ports_core.proofs.SlotSteps.{none_past}
 use Rattle.csplit_core.proofs.TryLemmas.{advance_ends, no_cut_aims}
-use Rattle.csplit_core.proofs.WriterLemmas.{moves_as, halts_wider}
+use Rattle.csplit_core.proofs.WriterLemmas.{reaches_as, stops_wider}
 
 -- Over no line a plan has no step.
 
-first_only : (suppress : Bool) (first : State) (steps : List Step) (last : State) (ending : Ending) → Runs suppress [] first steps last ending → 1 ≤ first.current → Runs suppress [] first [] first ending
-first_only suppress first steps last ending (cuts state operand operands matched cut steps' last' ending' is at from within rest) some = absurd (omega (arith, some, from, within))
-first_only suppress first steps last ending run some = run
+first_only : {suppress : Bool} {first : State} {steps : List Step} {last : State} {ending : Ending} → Runs suppress [] first steps last ending → 1 ≤ first.current → Runs suppress [] first [] first ending
+first_only (cuts state operand operands matched cut steps' last' ending' is at from within rest) some = absurd (omega (arith, some, from, within))
+first_only run some = run
 
 none_settled : (ending : Ending) → 0 ≡ settled_end 0 ending - 1
 none_settled used_up = omega arith
@@ -48,8 +45,7 @@ none_settled ending = omega arith
 -- the first section, without a byte, is what is settled
 first_settled : (suppress : Bool) (operands : List Operand) → first_draft (kept_by operands) ≡ settled_draft suppress operands []
 first_settled suppress operands =
-    draft_is settled_end suppress operands [] [] (start operands) (plan suppress operands []).ending 0 []
-    (first_only suppress (start operands) _ _ _ (plan_runs suppress operands []) (omega arith)) (none_settled (plan suppress operands []).ending) refl
+    draft_is settled_end operands [] 0 (first_only (plan_runs suppress operands []) (omega arith)) (none_settled (plan suppress operands []).ending) refl
 
 first_part : (style : Style) (operands : List Operand) → draft_part style (first_draft (kept_by operands)) ≡ settled_of style operands []
 first_part style operands = ap (draft_part style) (first_settled style.suppress operands) ∙ settled_part_is style operands []
@@ -59,8 +55,8 @@ first_part style operands = ap (draft_part style) (first_settled style.suppress 
 abbrev pub first_progress : Progress
 first_progress = record { done = 0; repetition = 0; current = 1; matched = 0 }
 
-seen_none : (suppress : Bool) (operands : List Operand) → AreSeen suppress [] 0 (start operands) false
-seen_none suppress operands = record {
+seen_none : {suppress : Bool} (operands : List Operand) → AreSeen suppress [] 0 (start operands) false
+seen_none operands = record {
   count = refl;
   last = λ operand rest are near. refl;
   others = λ operand rest are other from less. absurd (omega (arith, less));
@@ -73,9 +69,9 @@ first_no_cut operands _ moves = tt
 abbrev SaysFirst : Bool → List Operand → Turn → Type 0
 SaysFirst suppress operands turn = (lines : List Line) → AreSeen suppress lines 0 (start operands) false → Turns suppress lines 0 (start operands) turn
 
-first_ends : (suppress : Bool) (operands : List Operand) (turn : Turn) → SaysFirst suppress operands turn → MovesOn operands 0 first_progress turn → EndsHere suppress [] (start operands) turn
-first_ends suppress operands turn says moves =
-    advance_ends suppress [] (start operands) turn (first_no_cut operands turn moves) (advances suppress [] 0 (start operands) turn refl (says [] (seen_none suppress operands)))
+first_ends : {suppress : Bool} (operands : List Operand) {turn : Turn} → SaysFirst suppress operands turn → MovesOn operands 0 first_progress turn → EndsHere suppress [] (start operands) turn
+first_ends {suppress} operands {turn} says moves =
+    advance_ends turn (first_no_cut operands turn moves) (advances suppress [] (start operands) turn refl (says [] (seen_none operands)))
 
 final_below : (turn : Turn) (ending : Ending) → AimsAt turn ending → is_final ending ≡ true → turn ≡ Below
 final_below Below (below operand repetition) aims past = refl
@@ -93,8 +89,8 @@ first_window operands = record { most = most_by operands; delim = newline; held 
 abbrev first_cutter : List Operand → WriterState → Turn → CutterState
 first_cutter operands writer aim = opened operands writer first_progress aim (first_window operands) (pattern_by operands)
 
-first_stands : (operands : List Operand) (writer : WriterState) (aim : Turn) → Writes writer (first_draft (kept_by operands)) → (ends : EndsHere writer.style.suppress [] (start operands) aim) → (final : Bool) → is_final ends.ending ≡ final → Stands (first_cutter operands writer aim) []
-first_stands operands writer aim writes ends false live = inl (record {
+first_stands : (operands : List Operand) {writer : WriterState} {aim : Turn} → Writes writer (first_draft (kept_by operands)) → (ends : EndsHere writer.style.suppress [] (start operands) aim) → (final : Bool) → is_final ends.ending ≡ final → Stands (first_cutter operands writer aim) []
+first_stands operands writes ends false live = inl (record {
   at = record {
     steps = [];
     leads = λ more last ending run. run;
@@ -110,7 +106,7 @@ first_stands operands writer aim writes ends false live = inl (record {
   live = live;
   settled = omega arith;
 })
-first_stands operands writer aim writes ends true past =
+first_stands operands {writer} {aim} writes ends true past =
     let is = plan_once writer.style.suppress operands [] [] (start operands) ends.ending ends.runs in inr (record {
       aim = final_below aim ends.ending ends.aims past;
       past = ap (λ (p : Plan). is_final p.ending) is ∙ past;
@@ -127,15 +123,15 @@ first_fit operands writer aim = record {
   sought = refl;
 }
 
-first_opened : (told : Bool) (style : Style) (operands : List Operand) (old new : List Slot) (writer : WriterState) (aim : Turn) → Begun told style (kept_by operands) old new writer → SaysFirst style.suppress operands aim → MovesOn operands 0 first_progress aim
+first_opened : (told : Bool) {style : Style} {operands : List Operand} {old new : List Slot} {writer : WriterState} (aim : Turn) → Begun told style (kept_by operands) old new writer → SaysFirst style.suppress operands aim → MovesOn operands 0 first_progress aim
     → Opened told style operands old new (first_cutter operands writer aim)
-first_opened told style operands old new writer aim begun says moves =
-    let ends = first_ends writer.style.suppress operands aim (subst (λ (s : Style). SaysFirst s.suppress operands aim) (sym begun.asked) says) moves in
+first_opened told {style} {operands} {old} {new} {writer} aim begun says moves =
+    let ends = first_ends operands (subst (λ (s : Style). SaysFirst s.suppress operands aim) (sym begun.asked) says) moves in
     let none : size_of writer.current + 0 ≡ 0 = (let size = begun.size in omega (arith, size)) in record {
       asked = begun.asked;
       operands_are = refl;
-      stands = first_stands operands writer aim begun.writes ends (is_final ends.ending) refl;
-      moves = moves_as told nothing nothing _ _ old new refl (sym (first_part style operands)) begun.moves;
+      stands = first_stands operands begun.writes ends (is_final ends.ending) refl;
+      reaches = reaches_as refl (sym (first_part style operands)) begun.reaches;
       owns = begun.owns;
       ready = begun.ready;
       sound = record { fit = first_fit operands writer aim; aim = no_cut_aims operands 0 first_progress aim (first_no_cut operands aim moves) moves };
@@ -148,11 +144,11 @@ next_seen : (operands : List Operand) → slice_get operands 0 ≡ next_of opera
 next_seen [] = refl
 next_seen (operand ∷ operands) = refl
 
-pub opened_at : (told : Bool) (style : Style) (suppress : Bool) (operands : List Operand) (next : Option Operand) (kept : Bool) (old new : List Slot) (writer : WriterState) (progress : Progress) (aim : Turn) (window : Window) (sought : Option Pattern)
+pub opened_at : (told : Bool) {style : Style} {suppress : Bool} {operands : List Operand} {next : Option Operand} {kept : Bool} {old new : List Slot} {writer : WriterState} {progress : Progress} {aim : Turn} {window : Window} {sought : Option Pattern}
     → next ≡ slice_get operands 0 → window ≡ record { most = most_next next; delim = newline; held = [] } → sought ≡ pattern_next next → kept ≡ kept_next next → suppress ≡ style.suppress → Begun told style kept old new writer → progress ≡ first_progress
     → ((lines : List Line) → AreSeen suppress lines 0 (state_of operands progress) false → Turns suppress lines 0 (state_of operands progress) aim) → (progress.matched ≤ 0 → MovesOn operands 0 progress aim)
     → Opened told style operands old new (opened operands writer progress aim window sought)
-opened_at told style suppress operands next kept old new writer progress aim window sought next_is window_is sought_is kept_is suppress_is begun start_is says moves =
+opened_at told {style} {suppress} {operands} {kept} {old} {new} {writer} {aim} {window} {sought} next_is window_is sought_is kept_is suppress_is begun start_is says moves =
     let first = next_is ∙ next_seen operands in
     let window_first : first_window operands ≡ window = sym (window_is ∙ ap (λ (o : Option Operand). record { most = most_next o; delim = newline; held = [] }) first) in
     let sought_first : pattern_by operands ≡ sought = sym (sought_is ∙ ap pattern_next first) in
@@ -163,18 +159,18 @@ opened_at told style suppress operands next kept old new writer progress aim win
     subst (λ (p : Progress). Opened told style operands old new (opened operands writer p aim window sought)) (sym start_is)
     (subst (λ w. Opened told style operands old new (opened operands writer first_progress aim w sought)) window_first
     (subst (λ s. Opened told style operands old new (opened operands writer first_progress aim (first_window operands) s)) sought_first
-    (first_opened told style operands old new writer aim (subst (λ k. Begun told style k old new writer) kept_first begun) says_first moves_first)))
+    (first_opened told aim (subst (λ k. Begun told style k old new writer) kept_first begun) says_first moves_first)))
 
-pub opened_not : (told : Bool) (style : Style) (operands : List Operand) (next : Option Operand) (kept : Bool) (old new : List Slot) (fault : Fault) → next ≡ slice_get operands 0 → kept ≡ kept_next next → BegunNot told style (draft_part style (first_draft kept)) old new fault
+pub opened_not : (told : Bool) {style : Style} (operands : List Operand) {next : Option Operand} {kept : Bool} {old new : List Slot} {fault : Fault} → next ≡ slice_get operands 0 → kept ≡ kept_next next → BegunNot told style (draft_part style (first_draft kept)) old new fault
     → BegunNot told style (settled_of style operands []) old new fault
-opened_not told style operands next kept old new fault next_is kept_is begun =
+opened_not told {style} operands {old} {new} {fault} next_is kept_is begun =
     subst (λ part. BegunNot told style part old new fault) (first_part style operands)
     (subst (λ k. BegunNot told style (draft_part style (first_draft k)) old new fault) (kept_is ∙ ap kept_next (next_is ∙ next_seen operands)) begun)
 
 -- where there is no memory, nothing was done
-pub opened_lacks : (told : Bool) (style : Style) (operands : List Operand) (slots : List Slot) (fault : Fault) → fault ≡ Memory → BegunNot told style (settled_of style operands []) slots slots fault
-opened_lacks told style operands slots fault lacks = subst (BegunNot told style (settled_of style operands []) slots slots) (sym lacks) (record {
-  halts = halts_wider told nothing nothing (settled_of style operands []) slots slots Memory (in_turn told nothing 0 slots (record { closed = tt; within = omega arith; last = omega arith })) (nothing_begins_part (settled_of style operands []));
+pub opened_lacks : (told : Bool) {style : Style} (operands : List Operand) {slots : List Slot} {fault : Fault} → fault ≡ Memory → BegunNot told style (settled_of style operands []) slots slots fault
+opened_lacks told {style} operands {slots} lacks = subst (BegunNot told style (settled_of style operands []) slots slots) (sym lacks) (record {
+  reaches = stops_wider (in_turn 0 (record { closed = tt; within = omega arith; last = omega arith })) (nothing_begins_part (settled_of style operands []));
   breaks = tt;
   none = none_past slots;
 })

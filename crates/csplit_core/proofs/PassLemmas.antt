@@ -1,18 +1,18 @@
--- Lines over which the next operand stands as it does.
-use Rattle.std.proofs.Common.{◌≡◌, inl, inr, ℕ, zero, suc, ◌+◌, ◌-◌, ◌^◌, ◌<◌, ◌≤◌, eqb, Bool, true, false, cond, List, [], ◌∷◌, ◌++◌, length, take, drop, get_or, refl, sym, ◌∙◌, ap, subst, arith, Some, None, IfSome, length-append}
+-- Lines over which the next operand stands as it does, and those that are seen to have no match.
+use Rattle.std.proofs.Common.{◌≡◌, inl, inr, ℕ, zero, suc, ◌+◌, ◌-◌, ◌^◌, ◌<◌, ◌≤◌, eqb, Bool, true, false, cond, List, [], ◌∷◌, ◌++◌, length, take, drop, get_or, refl, sym, ◌∙◌, ap, subst, arith, Some, None, IfSome, append_assoc, length-append}
 use Rattle.std.specs.Prelude.{min}
 use Rattle.std.specs.List.{onto_first}
-use Rattle.std.proofs.lemmas.Bool.{cases_lt, eq-eqb, ne_eqb}
-use Rattle.std.proofs.lemmas.List.{get_or-map, drop_at, take_all, take_at, length-drop, take-append-drop, append_assoc, length-take-le, get_or_append_left}
+use Rattle.std.proofs.lemmas.Bool.{cases_lt, eq-eqb, ne_eqb, false≢true}
+use Rattle.std.proofs.lemmas.List.{get_or-map, drop_at, take_all, take_at, length-drop, take-append-drop, length-take-le, get_or_append_left, append-nil}
 use Rattle.std.proofs.Math.Nat.{min-le_left}
 use Rattle.std.proofs.Math.Seq.{get_or-append_right}
 use Rattle.memchr.specs.Find.{Nowhere, Passes, is_byte}
 use Rattle.bre_core.specs.Pattern.{Pattern}
 use Rattle.bre_core.specs.Search.{contains}
-use Rattle.seg_core.specs.Line.{lines_of, line_count, delimiters, ends_with, EndsAt, FallsShort}
+use Rattle.seg_core.specs.Line.{lines_of, line_count, delimiters, ends_with, EndsAt, FallsShort, joined, HasNone, IsComplete, AreLines}
 use Rattle.seg_core.proofs.Delimiters.{delimiters-le-length}
 use Rattle.seg_core.proofs.FirstLines.{EndsAt-enough, lines_of-first_lines}
-use Rattle.seg_core.proofs.LineCounts.{line_count-le-length, line_count_near}
+use Rattle.seg_core.proofs.LineCounts.{line_count-le-length, line_count_near, ends_with-append}
 use Rattle.csplit_core.specs.Cutter.{CutterState, suppress_in, state_in, pattern_in, pattern_by, AimHolds, IsFit, IsSound}
 use Rattle.csplit_core.specs.inner.Cutter.{AreClear, IsWhole, IsLine, IsFound, IsNextFound, PassesClear, PassesOver, StopsAt}
 use Rattle.csplit_core.specs.Input.{newline, without_newline, is_match_of, marked, all_lines}
@@ -23,10 +23,13 @@ use Rattle.csplit_core.specs.Progress.{AimsAt, WillMove}
 use Rattle.csplit_core.specs.declared.line_cutter.Passed.{Passed}
 use Rattle.csplit_core.specs.declared.progress.Turn.{Turn}
 use Rattle.csplit_core.specs.declared.progress.Turn.TheVariants.{UsedUp, Missed, Above, Cuts}
-use Rattle.csplit_core.proofs.LineLemmas.{whole_drop, all_lines-append, all_lines-line, count-append, count-line, length-all_lines, whole_count, whole-append}
+use Rattle.csplit_core.proofs.LineLemmas.{whole_drop, all_lines-append, all_lines-line, count-append, count-line, length-all_lines, whole_count, whole-append, whole_by}
 use Rattle.csplit_core.proofs.StayLemmas.{NoneFrom, EndsStill, ends_still}
-use Rattle.csplit_core.proofs.TryLemmas.{found_is}
-use Rattle.csplit_core.proofs.ByteLemmas.{whole_by}
+use Rattle.csplit_core.proofs.TryLemmas.{StaysOver, ends_over, found_is}
+use Rattle.scan_core.specs.Clear.{IsClear}
+use Rattle.seg_core.proofs.LinesOf.{AreLines-lines_of, joined-lines_of}
+
+-- Lines over which the next operand stands as it does.
 
 -- What stays so of a state when more lines come
 
@@ -38,8 +41,8 @@ all_repeated_more : (total more : ℕ) (state : State) (operands : List Operand)
 all_repeated_more total more state [] less none = none
 all_repeated_more total more state (operand ∷ operands) less few = repeated_more total more state operand.target less few
 
-fits_more : (total more : ℕ) (state : State) → total ≤ more → Fits total state → Fits more state
-fits_more total more state less fits = record {
+fits_more : {total : ℕ} (more : ℕ) {state : State} → total ≤ more → Fits total state → Fits more state
+fits_more {total} more {state} less fits = record {
   some = fits.some;
   current = let e : state.current ≤ total + 1 = fits.current in omega (arith, e, less);
   matched = let e : state.matched ≤ total = fits.matched in omega (arith, e, less);
@@ -49,12 +52,6 @@ fits_more total more state less fits = record {
 moves_more : (total more : ℕ) (state : State) (target : Target) (matched cut : ℕ) → total ≤ more → Moves total state target matched cut → Moves more state target matched cut
 moves_more total more state (Number n) matched cut less at = at
 moves_more total more state (Search pattern kept offset) matched cut less at = (at.0, omega (arith, at.1, less))
-
--- With the lines of this text too there are `lines`, and the next operand stands as it did.
-abbrev pub StaysOver : CutterState → (text : List ℕ) (lines : ℕ) → Turn → Type 0
-StaysOver cutter text lines Missed = (operand : Operand) → cutter.sought ≡ pattern_in operand.target → NoneFrom operand cutter.lines (all_lines text) (search_line (suppress_in cutter) (state_in cutter))
-StaysOver cutter text lines (Above matched line) = lines < line
-StaysOver cutter text lines turn = Unit {0}
 
 aim_more : (cutter : CutterState) (text : List ℕ) (lines : ℕ) (aim : Turn) → cutter.lines ≤ lines → AimHolds cutter.operands cutter.lines cutter.progress aim → StaysOver cutter text lines aim → AimHolds cutter.operands lines cutter.progress aim
 aim_more cutter text lines (Above matched line) less will stays = record {
@@ -71,101 +68,74 @@ aim_more cutter text lines (Above matched line) less will stays = record {
 aim_more cutter text lines (Cuts matched line) less holds stays = holds
 aim_more cutter text lines _ less holds stays = tt
 
--- that is so where the next operand stands as it did
-still_by : (cutter : CutterState) (x text : List ℕ) (lines : ℕ) (aim : Turn) (ending : Ending) → IsFit cutter → cutter.lines ≡ length (all_lines x) → lines ≡ length (all_lines x ++ all_lines text) → AimsAt aim ending
-    → StaysOver cutter text lines aim → EndsStill (suppress_in cutter) (length (all_lines x)) (all_lines text) (length (all_lines x ++ all_lines text)) (state_in cutter) ending
-still_by cutter x text lines aim used_up fit count all aims stays = tt
-still_by cutter x text lines aim (below operand repetition) fit count all aims stays = tt
-still_by cutter x text lines Missed (missed operand repetition) fit count all aims stays = λ next rest are.
-    subst (λ n. NoneFrom next n (all_lines text) (search_line (suppress_in cutter) (state_in cutter))) count (stays next (fit.sought ∙ ap pattern_by are))
-still_by cutter x text lines (Above last line) (above operand repetition matched cut) fit count all aims stays =
-    let least : min cut (2 ^ 64 - 1) ≤ cut = min-le_left cut (2 ^ 64 - 1) in omega (arith, least, aims.1, stays, all)
-still_by cutter x text lines _ _ fit count all aims stays = absurd aims
-
-pub passes : (cutter : CutterState) (text : List ℕ) (lines n : ℕ) → IsSound cutter → n ≤ length text → IsWhole (take n text) → lines ≡ cutter.lines + line_count newline (take n text) → StaysOver cutter (take n text) lines cutter.aim
+pub passes : {cutter : CutterState} {text : List ℕ} {lines n : ℕ} → IsSound cutter → n ≤ length text → IsWhole (take n text) → lines ≡ cutter.lines + line_count newline (take n text) → StaysOver cutter (take n text) lines cutter.aim
     → PassesOver cutter text (record cutter { lines = lines }) n
-passes cutter text lines n sound within whole count stays = record {
+passes {cutter} {text} {lines} {n} sound within whole count stays = record {
   same = refl;
   within = within;
   whole = whole;
   few = let few : line_count newline (take n text) ≤ length (take n text) = line_count-le-length newline (take n text) in let long = length-take-le n text within in omega (arith, count, few, long);
   sound = record {
     fit = record {
-      fits = fits_more cutter.lines lines (state_in cutter) (omega (arith, count)) sound.fit.fits;
+      fits = fits_more lines (omega (arith, count)) sound.fit.fits;
       most = sound.fit.most;
       delim = sound.fit.delim;
       sought = sound.fit.sought;
     };
     aim = aim_more cutter (take n text) lines cutter.aim (omega (arith, count)) sound.aim stays;
   };
-  ends = λ x before counted ends.
-      let sum : line_count newline (x ++ take n text) ≡ line_count newline x + line_count newline (take n text) = count-append x (take n text) before in
-      let here : length (all_lines x) ≡ line_count newline x = length-all_lines x in
-      let there : length (all_lines (take n text)) ≡ line_count newline (take n text) = length-all_lines (take n text) in
-      let both : length (all_lines x ++ all_lines (take n text)) ≡ length (all_lines x) + length (all_lines (take n text)) = length-append (all_lines x) (all_lines (take n text)) in (
-        omega (arith, count, counted, sum),
-        record {
-          ending = ends.ending;
-          runs = subst (λ those. Runs (suppress_in cutter) those (state_in cutter) [] (state_in cutter) ends.ending) (sym (all_lines-append x (take n text) before))
-              (ends_still (suppress_in cutter) (all_lines x) (all_lines (take n text)) _ _ _ ends.ending ends.runs
-              (still_by cutter x (take n text) lines cutter.aim ends.ending sound.fit (omega (arith, counted, here)) (omega (arith, count, counted, here, there, both)) ends.aims stays));
-          aims = ends.aims;
-        },
-      );
+  ends = ends_over (take n text) sound.fit count stays;
 }
 
 -- All lines of a text
 
-pub fits_count : (cutter now : CutterState) (text : List ℕ) (n : ℕ) → cutter ≡ now → now.lines + length text < 2 ^ 63 → n ≡ delimiters newline text → cutter.lines + n < 2 ^ 64
-fits_count cutter now text n is few counted =
+pub fits_count : {cutter now : CutterState} (text : List ℕ) {n : ℕ} → cutter ≡ now → now.lines + length text < 2 ^ 63 → n ≡ delimiters newline text → cutter.lines + n < 2 ^ 64
+fits_count {cutter} {now} text is few counted =
     let same : cutter.lines ≡ now.lines = ap (λ (those : CutterState). those.lines) is in
     let less : delimiters newline text ≤ length text = delimiters-le-length newline text in omega (arith, same, less, few, counted)
 
-passes_all : (cutter now : CutterState) (text : List ℕ) (n : ℕ) → cutter ≡ now → IsSound now → IsWhole text → n ≡ delimiters newline text
+passes_all : {cutter now : CutterState} {text : List ℕ} {n : ℕ} → cutter ≡ now → IsSound now → IsWhole text → n ≡ delimiters newline text
     → StaysOver cutter text (cutter.lines + n) cutter.aim → PassesOver now text (record cutter { lines = cutter.lines + n }) (length text)
-passes_all cutter now text n is sound whole count stays =
+passes_all {cutter} {text} {n} is sound whole count stays =
     let all : text ≡ take (length text) text = sym (take_all (length text) text (omega arith)) in
-    let same : line_count newline text ≡ delimiters newline text = whole_count text whole in
+    let same : line_count newline text ≡ delimiters newline text = whole_count whole in
     let taken : line_count newline text ≡ line_count newline (take (length text) text) = ap (line_count newline) all in
     subst (λ (those : CutterState). PassesOver those text (record cutter { lines = cutter.lines + n }) (length text)) is
-    (passes cutter text (cutter.lines + n) (length text) (subst IsSound (sym is) sound) (omega arith) (subst IsWhole all whole) (omega (arith, count, same, taken)) (subst (λ those. StaysOver cutter those (cutter.lines + n) cutter.aim) all stays))
+    (passes (subst IsSound (sym is) sound) (omega arith) (subst IsWhole all whole) (omega (arith, count, same, taken)) (subst (λ those. StaysOver cutter those (cutter.lines + n) cutter.aim) all stays))
 
-pub passes_all_at : (cutter now : CutterState) (text : List ℕ) (n : ℕ) → cutter ≡ now → IsSound now → IsWhole text → n ≡ delimiters newline text → now.aim ≡ UsedUp
+pub passes_all_at : {cutter now : CutterState} {text : List ℕ} {n : ℕ} → cutter ≡ now → IsSound now → IsWhole text → n ≡ delimiters newline text → now.aim ≡ UsedUp
     → PassesOver now text (record cutter { lines = cutter.lines + n }) (length text)
-passes_all_at cutter now text n is sound whole counted aim =
-    passes_all cutter now text n is sound whole counted
-    (subst (StaysOver cutter text (cutter.lines + n)) (sym (ap (λ (those : CutterState). those.aim) is ∙ aim)) tt)
+passes_all_at {cutter} {text} {n} is sound whole counted aim =
+    passes_all is sound whole counted (subst (StaysOver cutter text (cutter.lines + n)) (sym (ap (λ (those : CutterState). those.aim) is ∙ aim)) tt)
 
 -- Lines before the line of a cut
 
 -- the lines that end there
-count_ends : (n : ℕ) (x : List ℕ) (end : ℕ) → EndsAt newline n x end → line_count newline (take end x) ≡ n
-count_ends n x end ends =
+count_ends : {n : ℕ} {x : List ℕ} (end : ℕ) → EndsAt newline n x end → line_count newline (take end x) ≡ n
+count_ends {n} {x} end ends =
     let enough : n ≤ delimiters newline x = EndsAt-enough newline n x end ends in
     let near : delimiters newline x ≤ line_count newline x = (line_count_near newline x).0 in
     ap (line_count newline) ends.lines ∙ ap length (lines_of-first_lines newline n x) ∙ length-take-le n (lines_of newline x) (omega (arith, enough, near))
 
-pub passes_below_at : (cutter now : CutterState) (text : List ℕ) (line end : ℕ) → cutter ≡ now → IsSound now → (matched : ℕ) × (now.aim ≡ Above matched line) → EndsAt newline (line - 1 - cutter.lines) text end
+pub passes_below_at : {cutter now : CutterState} {text : List ℕ} (line end : ℕ) → cutter ≡ now → IsSound now → (matched : ℕ) × (now.aim ≡ Above matched line) → EndsAt newline (line - 1 - cutter.lines) text end
     → PassesOver now text (record cutter { lines = line - 1 }) end
-passes_below_at cutter now text line end is sound (matched, aimed) ends =
+passes_below_at {cutter} {text} line end is sound (matched, aimed) ends =
     let here : IsSound cutter = subst IsSound (sym is) sound in
     let aim : cutter.aim ≡ Above matched line = ap (λ (those : CutterState). those.aim) is ∙ aimed in
     let will : WillMove cutter.operands cutter.lines cutter.progress matched line =
     subst (AimHolds cutter.operands cutter.lines cutter.progress) aim here.aim in
     let less : cutter.lines < line = will.above in
-    let count : line_count newline (take end text) ≡ line - 1 - cutter.lines = count_ends (line - 1 - cutter.lines) text end ends in
+    let count : line_count newline (take end text) ≡ line - 1 - cutter.lines = count_ends end ends in
     subst (λ (those : CutterState). PassesOver those text (record cutter { lines = line - 1 }) end) is
-    (passes cutter text (line - 1) end here ends.within (whole_by (take end text) _ refl (let all = ends.complete in omega (arith, count, all)))
-    (omega (arith, less, count))
+    (passes here ends.within (whole_by (take end text) _ refl (let all = ends.complete in omega (arith, count, all))) (omega (arith, less, count))
     (subst (StaysOver cutter (take end text) (line - 1)) (sym aim) (let e : line - 1 < line = omega (arith, less) in e)))
 
-pub passes_short_at : (cutter now : CutterState) (text : List ℕ) (line count : ℕ) → cutter ≡ now → IsSound now → IsWhole text → (matched : ℕ) × (now.aim ≡ Above matched line) → FallsShort newline (line - 1 - cutter.lines) text count
+pub passes_short_at : {cutter now : CutterState} {text : List ℕ} (line : ℕ) {count : ℕ} → cutter ≡ now → IsSound now → IsWhole text → (matched : ℕ) × (now.aim ≡ Above matched line) → FallsShort newline (line - 1 - cutter.lines) text count
     → PassesOver now text (record cutter { lines = cutter.lines + count }) (length text)
-passes_short_at cutter now text line count is sound whole (matched, aim) short =
+passes_short_at {cutter} {text} line {count} is sound whole (matched, aim) short =
     let fewer : count < line - 1 - cutter.lines = short.fewer in
     let less : cutter.lines + count < line = omega (arith, fewer) in
-    passes_all cutter now text count is sound whole short.counted
-    (subst (StaysOver cutter text (cutter.lines + count)) (sym (ap (λ (those : CutterState). those.aim) is ∙ aim)) less)
+    passes_all is sound whole short.counted (subst (StaysOver cutter text (cutter.lines + count)) (sym (ap (λ (those : CutterState). those.aim) is ∙ aim)) less)
 
 -- Lines without the pattern that is searched for
 
@@ -178,8 +148,8 @@ pub record Unmatched (cutter : CutterState) (text left : List ℕ) (next : Cutte
   pub count : next.lines ≡ cutter.lines + line_count newline front
   pub none : StaysOver cutter front next.lines Missed
 
-pub none_yet : (cutter : CutterState) (text : List ℕ) → Unmatched cutter text text cutter
-none_yet cutter text = record {
+pub none_yet : {cutter : CutterState} {text : List ℕ} → Unmatched cutter text text cutter
+none_yet = record {
   front = [];
   all = refl;
   whole = inl refl;
@@ -196,9 +166,9 @@ first_ends (byte ∷ x) zero within here = here
 first_ends (byte ∷ []) (suc end) within here = absurd (omega (arith, within))
 first_ends (byte ∷ next ∷ x) (suc end) within here = first_ends (next ∷ x) end (omega (arith, within)) here
 
-one_by : (byte : ℕ) (is : Bool) → cond is ((byte ∷ []) ∷ []) ((byte ∷ []) ∷ []) ≡ (byte ∷ []) ∷ []
-one_by byte true = refl
-one_by byte false = refl
+one_by : {byte : ℕ} (is : Bool) → cond is ((byte ∷ []) ∷ []) ((byte ∷ []) ∷ []) ≡ (byte ∷ []) ∷ []
+one_by true = refl
+one_by false = refl
 
 other_first : (x : List ℕ) (byte end : ℕ) → 0 < end → Nowhere (Passes (is_byte newline) (byte ∷ x)) 0 end → eqb byte newline ≡ false
 other_first x byte end some none = ne_eqb byte newline (λ same. none 0 (omega arith) some (eq-eqb byte newline same))
@@ -208,7 +178,7 @@ none_after byte x end none k low high = none (suc k) (omega arith) (omega (arith
 
 first_line : (x : List ℕ) (end : ℕ) → end < length x → Nowhere (Passes (is_byte newline) x) 0 end → IsLine (take (suc end) x)
 first_line [] end within none = absurd (omega (arith, within))
-first_line (byte ∷ x) zero within none = one_by byte (eqb byte newline)
+first_line (byte ∷ x) zero within none = one_by (eqb byte newline)
 first_line (byte ∷ x) (suc end) within none =
     ap (λ is. cond is ((byte ∷ []) ∷ lines_of newline (take (suc end) x)) (onto_first byte (lines_of newline (take (suc end) x)))) (other_first x byte (suc end) (omega arith) none)
     ∙ ap (onto_first byte) (first_line x end (omega (arith, within)) (none_after byte x end none))
@@ -236,65 +206,63 @@ none_one : (operand : Operand) (count : ℕ) (line : Line) (from : ℕ) → (fro
 none_one operand count line from here zero less near = here near
 none_one operand count line from here (suc k) less near = absurd (omega (arith, less))
 
-one_more : (cutter : CutterState) (text left rest : List ℕ) (next : CutterState) (number end : ℕ) → Unmatched cutter text left next → number ≡ next.lines + 1 → end < length left → Passes (is_byte newline) left end
+one_more : {cutter : CutterState} {text left rest : List ℕ} {next : CutterState} (number end : ℕ) → Unmatched cutter text left next → number ≡ next.lines + 1 → end < length left → Passes (is_byte newline) left end
     → Nowhere (Passes (is_byte newline) left) 0 end → IsFound next (take end left) number false → rest ≡ drop (suc end) left → Unmatched cutter text rest (record next { lines = number })
-one_more cutter text left rest next number end so is within here none found rest_is =
+one_more {cutter} {left} {rest} {next} number end so is within here none found rest_is =
     let line = take (suc end) left in
     let one : IsLine line = first_line left end within none in
     let found_at : IsFound (record cutter { lines = next.lines }) (take end left) number false = subst (λ (those : CutterState). IsFound those (take end left) number false) so.same found in
     let before : length (all_lines so.front) ≡ line_count newline so.front = length-all_lines so.front in record {
       front = so.front ++ line;
       all = so.all ∙ ap (λ those. so.front ++ those) (sym (take-append-drop (suc end) left) ∙ ap (λ those. line ++ those) (sym rest_is)) ∙ sym (append_assoc so.front line rest);
-      whole = whole-append so.front line so.whole (inr (first_ends left end within here));
+      whole = whole-append line so.whole (inr (first_ends left end within here));
       same = ap (λ (those : CutterState). record those { lines = number }) so.same;
-      count = is ∙ (let more : line_count newline (so.front ++ line) ≡ line_count newline so.front + 1 = count-line so.front line so.whole one in let c : next.lines ≡ cutter.lines + line_count newline so.front = so.count in omega (arith, more, c));
-      none = λ operand same. subst (λ those. NoneFrom operand cutter.lines those (search_line (suppress_in cutter) (state_in cutter))) (sym (all_lines-line so.front line so.whole one))
+      count = is ∙ (let more : line_count newline (so.front ++ line) ≡ line_count newline so.front + 1 = count-line line so.whole one in let c : next.lines ≡ cutter.lines + line_count newline so.front = so.count in omega (arith, more, c));
+      none = λ operand same. subst (λ those. NoneFrom operand cutter.lines those (search_line (suppress_in cutter) (state_in cutter))) (sym (all_lines-line line so.whole one))
           (none_more operand cutter.lines (all_lines so.front) (marked line ∷ []) (search_line (suppress_in cutter) (state_in cutter)) (so.none operand same)
-          (none_one operand _ (marked line) _
-          (λ near. found_is (record cutter { lines = next.lines }) line (take end left) number false operand.target
-          (sym (first_text left end within here none)) same found_at
+          (none_one operand _ (marked line) _ (λ near. found_is line number operand.target (sym (first_text left end within here none)) same found_at
           (let c : next.lines ≡ cutter.lines + line_count newline so.front = so.count in omega (arith, near, is, c, before)))));
     }
 
 -- the numbers are small
 
-few_counted : (cutter : CutterState) (text left : List ℕ) (next : CutterState) → Unmatched cutter text left next → next.lines + length left ≤ cutter.lines + length text
-few_counted cutter text left next so =
+few_counted : {cutter : CutterState} {text left : List ℕ} {next : CutterState} → Unmatched cutter text left next → next.lines + length left ≤ cutter.lines + length text
+few_counted {cutter} {text} {left} {next} so =
     let long : length text ≡ length so.front + length left = ap length so.all ∙ length-append so.front left in
     let less : line_count newline so.front ≤ length so.front = line_count-le-length newline so.front in
     let c : next.lines ≡ cutter.lines + line_count newline so.front = so.count in omega (arith, long, less, c)
 
-pub few_counted_at : (cutter : CutterState) (text left : List ℕ) (next now : CutterState) → Unmatched cutter text left next → now ≡ next → cutter.lines + length text < 2 ^ 63 → now.lines + 1 < 2 ^ 64
-few_counted_at cutter text left next now so is few =
+pub few_counted_at : {cutter : CutterState} {text left : List ℕ} {next now : CutterState} → Unmatched cutter text left next → now ≡ next → cutter.lines + length text < 2 ^ 63 → now.lines + 1 < 2 ^ 64
+few_counted_at {next} {now} so is few =
     let e : now.lines ≡ next.lines = ap (λ (those : CutterState). those.lines) is in
-    let less = few_counted cutter text left next so in omega (arith, e, less, few)
+    let less = few_counted so in omega (arith, e, less, few)
 
 -- what is left of a slice
-pub all_left : (left : List ℕ) (n end : ℕ) → n ≡ length left → take (n - (end + 1)) (drop (end + 1) left) ≡ drop (suc end) left
-all_left left n end is =
+pub all_left : (left : List ℕ) {n : ℕ} (end : ℕ) → n ≡ length left → take (n - (end + 1)) (drop (end + 1) left) ≡ drop (suc end) left
+all_left left {n} end is =
     take_all (n - (end + 1)) (drop (end + 1) left) (let e : length (drop (end + 1) left) ≡ length left - (end + 1) = length-drop (end + 1) left in omega (arith, e, is))
     ∙ ap (λ k. drop k left) (let e : end + 1 ≡ suc end = omega arith in e)
 
 -- the same of cutters that are known by their fields
 
-pub one_more_at : (cutter : CutterState) (text left rest : List ℕ) (next before same now : CutterState) (end : ℕ) (found : Bool) → Unmatched cutter text left next → before ≡ next → same ≡ next → now ≡ same
+pub one_more_at : {cutter : CutterState} {text left rest : List ℕ} {next before same now : CutterState} (end : ℕ) {found : Bool} → Unmatched cutter text left next → before ≡ next → same ≡ next → now ≡ same
     → end < length left → Passes (is_byte newline) left end → Nowhere (Passes (is_byte newline) left) 0 end → IsFound next (take end left) (before.lines + 1) found → found ≡ false → rest ≡ drop (suc end) left
     → Unmatched cutter text rest (record now { lines = now.lines + 1 })
-one_more_at cutter text left rest next before same now end found so before_is same_is now_is within here none finds not rest_is =
+one_more_at {cutter} {text} {left} {rest} {next} {before} {now} end so before_is same_is now_is within here none finds not rest_is =
     let is : now ≡ next = now_is ∙ same_is in
     let number : before.lines + 1 ≡ now.lines + 1 = ap (λ (those : CutterState). those.lines + 1) (before_is ∙ sym is) in
     subst (λ (those : CutterState). Unmatched cutter text rest (record those { lines = now.lines + 1 })) (sym is)
-    (one_more cutter text left rest next (now.lines + 1) end so (ap (λ (those : CutterState). those.lines + 1) is) within here none
+    (one_more (now.lines + 1) end so (ap (λ (those : CutterState). those.lines + 1) is) within here none
     (subst (λ k. IsFound next (take end left) k false) number (subst (IsFound next (take end left) (before.lines + 1)) not finds)) rest_is)
 
 -- all that were looked at are passed over
-pub all_passed_at : (cutter : CutterState) (text left : List ℕ) (next now : CutterState) → IsSound cutter → cutter.aim ≡ Missed → Unmatched cutter text left next → now ≡ next → PassesOver cutter text now (length text - length left)
-all_passed_at cutter text left next now sound aim so is =
+pub all_passed_at : {cutter : CutterState} {text left : List ℕ} {next now : CutterState} → IsSound cutter → cutter.aim ≡ Missed → Unmatched cutter text left next → now ≡ next → PassesOver cutter text now (length text - length left)
+all_passed_at {cutter} {text} {left} {next} sound aim so is =
     let long : length text ≡ length so.front + length left = ap length so.all ∙ length-append so.front left in
     let count : length so.front ≡ length text - length left = omega (arith, long) in
     let front_is : so.front ≡ take (length text - length left) text = sym (ap (take (length text - length left)) so.all ∙ take_at so.front left (length text - length left) count) in
     subst (λ (those : CutterState). PassesOver cutter text those (length text - length left)) (sym (is ∙ so.same))
-    (passes cutter text next.lines (length text - length left) sound (omega arith) (subst IsWhole front_is so.whole) (so.count ∙ ap (λ those. cutter.lines + line_count newline those) front_is)
+    (passes sound (omega arith) (subst IsWhole front_is so.whole) (so.count ∙ ap (λ those. cutter.lines + line_count newline those) front_is)
     (subst (StaysOver cutter (take (length text - length left) text) next.lines) (sym aim) (subst (λ those. StaysOver cutter those next.lines Missed) front_is so.none)))
 
 -- Lines that are seen to have no match
@@ -309,56 +277,56 @@ marks_clear operand x clear k less =
     ap (λ (l : Line). l.marks operand) (get_or-map marked (lines_of newline x) k [] unmarked few)
     ∙ mark_clear (get_or (lines_of newline x) k []) operand.target (λ pattern is. clear pattern is k few)
 
-pub more_clear : (cutter : CutterState) (text left rest : List ℕ) (next now after : CutterState) (n : ℕ) → Unmatched cutter text left next → now ≡ next → PassesClear now left after n → rest ≡ drop n left → Unmatched cutter text rest after
-more_clear cutter text left rest next now after n so now_is passes rest_is =
+pub more_clear : {cutter : CutterState} {text left rest : List ℕ} {next now after : CutterState} {n : ℕ} → Unmatched cutter text left next → now ≡ next → PassesClear now left after n → rest ≡ drop n left → Unmatched cutter text rest after
+more_clear {cutter} {left} {rest} {next} {after} {n} so now_is passes rest_is =
     let clear : PassesClear next left after n = subst (λ (those : CutterState). PassesClear those left after n) now_is passes in
     let t = take n left in record {
       front = so.front ++ t;
       all = so.all ∙ ap (λ those. so.front ++ those) (sym (take-append-drop n left) ∙ ap (λ those. t ++ those) (sym rest_is)) ∙ sym (append_assoc so.front t rest);
-      whole = whole-append so.front t so.whole clear.whole;
+      whole = whole-append t so.whole clear.whole;
       same = clear.same ∙ ap (λ (those : CutterState). record those { lines = after.lines }) so.same;
-      count = clear.count ∙ (let more : line_count newline (so.front ++ t) ≡ line_count newline so.front + line_count newline t = count-append so.front t so.whole in let c : next.lines ≡ cutter.lines + line_count newline so.front = so.count in omega (arith, more, c));
-      none = λ operand same. subst (λ those. NoneFrom operand cutter.lines those (search_line (suppress_in cutter) (state_in cutter))) (sym (all_lines-append so.front t so.whole))
+      count = clear.count ∙ (let more : line_count newline (so.front ++ t) ≡ line_count newline so.front + line_count newline t = count-append t so.whole in let c : next.lines ≡ cutter.lines + line_count newline so.front = so.count in omega (arith, more, c));
+      none = λ operand same. subst (λ those. NoneFrom operand cutter.lines those (search_line (suppress_in cutter) (state_in cutter))) (sym (all_lines-append t so.whole))
           (none_more operand cutter.lines (all_lines so.front) (all_lines t) (search_line (suppress_in cutter) (state_in cutter)) (so.none operand same)
           (λ k less near. marks_clear operand t (λ pattern is. clear.clear pattern (ap (λ (those : CutterState). those.sought) so.same ∙ same ∙ is)) k less));
     }
 
-pub counts_clear : (cutter now : CutterState) (text : List ℕ) (n count : ℕ) → cutter ≡ now → n ≤ length text → IsWhole (take n text) → count ≡ delimiters newline (take n text) → ((pattern : Pattern) → now.sought ≡ Some pattern → AreClear pattern (take n text))
+pub counts_clear : {cutter now : CutterState} {text : List ℕ} {n count : ℕ} → cutter ≡ now → n ≤ length text → IsWhole (take n text) → count ≡ delimiters newline (take n text) → ((pattern : Pattern) → now.sought ≡ Some pattern → AreClear pattern (take n text))
     → PassesClear now text (record cutter { lines = cutter.lines + count }) n
-counts_clear cutter now text n count is within whole counted clear = subst (λ (those : CutterState). PassesClear those text (record cutter { lines = cutter.lines + count }) n) is (record {
+counts_clear {cutter} {text} {n} {count} is within whole counted clear = subst (λ (those : CutterState). PassesClear those text (record cutter { lines = cutter.lines + count }) n) is (record {
   same = refl;
   within = within;
   whole = whole;
-  count = (let e : line_count newline (take n text) ≡ delimiters newline (take n text) = whole_count (take n text) whole in omega (arith, e, counted));
+  count = (let e : line_count newline (take n text) ≡ delimiters newline (take n text) = whole_count whole in omega (arith, e, counted));
   clear = λ pattern same. clear pattern (ap (λ (those : CutterState). those.sought) (sym is) ∙ same);
 })
 
 -- what is left is complete lines
-pub left_whole : (cutter : CutterState) (text left : List ℕ) (next : CutterState) → IsWhole text → Unmatched cutter text left next → IsWhole left
-left_whole cutter text left next whole so = subst IsWhole (ap (drop (length so.front)) so.all ∙ drop_at so.front left (length so.front) refl) (whole_drop (length so.front) text whole)
+pub left_whole : {cutter : CutterState} {text left : List ℕ} {next : CutterState} → IsWhole text → Unmatched cutter text left next → IsWhole left
+left_whole {left} whole so = subst IsWhole (ap (drop (length so.front)) so.all ∙ drop_at so.front left (length so.front) refl) (whole_drop (length so.front) whole)
 
 -- the numbers are small
-pub fits_clear : (cutter now : CutterState) (text : List ℕ) (n count : ℕ) → cutter ≡ now → now.lines + length text < 2 ^ 64 → n ≤ length text → count ≡ delimiters newline (take n text) → cutter.lines + count < 2 ^ 64
-fits_clear cutter now text n count is fits within counted =
+pub fits_clear : {cutter now : CutterState} (text : List ℕ) {n count : ℕ} → cutter ≡ now → now.lines + length text < 2 ^ 64 → n ≤ length text → count ≡ delimiters newline (take n text) → cutter.lines + count < 2 ^ 64
+fits_clear {cutter} {now} text {n} is fits within counted =
     let same : cutter.lines ≡ now.lines = ap (λ (those : CutterState). those.lines) is in
     let less : delimiters newline (take n text) ≤ length (take n text) = delimiters-le-length newline (take n text) in
     let long : length (take n text) ≡ n = length-take-le n text within in
     omega (arith, same, less, long, fits, within, counted)
 
-pub few_left : (cutter : CutterState) (text left : List ℕ) (next : CutterState) → Unmatched cutter text left next → cutter.lines + length text < 2 ^ 63 → next.lines + length left < 2 ^ 64
-few_left cutter text left next so fits = let less = few_counted cutter text left next so in omega (arith, less, fits)
+pub few_left : {cutter : CutterState} {text left : List ℕ} {next : CutterState} → Unmatched cutter text left next → cutter.lines + length text < 2 ^ 63 → next.lines + length left < 2 ^ 64
+few_left so fits = let less = few_counted so in omega (arith, less, fits)
 
-pub stops_unfound : (cutter : CutterState) (text : List ℕ) (next : CutterState) (n : ℕ) (passed : Passed) → PassesOver cutter text next n → passed.size ≡ n → passed.found ≡ None → StopsAt cutter text next passed
-stops_unfound cutter text next n passed over size_is found_is = record {
+pub stops_unfound : {cutter : CutterState} {text : List ℕ} {next : CutterState} {n : ℕ} (passed : Passed) → PassesOver cutter text next n → passed.size ≡ n → passed.found ≡ None → StopsAt cutter text next passed
+stops_unfound {cutter} {text} {next} passed over size_is found_is = record {
   over = subst (PassesOver cutter text next) (sym size_is) over;
   found = subst (λ found. IfSome found (IsNextFound next (drop passed.size text))) (sym found_is) tt;
 }
 
 -- The line in which the pattern was found is the next one.
 
-pub next_found : (cutter : CutterState) (text left : List ℕ) (next before now : CutterState) (end : ℕ) (found : Bool) → cutter.aim ≡ Missed → Unmatched cutter text left next → before ≡ next → now ≡ next → end < length left → Passes (is_byte newline) left end → Nowhere (Passes (is_byte newline) left) 0 end
+pub next_found : {cutter : CutterState} {text left : List ℕ} {next before now : CutterState} (end : ℕ) {found : Bool} → cutter.aim ≡ Missed → Unmatched cutter text left next → before ≡ next → now ≡ next → end < length left → Passes (is_byte newline) left end → Nowhere (Passes (is_byte newline) left) 0 end
     → IsFound next (take end left) (before.lines + 1) found → found ≡ true → IsNextFound now (drop (length text - length left) text) (end + 1)
-next_found cutter text left next before now end found aim so before_is now_is within here none finds sure =
+next_found {text} {left} {next} {before} end {found} aim so before_is now_is within here none finds sure =
     let long : length text ≡ length so.front + length left = ap length so.all ∙ length-append so.front left in
     let left_is : drop (length text - length left) text ≡ left = ap (drop (length text - length left)) so.all ∙ drop_at so.front left (length text - length left) (omega (arith, long)) in
     let one : suc end ≡ end + 1 = omega arith in
@@ -372,3 +340,108 @@ next_found cutter text left next before now end found aim so before_is now_is wi
       found = subst (λ those. IsFound next those (next.lines + 1) true) (sym (first_text left end within here none))
           (subst (λ n. IsFound next (take end left) n true) (ap (λ (those : CutterState). those.lines + 1) before_is) (subst (IsFound next (take end left) (before.lines + 1)) sure finds));
     })))
+
+-- Lines of a text that is seen to have no match up to a place, and lines without their newlines.
+
+without_none : (text : List ℕ) → HasNone newline text → without_newline text ≡ text
+without_none [] none = refl
+without_none (byte ∷ text) none = ap (λ is. cond is [] (byte ∷ without_newline text)) (ne_eqb byte newline none.0) ∙ ap (λ those. byte ∷ those) (without_none text none.1)
+
+without_last : (text : List ℕ) → HasNone newline text → without_newline (text ++ newline ∷ []) ≡ text
+without_last [] none = refl
+without_last (byte ∷ text) none = ap (λ is. cond is [] (byte ∷ without_newline (text ++ newline ∷ []))) (ne_eqb byte newline none.0) ∙ ap (λ those. byte ∷ those) (without_last text none.1)
+
+ends_none : (text : List ℕ) → HasNone newline text → ends_with newline text ≡ false
+ends_none [] none = refl
+ends_none (byte ∷ []) none = ne_eqb byte newline none.0
+ends_none (byte ∷ next ∷ text) none = ends_none (next ∷ text) none.1
+
+-- A complete line that ends by the place contains no match.
+
+line_clear : (pattern : Pattern) {text : List ℕ} (place : ℕ) (front line more rest : List ℕ) → IsClear pattern text place → text ≡ front ++ (line ++ more) ++ rest → length front + length (line ++ more) ≤ place → IsComplete newline line
+    → contains pattern (without_newline line) ≡ false
+line_clear pattern {text} place front line more rest clear all within (bytes, is, none) =
+    let after = newline ∷ (more ++ rest) in
+    let long : length line ≡ length bytes + 1 = ap length is ∙ length-append bytes (newline ∷ []) in
+    let longer : length (line ++ more) ≡ length line + length more = length-append line more in
+    let parts : text ≡ front ++ bytes ++ after = all ∙ append_assoc front (line ++ more) rest
+    ∙ ap (λ those. front ++ those) (append_assoc line more rest ∙ ap (λ those. those ++ (more ++ rest)) is ∙ append_assoc bytes (newline ∷ []) (more ++ rest))
+    ∙ sym (append_assoc front bytes after) in
+    ap (contains pattern) (ap without_newline is ∙ without_last bytes none) ∙ clear front bytes after parts (omega (arith, long, longer, within))
+
+line_some : (line : List ℕ) (lines : List (List ℕ)) → AreLines newline (line ∷ lines) → 0 < length (joined (line ∷ lines))
+line_some line [] (inl (bytes, is, none)) = let long : length line ≡ length bytes + 1 = ap length is ∙ length-append bytes (newline ∷ []) in let all : length (line ++ []) ≡ length line + 0 = length-append line [] in omega (arith, long, all)
+line_some line [] (inr unended) = let some : 0 < length line = unended.0 in let all : length (line ++ []) ≡ length line + 0 = length-append line [] in omega (arith, some, all)
+line_some line (next ∷ lines) ((bytes, is, none), others) =
+    let long : length line ≡ length bytes + 1 = ap length is ∙ length-append bytes (newline ∷ []) in
+    let all : length (joined (line ∷ next ∷ lines)) ≡ length line + length (joined (next ∷ lines)) = length-append line (joined (next ∷ lines)) in omega (arith, long, all)
+
+each_clear : (pattern : Pattern) {text : List ℕ} (place : ℕ) (front : List ℕ) (lines : List (List ℕ)) (rest : List ℕ) → IsClear pattern text place → text ≡ front ++ joined lines ++ rest → length front + length (joined lines) ≤ place → AreLines newline lines
+    → (0 < length lines → ends_with newline (joined lines) ≡ true) → (k : ℕ) → k < length lines → contains pattern (without_newline (get_or lines k [])) ≡ false
+each_clear pattern place front [] rest clear all within are ends k less = absurd (omega (arith, less))
+each_clear pattern place front (line ∷ []) rest clear all within (inl complete) ends zero less = line_clear pattern place front line [] rest clear all within complete
+each_clear pattern place front (line ∷ []) rest clear all within (inr unended) ends zero less =
+    absurd (false≢true (sym (ends_none line unended.1) ∙ ap (ends_with newline) (sym (append-nil line)) ∙ ends (omega arith)))
+each_clear pattern place front (line ∷ []) rest clear all within are ends (suc k) less = absurd (omega (arith, less))
+each_clear pattern place front (line ∷ next ∷ lines) rest clear all within are ends zero less = line_clear pattern place front line (joined (next ∷ lines)) rest clear all within are.0
+each_clear pattern place front (line ∷ next ∷ lines) rest clear all within are ends (suc k) less =
+    let both : length (front ++ line) ≡ length front + length line = length-append front line in
+    let these : length (line ++ joined (next ∷ lines)) ≡ length line + length (joined (next ∷ lines)) = length-append line (joined (next ∷ lines)) in
+    each_clear pattern place (front ++ line) (next ∷ lines) rest clear
+    (all ∙ ap (λ those. those ++ rest) (sym (append_assoc front line (joined (next ∷ lines))))) (omega (arith, both, these, within)) are.1
+    (λ some. sym (ends_with-append newline line (joined (next ∷ lines)) (line_some next lines are.1)) ∙ ends (omega arith)) k (omega (arith, less))
+
+whole_ends : {x : List ℕ} → IsWhole x → 0 < length (lines_of newline x) → ends_with newline (joined (lines_of newline x)) ≡ true
+whole_ends {x} (inl none) some = absurd (let e : length (lines_of newline x) ≡ 0 = ap (λ those. length (lines_of newline those)) none in omega (arith, e, some))
+whole_ends {x} (inr ends) some = ap (ends_with newline) (joined-lines_of newline x) ∙ ends
+
+pub clear_front : (pattern : Pattern) (text : List ℕ) (place n : ℕ) → IsClear pattern text place → n ≤ place → n ≤ length text → IsWhole (take n text) → AreClear pattern (take n text)
+clear_front pattern text place n clear low within whole =
+    let x = take n text in
+    let joined_is : joined (lines_of newline x) ≡ x = joined-lines_of newline x in
+    let long : length (joined (lines_of newline x)) ≡ n = ap length joined_is ∙ length-take-le n text within in
+    each_clear pattern place [] (lines_of newline x) (drop n text) clear (sym (take-append-drop n text) ∙ ap (λ those. those ++ drop n text) (sym joined_is))
+    (omega (arith, long, low)) (AreLines-lines_of newline x) (whole_ends whole)
+
+-- A line has its newline at its end, if it has one.
+
+one_line : (line : List ℕ) → IsLine line → AreLines newline (line ∷ [])
+one_line line one = subst (AreLines newline) one (AreLines-lines_of newline line)
+
+last_is : (bytes : List ℕ) {byte : ℕ} (d : ℕ) → get_or (bytes ++ byte ∷ []) (length bytes) d ≡ byte
+last_is [] d = refl
+last_is (first ∷ bytes) d = last_is bytes d
+
+none_at : (text : List ℕ) (n d : ℕ) → n < length text → HasNone newline text → get_or text n d ≡ newline → ⊥
+none_at [] n d less none is = absurd (omega (arith, less))
+none_at (byte ∷ text) zero d less none is = none.0 is
+none_at (byte ∷ text) (suc n) d less none is = none_at text n d (omega (arith, less)) none.1 is
+
+pub text_ended : (line : List ℕ) {last : ℕ} (d : ℕ) → IsLine line → last ≡ get_or line (length line - 1) d → last ≡ newline → take (length line - 1) line ≡ without_newline line
+text_ended line d one read is = by (one_line line one) where
+  by : AreLines newline (line ∷ []) → take (length line - 1) line ≡ without_newline line
+  by (inl (bytes, whole, none)) =
+      let long : length line ≡ length bytes + 1 = ap length whole ∙ length-append bytes (newline ∷ []) in
+      ap (take (length line - 1)) whole ∙ take_at bytes (newline ∷ []) (length line - 1) (omega (arith, long)) ∙ sym (ap without_newline whole ∙ without_last bytes none)
+  by (inr unended) = absurd (none_at line (length line - 1) d (let some = unended.0 in omega (arith, some)) unended.1 (sym read ∙ is))
+
+pub text_open : (line : List ℕ) {last : ℕ} (d : ℕ) → IsLine line → last ≡ get_or line (length line - 1) d → (last ≡ newline → ⊥) → line ≡ without_newline line
+text_open line d one read differs = by (one_line line one) where
+  by : AreLines newline (line ∷ []) → line ≡ without_newline line
+  by (inl (bytes, whole, none)) =
+      let long : length line ≡ length bytes + 1 = ap length whole ∙ length-append bytes (newline ∷ []) in
+      absurd (differs (read ∙ ap (λ n. get_or line n d) (let e : length line - 1 ≡ length bytes = omega (arith, long) in e) ∙ ap (λ those. get_or those (length bytes) d) whole ∙ last_is bytes d))
+  by (inr unended) = sym (without_none line unended.1)
+
+-- where a text ends after a newline, lines end
+
+pub ends_there : (text : List ℕ) (n : ℕ) → n ≤ length text → (0 < n → Passes (is_byte newline) text (n - 1)) → IsWhole (take n text)
+ends_there text n within here = elim (cases_lt 0 n) [
+  | inl some ↦
+      let one : suc (n - 1) ≡ n = omega (arith, some) in
+      inr (subst (λ k. ends_with newline (take k text) ≡ true) one (first_ends text (n - 1) (omega (arith, some, within)) (here some)))
+  | inr none ↦ inl (ap (λ k. take k text) (let e : n ≡ 0 = omega (arith, none) in e) ∙ none_taken text)
+] where
+  none_taken : (x : List ℕ) → take 0 x ≡ []
+  none_taken [] = refl
+  none_taken (byte ∷ x) = refl

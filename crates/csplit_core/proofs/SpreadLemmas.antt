@@ -1,22 +1,37 @@
--- Cutting as often as operands cut the lines that are left.
-use Rattle.std.proofs.Common.{◌≡◌, inl, ℕ, ◌<◌, Bool, Result, Ok, Err, Some, None, List, [], ◌++◌, refl, sym, ◌∙◌, ap, subst, arith, append_assoc}
-use Rattle.std.proofs.lemmas.List.{append-nil}
+-- Cutting as often as operands cut the lines that are left, and then taking in the lines after them that aren't cut.
+use Rattle.std.proofs.Common.{◌≡◌, inl, ℕ, ◌+◌, ◌<◌, ◌≤◌, Bool, Option, Some, List, [], ◌++◌, length, refl, sym, ◌∙◌, ap, subst, arith, append_assoc, length-append, ◌-◌, true, eqb, take, None, IfSome, Result, Ok, Err, drop}
+use Rattle.std.proofs.lemmas.List.{append-nil, take_at, nil_from_length, take-append-drop, length-take-le, length-drop, drop_at, drop-drop}
 use Rattle.seg_core.specs.Window.{Window}
 use Rattle.ports_core.specs.Part.{Part}
 use Rattle.ports_core.specs.Slot.{Slot}
 use Rattle.ports_core.specs.declared.fault.Fault.{Fault}
 use Rattle.ports_core.proofs.PartLemmas.{part_trans}
-use Rattle.ports_core.proofs.SlotSteps.{keeps_again}
-use Rattle.csplit_core.specs.Input.{all_lines}
-use Rattle.csplit_core.specs.Output.{Style}
 use Rattle.csplit_core.specs.inner.PlanLaws.{needed}
 use Rattle.csplit_core.specs.Writer.{IsReady, size_of}
-use Rattle.csplit_core.specs.inner.Writer.{Halts, Moves as Gets}
 use Rattle.csplit_core.specs.declared.line_cutter.Cut.{Cut}
 use Rattle.csplit_core.specs.declared.progress.Turn.{Turn}
-use Rattle.csplit_core.specs.Cutter.{CutterState, state_in, AimHolds, IsFit, IsSound, IsAt, EndsNow, Stands}
-use Rattle.csplit_core.specs.inner.Cutter.{settled_part, IsSame, IsEnd, part_at, Arrives, Held, HeldNot, Holds, Tries, CutsNow, IsAfter, CutAt, CutNot, CutAll, CutAllNot, CutsAll, WillCut, Spreading, Spread}
-use Rattle.csplit_core.proofs.WriterLemmas.{moves_again, moves_as, halts_after, halts_as, breaks_later, owns_again}
+use Rattle.csplit_core.specs.Cutter.{CutterState, state_in, IsFit, IsSound, IsAt, EndsNow, kept_by, draft_by, IsLive}
+use Rattle.csplit_core.specs.inner.Cutter.{IsEnd, part_at, Holds, Tries, CutsNow, IsAfter, CutAt, CutsAll, WillCut, Spreading, Spread, settled_part, IsLine, IsWhole, IsNextFound, PassesOver, StopsAt, TriesNext, CutsOn, GoesOn, Stretches, Takes}
+use Rattle.csplit_core.proofs.CutterLemmas.{keeps_on, settled_same, at_more, part_more}
+use Rattle.csplit_core.proofs.TakeLemmas.{Reached, more_lines, sound_held, take_cut, took_held}
+use Rattle.csplit_core.proofs.WriterLemmas.{reaches_again, reaches_as, where_well, bytes_begin, leaves_lacking, stops_wider}
+use Rattle.std.proofs.lemmas.Bool.{eqb-true}
+use Rattle.seg_core.specs.Line.{delimiters, first_lines, line_count, ends_with}
+use Rattle.ports_core.specs.declared.fault.Fault.TheVariants.{Memory}
+use Rattle.csplit_core.specs.Draft.{draft_part}
+use Rattle.csplit_core.specs.inner.Writer.{with_bytes, Leaves, fault_in}
+use Rattle.csplit_core.specs.Input.{newline, all_lines}
+use Rattle.csplit_core.proofs.CutLemmas.{before_begins, cut_stopped}
+use Rattle.csplit_core.proofs.HoldLemmas.{lacks_memory}
+use Rattle.std.proofs.Math.Seq.{take-add}
+use Rattle.std.specs.Prelude.{IfOk}
+use Rattle.csplit_core.specs.Output.{Style}
+use Rattle.csplit_core.specs.Plan.{search_line}
+use Rattle.csplit_core.specs.declared.line_cutter.Passed.{Passed}
+use Rattle.csplit_core.specs.declared.progress.Turn.TheVariants.{Below}
+use Rattle.csplit_core.proofs.LineLemmas.{count-line, whole-append, rest_all}
+
+-- Cutting as often as operands cut the lines that are left.
 
 -- What is said of the sections and of where the run stands doesn't depend on the aim or the lines that wait.
 
@@ -26,32 +41,23 @@ alike cutter aim window = record cutter { aim = aim; window = window }
 unfoldable pub at_alike : (cutter : CutterState) (aim : Turn) (window : Window) (x left : List ℕ) → IsAt cutter x left → IsAt (alike cutter aim window) x left
 at_alike cutter aim window x left at = record { steps = at.steps; leads = at.leads; counted = at.counted; taken = at.taken; written = at.written; few = at.few; written_is = at.written_is; left_is = at.left_is; writes = at.writes }
 
-pub spread_once : (told : Bool) (cutter next : CutterState) (cut : Cut) (place : ℕ) (waiting line left : List ℕ) (old new : List Slot) → CutAt told cutter cut place waiting old new next left → Spreading told cutter cut place waiting line old new next left
-spread_once told cutter next cut place waiting line left old new at_cut = record {
-  same = at_cut.same;
-  lines = at_cut.lines;
-  fit = at_cut.fit;
-  held = at_cut.held;
-  after = λ x at now. at_cut.after x line at now;
-  keeps = at_cut.keeps;
-  owns = at_cut.owns;
-  ready = at_cut.ready;
-  size = at_cut.size;
-  end = at_cut.end;
-}
+-- Trying the next operand changes the aim alone.
+
+pub spread_fit : {now mid : CutterState} → mid ≡ record now { aim = mid.aim } → IsFit now → IsFit mid
+spread_fit is fit = subst IsFit (sym is) (record { fits = fit.fits; most = fit.most; delim = fit.delim; sought = fit.sought })
+
+pub spread_ready : (now : CutterState) {mid : CutterState} {slots : List Slot} → mid ≡ record now { aim = mid.aim } → IsReady now.writer slots → IsReady mid.writer slots
+spread_ready now {slots} is ready = subst (λ (c : CutterState). IsReady c.writer slots) (sym is) ready
+
+pub spread_fewer : (now : CutterState) {mid : CutterState} {less : ℕ} → mid ≡ record now { aim = mid.aim } → less < needed mid.lines (state_in mid) → less < needed now.lines (state_in now)
+spread_fewer now {less} is fewer = subst (λ (c : CutterState). less < needed c.lines (state_in c)) is fewer
 
 -- the next operand cuts as well
 
-pub settled_same : (cutter next : CutterState) (x : List ℕ) → IsSame cutter next → settled_part next x ≡ settled_part cutter x
-settled_same cutter next x same = ap (λ (s : Style). Rattle.csplit_core.specs.Csplit.settled_of s next.operands (all_lines x)) same.style ∙ ap (λ operands. Rattle.csplit_core.specs.Csplit.settled_of cutter.writer.style operands (all_lines x)) same.operands
-
-pub same_again : (one two three : CutterState) → IsSame one two → IsSame two three → IsSame one three
-same_again one two three first second = record { operands = second.operands ∙ first.operands; style = second.style ∙ first.style }
-
-cuts_again : (told : Bool) (cutter now : CutterState) (aim : Turn) (cut : Cut) (x line left : List ℕ) (low : Part) (old new : List Slot) (after : IsAfter told cutter x line now left low old new) → Tries now line (record now { aim = aim }) (Some cut) → WillCut now cut
+cuts_again : {told : Bool} {cutter now : CutterState} {aim : Turn} (cut : Cut) {x : List ℕ} (line : List ℕ) {left : List ℕ} {low : Part} {old new : List Slot} (after : IsAfter told cutter x line now left low old new) → Tries now line (record now { aim = aim }) (Some cut) → WillCut now cut
     → CutsNow (record now { aim = aim }) x left line cut now.progress.current (at_alike now aim now.window x left after.now)
 unfolding at_alike
-cuts_again told cutter now aim cut x line left low old new after tries will =
+cuts_again cut {x} line after tries will =
     let both = tries x after.looked in record {
       last = after.looked.last;
       near = both.1 (inl after.near);
@@ -63,141 +69,328 @@ cuts_again told cutter now aim cut x line left low old new after tries will =
 end_again : (left rest waiting : List ℕ) → IsEnd left waiting → IsEnd rest left → IsEnd rest waiting
 end_again left rest waiting (front, is) (more, rest_is) = (front ++ more, is ∙ ap (λ those. front ++ those) rest_is ∙ sym (append_assoc front more rest))
 
-more_with : (told : Bool) (cutter now next : CutterState) (aim : Turn) (cut cut' : Cut) (place : ℕ) (waiting line left rest : List ℕ) (old between new : List Slot) → Spreading told cutter cut place waiting line old between now left
-    → Tries now line (record now { aim = aim }) (Some cut') → WillCut now cut' → CutAt told (record now { aim = aim }) cut' now.progress.current left between new next rest → Spreading told cutter cut place waiting line old new next rest
-unfolding at_alike
-more_with told cutter now next aim cut cut' place waiting line left rest old between new so_far tries will at_cut = record {
-  same = same_again cutter now next so_far.same (record { operands = at_cut.same.operands; style = at_cut.same.style });
-  lines = at_cut.lines ∙ so_far.lines;
-  fit = at_cut.fit;
-  held = at_cut.held;
-  after = λ x at here.
-      let after = so_far.after x at here in
-      let again = at_cut.after x line (at_alike now aim now.window x left after.now) (cuts_again told cutter now aim cut' x line left (part_at cutter x waiting at) old between after tries will) in record {
-        now = again.now;
-        looked = again.looked;
-        near = again.near;
-        none = again.none;
-        grows = part_trans (part_at cutter x waiting at) (part_at now x left after.now) (part_at next x rest again.now) after.grows again.grows;
-        moves = moves_again told (part_at cutter x waiting at) (part_at now x left after.now) (part_at next x rest again.now) old between new after.moves again.moves;
-      };
-  keeps = keeps_again old between new so_far.keeps at_cut.keeps;
-  owns = owns_again cutter.writer now.writer next.writer old between new so_far.owns at_cut.owns;
-  ready = at_cut.ready;
-  size = (let one = at_cut.size in let two = so_far.size in omega (arith, one, two));
-  end = end_again left rest waiting so_far.end at_cut.end;
-}
-
--- the place is as it is computed
-pub spread_more : (told : Bool) (cutter now mid next : CutterState) (cut cut' : Cut) (place at : ℕ) (waiting line left rest : List ℕ) (old between new : List Slot) → at ≡ mid.progress.current → Spreading told cutter cut place waiting line old between now left
+pub spread_more : {told : Bool} {cutter now mid next : CutterState} {cut cut' : Cut} {place at : ℕ} {waiting line left rest : List ℕ} {old between new : List Slot} → at ≡ mid.progress.current → Spreading told cutter cut place waiting line old between now left
     → mid ≡ record now { aim = mid.aim } → Tries now line mid (Some cut') → WillCut now cut' → CutAt told mid cut' at left between new next rest → Spreading told cutter cut place waiting line old new next rest
-spread_more told cutter now mid next cut cut' place at waiting line left rest old between new at_is so_far is tries will at_cut =
-    more_with told cutter now next mid.aim cut cut' place waiting line left rest old between new so_far (subst (λ (m : CutterState). Tries now line m (Some cut')) is tries) will
-    (subst (λ (m : CutterState). CutAt told m cut' m.progress.current left between new next rest) is
-    (subst (λ n. CutAt told mid cut' n left between new next rest) at_is at_cut))
-
-stopped_with : (told : Bool) (cutter now next : CutterState) (aim : Turn) (cut cut' : Cut) (place : ℕ) (waiting line left : List ℕ) (old between new : List Slot) (fault : Fault) → Spreading told cutter cut place waiting line old between now left
-    → Tries now line (record now { aim = aim }) (Some cut') → WillCut now cut' → CutNot told (record now { aim = aim }) cut' now.progress.current left between new next fault → CutAllNot told cutter cut place waiting line [] old new next fault
 unfolding at_alike
-stopped_with told cutter now next aim cut cut' place waiting line left old between new fault so_far tries will not_cut = record {
-  same = same_again cutter now next so_far.same (record { operands = not_cut.same.operands; style = not_cut.same.style });
-  halts = λ x at here.
-      let after = so_far.after x at here in
-      subst (λ those. Halts told cutter.writer (part_at cutter x waiting at) (settled_part cutter those) old new fault) (sym (append-nil x))
-      (halts_after told (part_at cutter x waiting at) (part_at now x left after.now) (settled_part cutter x) old between new fault after.grows after.moves
-      (halts_as told _ _ _ _ between new fault refl (sym (settled_same cutter now x so_far.same)) (not_cut.halts x line (at_alike now aim now.window x left after.now) (cuts_again told cutter now aim cut' x line left (part_at cutter x waiting at) old between after tries will))));
-  breaks = breaks_later cutter.writer.style old between new fault so_far.keeps (subst (λ (s : Style). Rattle.csplit_core.specs.Writer.Breaks s between new fault) so_far.same.style not_cut.breaks);
-  owns = owns_again cutter.writer now.writer next.writer old between new so_far.owns not_cut.owns;
-}
+spread_more {told} {cutter} {now} {mid} {next} {cut} {cut'} {waiting = waiting} {line} {left} {rest} {between = between} {new} at_is so_far is tries will at_cut =
+    let tried = subst (λ (m : CutterState). Tries now line m (Some cut')) is tries in
+    let once = (subst (λ (m : CutterState). CutAt told m cut' m.progress.current left between new next rest) is (subst (λ n. CutAt told mid cut' n left between new next rest) at_is at_cut)).spreading line in record {
+      keeps = keeps_on so_far.keeps (record { operands = once.keeps.operands; writer = once.keeps.writer });
+      lines = once.lines ∙ so_far.lines;
+      fit = once.fit;
+      held = once.held;
+      after = λ x at here.
+          let after = so_far.after x at here in
+          let again = once.after x (at_alike now mid.aim now.window x left after.now) (cuts_again cut' line after tried will) in record {
+            now = again.now;
+            looked = again.looked;
+            near = again.near;
+            none = again.none;
+            grows = part_trans (part_at cutter x waiting at) (part_at now x left after.now) (part_at next x rest again.now) after.grows again.grows;
+            reaches = reaches_again after.grows after.reaches again.reaches;
+          };
+      size = (let one = once.size in let two = so_far.size in omega (arith, one, two));
+      end = end_again left rest waiting so_far.end once.end;
+    }
 
-pub spread_stopped : (told : Bool) (cutter now mid next : CutterState) (cut cut' : Cut) (place at : ℕ) (waiting line left : List ℕ) (old between new : List Slot) (fault : Fault) → at ≡ mid.progress.current → Spreading told cutter cut place waiting line old between now left
-    → mid ≡ record now { aim = mid.aim } → Tries now line mid (Some cut') → WillCut now cut' → CutNot told mid cut' at left between new next fault → CutAllNot told cutter cut place waiting line [] old new next fault
-spread_stopped told cutter now mid next cut cut' place at waiting line left old between new fault at_is so_far is tries will not_cut =
-    stopped_with told cutter now next mid.aim cut cut' place waiting line left old between new fault so_far (subst (λ (m : CutterState). Tries now line m (Some cut')) is tries) will
-    (subst (λ (m : CutterState). CutNot told m cut' m.progress.current left between new next fault) is
-    (subst (λ n. CutNot told mid cut' n left between new next fault) at_is not_cut))
-
--- a fault at the first cut
-pub first_stopped : (told : Bool) (cutter next : CutterState) (cut : Cut) (place : ℕ) (waiting line : List ℕ) (old new : List Slot) (fault : Fault) → CutNot told cutter cut place waiting old new next fault → CutAllNot told cutter cut place waiting line [] old new next fault
-first_stopped told cutter next cut place waiting line old new fault not_cut = record {
-  same = not_cut.same;
-  halts = λ x at now. subst (λ those. Halts told cutter.writer (part_at cutter x waiting at) (settled_part cutter those) old new fault) (sym (append-nil x)) (not_cut.halts x line at now);
-  breaks = not_cut.breaks;
-  owns = not_cut.owns;
-}
-
--- Then no operand cuts any more, and the lines that are left are held.
-
-arrives_there : (told : Bool) (cutter now : CutterState) (aim : Turn) (x line left : List ℕ) (low : Part) (old new : List Slot) (after : IsAfter told cutter x line now left low old new) → EndsNow (record now { aim = aim }) x
-    → Arrives (record now { aim = aim }) x left (at_alike now aim now.window x left after.now)
+pub spread_stopped : {told : Bool} {cutter now mid next : CutterState} {cut cut' : Cut} {place at : ℕ} {waiting line left : List ℕ} {old between new : List Slot} {fault : Fault} → at ≡ mid.progress.current → Spreading told cutter cut place waiting line old between now left
+    → mid ≡ record now { aim = mid.aim } → Tries now line mid (Some cut') → WillCut now cut' → CutsAll told mid cut' at left line [] between new next (Some fault) → CutsAll told cutter cut place waiting line [] old new next (Some fault)
 unfolding at_alike
-arrives_there told cutter now aim x line left low old new after ends = record { ends = ends; low = λ past. after.none; enough = inl after.none }
+spread_stopped {told} {now = now} {mid} {next} {cut' = cut'} {line = line} {left} {between = between} {new} {fault} at_is so_far is tries will stops =
+    let tried = subst (λ (m : CutterState). Tries now line m (Some cut')) is tries in
+    let stopped = subst (λ (m : CutterState). CutsAll told m cut' m.progress.current left line [] between new next (Some fault)) is (subst (λ n. CutsAll told mid cut' n left line [] between new next (Some fault)) at_is stops) in record {
+      keeps = keeps_on so_far.keeps (record { operands = stopped.keeps.operands; writer = stopped.keeps.writer });
+      reaches = λ x at here. let after = so_far.after x at here in reaches_again after.grows after.reaches
+          (reaches_as refl (sym (settled_same (x ++ []) so_far.keeps)) (stopped.reaches x (at_alike now mid.aim now.window x left after.now) (cuts_again cut' line after tried will)));
+      went = tt;
+    }
 
-held_with : (told : Bool) (cutter now next : CutterState) (aim : Turn) (cut : Cut) (place : ℕ) (waiting line left : List ℕ) (old between new : List Slot) → Spreading told cutter cut place waiting line old between now left
-    → Tries now line (record now { aim = aim }) None → AimHolds now.operands now.lines now.progress aim → Held told (record now { aim = aim }) left between new next → CutAll told cutter cut place waiting line [] old new next
-unfolding at_alike
-held_with told cutter now next aim cut place waiting line left old between new so_far tries holds held = record {
-  same = same_again cutter now next so_far.same (record { operands = ap (λ (c : CutterState). c.operands) held.same; style = held.style });
-  lines = (let l : next.lines ≡ cutter.lines = ap (λ (c : CutterState). c.lines) held.same ∙ so_far.lines in omega (arith, l));
-  sound = subst IsSound (sym held.same) (record {
-    fit = record {
-      fits = so_far.fit.fits;
-      most = ap (λ (w : Window). w.most) held.window ∙ so_far.fit.most;
-      delim = ap (λ (w : Window). w.delim) held.window ∙ so_far.fit.delim;
-      sought = so_far.fit.sought;
-    };
-    aim = holds;
+-- Then no operand cuts any more, and the lines that are left are held, perhaps with more.
+
+pub spread_on : {told : Bool} {cutter now next : CutterState} {lines : ℕ} {aim : Turn} {cut : Cut} {place : ℕ} {waiting line left more : List ℕ} {old between new : List Slot} {fault : Option Fault} (so_far : Spreading told cutter cut place waiting line old between now left)
+    → IsSound (more_lines now lines aim) → lines ≤ cutter.lines + length more
+    → ((x : List ℕ) (at : IsAt cutter x waiting) (here : CutsNow cutter x waiting line cut place at) → Reached (part_at now x left (so_far.after x at here).now) (more_lines now lines aim) (x ++ more) (left ++ more))
+    → Holds told (more_lines now lines aim) (left ++ more) between new next fault → CutsAll told cutter cut place waiting line more old new next fault
+spread_on {cutter = cutter} {next = next} {lines} {left = left} {more} {fault = fault} so_far sound few reached held = record {
+  keeps = keeps_on so_far.keeps (record { operands = held.keeps.operands; writer = held.keeps.writer });
+  reaches = λ x at here. let after = so_far.after x at here in let there = reached x at here in
+      reaches_again after.grows after.reaches (reaches_as there.same (sym (settled_same (x ++ more) so_far.keeps)) (held.reaches (x ++ more) there.at there.arrives));
+  went = where_well fault held.went (λ went. record {
+    lines = (let l : next.lines ≡ lines = ap (λ (c : CutterState). c.lines) went.same in omega (arith, l, few));
+    sound = sound_held went sound;
+    stands = λ x at here. let there = reached x at here in went.stands (x ++ more) there.at there.arrives;
+    size = (let one = went.size in let two = so_far.size in let joined : length (left ++ more) ≡ length left + length more = length-append left more in omega (arith, one, two, joined));
   });
-  stands = λ x at here.
-      let after = so_far.after x at here in
-      subst (Stands next) (sym (append-nil x)) (held.stands x (at_alike now aim now.window x left after.now) (arrives_there told cutter now aim x line left (part_at cutter x waiting at) old between after (tries x after.looked)));
-  moves = λ x at here.
-      let after = so_far.after x at here in
-      subst (λ those. Gets told cutter.writer next.writer (part_at cutter x waiting at) (settled_part cutter those) old new) (sym (append-nil x))
-      (moves_again told (part_at cutter x waiting at) (part_at now x left after.now) (settled_part cutter x) old between new after.moves
-      (moves_as told _ _ _ _ between new refl (sym (settled_same cutter now x so_far.same)) (held.moves x (at_alike now aim now.window x left after.now) (arrives_there told cutter now aim x line left (part_at cutter x waiting at) old between after (tries x after.looked)))));
-  keeps = keeps_again old between new so_far.keeps held.keeps;
-  owns = owns_again cutter.writer now.writer next.writer old between new so_far.owns held.owns;
-  ready = held.ready;
-  size = (let one = held.size in let two = so_far.size in omega (arith, one, two));
 }
 
-not_held_with : (told : Bool) (cutter now next : CutterState) (aim : Turn) (cut : Cut) (place : ℕ) (waiting line left : List ℕ) (old between new : List Slot) (fault : Fault) → Spreading told cutter cut place waiting line old between now left
-    → Tries now line (record now { aim = aim }) None → HeldNot told (record now { aim = aim }) left between new next fault → CutAllNot told cutter cut place waiting line [] old new next fault
+pub spread_held : {told : Bool} {cutter mid next : CutterState} {cut : Cut} {place : ℕ} {waiting line left : List ℕ} {old between new : List Slot} {fault : Option Fault} → Spread told cutter cut place waiting line old between mid left
+    → Holds told mid (mid.window.held ++ left) between new next fault → CutsAll told cutter cut place waiting line [] old new next fault
 unfolding at_alike
-not_held_with told cutter now next aim cut place waiting line left old between new fault so_far tries held = record {
-  same = same_again cutter now next so_far.same (record { operands = held.same.operands; style = held.same.style });
-  halts = λ x at here.
-      let after = so_far.after x at here in
-      subst (λ those. Halts told cutter.writer (part_at cutter x waiting at) (settled_part cutter those) old new fault) (sym (append-nil x))
-      (halts_after told (part_at cutter x waiting at) (part_at now x left after.now) (settled_part cutter x) old between new fault after.grows after.moves
-      (halts_as told _ _ _ _ between new fault refl (sym (settled_same cutter now x so_far.same)) (held.halts x (at_alike now aim now.window x left after.now) (arrives_there told cutter now aim x line left (part_at cutter x waiting at) old between after (tries x after.looked)))));
-  breaks = breaks_later cutter.writer.style old between new fault so_far.keeps (subst (λ (s : Style). Rattle.csplit_core.specs.Writer.Breaks s between new fault) so_far.same.style held.breaks);
-  owns = owns_again cutter.writer now.writer next.writer old between new so_far.owns held.owns;
+spread_held {told} {cutter} {mid} {next} {left = left} {between = between} {new} {fault} spread held =
+    let now = spread.now in
+    let is : mid ≡ more_lines now now.lines mid.aim = spread.is in
+    let none : mid.window.held ≡ [] = ap (λ (c : CutterState). c.window.held) is ∙ spread.so_far.held in
+    spread_on spread.so_far (subst IsSound is (record { fit = spread_fit spread.is spread.so_far.fit; aim = spread.aim })) (let l = spread.so_far.lines in omega (arith, l))
+    (λ x at here.
+    let after = spread.so_far.after x at here in
+    let low = part_at now x left after.now in
+    let there : Reached low (more_lines now now.lines mid.aim) x left = record {
+      at = at_alike now mid.aim now.window x left after.now;
+      arrives = record { ends = subst (λ (m : CutterState). EndsNow m x) is (spread.tries x after.looked); low = λ past. after.none; enough = inl after.none };
+      same = refl;
+    } in
+    subst (λ those. Reached low (more_lines now now.lines mid.aim) those (left ++ [])) (sym (append-nil x)) (subst (Reached low (more_lines now now.lines mid.aim) x) (sym (append-nil left)) there))
+    (subst (λ those. Holds told (more_lines now now.lines mid.aim) those between new next fault) (sym (append-nil left))
+    (subst (λ (m : CutterState). Holds told m left between new next fault) is (subst (λ those. Holds told mid those between new next fault) (ap (λ those. those ++ left) none) held)))
+
+-- Cutting the lines that wait and one more.
+
+-- where none waits
+
+pub none_there : {held : List ℕ} {empty : Bool} → empty ≡ eqb (length held) 0 → empty ≡ true → held ≡ []
+none_there {held} is true_is = nil_from_length held (eqb-true (length held) 0 (sym is ∙ true_is))
+
+pub alone : (P : ℕ → List ℕ → Type 0) (cutter : CutterState) (line : List ℕ) → cutter.window.held ≡ [] → P cutter.lines line
+    → P (cutter.lines - delimiters newline cutter.window.held) (cutter.window.held ++ line)
+alone P cutter line none holds =
+    subst (λ those. P (cutter.lines - delimiters newline those) (those ++ line)) (sym none)
+    (subst (λ n. P n line) (let e : cutter.lines ≡ cutter.lines - 0 = omega arith in e) holds)
+
+pub cut_alone : {told : Bool} {cutter start place_of next : CutterState} {cut : Cut} {line : List ℕ} {old new : List Slot} {fault : Option Fault} → start ≡ cutter → place_of ≡ cutter → start.window.held ≡ []
+    → CutsAll told cutter cut place_of.lines line line [] old new next fault → CutsAll told cutter cut (cutter.lines - delimiters newline cutter.window.held) (cutter.window.held ++ line) line [] old new next fault
+cut_alone {told} {cutter} {next = next} {cut} {line} {old} {new} {fault} same same_place none cuts =
+    alone (λ place those. CutsAll told cutter cut place those line [] old new next fault) cutter line (sym (ap (λ (c : CutterState). c.window.held) same) ∙ none)
+    (subst (λ (c : CutterState). CutsAll told cutter cut c.lines line line [] old new next fault) same_place cuts)
+
+-- and where some do
+
+cuts_alike : {cutter : CutterState} (window : Window) {x left : List ℕ} (line : List ℕ) (cut : Cut) {place : ℕ} {at : IsAt cutter x left} → CutsNow cutter x left line cut place at → CutsNow (alike cutter cutter.aim window) x left line cut place (at_alike cutter cutter.aim window x left at)
+unfolding at_alike
+cuts_alike window line cut now = record { last = now.last; near = now.near; place_is = now.place_is; before = now.before; goes = now.goes }
+
+all_alike : {told : Bool} (cutter : CutterState) {next : CutterState} (window : Window) {cut : Cut} {place : ℕ} {left line : List ℕ} {old new : List Slot} {fault : Option Fault} → CutsAll told (alike cutter cutter.aim window) cut place left line [] old new next fault
+    → CutsAll told cutter cut place left line [] old new next fault
+unfolding at_alike
+all_alike cutter window {cut} {left = left} {line} {fault = fault} all = record {
+  keeps = record { operands = all.keeps.operands; writer = all.keeps.writer };
+  reaches = λ x at now. all.reaches x (at_alike cutter cutter.aim window x left at) (cuts_alike window line cut now);
+  went = where_well fault all.went (λ went. record { lines = went.lines; sound = went.sound; stands = λ x at now. went.stands x (at_alike cutter cutter.aim window x left at) (cuts_alike window line cut now); size = went.size });
 }
 
-pub spread_held : (told : Bool) (cutter mid next : CutterState) (cut : Cut) (place : ℕ) (waiting line left : List ℕ) (old between new : List Slot) (result : Result (Unit {0}) Fault) → Spread told cutter cut place waiting line old between mid left
-    → Holds told mid (mid.window.held ++ left) between new next result → CutsAll told cutter cut place waiting line old new next result
-spread_held told cutter mid next cut place waiting line left old between new (Ok done) spread held =
+pub cut_drained : {told : Bool} {cutter start next : CutterState} {window : Window} {cut : Cut} {place : ℕ} {waiting line : List ℕ} {old new : List Slot} {fault : Option Fault} → start ≡ cutter → waiting ≡ start.window.held ++ line → place ≡ start.lines - delimiters newline start.window.held
+    → CutsAll told (record start { window = window }) cut place waiting line [] old new next fault → CutsAll told cutter cut (cutter.lines - delimiters newline cutter.window.held) (cutter.window.held ++ line) line [] old new next fault
+cut_drained {told} {start = start} {next} {window} {cut} {waiting = waiting} {line} {old} {new} {fault} same waiting_is place_is cuts =
+    subst (λ (c : CutterState). CutsAll told c cut (c.lines - delimiters newline c.window.held) (c.window.held ++ line) line [] old new next fault) same
+    (all_alike start window (subst (λ those. CutsAll told (record start { window = window }) cut (start.lines - delimiters newline start.window.held) those line [] old new next fault) waiting_is
+    (subst (λ n. CutsAll told (record start { window = window }) cut n waiting line [] old new next fault) place_is cuts)))
+
+pub cut_lacks : {told : Bool} {cutter start : CutterState} {window : Window} {cut : Cut} {line : List ℕ} {slots : List Slot} {fault : Fault} → start ≡ cutter → IsFit cutter → WillCut cutter cut → fault ≡ Memory
+    → CutsAll told cutter cut (cutter.lines - delimiters newline cutter.window.held) (cutter.window.held ++ line) line [] slots slots (record start { window = window }) (Some fault)
+cut_lacks {told} {cutter} {start} {window} {cut} {line} {slots} same fit will lacks =
+    subst (λ why. CutsAll told cutter cut (cutter.lines - delimiters newline cutter.window.held) (cutter.window.held ++ line) line [] slots slots (record start { window = window }) (Some why)) (sym lacks)
+    (cut_stopped (ap (λ (c : CutterState). c.operands) same) (subst (λ w. Leaves cutter.writer w slots slots (Some Memory)) (sym (ap (λ (c : CutterState). c.writer) same)) leaves_lacking)
+    (λ x at now.
+    let draft = draft_by (all_lines x) at.steps (kept_by (state_in cutter).operands) at.written in
+    let before = first_lines newline (cut.line - (cutter.lines - delimiters newline cutter.window.held)) (cutter.window.held ++ line) in
+    stops_wider (lacks_memory cutter.writer.style draft at.writes.closed)
+    (part_trans (draft_part cutter.writer.style draft) (draft_part cutter.writer.style (with_bytes before draft)) (settled_part cutter x) (bytes_begin cutter.writer.style before draft) (before_begins line cut now fit will refl))))
+
+-- how many lines wait
+pub waiting_count : (lines : ℕ) (held : List ℕ) {waiting : List ℕ} (line front : List ℕ) {size count place : ℕ} → waiting ≡ held ++ line → size ≡ length held → front ≡ take size waiting → count ≡ delimiters newline front → place ≡ lines - count → place ≡ lines - delimiters newline held
+waiting_count lines held line front {size} waiting_is size_is front_is count_is place_is =
+    place_is ∙ ap (λ n. lines - n) (count_is ∙ ap (delimiters newline) (front_is ∙ ap (take size) waiting_is ∙ take_at held line size (sym size_is)))
+
+pub waiting_size : (held line : List ℕ) {items : List ℕ} {n : ℕ} → items ≡ held ++ line → n ≡ length items → n - length line ≡ length held
+waiting_size held line {items} is long = let e : length items ≡ length held + length line = ap length is ∙ length-append held line in omega (arith, e, long)
+
+-- A line is cut, or isn't, and what is left of it is held together with the lines after it that aren't cut.
+
+-- What was found of the next line stays where lines are held.
+
+found_as : {mid : CutterState} {writer : Rattle.csplit_core.specs.Writer.WriterState} {window : Window} {rest : List ℕ} {size : ℕ} → writer.style ≡ mid.writer.style → IsNextFound mid rest size → IsNextFound (record mid { writer = writer; window = window }) rest size
+found_as {mid} same found = record {
+  some = found.some;
+  within = found.within;
+  line = found.line;
+  ends = found.ends;
+  aim = found.aim;
+  found = record {
+    none = found.found.none;
+    before = λ less. found.found.before (subst (λ (style : Style). mid.lines + 1 < search_line style.suppress (state_in mid)) same less);
+    some = λ pattern sought from. found.found.some pattern sought (subst (λ (style : Style). search_line style.suppress (state_in mid) ≤ mid.lines + 1) same from);
+  };
+}
+
+found_by : {told : Bool} {mid next : CutterState} {left : List ℕ} {old new : List Slot} (rest : List ℕ) (found : Option ℕ) → Holds told mid left old new next None → IfSome found (IsNextFound mid rest) → IfSome found (IsNextFound next rest)
+found_by rest (Some size) held is = subst (λ (those : CutterState). IsNextFound those rest size) (sym held.went.same) (found_as held.keeps.writer.style is)
+found_by rest None held is = is
+
+found_held : {told : Bool} {mid next : CutterState} {left : List ℕ} {old new : List Slot} (rest : List ℕ) (result : Result Passed Fault) → Holds told mid left old new next (fault_in result) → IfOk result (λ passed. IfSome passed.found (IsNextFound mid rest))
+    → IfOk result (λ passed. IfSome passed.found (IsNextFound next rest))
+found_held rest (Ok passed) held found = found_by rest passed.found held found
+found_held rest (Err fault) held found = tt
+
+ok_as : {P Q : Passed → Type 0} (result : Result Passed Fault) → ((passed : Passed) → P passed → Q passed) → IfOk result P → IfOk result Q
+ok_as (Ok passed) follows holds = follows passed holds
+ok_as (Err fault) follows holds = tt
+
+-- What `go_on` owes.
+pub gone_on : {told : Bool} {cutter mid next : CutterState} (text : List ℕ) {rest : List ℕ} (kept : ℕ) {passed : Passed} {old new : List Slot} (result : Result Passed Fault) → kept ≤ length text → rest ≡ drop kept text → StopsAt cutter rest mid passed
+    → Holds told mid (mid.window.held ++ take (kept + passed.size) text) old new next (fault_in result) → IfOk result (λ all. (all.size ≡ kept + passed.size) × (all.found ≡ passed.found)) → GoesOn told cutter (take kept text) (drop kept text) old new next result
+gone_on {told} {cutter} {mid} {next} text kept {passed} {old} {new} result within rest_is stops held are =
+    let stops_there = subst (λ those. StopsAt cutter those mid passed) rest_is stops in record {
+      mid = mid;
+      n = passed.size;
+      over = stops_there.over;
+      held = subst (λ those. Holds told mid (mid.window.held ++ those) old new next (fault_in result)) (take-add kept passed.size text) held;
+      size = ok_as result (λ all both. both.0 ∙ ap (λ k. k + passed.size) (sym (length-take-le kept text within))) are;
+      found = ok_as result (λ all both. subst (λ found. IfSome found (IsNextFound mid (drop passed.size (drop kept text)))) (sym both.1) stops_there.found) are;
+    }
+
+-- The lines after a cut, up to where the next operand cuts: none of the open section is written before them.
+
+there_of : {told : Bool} {now mid : CutterState} {aim : Turn} {x : List ℕ} (line : List ℕ) {left rest : List ℕ} {n : ℕ} {low : Part} {cutter : CutterState} {old new : List Slot} → IsFit now → IsWhole x → Tries now line (record now { aim = aim }) None → PassesOver (record now { aim = aim }) rest mid n
+    → (after : IsAfter told cutter x line now left low old new) → Reached (part_at now x left after.now) (more_lines now mid.lines aim) (x ++ take n rest) (left ++ take n rest)
+unfolding at_more at_alike
+there_of {now = now} {mid} {aim} {x} line {left} {rest} {n} fit whole tries over after =
+    let here = alike now aim now.window in
+    let at = at_alike now aim now.window x left after.now in
+    let ends : EndsNow here x = tries x after.looked in
+    let both = over.ends x whole after.now.counted ends in record {
+      at = at_more here mid.lines aim x (take n rest) left whole fit.fits.some at ends both.0;
+      arrives = record { ends = subst (λ (c : CutterState). EndsNow c (x ++ take n rest)) over.same both.1; low = λ past. after.none; enough = inl after.none };
+      same = part_more aim (take n rest) whole fit.fits.some at ends both.0;
+    }
+
+spread_passes : {told : Bool} {cutter mid end next : CutterState} {cut : Cut} {place : ℕ} {line left rest : List ℕ} {n : ℕ} {old between new : List Slot} {fault : Option Fault} → Spread told cutter cut place line line old between mid left → ends_with newline line ≡ true → PassesOver mid rest end n
+    → Holds told end (end.window.held ++ (left ++ take n rest)) between new next fault → CutsAll told cutter cut place line line (take n rest) old new next fault
+spread_passes {told} {mid = mid} {end} {next} {line = line} {left} {rest} {n} {between = between} {new} {fault} spread complete over held =
     let now = spread.now in
-    let is = spread.is in
-    let none : mid.window.held ≡ [] = ap (λ (c : CutterState). c.window.held) is ∙ spread.so_far.held in
-    held_with told cutter now next mid.aim cut place waiting line left old between new spread.so_far (subst (λ (m : CutterState). Tries now line m None) is spread.tries) (subst (λ (m : CutterState). AimHolds m.operands m.lines m.progress mid.aim) is spread.aim)
-    (subst (λ (m : CutterState). Held told m left between new next) is (subst (λ those. Held told mid those between new next) (ap (λ those. those ++ left) none) held))
-spread_held told cutter mid next cut place waiting line left old between new (Err fault) spread held =
-    let now = spread.now in
-    let is = spread.is in
-    let none : mid.window.held ≡ [] = ap (λ (c : CutterState). c.window.held) is ∙ spread.so_far.held in
-    not_held_with told cutter now next mid.aim cut place waiting line left old between new fault spread.so_far (subst (λ (m : CutterState). Tries now line m None) is spread.tries)
-    (subst (λ (m : CutterState). HeldNot told m left between new next fault) is (subst (λ those. HeldNot told mid those between new next fault) (ap (λ those. those ++ left) none) held))
+    let over_now = subst (λ (m : CutterState). PassesOver m rest end n) spread.is over in
+    let long : length (take n rest) ≡ n = length-take-le n rest over.within in
+    spread_on spread.so_far (subst IsSound over_now.same over.sound) (let few = over_now.few in let s = spread.so_far.lines in omega (arith, few, s, long))
+    (λ x at here. there_of line spread.so_far.fit (here.last.2 complete) (subst (λ (m : CutterState). Tries now line m None) spread.is spread.tries) over_now (spread.so_far.after x at here))
+    (subst (λ those. Holds told (more_lines now end.lines mid.aim) (those ++ (left ++ take n rest)) between new next fault) spread.so_far.held
+    (subst (λ (m : CutterState). Holds told m (m.window.held ++ (left ++ take n rest)) between new next fault) over_now.same held))
 
--- Trying the next operand changes the aim alone.
+-- The text from what is left of its first line on.
 
-pub spread_fit : (now mid : CutterState) → mid ≡ record now { aim = mid.aim } → IsFit now → IsFit mid
-spread_fit now mid is fit = subst IsFit (sym is) (record { fits = fit.fits; most = fit.most; delim = fit.delim; sought = fit.sought })
+pub from_left : (text left : List ℕ) (size : ℕ) → size ≤ length text → IsEnd left (take size text)
+    → take (length text - (size - length left)) (drop (size - length left) text) ≡ left ++ drop size text
+from_left text left size within (front, is) =
+    let long : length (take size text) ≡ length front + length left = ap length is ∙ length-append front left in
+    let all : length (take size text) ≡ size = length-take-le size text within in
+    let parts : text ≡ front ++ (left ++ drop size text) = sym (take-append-drop size text) ∙ ap (λ those. those ++ drop size text) is ∙ append_assoc front left (drop size text) in
+    rest_all (size - length left) text ∙ ap (drop (size - length left)) parts
+    ∙ drop_at front (left ++ drop size text) (size - length left) (omega (arith, long, all))
 
-pub spread_ready : (now mid : CutterState) (slots : List Slot) → mid ≡ record now { aim = mid.aim } → IsReady now.writer slots → IsReady mid.writer slots
-spread_ready now mid slots is ready = subst (λ (c : CutterState). IsReady c.writer slots) (sym is) ready
+left_within : (text left : List ℕ) (size : ℕ) → size ≤ length text → IsEnd left (take size text) → length left ≤ size
+left_within text left size within (front, is) =
+    let long : length (take size text) ≡ length front + length left = ap length is ∙ length-append front left in
+    let all : length (take size text) ≡ size = length-take-le size text within in omega (arith, long, all)
 
-pub spread_fewer : (now mid : CutterState) (less : ℕ) → mid ≡ record now { aim = mid.aim } → less < needed mid.lines (state_in mid) → less < needed now.lines (state_in now)
-spread_fewer now mid less is fewer = subst (λ (c : CutterState). less < needed c.lines (state_in c)) is fewer
+-- What `cut_on` owes.
+
+gone_left : {told : Bool} {mid next : CutterState} {left rest tail : List ℕ} {kept : ℕ} {old new : List Slot} {result : Result Passed Fault} → kept ≡ length left → tail ≡ left ++ rest → GoesOn told mid (take kept tail) (drop kept tail) old new next result → GoesOn told mid left rest old new next result
+gone_left {told} {mid} {next} {left} {rest} {tail} {kept} {old} {new} {result} kept_is is gone =
+    subst (λ those. GoesOn told mid those rest old new next result) (ap (take kept) is ∙ take_at left rest kept (sym kept_is))
+    (subst (λ those. GoesOn told mid (take kept tail) those old new next result) (ap (drop kept) is ∙ drop_at left rest kept (sym kept_is)) gone)
+
+cut_gone : {told : Bool} {cutter start mid next : CutterState} {cut : Cut} {line left rest : List ℕ} {old between new : List Slot} {result : Result Passed Fault} → start ≡ cutter → ends_with newline line ≡ true → Spread told cutter cut start.lines line line old between mid left
+    → (gone : GoesOn told mid left rest between new next result) → CutsAll told cutter cut cutter.lines line line (take gone.n rest) old new next (fault_in result)
+cut_gone {told} {cutter} {next = next} {cut} {line} {rest = rest} {old} {new = new} {result} same complete spread gone =
+    subst (λ (c : CutterState). CutsAll told cutter cut c.lines line line (take gone.n rest) old new next (fault_in result)) same (spread_passes spread complete gone.over gone.held)
+
+pub cut_on : {told : Bool} {cutter start mid next : CutterState} {cut : Cut} (text : List ℕ) {tail left : List ℕ} (size : ℕ) {kept : ℕ} {passed all : Passed} {old between new : List Slot} → start ≡ cutter → size ≤ length text → ends_with newline (take size text) ≡ true
+    → Spread told cutter cut start.lines (take size text) (take size text) old between mid left → kept ≡ length left → tail ≡ left ++ drop size text → GoesOn told mid (take kept tail) (drop kept tail) between new next (Ok passed)
+    → all.size ≡ size - kept + passed.size → all.found ≡ passed.found → CutsOn told cutter cut (take size text) (drop size text) old new next (Ok all)
+cut_on {next = next} text {left = left} size {passed = passed} same within complete spread kept_is tail_is goes size_is found_is =
+    let gone = gone_left kept_is tail_is goes in
+    let few : length left ≤ size = left_within text left size within spread.so_far.end in
+    let long : length (take size text) ≡ size = length-take-le size text within in record {
+      n = gone.n;
+      within = gone.over.within;
+      whole = gone.over.whole;
+      all = cut_gone same complete spread gone;
+      size = (let g = gone.size in omega (arith, size_is, g, few, kept_is, long));
+      found = subst (λ found. IfSome found (IsNextFound next (drop gone.n (drop size text)))) (sym found_is) (found_by (drop gone.n (drop size text)) passed.found gone.held gone.found);
+    }
+
+pub cut_not_on : {told : Bool} {cutter start mid next : CutterState} {cut : Cut} {line tail left rest : List ℕ} {kept : ℕ} {old between new : List Slot} {fault : Fault} → start ≡ cutter → ends_with newline line ≡ true → Spread told cutter cut start.lines line line old between mid left
+    → kept ≡ length left → tail ≡ left ++ rest → GoesOn told mid (take kept tail) (drop kept tail) between new next (Err fault) → CutsOn told cutter cut line rest old new next (Err fault)
+cut_not_on same complete spread kept_is tail_is goes =
+    let gone = gone_left kept_is tail_is goes in record { n = gone.n; within = gone.over.within; whole = gone.over.whole; all = cut_gone same complete spread gone; size = tt; found = tt }
+
+-- a fault at the cut
+pub cut_stopped_on : {told : Bool} {cutter start next : CutterState} {cut : Cut} {line rest : List ℕ} {old new : List Slot} {fault : Fault} → start ≡ cutter → CutsAll told cutter cut start.lines line line [] old new next (Some fault) → CutsOn told cutter cut line rest old new next (Err fault)
+cut_stopped_on {told} {cutter} {next = next} {cut} {line} {old = old} {new} {fault} same stopped =
+    record { n = 0; within = omega arith; whole = inl refl; all = subst (λ (c : CutterState). CutsAll told cutter cut c.lines line line [] old new next (Some fault)) same stopped; size = tt; found = tt }
+
+-- What `stretch` owes. The first line isn't cut.
+
+ends_on : {cutter mid end : CutterState} (line : List ℕ) {rest : List ℕ} {n : ℕ} → IsLine line → IsWhole line → mid ≡ record cutter { lines = cutter.lines + 1; aim = mid.aim } → TriesNext cutter line mid None → PassesOver mid rest end n
+    → end ≡ more_lines cutter end.lines mid.aim → (x : List ℕ) → IsWhole x → IsLive cutter x → (end.lines ≡ line_count newline (x ++ (line ++ take n rest))) × EndsNow (more_lines cutter end.lines mid.aim) (x ++ (line ++ take n rest))
+ends_on {cutter} {mid} {end} line {rest} {n} one complete mid_is tries over end_is x whole live =
+    let count : mid.lines ≡ line_count newline (x ++ line) = ap (λ (c : CutterState). c.lines) mid_is ∙ ap (λ k. k + 1) live.at.counted ∙ sym (count-line line whole one) in
+    let both = over.ends (x ++ line) (whole-append line whole complete) count (tries x whole live) in
+    let is = append_assoc x line (take n rest) in (
+      subst (λ those. end.lines ≡ line_count newline those) is both.0,
+      subst (EndsNow (more_lines cutter end.lines mid.aim)) is (subst (λ (c : CutterState). EndsNow c ((x ++ line) ++ take n rest)) end_is both.1),
+    )
+
+whole_on : (text : List ℕ) (size n : ℕ) → IsWhole (take size text) → IsWhole (take n (drop size text)) → IsWhole (take (size + n) text)
+whole_on text size n complete whole = subst IsWhole (sym (take-add size n text)) (whole-append (take n (drop size text)) complete whole)
+
+within_on : (text : List ℕ) (size n : ℕ) → size ≤ length text → n ≤ length (drop size text) → size + n ≤ length text
+within_on text size n within more = let long : length (drop size text) ≡ length text - size = length-drop size text in omega (arith, long, within, more)
+
+pub stretch_on : {told : Bool} {cutter mid next : CutterState} {text : List ℕ} {size : ℕ} {old new : List Slot} (result : Result Passed Fault) → IsFit cutter → (cutter.aim ≡ Below → ⊥) → 0 < size → size ≤ length text → IsLine (take size text) → IsWhole (take size text)
+    → mid ≡ record cutter { lines = cutter.lines + 1; aim = mid.aim } → TriesNext cutter (take size text) mid None → GoesOn told mid (take size text) (drop size text) old new next result → Stretches told cutter text old new next result
+stretch_on {told} {cutter} {mid} {next} {text} {size} {old} {new} result fit differs some within one complete mid_is tries gone =
+    let end = gone.mid in
+    let line = take size text in
+    let more = take gone.n (drop size text) in
+    let end_is : end ≡ more_lines cutter end.lines mid.aim = gone.over.same ∙ ap (λ (c : CutterState). record c { lines = end.lines }) mid_is in
+    let long : length line ≡ size = length-take-le size text within in
+    let longer : length (line ++ more) ≡ length line + length more = length-append line more in
+    let rest : length more ≡ gone.n = length-take-le gone.n (drop size text) gone.over.within in
+    let first : mid.lines ≡ cutter.lines + 1 = ap (λ (c : CutterState). c.lines) mid_is in record {
+      n = size + gone.n;
+      some = omega (arith, some);
+      within = within_on text size gone.n within gone.over.within;
+      whole = whole_on text size gone.n complete gone.over.whole;
+      took = subst (λ those. Takes told cutter those old new next (fault_in result)) (sym (take-add size gone.n text))
+          (took_held (subst IsSound end_is gone.over.sound) fit differs (let few = gone.over.few in omega (arith, few, long, longer, rest, first, some))
+          (ends_on line one complete mid_is tries gone.over end_is) (subst (λ (m : CutterState). Holds told m (m.window.held ++ (line ++ more)) old new next (fault_in result)) end_is gone.held));
+      size = ok_as result (λ passed is. is ∙ ap (λ k. k + gone.n) long) gone.size;
+      found = ok_as result (λ passed found. subst (λ those. IfSome passed.found (IsNextFound next those)) (drop-drop gone.n size text) found) (found_held (drop gone.n (drop size text)) result gone.held gone.found);
+    }
+
+-- It is cut, and none waits.
+pub stretch_cut : {told : Bool} {cutter mid next : CutterState} {text : List ℕ} {size : ℕ} {cut : Cut} {old new : List Slot} (result : Result Passed Fault) → IsFit cutter → (cutter.aim ≡ Below → ⊥) → 0 < size → size ≤ length text → IsLine (take size text) → IsWhole (take size text)
+    → mid ≡ record cutter { lines = cutter.lines + 1; aim = mid.aim } → mid.window.held ≡ [] → WillCut mid cut → TriesNext cutter (take size text) mid (Some cut) → CutsOn told mid cut (take size text) (drop size text) old new next result → Stretches told cutter text old new next result
+stretch_cut {told} {cutter} {mid} {next} {text} {size} {cut} {old} {new} result fit differs some within one complete mid_is none will tries on =
+    let line = take size text in
+    let more = take on.n (drop size text) in record {
+      n = size + on.n;
+      some = omega (arith, some);
+      within = within_on text size on.n within on.within;
+      whole = whole_on text size on.n complete on.whole;
+      took = subst (λ those. Takes told cutter those old new next (fault_in result)) (sym (take-add size on.n text))
+          (take_cut line more fit differs one mid_is will tries (alone (λ place those. CutsAll told mid cut place those line more old new next (fault_in result)) mid line none on.all));
+      size = ok_as result (λ passed is. is ∙ ap (λ k. k + on.n) (length-take-le size text within)) on.size;
+      found = ok_as result (λ passed found. subst (λ those. IfSome passed.found (IsNextFound next those)) (drop-drop on.n size text) found) on.found;
+    }
+
+-- It is taken in by itself.
+pub stretch_first : {told : Bool} {cutter next : CutterState} {text : List ℕ} {size : ℕ} {old new : List Slot} (result : Result Passed Fault) → 0 < size → size ≤ length text → IsWhole (take size text) → Takes told cutter (take size text) old new next (fault_in result)
+    → IfOk result (λ passed. (passed.size ≡ size) × (passed.found ≡ None)) → Stretches told cutter text old new next result
+stretch_first {next = next} {text} {size} result some within complete took are = record {
+  n = size;
+  some = some;
+  within = within;
+  whole = complete;
+  took = took;
+  size = ok_as result (λ passed both. both.0) are;
+  found = ok_as result (λ passed both. subst (λ found. IfSome found (IsNextFound next (drop size text))) (sym both.1) tt) are;
+}

@@ -5,10 +5,9 @@ use Rattle.std.proofs.lemmas.List.{append-nil}
 use Rattle.std.proofs.Math.Nat.{max-le, le-max_left, le-max_right}
 use Rattle.std.proofs.Math.Seq.{get_or-append_right}
 use Rattle.csplit_core.specs.Operand.{Target, Number, Search, Operand, Line, unmarked, is_match}
-use Rattle.csplit_core.specs.Plan.{State, start, Step, Ending, missed, above, search_line, IsFirst, MatchesNone, Misses, line_after, state_after, Runs, is_used_up, misses, is_above, is_below, cuts}
+use Rattle.csplit_core.specs.Plan.{State, Step, Ending, missed, above, search_line, IsFirst, MatchesNone, Misses, line_after, Runs, is_used_up, misses, is_above, is_below, cuts}
 use Rattle.csplit_core.specs.Planned.{plan}
-use Rattle.csplit_core.specs.laws.MatchLaws.{search_some, match_still}
-use Rattle.csplit_core.specs.laws.PlanLaws.{cuts_still, goes_on, plan_runs, plan_once}
+use Rattle.csplit_core.specs.laws.PlanLaws.{search_some, match_still, cuts_still, goes_on, plan_runs, plan_once}
 use Rattle.std.proofs.lemmas.Bool.{and_parts}
 
 -- `count` lines come before these, and none of these has the operand's pattern, from the line on of number `from`
@@ -38,15 +37,15 @@ most_by : (current matched : ℕ) (first : Bool) → cond first 1 (suc (max curr
 most_by current matched true = omega arith
 most_by current matched false = omega arith
 
-at_one : (current matched : ℕ) → current ≡ 1 → matched ≡ 0 → from_of current matched ≡ 1
-at_one current matched is none = ap (λ c. from_of c matched) is ∙ ap (λ f. cond (eqb 1 1 && eqb f 0) 1 (suc (max 1 f))) none
+at_one : {current matched : ℕ} → current ≡ 1 → matched ≡ 0 → from_of current matched ≡ 1
+at_one {matched} is none = ap (λ c. from_of c matched) is ∙ ap (λ f. cond (eqb 1 1 && eqb f 0) 1 (suc (max 1 f))) none
 
 first_by : (current matched cut matched' : ℕ) → 1 ≤ current → current ≤ cut → matched ≤ matched' → (then : Bool) → (eqb cut 1 && eqb matched' 0) ≡ then → from_of current matched ≤ cond then 1 (suc (max cut matched'))
 first_by current matched cut matched' some least more true is =
     let two = and_parts (eqb cut 1) (eqb matched' 0) is in
     let cut_is : cut ≡ 1 = eqb-true cut 1 two.0 in
     let none : matched' ≡ 0 = eqb-true matched' 0 two.1 in
-    let e : from_of current matched ≡ 1 = at_one current matched (omega (arith, some, least, cut_is)) (omega (arith, more, none)) in omega (arith, e)
+    let e : from_of current matched ≡ 1 = at_one {current = current} {matched = matched} (omega (arith, some, least, cut_is)) (omega (arith, more, none)) in omega (arith, e)
 first_by current matched cut matched' some least more false is =
     let most : from_of current matched ≤ suc (max current matched) = most_by current matched (eqb current 1 && eqb matched 0) in
     let left : cut ≤ max cut matched' = le-max_left cut matched' in
@@ -66,8 +65,8 @@ search_grows true state next cut some least more is =
 search_grows false state next cut some least more is = first_by state.current state.matched next.current next.matched some (omega (arith, least, is)) more (eqb next.current 1 && eqb next.matched 0) refl
 
 -- where no line before the last one is matched, that line alone decides
-pub looks_last : (operand : Operand) (lines : List Line) (from : ℕ) → ((other : ℕ) → from ≤ other → other < length lines → is_match operand lines other ≡ false) → from ≤ length lines → is_match operand lines (length lines) ≡ true → IsFirst operand lines from (length lines)
-looks_last operand lines from looked least is = record {
+pub looks_last : {operand : Operand} {lines : List Line} {from : ℕ} → ((other : ℕ) → from ≤ other → other < length lines → is_match operand lines other ≡ false) → from ≤ length lines → is_match operand lines (length lines) ≡ true → IsFirst operand lines from (length lines)
+looks_last looked least is = record {
   not_before = least;
   within = omega arith;
   match = is;
@@ -88,19 +87,18 @@ EndsStill suppress count b total last (missed operand repetition) = (operand : O
 EndsStill suppress count b total last (above operand repetition matched cut) = total < cut
 EndsStill suppress count b total last ending = Unit {0}
 
-pub ends_still : (suppress : Bool) (a b : List Line) (first : State) (steps : List Step) (last : State) (ending : Ending) → Runs suppress a first steps last ending → EndsStill suppress (length a) b (length (a ++ b)) last ending
+pub ends_still : {suppress : Bool} {a : List Line} (b : List Line) {first : State} {steps : List Step} {last : State} {ending : Ending} → Runs suppress a first steps last ending → EndsStill suppress (length a) b (length (a ++ b)) last ending
     → Runs suppress (a ++ b) last [] last ending
-ends_still suppress a b first steps last ending (is_used_up state none) still = is_used_up state none
-ends_still suppress a b first steps last ending (misses state operand operands is none) still =
+ends_still b (is_used_up state none) still = is_used_up state none
+ends_still {suppress} {a} b (misses state operand operands is none) still =
     misses state operand operands is (misses_from suppress a b state operand operand.target none (still operand operands is))
-ends_still suppress a b first steps last ending (is_above state operand operands matched cut is at far) still = is_above state operand operands matched cut is (cuts_still suppress a b state operand operand.target matched cut at) still
-ends_still suppress a b first steps last ending (is_below state operand operands matched cut is at within low) still =
+ends_still {suppress} {a} b (is_above state operand operands matched cut is at far) still = is_above state operand operands matched cut is (cuts_still suppress a b state operand operand.target matched cut at) still
+ends_still {suppress} {a} b (is_below state operand operands matched cut is at within low) still =
     is_below state operand operands matched cut is (cuts_still suppress a b state operand operand.target matched cut at) (let e : length (a ++ b) ≡ length a + length b = length-append a b in omega (arith, e, within)) low
-ends_still suppress a b first steps last ending (cuts state operand operands matched cut steps' last' ending' is at from within rest) still =
-    ends_still suppress a b (state_after suppress operand operands state.repetition matched cut) steps' last' ending' rest still
+ends_still b (cuts state operand operands matched cut steps' last' ending' is at from within rest) still = ends_still b rest still
 
 pub stays : (suppress : Bool) (operands : List Operand) (a b : List Line) → EndsStill suppress (length a) b (length (a ++ b)) (plan suppress operands a).last (plan suppress operands a).ending → plan suppress operands (a ++ b) ≡ plan suppress operands a
 stays suppress operands a b so =
     let here = plan_runs suppress operands a in
-    plan_once suppress operands (a ++ b) _ _ _ (goes_on suppress a b (start operands) _ _ _ _ _ _ here (ends_still suppress a b (start operands) _ _ _ here so))
+    plan_once suppress operands (a ++ b) _ _ _ (goes_on b _ _ here (ends_still b here so))
     ∙ ap (λ (steps : List Step). record (plan suppress operands a) { steps = steps }) (append-nil (plan suppress operands a).steps)

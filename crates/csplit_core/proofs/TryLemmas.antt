@@ -2,17 +2,17 @@
 use Rattle.std.proofs.Common.{◌≡◌, inl, inr, ℕ, suc, ◌+◌, ◌-◌, ◌<◌, ◌≤◌, ◌^◌, Bool, true, false, Option, Some, None, List, [], ◌∷◌, ◌++◌, length, get_or, refl, sym, ◌∙◌, ap, subst, arith, length-append, cond}
 use Rattle.std.specs.Prelude.{min, max, eqb, ◌&&◌}
 use Rattle.std.proofs.lemmas.Bool.{false≢true, cases_lt, eqb-true, and_parts}
-use Rattle.std.proofs.Math.Nat.{le-max_left}
+use Rattle.std.proofs.Math.Nat.{le-max_left, min-le_left}
 use Rattle.std.proofs.Math.Seq.{get_or-append_seam}
 use Rattle.bre_core.specs.Search.{contains}
-use Rattle.csplit_core.specs.Input.{without_newline, marked, all_lines, is_match_of}
-use Rattle.csplit_core.specs.laws.MatchLaws.{search_past, search_some, match_still}
+use Rattle.seg_core.specs.Line.{line_count}
+use Rattle.csplit_core.specs.Input.{newline, without_newline, marked, all_lines, is_match_of}
+use Rattle.csplit_core.specs.laws.PlanLaws.{search_past, search_some, match_still, cuts_still}
 use Rattle.csplit_core.specs.Operand.{Target, Number, Search, Operand, Line, unmarked, is_match}
-use Rattle.csplit_core.specs.Plan.{State, start, Ending, used_up, missed, above, search_line, line_after, CutsAt, Misses, Runs, cuts}
-use Rattle.csplit_core.specs.laws.PlanLaws.{cuts_still}
+use Rattle.csplit_core.specs.Plan.{State, start, Ending, used_up, missed, above, below, search_line, line_after, CutsAt, Misses, Runs, cuts}
 use Rattle.csplit_core.specs.inner.Progress.{AreSeen, Turns, MovesOn, GoesPast, Advances}
 use Rattle.csplit_core.specs.Progress.{AimsAt, EndsHere}
-use Rattle.csplit_core.specs.inner.SectionLaws.{EndsAs}
+use Rattle.csplit_core.specs.inner.PlanLaws.{EndsAs}
 use Rattle.csplit_core.specs.laws.SectionLaws.{ends_as, front_of}
 use Rattle.csplit_core.specs.declared.line_cutter.Cut.{Cut}
 use Rattle.csplit_core.specs.declared.progress.Progress.{Progress}
@@ -20,45 +20,44 @@ use Rattle.csplit_core.specs.declared.progress.Turn.{Turn}
 use Rattle.csplit_core.specs.declared.progress.Turn.TheVariants.{UsedUp, Missed, Above, Cuts}
 use Rattle.csplit_core.specs.Cutter.{CutterState, suppress_in, state_in, pattern_in, pattern_by, AimHolds, IsFit, IsLive, EndsNow}
 use Rattle.csplit_core.specs.inner.Cutter.{IsWhole, IsLine, Looked, IsFound, IsNoCut, search_after, StaysNear, Tries, TriesNext}
-use Rattle.csplit_core.proofs.AdvanceLemmas.{advances}
+use Rattle.csplit_core.proofs.TurnLemmas.{advances, capped}
 use Rattle.csplit_core.proofs.CutterLemmas.{runs_to}
-use Rattle.csplit_core.proofs.LineLemmas.{all_lines-line, length-all_lines, count-line, whole-append}
-use Rattle.csplit_core.proofs.StayLemmas.{search_grows, ends_still, EndsStill}
-use Rattle.csplit_core.proofs.TurnLemmas.{capped}
+use Rattle.csplit_core.proofs.LineLemmas.{all_lines-append, all_lines-line, length-all_lines, count-append, count-line, whole-append}
+use Rattle.csplit_core.proofs.StayLemmas.{NoneFrom, search_grows, ends_still, EndsStill}
 
 -- the mark of the last line
-last_mark : (operand : Operand) (lines : List Line) (total : ℕ) (line : List ℕ) (front : List Line) → lines ≡ front ++ marked line ∷ [] → length lines ≡ total → is_match operand lines total ≡ is_match_of line operand.target
-last_mark operand lines total line front is count =
+last_mark : (operand : Operand) {lines : List Line} {total : ℕ} (line : List ℕ) (front : List Line) → lines ≡ front ++ marked line ∷ [] → length lines ≡ total → is_match operand lines total ≡ is_match_of line operand.target
+last_mark operand {lines} {total} line front is count =
     let long : length lines ≡ length front + 1 = ap length is ∙ length-append front (marked line ∷ []) in
     ap (λ those. is_match operand those total) is
     ∙ ap (λ n. (get_or (front ++ marked line ∷ []) n unmarked).marks operand) (let e : total - 1 ≡ length front = omega (arith, long, count) in e)
     ∙ ap (λ (l : Line). l.marks operand) (get_or-append_seam front (marked line) [] unmarked)
 
-pub found_is : (cutter : CutterState) (line text : List ℕ) (number : ℕ) (found : Bool) (target : Target) → text ≡ without_newline line → cutter.sought ≡ pattern_in target → IsFound cutter text number found
+pub found_is : {cutter : CutterState} (line : List ℕ) {text : List ℕ} (number : ℕ) {found : Bool} (target : Target) → text ≡ without_newline line → cutter.sought ≡ pattern_in target → IsFound cutter text number found
     → search_line (suppress_in cutter) (state_in cutter) ≤ number → is_match_of line target ≡ found
-found_is cutter line text number found (Number n) is sought says near = sym (says.none sought)
-found_is cutter line text number found (Search pattern kept offset) is sought says near = sym (says.some pattern sought near ∙ ap (contains pattern) is)
+found_is line number (Number n) is sought says near = sym (says.none sought)
+found_is line number (Search pattern kept offset) is sought says near = sym (says.some pattern sought near ∙ ap (contains pattern) is)
 
-seen_all : (cutter : CutterState) (x line text : List ℕ) (number : ℕ) (found : Bool) → number ≡ cutter.lines → text ≡ without_newline line → IsFit cutter → IsFound cutter text number found → Looked cutter x line
+seen_all : {cutter : CutterState} {x : List ℕ} (line : List ℕ) {text : List ℕ} (number : ℕ) {found : Bool} → number ≡ cutter.lines → text ≡ without_newline line → IsFit cutter → IsFound cutter text number found → Looked cutter x line
     → AreSeen (suppress_in cutter) (all_lines x) cutter.lines (state_in cutter) found
-seen_all cutter x line text number found number_is is fit says looked =
+seen_all {cutter} {x} line number number_is is fit says looked =
     let count : length (all_lines x) ≡ cutter.lines = length-all_lines x ∙ sym looked.counted in record {
       count = count;
-      last = λ operand operands are near. last_mark operand (all_lines x) cutter.lines line looked.last.0 looked.last.1 count
-          ∙ found_is cutter line text number found operand.target is (fit.sought ∙ ap pattern_by are) says (omega (arith, near, number_is));
+      last = λ operand operands are near. last_mark operand line looked.last.0 looked.last.1 count
+          ∙ found_is line number operand.target is (fit.sought ∙ ap pattern_by are) says (omega (arith, near, number_is));
       others = looked.others;
     }
 
-pub looked_turns : (cutter mid : CutterState) (x line text : List ℕ) (number : ℕ) (found : Bool) (turn : Turn) → mid ≡ cutter → number ≡ cutter.lines → text ≡ without_newline line → IsFit cutter → IsFound cutter text number found
+pub looked_turns : {cutter mid : CutterState} {x : List ℕ} (line : List ℕ) {text : List ℕ} (number : ℕ) {found : Bool} (turn : Turn) → mid ≡ cutter → number ≡ cutter.lines → text ≡ without_newline line → IsFit cutter → IsFound cutter text number found
     → ((lines : List Line) → AreSeen (suppress_in mid) lines mid.lines (state_in mid) found → Turns (suppress_in mid) lines mid.lines (state_in mid) turn) → Looked cutter x line
     → Turns (suppress_in cutter) (all_lines x) cutter.lines (state_in cutter) turn
-looked_turns cutter mid x line text number found turn same number_is is fit says turns looked =
+looked_turns {x} line number {found} turn same number_is is fit says turns looked =
     subst (λ (those : CutterState). (lines : List Line) → AreSeen (suppress_in those) lines those.lines (state_in those) found → Turns (suppress_in those) lines those.lines (state_in those) turn) same turns
-    (all_lines x) (seen_all cutter x line text number found number_is is fit says looked)
+    (all_lines x) (seen_all line number number_is is fit says looked)
 
-pub advance_ends : (suppress : Bool) (lines : List Line) (state : State) (turn : Turn) → IsNoCut turn → Advances suppress lines state turn → EndsHere suppress lines state turn
-advance_ends suppress lines state (Cuts matched line) no_cut ends = absurd no_cut
-advance_ends suppress lines state _ no_cut ends = ends
+pub advance_ends : {suppress : Bool} {lines : List Line} {state : State} (turn : Turn) → IsNoCut turn → Advances suppress lines state turn → EndsHere suppress lines state turn
+advance_ends (Cuts matched line) no_cut ends = absurd no_cut
+advance_ends _ no_cut ends = ends
 
 pub no_cut_aims : (operands : List Operand) (total : ℕ) (progress : Progress) (turn : Turn) → IsNoCut turn → MovesOn operands total progress turn → AimHolds operands total progress turn
 no_cut_aims operands total progress (Above matched line) no_cut moves = moves
@@ -76,95 +75,95 @@ after_cut false cut = by (eqb cut.line 1 && eqb cut.matched 0) refl where
 pub after_matched : (suppress : Bool) (cut : Cut) → cut.matched < search_after suppress cut
 after_matched suppress cut = search_past suppress (record { operands = []; repetition = 0; current = line_after suppress cut.line; matched = cut.matched })
 
-near_by : (cutter : CutterState) (x line : List ℕ) (cut : Cut) (operand : Operand) (operands : List Operand) (target : Target) (at : ℕ) → (state_in cutter).operands ≡ operand ∷ operands → operand.target ≡ target → IsFit cutter → Looked cutter x line
+near_by : {cutter : CutterState} {x : List ℕ} (line : List ℕ) (cut : Cut) {operand : Operand} {operands : List Operand} (target : Target) (at : ℕ) → (state_in cutter).operands ≡ operand ∷ operands → operand.target ≡ target → IsFit cutter → Looked cutter x line
     → CutsAt (suppress_in cutter) (all_lines x) (state_in cutter) operand target cut.matched at → cutter.progress.current ≤ cut.line → StaysNear cutter cut
-near_by cutter x line cut operand operands (Number n) at are is fit looked at_cut from (inl far) =
+near_by {cutter} line cut {operands} (Number n) at are is fit looked at_cut from (inl far) =
     let same : cut.matched ≡ cutter.progress.matched = at_cut.0 in
     let more = search_grows (suppress_in cutter) (state_in cutter) (record { operands = []; repetition = 0; current = line_after (suppress_in cutter) cut.line; matched = cut.matched }) cut.line fit.fits.some from (omega (arith, same)) refl in
     omega (arith, far, more)
-near_by cutter x line cut operand operands (Number n) at are is fit looked at_cut from (inr searched) = absurd (searched (fit.sought ∙ ap pattern_by are ∙ ap pattern_in is))
-near_by cutter x line cut operand operands (Search pattern kept offset) at are is fit looked at_cut from either = elim (cases_lt cut.matched cutter.lines) [
+near_by line cut (Number n) at are is fit looked at_cut from (inr searched) = absurd (searched (fit.sought ∙ ap pattern_by are ∙ ap pattern_in is))
+near_by {cutter} line cut {operand} {operands} (Search pattern kept offset) at are is fit looked at_cut from either = elim (cases_lt cut.matched cutter.lines) [
   | inl less ↦ absurd (false≢true (sym (looked.others operand operands are cut.matched at_cut.0.not_before less) ∙ at_cut.0.match))
   | inr not_less ↦ let past = after_matched (suppress_in cutter) cut in omega (arith, not_less, past)
 ]
 
-pub cut_near : (cutter : CutterState) (x line : List ℕ) (cut : Cut) (turn : Turn) → turn ≡ Cuts cut.matched cut.line → IsFit cutter → Looked cutter x line → Turns (suppress_in cutter) (all_lines x) cutter.lines (state_in cutter) turn → StaysNear cutter cut
-cut_near cutter x line cut turn is fit looked turns =
+pub cut_near : {cutter : CutterState} {x : List ℕ} (line : List ℕ) (cut : Cut) {turn : Turn} → turn ≡ Cuts cut.matched cut.line → IsFit cutter → Looked cutter x line → Turns (suppress_in cutter) (all_lines x) cutter.lines (state_in cutter) turn → StaysNear cutter cut
+cut_near {cutter} {x} line cut is fit looked turns =
     let here = subst (Turns (suppress_in cutter) (all_lines x) cutter.lines (state_in cutter)) is turns in
-    near_by cutter x line cut here.operand here.operands here.operand.target here.cut here.are refl fit looked here.cuts here.place.1
+    near_by line cut here.operand.target here.cut here.are refl fit looked here.cuts here.place.1
 
 -- what `try_last` owes
 
-pub tries_cut : (cutter mid : CutterState) (line text : List ℕ) (number : ℕ) (found : Bool) (turn : Turn) (cut : Cut) → mid ≡ cutter → number ≡ cutter.lines → text ≡ without_newline line → IsFit cutter → IsFound cutter text number found
+pub tries_cut : {cutter mid : CutterState} (line : List ℕ) {text : List ℕ} (number : ℕ) {found : Bool} {turn : Turn} (cut : Cut) → mid ≡ cutter → number ≡ cutter.lines → text ≡ without_newline line → IsFit cutter → IsFound cutter text number found
     → ((lines : List Line) → AreSeen (suppress_in mid) lines mid.lines (state_in mid) found → Turns (suppress_in mid) lines mid.lines (state_in mid) turn) → turn ≡ Cuts cut.matched cut.line
     → (x : List ℕ) → Looked cutter x line → GoesPast (suppress_in cutter) (all_lines x) (state_in cutter) cut.matched cut.line × StaysNear cutter cut
-tries_cut cutter mid line text number found turn cut same number_is is fit says turns turn_is x looked =
-    let here = looked_turns cutter mid x line text number found turn same number_is is fit says turns looked in
+tries_cut {cutter} line number {turn} cut same number_is is fit says turns turn_is x looked =
+    let here = looked_turns line number turn same number_is is fit says turns looked in
     let count : length (all_lines x) ≡ cutter.lines = length-all_lines x ∙ sym looked.counted in (
-      subst (Advances (suppress_in cutter) (all_lines x) (state_in cutter)) turn_is (advances (suppress_in cutter) (all_lines x) cutter.lines (state_in cutter) turn count here),
-      cut_near cutter x line cut turn turn_is fit looked here,
+      subst (Advances (suppress_in cutter) (all_lines x) (state_in cutter)) turn_is (advances (suppress_in cutter) (all_lines x) (state_in cutter) turn count here),
+      cut_near line cut turn_is fit looked here,
     )
 
-pub tries_none : (cutter mid before : CutterState) (line text : List ℕ) (number : ℕ) (found : Bool) (turn : Turn) → before ≡ mid → mid ≡ cutter → number ≡ cutter.lines → text ≡ without_newline line → IsFit cutter → IsFound cutter text number found
+pub tries_none : {cutter mid before : CutterState} (line : List ℕ) {text : List ℕ} (number : ℕ) {found : Bool} {turn : Turn} → before ≡ mid → mid ≡ cutter → number ≡ cutter.lines → text ≡ without_newline line → IsFit cutter → IsFound cutter text number found
     → ((lines : List Line) → AreSeen (suppress_in mid) lines mid.lines (state_in mid) found → Turns (suppress_in mid) lines mid.lines (state_in mid) turn) → IsNoCut turn
     → (x : List ℕ) → Looked cutter x line → EndsNow (record before { aim = turn }) x
-tries_none cutter mid before line text number found turn first same number_is is fit says turns no_cut x looked =
-    let here = looked_turns cutter mid x line text number found turn same number_is is fit says turns looked in
+tries_none {cutter} line number {turn} first same number_is is fit says turns no_cut x looked =
+    let here = looked_turns line number turn same number_is is fit says turns looked in
     let count : length (all_lines x) ≡ cutter.lines = length-all_lines x ∙ sym looked.counted in
     subst (λ (those : CutterState). EndsHere (suppress_in those) (all_lines x) (state_in those) turn) (sym (first ∙ same))
-    (advance_ends (suppress_in cutter) (all_lines x) (state_in cutter) turn no_cut (advances (suppress_in cutter) (all_lines x) cutter.lines (state_in cutter) turn count here))
+    (advance_ends turn no_cut (advances (suppress_in cutter) (all_lines x) (state_in cutter) turn count here))
 
 -- One more line comes.
 
-line_stays : (cutter : CutterState) (x line : List ℕ) (live : IsLive cutter x) → IsWhole x → IsLine line
-    → EndsStill (suppress_in cutter) (length (all_lines x)) (marked line ∷ []) (suc (length (all_lines x))) (state_in cutter) live.ends.ending
-    → EndsNow cutter (x ++ line)
-line_stays cutter x line live whole one stays =
-    let runs = runs_to cutter x cutter.window.held live.at live.ends in
-    let more : length (all_lines x ++ marked line ∷ []) ≡ suc (length (all_lines x)) = (let e : length (all_lines x ++ marked line ∷ []) ≡ length (all_lines x) + 1 = length-append (all_lines x) (marked line ∷ []) in omega (arith, e)) in record {
-      ending = live.ends.ending;
-      runs = subst (λ lines. Runs (suppress_in cutter) lines (state_in cutter) [] (state_in cutter) live.ends.ending) (sym (all_lines-line x line whole one))
-          (ends_still (suppress_in cutter) (all_lines x) (marked line ∷ []) (start cutter.operands) live.at.steps (state_in cutter) live.ends.ending runs
-          (subst (λ n. EndsStill (suppress_in cutter) (length (all_lines x)) (marked line ∷ []) n (state_in cutter) live.ends.ending) (sym more) stays));
-      aims = live.ends.aims;
-    }
+-- With the lines of this text too there are `lines`, and the next operand stands as it did.
+abbrev pub StaysOver : CutterState → (text : List ℕ) (lines : ℕ) → Turn → Type 0
+StaysOver cutter text lines Missed = (operand : Operand) → cutter.sought ≡ pattern_in operand.target → NoneFrom operand cutter.lines (all_lines text) (search_line (suppress_in cutter) (state_in cutter))
+StaysOver cutter text lines (Above matched line) = lines < line
+StaysOver cutter text lines turn = Unit {0}
+
+-- that is so where the next operand stands as it did
+still_by : {cutter : CutterState} (x text : List ℕ) {lines : ℕ} (aim : Turn) (ending : Ending) → IsFit cutter → cutter.lines ≡ length (all_lines x) → lines ≡ length (all_lines x ++ all_lines text) → AimsAt aim ending
+    → StaysOver cutter text lines aim → EndsStill (suppress_in cutter) (length (all_lines x)) (all_lines text) (length (all_lines x ++ all_lines text)) (state_in cutter) ending
+still_by x text aim used_up fit count all aims stays = tt
+still_by x text aim (below operand repetition) fit count all aims stays = tt
+still_by {cutter} x text Missed (missed operand repetition) fit count all aims stays = λ next rest are.
+    subst (λ n. NoneFrom next n (all_lines text) (search_line (suppress_in cutter) (state_in cutter))) count (stays next (fit.sought ∙ ap pattern_by are))
+still_by x text (Above last line) (above operand repetition matched cut) fit count all aims stays =
+    let least : min cut (2 ^ 64 - 1) ≤ cut = min-le_left cut (2 ^ 64 - 1) in omega (arith, least, aims.1, stays, all)
+still_by x text _ _ fit count all aims stays = absurd aims
+
+-- what passing over a text leaves of the plan
+pub ends_over : {cutter : CutterState} {lines : ℕ} (text : List ℕ) → IsFit cutter → lines ≡ cutter.lines + line_count newline text → StaysOver cutter text lines cutter.aim → (x : List ℕ) → IsWhole x → cutter.lines ≡ line_count newline x → EndsNow cutter x
+    → (lines ≡ line_count newline (x ++ text)) × EndsNow (record cutter { lines = lines }) (x ++ text)
+ends_over {cutter} {lines} text fit count stays x before counted ends =
+    let sum : line_count newline (x ++ text) ≡ line_count newline x + line_count newline text = count-append text before in
+    let here : length (all_lines x) ≡ line_count newline x = length-all_lines x in
+    let there : length (all_lines text) ≡ line_count newline text = length-all_lines text in
+    let both : length (all_lines x ++ all_lines text) ≡ length (all_lines x) + length (all_lines text) = length-append (all_lines x) (all_lines text) in (
+      omega (arith, count, counted, sum),
+      record {
+        ending = ends.ending;
+        runs = subst (λ those. Runs (suppress_in cutter) those (state_in cutter) [] (state_in cutter) ends.ending) (sym (all_lines-append text before))
+            (ends_still (all_lines text) ends.runs (still_by x text cutter.aim ends.ending fit (omega (arith, counted, here)) (omega (arith, count, counted, here, there, both)) ends.aims stays));
+        aims = ends.aims;
+      },
+    )
+
+pub next_stays : {cutter before now : CutterState} {x : List ℕ} (line : List ℕ) {turn : Turn} → before ≡ cutter → now ≡ record cutter { lines = cutter.lines + 1 } → IsFit cutter → IsLive cutter x → IsWhole x → IsLine line → before.aim ≡ turn → StaysOver before line (before.lines + 1) turn
+    → EndsNow now (x ++ line)
+next_stays {cutter} {before} {x = x} line same now_is fit live whole one aim stays =
+    let stays' = subst (λ (c : CutterState). StaysOver c line (c.lines + 1) c.aim) same (subst (StaysOver before line (before.lines + 1)) (sym aim) stays) in
+    let count : line_count newline line ≡ 1 = ap length one in
+    subst (λ (c : CutterState). EndsNow c (x ++ line)) (sym now_is) (ends_over line fit (omega (arith, count)) stays' x whole live.at.counted live.ends).1
 
 -- the lines as they are counted
-lines_are : (cutter : CutterState) (x : List ℕ) (live : IsLive cutter x) → length (all_lines x) ≡ cutter.lines
-lines_are cutter x live = length-all_lines x ∙ sym live.at.counted
-
-above_stays : (suppress : Bool) (count : ℕ) (last : State) (b : List Line) (total matched at : ℕ) (ending : Ending) → AimsAt (Above matched at) ending
-    → suc total < at → EndsStill suppress count b (suc total) last ending
-above_stays suppress count last b total matched at (above operand repetition matched' cut) aims far = elim (cases_lt cut (2 ^ 64 - 1)) [
-  | inl less ↦ let e : min cut (2 ^ 64 - 1) ≡ cut = Rattle.std.proofs.Math.Nat.min-eq_left (omega (arith, less)) in omega (arith, e, aims.1, far)
-  | inr more ↦ let e : min cut (2 ^ 64 - 1) ≡ 2 ^ 64 - 1 = Rattle.std.proofs.Math.Nat.min-eq_right more in omega (arith, e, aims.1, far, more)
-]
-above_stays suppress count last b total matched at _ aims far = absurd aims
-
-used_up_stays : (suppress : Bool) (count : ℕ) (last : State) (b : List Line) (total : ℕ) (ending : Ending) → AimsAt UsedUp ending
-    → EndsStill suppress count b total last ending
-used_up_stays suppress count last b total used_up aims = tt
-used_up_stays suppress count last b total _ aims = absurd aims
-
-pub next_above : (cutter before now : CutterState) (x line : List ℕ) (matched at : ℕ) → before ≡ cutter → now ≡ record cutter { lines = cutter.lines + 1 } → IsLive cutter x → IsWhole x → IsLine line → before.aim ≡ Above matched at → before.lines + 1 < at → EndsNow now (x ++ line)
-next_above cutter before now x line matched at same now_is live whole one aim far =
-    let aim' : cutter.aim ≡ Above matched at = ap (λ (c : CutterState). c.aim) (sym same) ∙ aim in
-    let count = lines_are cutter x live in
-    let lines' : before.lines ≡ cutter.lines = ap (λ (c : CutterState). c.lines) same in
-    let ends = line_stays cutter x line live whole one
-    (above_stays (suppress_in cutter) (length (all_lines x)) (state_in cutter) (marked line ∷ []) (length (all_lines x)) matched at live.ends.ending
-    (subst (λ a. AimsAt a live.ends.ending) aim' live.ends.aims) (omega (arith, count, lines', far))) in
-    subst (λ (c : CutterState). EndsNow c (x ++ line)) (sym now_is) ends
-
-pub next_used_up : (cutter before now : CutterState) (x line : List ℕ) → before ≡ cutter → now ≡ record cutter { lines = cutter.lines + 1 } → IsLive cutter x → IsWhole x → IsLine line → before.aim ≡ UsedUp → EndsNow now (x ++ line)
-next_used_up cutter before now x line same now_is live whole one aim =
-    let aim' : cutter.aim ≡ UsedUp = ap (λ (c : CutterState). c.aim) (sym same) ∙ aim in
-    subst (λ (c : CutterState). EndsNow c (x ++ line)) (sym now_is) (line_stays cutter x line live whole one (used_up_stays (suppress_in cutter) (length (all_lines x)) (state_in cutter) (marked line ∷ []) (suc (length (all_lines x))) live.ends.ending (subst (λ a. AimsAt a live.ends.ending) aim' live.ends.aims)))
+lines_are : {cutter : CutterState} {x : List ℕ} (live : IsLive cutter x) → length (all_lines x) ≡ cutter.lines
+lines_are {x} live = length-all_lines x ∙ sym live.at.counted
 
 -- the line of a cut that was above the last one came in
-above_cuts : (suppress : Bool) (lines : List Line) (line : Line) (state : State) (total matched at : ℕ) (ending : Ending) → length lines ≡ total → state.current ≤ total + 1 → EndsAs suppress lines state ending → AimsAt (Above matched at) ending → at ≤ total + 1 → total + 1 < 2 ^ 64 - 1
+above_cuts : {suppress : Bool} (lines : List Line) (line : Line) {state : State} {total matched at : ℕ} (ending : Ending) → length lines ≡ total → state.current ≤ total + 1 → EndsAs suppress lines state ending → AimsAt (Above matched at) ending → at ≤ total + 1 → total + 1 < 2 ^ 64 - 1
     → GoesPast suppress (lines ++ line ∷ []) state matched at × (at ≡ total + 1)
-above_cuts suppress lines line state total matched at (above operand repetition matched' cut) count within (operands, are, at_cut, far) aims near few =
+above_cuts {suppress} lines line {state} {total} {at} (above operand repetition matched' cut) count within (operands, are, at_cut, far) aims near few =
     let same : at ≡ cut = capped cut (2 ^ 64 - 1) at (total + 1) aims.1 near few in
     let here : cut ≡ total + 1 = omega (arith, same, near, far, count) in
     let all : length (lines ++ line ∷ []) ≡ length lines + 1 = length-append lines (line ∷ []) in (
@@ -177,33 +176,33 @@ above_cuts suppress lines line state total matched at (above operand repetition 
           })),
       same ∙ here,
     )
-above_cuts suppress lines line state total matched at _ count within ends aims near few = absurd aims
+above_cuts lines line _ count within ends aims near few = absurd aims
 
-pub next_cut : (cutter before : CutterState) (x line : List ℕ) (matched at total : ℕ) → before ≡ cutter → total ≡ before.lines + 1 → IsFit cutter → IsLive cutter x → IsWhole x → IsLine line → before.aim ≡ Above matched at → at ≤ before.lines + 1 → cutter.lines < 2 ^ 63
+pub next_cut : {cutter before : CutterState} {x : List ℕ} (line : List ℕ) {matched at total : ℕ} → before ≡ cutter → total ≡ before.lines + 1 → IsFit cutter → IsLive cutter x → IsWhole x → IsLine line → before.aim ≡ Above matched at → at ≤ before.lines + 1 → cutter.lines < 2 ^ 63
     → GoesPast (suppress_in cutter) (all_lines (x ++ line)) (state_in cutter) matched at × (total ≤ search_after (suppress_in cutter) (record { matched = matched; line = at }))
-next_cut cutter before x line matched at total same total_is fit live whole one aim near few =
+next_cut {cutter} {before} {x} line {matched} {at} same total_is fit live whole one aim near few =
     let aim' : cutter.aim ≡ Above matched at = ap (λ (c : CutterState). c.aim) (sym same) ∙ aim in
     let lines' : before.lines ≡ cutter.lines = ap (λ (c : CutterState). c.lines) same in
-    let runs = runs_to cutter x cutter.window.held live.at live.ends in
+    let runs = runs_to live.at live.ends in
     let ends = ends_as (suppress_in cutter) (all_lines x) (start cutter.operands) live.at.steps (state_in cutter) live.ends.ending runs in
     let reached : at ≤ cutter.lines + 1 = omega (arith, near, lines') in
-    let goes = above_cuts (suppress_in cutter) (all_lines x) (marked line) (state_in cutter) cutter.lines matched at live.ends.ending (lines_are cutter x live) fit.fits.current ends (subst (λ a. AimsAt a live.ends.ending) aim' live.ends.aims) reached (omega (arith, few)) in (
-      subst (λ lines. GoesPast (suppress_in cutter) lines (state_in cutter) matched at) (sym (all_lines-line x line whole one)) goes.0,
+    let goes = above_cuts (all_lines x) (marked line) live.ends.ending (lines_are live) fit.fits.current ends (subst (λ a. AimsAt a live.ends.ending) aim' live.ends.aims) reached (omega (arith, few)) in (
+      subst (λ lines. GoesPast (suppress_in cutter) lines (state_in cutter) matched at) (sym (all_lines-line line whole one)) goes.0,
       (let after = after_cut (suppress_in cutter) (record { matched = matched; line = at }) in omega (arith, after, goes.1, total_is, lines')),
     )
 
 -- where a pattern matched no line so far
 
-missed_looked : (suppress : Bool) (a : List Line) (line : Line) (state : State) (ending : Ending) → EndsAs suppress a state ending → AimsAt Missed ending → (operand : Operand) (operands : List Operand) → state.operands ≡ operand ∷ operands
+missed_looked : (suppress : Bool) (a : List Line) (line : Line) (state : State) (ending : Ending) → EndsAs suppress a state ending → AimsAt Missed ending → {operand : Operand} {operands : List Operand} → state.operands ≡ operand ∷ operands
     → (other : ℕ) → search_line suppress state ≤ other → other ≤ length a → is_match operand (a ++ line ∷ []) other ≡ false
-missed_looked suppress a line state (missed operand' repetition) (operands', is, none) aims operand operands are other from within =
+missed_looked suppress a line state (missed operand' repetition) (operands', is, none) aims {operand} are other from within =
     let some : 1 ≤ search_line suppress state = search_some suppress state in
     match_still operand a (line ∷ []) other (omega (arith, some, from)) within
-    ∙ by operand.target (subst (λ (o : Operand). Misses suppress a state o o.target) (front_of operand' operand operands' operands (sym is ∙ are)) none) where
+    ∙ by operand.target (subst (λ (o : Operand). Misses suppress a state o o.target) (front_of operand' operand (sym is ∙ are)) none) where
       by : (target : Target) → Misses suppress a state operand target → is_match operand a other ≡ false
       by (Number n) none = absurd none
       by (Search pattern kept offset) none = none other from within
-missed_looked suppress a line state _ ends aims operand operands are other from within = absurd aims
+missed_looked suppress a line state _ ends aims are other from within = absurd aims
 
 missed_sought : (suppress : Bool) (a : List Line) (state : State) (ending : Ending) → EndsAs suppress a state ending → AimsAt Missed ending → pattern_by state.operands ≡ None → ⊥
 missed_sought suppress a state (missed operand repetition) (operands, is, misses) aims none = by operand.target misses (sym (ap pattern_by is) ∙ none) where
@@ -212,34 +211,34 @@ missed_sought suppress a state (missed operand repetition) (operands, is, misses
   by (Search pattern kept offset) misses none = cc
 missed_sought suppress a state _ ends aims none = absurd aims
 
-pub next_looked : (cutter : CutterState) (x line : List ℕ) (live : IsLive cutter x) → IsWhole x → IsLine line → cutter.aim ≡ Missed → Looked (record cutter { lines = cutter.lines + 1 }) (x ++ line) line
-next_looked cutter x line live whole one aim =
-    let runs = runs_to cutter x cutter.window.held live.at live.ends in
+pub next_looked : {cutter : CutterState} {x : List ℕ} (line : List ℕ) (live : IsLive cutter x) → IsWhole x → IsLine line → cutter.aim ≡ Missed → Looked (record cutter { lines = cutter.lines + 1 }) (x ++ line) line
+next_looked {cutter} {x} line live whole one aim =
+    let runs = runs_to live.at live.ends in
     let ends = ends_as (suppress_in cutter) (all_lines x) (start cutter.operands) live.at.steps (state_in cutter) live.ends.ending runs in
-    let count = lines_are cutter x live in
+    let count = lines_are live in
     let aims = subst (λ a. AimsAt a live.ends.ending) aim live.ends.aims in record {
-      counted = ap (λ n. n + 1) live.at.counted ∙ sym (count-line x line whole one);
-      last = (all_lines x, all_lines-line x line whole one, λ ends. whole-append x line whole (inr ends));
-      others = λ operand operands are other from less. ap (λ lines. is_match operand lines other) (all_lines-line x line whole one)
-          ∙ missed_looked (suppress_in cutter) (all_lines x) (marked line) (state_in cutter) live.ends.ending ends aims operand operands are other from (omega (arith, less, count));
+      counted = ap (λ n. n + 1) live.at.counted ∙ sym (count-line line whole one);
+      last = (all_lines x, all_lines-line line whole one, λ ends. whole-append line whole (inr ends));
+      others = λ operand operands are other from less. ap (λ lines. is_match operand lines other) (all_lines-line line whole one)
+          ∙ missed_looked (suppress_in cutter) (all_lines x) (marked line) (state_in cutter) live.ends.ending ends aims are other from (omega (arith, less, count));
     }
 
-pub next_sought : (cutter : CutterState) (x : List ℕ) (live : IsLive cutter x) → IsFit cutter → cutter.aim ≡ Missed → cutter.sought ≡ None → ⊥
-next_sought cutter x live fit aim none =
-    let runs = runs_to cutter x cutter.window.held live.at live.ends in
+pub next_sought : {cutter : CutterState} {x : List ℕ} (live : IsLive cutter x) → IsFit cutter → cutter.aim ≡ Missed → cutter.sought ≡ None → ⊥
+next_sought {cutter} {x} live fit aim none =
+    let runs = runs_to live.at live.ends in
     missed_sought (suppress_in cutter) (all_lines x) (state_in cutter) live.ends.ending (ends_as (suppress_in cutter) (all_lines x) (start cutter.operands) live.at.steps (state_in cutter) live.ends.ending runs)
     (subst (λ a. AimsAt a live.ends.ending) aim live.ends.aims) (sym fit.sought ∙ none)
 
-pub next_tries : (cutter before mid next : CutterState) (line : List ℕ) (result : Option Cut) → before ≡ cutter → mid ≡ record before { lines = before.lines + 1 } → IsFit cutter → IsLine line → before.aim ≡ Missed → next ≡ record mid { aim = next.aim } → Tries mid line next result → TriesNext cutter line next result
-next_tries cutter before mid next line None same mid_is fit one aim next_is tries = λ x whole live.
+pub next_tries : {cutter before mid next : CutterState} (line : List ℕ) (result : Option Cut) → before ≡ cutter → mid ≡ record before { lines = before.lines + 1 } → IsFit cutter → IsLine line → before.aim ≡ Missed → next ≡ record mid { aim = next.aim } → Tries mid line next result → TriesNext cutter line next result
+next_tries {cutter} {mid} line None same mid_is fit one aim next_is tries = λ x whole live.
     let mid_as : mid ≡ record cutter { lines = cutter.lines + 1 } = mid_is ∙ ap (λ (c : CutterState). record c { lines = c.lines + 1 }) same in
     let aim' : cutter.aim ≡ Missed = ap (λ (c : CutterState). c.aim) (sym same) ∙ aim in
-    tries (x ++ line) (subst (λ (c : CutterState). Looked c (x ++ line) line) (sym mid_as) (next_looked cutter x line live whole one aim'))
-next_tries cutter before mid next line (Some cut) same mid_is fit one aim next_is tries = λ x whole live.
+    tries (x ++ line) (subst (λ (c : CutterState). Looked c (x ++ line) line) (sym mid_as) (next_looked line live whole one aim'))
+next_tries {cutter} {mid} {next} line (Some cut) same mid_is fit one aim next_is tries = λ x whole live.
     let mid_as : mid ≡ record cutter { lines = cutter.lines + 1 } = mid_is ∙ ap (λ (c : CutterState). record c { lines = c.lines + 1 }) same in
     let aim' : cutter.aim ≡ Missed = ap (λ (c : CutterState). c.aim) (sym same) ∙ aim in
-    let both = tries (x ++ line) (subst (λ (c : CutterState). Looked c (x ++ line) line) (sym mid_as) (next_looked cutter x line live whole one aim')) in
-    let near = subst (λ (c : CutterState). StaysNear c cut) mid_as both.1 (inr (next_sought cutter x live fit aim')) in (
+    let both = tries (x ++ line) (subst (λ (c : CutterState). Looked c (x ++ line) line) (sym mid_as) (next_looked line live whole one aim')) in
+    let near = subst (λ (c : CutterState). StaysNear c cut) mid_as both.1 (inr (next_sought live fit aim')) in (
       subst (λ (c : CutterState). GoesPast (suppress_in c) (all_lines (x ++ line)) (state_in c) cut.matched cut.line) mid_as both.0,
       (let lines' : next.lines ≡ cutter.lines + 1 = ap (λ (c : CutterState). c.lines) (next_is ∙ ap (λ (c : CutterState). record c { aim = next.aim }) mid_as) in omega (arith, near, lines')),
     )

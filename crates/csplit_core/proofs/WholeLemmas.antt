@@ -1,14 +1,38 @@
--- No line is lost.
-use Rattle.std.proofs.Common.{◌≡◌, ℕ, suc, ◌+◌, ◌-◌, ◌≤◌, Bool, true, false, List, [], ◌∷◌, ◌++◌, length, map, drop, refl, sym, ◌∙◌, ap, arith, append_assoc, cond}
-use Rattle.std.proofs.lemmas.Bool.{false≢true}
-use Rattle.std.proofs.lemmas.List.{append-nil, take-append-drop, take_all, drop-drop}
-use Rattle.std.proofs.Common.{length-drop}
-use Rattle.csplit_core.specs.Operand.{Operand, Line}
-use Rattle.csplit_core.specs.Plan.{State, start, Step, Ending, below, state_after, Runs, cuts}
-use Rattle.csplit_core.specs.Planned.{plan}
-use Rattle.csplit_core.specs.Section.{Section, section, section_of, lines_between, is_last_kept, whole_end, settled_end, whole_sections, settled_sections, is_final, waiting_lines, lines_in}
+-- The last section and the lines that wait are all lines that are left.
+use Rattle.std.proofs.Common.{ℕ, suc, ◌≤◌, Bool, true, false, arith, ◌≡◌, ◌-◌, List, length, drop, refl, sym, subst, length-drop, ◌+◌, [], ◌∷◌, ◌++◌, map, ◌∙◌, ap, append_assoc, cond}
+use Rattle.csplit_core.specs.Plan.{line_after, start, Ending, missed, below, State, Step, Runs, cuts}
+use Rattle.csplit_core.specs.Operand.{Operand, Line, most_held}
+use Rattle.csplit_core.specs.Planned.{Plan, plan}
+use Rattle.csplit_core.specs.Section.{waiting_lines, most_waiting, Section, section, section_of, lines_between, is_last_kept, whole_end, settled_end, whole_sections, settled_sections, is_final, lines_in}
 use Rattle.csplit_core.specs.laws.PlanLaws.{plan_runs}
 use Rattle.csplit_core.specs.laws.SectionLaws.{are_within}
+use Rattle.std.proofs.lemmas.Bool.{false≢true}
+use Rattle.std.proofs.lemmas.List.{append-nil, take-append-drop, take_all, drop-drop}
+
+-- The last section: all of its lines but the last ones are settled, as many as the offset goes back.
+
+-- the current line is at most one past the last
+pub after_within : (suppress : Bool) (cut total : ℕ) → cut ≤ total → line_after suppress cut ≤ suc total
+after_within true cut total within = omega (arith, within)
+after_within false cut total within = omega (arith, within)
+
+-- Few lines wait.
+
+left_over : (lines : List Line) (current past : ℕ) → 1 ≤ current → length (drop (past - current) (drop (current - 1) lines)) ≤ suc (length lines) - past
+left_over lines current past some =
+    let one : length (drop (past - current) (drop (current - 1) lines)) ≡ length (drop (current - 1) lines) - (past - current) = length-drop (past - current) (drop (current - 1) lines) in
+    let other : length (drop (current - 1) lines) ≡ length lines - (current - 1) = length-drop (current - 1) lines in omega (arith, one, other, some)
+
+few_at : (lines : List Line) (plan' : Plan) (ending : Ending) → plan'.ending ≡ ending → 1 ≤ plan'.last.current → length (waiting_lines lines plan') ≤ most_waiting ending
+few_at lines plan' (missed operand repetition) is some = subst (λ e. length (waiting_lines lines (record plan' { ending = e })) ≤ most_held operand.target) (sym is)
+    (let few : length (drop (suc (length lines) - most_held operand.target - plan'.last.current) (drop (plan'.last.current - 1) lines)) ≤ suc (length lines) - (suc (length lines) - most_held operand.target) = left_over lines plan'.last.current (suc (length lines) - most_held operand.target) some in omega (arith, few))
+few_at lines plan' (below operand repetition) is some = subst (λ e. length (waiting_lines lines (record plan' { ending = e })) ≤ 0) (sym is) (omega arith)
+few_at lines plan' ending is some = subst (λ e. length (waiting_lines lines (record plan' { ending = e })) ≤ 0) (sym is) (let few : length (drop (suc (length lines) - plan'.last.current) (drop (plan'.last.current - 1) lines)) ≤ suc (length lines) - suc (length lines) = left_over lines plan'.last.current (suc (length lines)) some in omega (arith, few))
+
+pub few_wait : (suppress : Bool) (operands : List Operand) (x : List Line) → length (waiting_lines x (plan suppress operands x)) ≤ most_waiting (plan suppress operands x).ending
+few_wait suppress operands x = few_at x (plan suppress operands x) (plan suppress operands x).ending refl (are_within suppress x (start operands) _ _ _ (plan_runs suppress operands x) (omega arith)).1
+
+-- No line is lost.
 
 lines_in-append : (a b : List Section) → lines_in (a ++ b) ≡ lines_in a ++ lines_in b
 lines_in-append [] b = refl
@@ -20,30 +44,29 @@ between_rest first cut lines some least =
     ap (λ those. lines_between first cut lines ++ those) (ap (λ n. drop n lines) (let e : cut - 1 ≡ first - 1 + (cut - first) = omega (arith, some, least) in e) ∙ sym (drop-drop (cut - first) (first - 1) lines))
     ∙ take-append-drop (cut - first) (drop (first - 1) lines)
 
-steps_and_rest : (lines : List Line) (first : State) (steps : List Step) (last : State) (ending : Ending) → Runs false lines first steps last ending → 1 ≤ first.current
+steps_and_rest : {lines : List Line} {first : State} {steps : List Step} {last : State} {ending : Ending} → Runs false lines first steps last ending → 1 ≤ first.current
     → lines_in (map (section_of lines) steps) ++ drop (last.current - 1) lines ≡ drop (first.current - 1) lines
-steps_and_rest lines first steps last ending (cuts state operand operands matched cut steps' last' ending' is at from within rest) some =
+steps_and_rest {lines} (cuts state operand operands matched cut steps' last' ending' is at from within rest) some =
     append_assoc (lines_between state.current cut lines) (lines_in (map (section_of lines) steps')) (drop (last'.current - 1) lines)
-    ∙ ap (λ those. lines_between state.current cut lines ++ those) (steps_and_rest lines (state_after false operand operands state.repetition matched cut) steps' last' ending' rest (omega (arith, some, from)))
+    ∙ ap (λ those. lines_between state.current cut lines ++ those) (steps_and_rest rest (omega (arith, some, from)))
     ∙ between_rest state.current cut lines some from
-steps_and_rest lines first steps last ending run some = refl
+steps_and_rest run some = refl
 
 -- the steps' sections, then these lines, where they are what is left
-all_with : (closed : Bool) (operands : List Operand) (x : List Line) (end rest : List Line) → end ++ rest ≡ drop ((plan false operands x).last.current - 1) x
+all_with : (closed : Bool) (operands : List Operand) {x : List Line} (end rest : List Line) → end ++ rest ≡ drop ((plan false operands x).last.current - 1) x
     → lines_in (map (section_of x) (plan false operands x).steps ++ section (is_last_kept (plan false operands x).ending) closed end ∷ []) ++ rest ≡ x
-all_with closed operands x end rest is =
+all_with closed operands {x} end rest is =
     ap (λ those. those ++ rest) (lines_in-append (map (section_of x) (plan false operands x).steps) (section (is_last_kept (plan false operands x).ending) closed end ∷ [])
     ∙ ap (λ those. lines_in (map (section_of x) (plan false operands x).steps) ++ those) (append-nil end))
     ∙ append_assoc (lines_in (map (section_of x) (plan false operands x).steps)) end rest
-    ∙ ap (λ those. lines_in (map (section_of x) (plan false operands x).steps) ++ those) is
-    ∙ steps_and_rest x (start operands) _ _ _ (plan_runs false operands x) (omega arith)
+    ∙ ap (λ those. lines_in (map (section_of x) (plan false operands x).steps) ++ those) is ∙ steps_and_rest (plan_runs false operands x) (omega arith)
 
 pub none_lost : (operands : List Operand) (x : List Line) → is_final (plan false operands x).ending ≡ false
     → lines_in (settled_sections x (plan false operands x)) ++ waiting_lines x (plan false operands x) ≡ x
 none_lost operands x live =
     let plan' = plan false operands x in
     ap (λ final. lines_in (settled_sections x plan') ++ cond final [] (drop (settled_end (length x) plan'.ending - plan'.last.current) (drop (plan'.last.current - 1) x))) live
-    ∙ all_with false operands x (lines_between plan'.last.current (settled_end (length x) plan'.ending) x) (drop (settled_end (length x) plan'.ending - plan'.last.current) (drop (plan'.last.current - 1) x))
+    ∙ all_with false operands (lines_between plan'.last.current (settled_end (length x) plan'.ending) x) (drop (settled_end (length x) plan'.ending - plan'.last.current) (drop (plan'.last.current - 1) x))
     (take-append-drop (settled_end (length x) plan'.ending - plan'.last.current) (drop (plan'.last.current - 1) x))
 
 pub ends_after_all : (total : ℕ) (ending : Ending) → is_final ending ≡ false → whole_end total ending ≡ suc total
@@ -57,7 +80,6 @@ pub none_lost_at_end : (operands : List Operand) (x : List Line) → is_final (p
 none_lost_at_end operands x live =
     let plan' = plan false operands x in
     let some = (are_within false x (start operands) _ _ _ (plan_runs false operands x) (omega arith)).1 in
-    sym (append-nil (lines_in (whole_sections x plan')))
-    ∙ all_with true operands x (lines_between plan'.last.current (whole_end (length x) plan'.ending) x) []
+    sym (append-nil (lines_in (whole_sections x plan'))) ∙ all_with true operands (lines_between plan'.last.current (whole_end (length x) plan'.ending) x) []
     (append-nil (lines_between plan'.last.current (whole_end (length x) plan'.ending) x)
     ∙ ap (λ end. lines_between plan'.last.current end x) (ends_after_all (length x) plan'.ending live) ∙ rest_is_all x plan'.last.current some)

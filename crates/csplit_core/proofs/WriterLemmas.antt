@@ -1,41 +1,205 @@
--- Lemmas on the writer of sections.
-use Rattle.std.proofs.Common.{◌≡◌, ℕ, Bool, true, false, List, [], ◌∷◌, length, refl, sym, subst, append_assoc}
-use Rattle.std.proofs.lemmas.List.{append-nil}
-use Rattle.ports_core.specs.Slot.{Slot}
-use Rattle.ports_core.specs.inner.Slot.{KeepsBroken}
-use Rattle.ports_core.specs.Part.{Part, Begins}
-use Rattle.ports_core.specs.inner.Part.{StoppedInTurn}
+-- From one state of the outputs to another: what their steps do, and what is so of a writer before and after.
+use Rattle.std.proofs.Common.{◌≡◌, ℕ, ◌+◌, ◌<◌, suc, Bool, false, List, [], ◌∷◌, ◌++◌, length, take, Option, Some, None, inl, inr, refl, sym, ◌∙◌, arith, length-append, true, Result, Ok, Err, OnOk, IsErrAnd, subst, append_assoc}
+use Rattle.ports_core.specs.Slot.{Slot, broke, numberless, opened, changed_at, adds, closes, with_written, with_broken, told_of}
+use Rattle.ports_core.specs.Part.{File, Part, OutputsAt, Begins, FilesBegin, IsNext, Marks, IsAt}
+use Rattle.ports_core.specs.inner.Part.{AllClosed, InTurn, StoppedInTurn}
 use Rattle.ports_core.specs.declared.fault.Fault.{Fault}
+use Rattle.ports_core.specs.declared.slot.Mode.TheVariants.{Fresh}
+use Rattle.ports_core.specs.declared.slot.State.{State}
+use Rattle.ports_core.proofs.SlotLemmas.{length-changed_at}
+use Rattle.ports_core.proofs.FileLemmas.{gets, ended, file_more, last_changes, write_makes, close_makes}
+use Rattle.ports_core.proofs.PartLemmas.{begins_itself, begins_more, take_begins_after, files_begin_themselves, part_begins_itself, out_more, outputs_count, turn_between, turn_last, turn_next}
+use Rattle.csplit_core.specs.inner.Writer.{MakesNone, unnamed, failed, Wrote, ended_part, with_bytes, with_section, At, IsThere, KeepsFiles, KeepsOrBreaks, Leaves, Reaches, fault_in}
+use Rattle.std.specs.Prelude.{IfNone}
+use Rattle.std.proofs.lemmas.List.{append-nil}
+use Rattle.ports_core.specs.inner.Slot.{KeepsBroken}
 use Rattle.ports_core.specs.declared.fault.Fault.TheVariants.{Memory, Write, Open}
-use Rattle.ports_core.proofs.PartLemmas.{part_begins_itself, turn_between}
-use Rattle.ports_core.proofs.SlotSteps.{rose_later}
+use Rattle.ports_core.proofs.HandedOn.{handed_on}
+use Rattle.ports_core.proofs.SlotSteps.{keeps_again, keeps_same, rose_later}
 use Rattle.csplit_core.specs.Output.{Style, part_by}
 use Rattle.csplit_core.specs.Draft.{Draft, draft_part, last_contents}
-use Rattle.csplit_core.specs.inner.Draft.{ended_part, with_bytes, with_section}
 use Rattle.csplit_core.specs.laws.SectionLaws.{part_grows}
-use Rattle.csplit_core.specs.Writer.{WriterState, Breaks, IsLast}
-use Rattle.csplit_core.specs.inner.Writer.{At, Moves, Halts, KeepsFiles}
-use Rattle.csplit_core.proofs.OutputSteps.{Becomes, Falls}
+use Rattle.csplit_core.specs.Writer.{WriterState, IsLast, IsReady}
+use Rattle.ports_core.specs.declared.fault.Fault.TheVariants as fault
+use Rattle.ports_core.specs.declared.slot.State.TheVariants as state
+use Rattle.ports_core.specs.inner.Write as short
+
+-- Outputs that have a part have another, as their last file is opened, written and closed, and standard output gets a line; or a fault stops
+-- them in between.
+
+-- where outputs are that were to get from one part to another: there, or a fault stopped them between the two
+abbrev pub GetsTo : Bool → List Slot → Part → Part → List Slot → Option Fault → Type 0
+GetsTo told before low high new None = OutputsAt told before high new
+GetsTo told before low high new (Some fault) = StoppedInTurn told before low high fault new
+
+pub record Becomes (told : Bool) (low high : Part) (old new : List Slot) (fault : Option Fault) : Type 0 where
+  pub gets : (before : List Slot) → OutputsAt told before low old → GetsTo told before low high new fault
+
+gets_from : (told : Bool) (before : List Slot) {low middle : Part} (high : Part) (new : List Slot) (fault : Option Fault) → Begins low middle → GetsTo told before middle high new fault → GetsTo told before low high new fault
+gets_from told before high new None begins at = at
+gets_from told before {low} {middle} high new (Some fault) begins at = turn_between told before low middle high high fault new begins at (part_begins_itself high)
+
+pub becomes_again : {told : Bool} {low middle high : Part} {old mid new : List Slot} {fault : Option Fault} → Begins low middle → Becomes told low middle old mid None → Becomes told middle high mid new fault → Becomes told low high old new fault
+becomes_again {told} {high = high} {new = new} {fault} begins first second = record { gets = λ before at. gets_from told before high new fault begins (second.gets before (first.gets before at)) }
+
+pub falls_wider : {told : Bool} {low middle high : Part} {old new : List Slot} {fault : Fault} → Becomes told low middle old new (Some fault) → Begins middle high → Becomes told low high old new (Some fault)
+falls_wider {told} {low} {middle} {high} {new = new} {fault = fault} falls begins =
+    record { gets = λ before at. turn_between told before low low middle high fault new (part_begins_itself low) (falls.gets before at) begins }
+
+-- a file with this name
+abbrev pub file_of : List ℕ → List ℕ → State → File
+file_of name bytes state = record { name = name; mode = Fresh; bytes = bytes; state = state; is_broken = false }
+
+-- these files, and a last one
+abbrev pub with_last : List ℕ → List File → File → Part
+with_last out front file = record { out = out; files = front ++ file ∷ [] }
+
+-- What begins what
+
+pub front_begins : (front low high : List File) → FilesBegin low high → FilesBegin (front ++ low) (front ++ high)
+front_begins [] low high begins = begins
+front_begins (file ∷ front) low high begins = (refl, refl, refl, inr refl, begins_itself file.bytes, front_begins front low high begins)
+
+pub more_files : (front more : List File) → FilesBegin front (front ++ more)
+more_files [] more = tt
+more_files (file ∷ front) more = (refl, refl, refl, inr refl, begins_itself file.bytes, more_files front more)
+
+pub line_begins : {out : List ℕ} (line : List ℕ) {files : List File} → Begins (record { out = out; files = files }) (record { out = out ++ line; files = files })
+line_begins {out} line {files} = record { out = begins_more out line; files = files_begin_themselves files }
+
+pub file_begins : {out : List ℕ} (front : List File) (file : File) → Begins (record { out = out; files = front }) (with_last out front file)
+file_begins {out} front file = record { out = begins_itself out; files = more_files front (file ∷ []) }
+
+pub bytes_more : (out : List ℕ) (front : List File) (name bytes more : List ℕ) → Begins (with_last out front (file_of name bytes state.Open)) (with_last out front (file_of name (bytes ++ more) state.Open))
+bytes_more out front name bytes more = record { out = begins_itself out; files = front_begins front (file_of name bytes state.Open ∷ []) (file_of name (bytes ++ more) state.Open ∷ []) (refl, refl, refl, inl refl, begins_more bytes more, tt) }
+
+taken_more : (out : List ℕ) (front : List File) (name bytes more : List ℕ) (n : ℕ) → Begins (with_last out front (file_of name (bytes ++ take n more) state.Open)) (with_last out front (file_of name (bytes ++ more) state.Open))
+taken_more out front name bytes more n = record { out = begins_itself out; files = front_begins front (file_of name (bytes ++ take n more) state.Open ∷ []) (file_of name (bytes ++ more) state.Open ∷ []) (refl, refl, refl, inl refl, take_begins_after n bytes more, tt) }
+
+pub close_begins : (out : List ℕ) (front : List File) (name bytes : List ℕ) → Begins (with_last out front (file_of name bytes state.Open)) (with_last out front (file_of name bytes state.Closed))
+close_begins out front name bytes = record { out = begins_itself out; files = front_begins front (file_of name bytes state.Open ∷ []) (file_of name bytes state.Closed ∷ []) (refl, refl, refl, inl refl, begins_itself bytes, tt) }
+
+-- Steps
+
+-- a fault that comes while the outputs have the lower part still
+halts_here : {told : Bool} {low high : Part} {old new : List Slot} {fault : Fault} {place : ℕ} → Begins low high → InTurn low.files place → Marks (IsNext low high) fault old new
+    → ((before : List Slot) → OutputsAt told before low old → IsAt fault (length before) place (length low.files)) → Becomes told low high old new (Some fault)
+halts_here {low = low} {old = old} {place = place} begins turn marks from = record {
+  gets = λ before at. record {
+    part = low;
+    above = part_begins_itself low;
+    below = begins;
+    place = place;
+    turn = turn;
+    reached = old;
+    outputs = at;
+    marks = marks;
+    from = from before at;
+  };
+}
+
+module _ (told : Bool) (out : List ℕ) (front : List File) where
+  -- the last slot is that of the last file
+  last_place : (file : File) {before old : List Slot} {slot : ℕ} → suc slot ≡ length old → OutputsAt told before (with_last out front file) old → slot ≡ length before + length front
+  last_place file {before} {old} last at =
+      let all : length old ≡ length before + length (front ++ file ∷ []) = outputs_count told before (with_last out front file) old at in
+      let files : length (front ++ file ∷ []) ≡ length front + 1 = length-append front (file ∷ []) in omega (arith, last)
+
+  -- a file is opened, or isn't
+  pub opens : (name : List ℕ) {old new : List Slot} → new ≡ old ++ opened name Fresh ∷ [] → Becomes told (record { out = out; files = front }) (with_last out front (file_of name [] state.Open)) old new None
+  opens name {old} {new} is = record { gets = λ before at. file_more told before (record { out = out; files = front }) old new name Fresh at is }
+
+  pub opens_not : {name : List ℕ} {high : Part} {old new : List Slot} {fault : Fault} → AllClosed front → Begins (record { out = out; files = front }) high → IsNext (record { out = out; files = front }) high name
+      → MakesNone old name new fault → Becomes told (record { out = out; files = front }) high old new (Some fault)
+  opens_not closed begins next (unnamed same) = halts_here begins (turn_next front closed) same (λ before at. tt)
+  opens_not {name} closed begins next (failed _ (broke slot kept number is added)) =
+      halts_here begins (turn_next front closed) (number, (name, kept, next, is, added)) (λ before at. refl)
+  opens_not closed begins next (failed _ (numberless full same)) = halts_here begins (turn_next front closed) same (λ before at. tt)
+
+  -- the last file gets bytes
+  bytes_added : (name bytes more : List ℕ) {slot : ℕ} (old : List Slot) {new : List Slot} → suc slot ≡ length old → new ≡ with_written slot (told_of told more) old
+      → Becomes told (with_last out front (file_of name bytes state.Open)) (with_last out front (file_of name (bytes ++ more) state.Open)) old new None
+  bytes_added name bytes more {slot} old {new} last wrote = record {
+    gets = λ before at.
+        last_changes told (adds (told_of told more)) (gets more) (write_makes told more) before (with_last out front (file_of name bytes state.Open)) front (file_of name bytes state.Open) old new slot refl last at wrote;
+  }
+
+  pub writes_to : (name bytes more : List ℕ) {slot : ℕ} (old : List Slot) {new : List Slot} (fault : Option Fault) → AllClosed front → suc slot ≡ length old → Wrote told slot more old new fault
+      → Becomes told (with_last out front (file_of name bytes state.Open)) (with_last out front (file_of name (bytes ++ more) state.Open)) old new fault
+  writes_to name bytes more old None closed last wrote = bytes_added name bytes more old last wrote
+  writes_to name bytes more {slot} old (Some _) closed last (short.broke n cut) =
+      becomes_again (bytes_more out front name bytes (take n more)) (bytes_added name bytes (take n more) old last refl) (halts_here (taken_more out front name bytes more n)
+      (turn_last front (file_of name (bytes ++ take n more) state.Open) (length front) refl closed)
+      (let size : length (with_written slot (told_of told (take n more)) old) ≡ length old = length-changed_at slot _ old in omega (arith, last), cut.slots)
+      (λ before at. inr (last_place (file_of name (bytes ++ take n more) state.Open) (last ∙ sym (length-changed_at slot _ old)) at)))
+
+  -- it is closed, or breaks as it is
+  pub closes_last : (name bytes : List ℕ) {slot : ℕ} (old : List Slot) {new : List Slot} → suc slot ≡ length old → new ≡ changed_at slot closes old
+      → Becomes told (with_last out front (file_of name bytes state.Open)) (with_last out front (file_of name bytes state.Closed)) old new None
+  closes_last name bytes {slot} old {new} last closed = record {
+    gets = λ before at.
+        last_changes told closes ended (close_makes told) before (with_last out front (file_of name bytes state.Open)) front (file_of name bytes state.Open) old new slot refl last at closed;
+  }
+
+  pub closes_not : (name bytes : List ℕ) {slot : ℕ} (old : List Slot) {new : List Slot} → AllClosed front → suc slot ≡ length old → new ≡ with_broken slot (changed_at slot closes old)
+      → Becomes told (with_last out front (file_of name bytes state.Open)) (with_last out front (file_of name bytes state.Closed)) old new (Some (fault.Write slot))
+  closes_not name bytes {slot} old closed last is =
+      becomes_again (close_begins out front name bytes) (closes_last name bytes old last refl) (halts_here (part_begins_itself _)
+      (turn_last front (file_of name bytes state.Closed) (length front) refl closed)
+      (let size : length (changed_at slot closes old) ≡ length old = length-changed_at slot closes old in omega (arith, last), is)
+      (λ before at. inr (last_place (file_of name bytes state.Closed) (last ∙ sym (length-changed_at slot closes old)) at)))
+
+  -- standard output gets a line
+  line_added : (line : List ℕ) (old : List Slot) {new : List Slot} → new ≡ with_written 0 (told_of told line) old → Becomes told (record { out = out; files = front }) (record { out = out ++ line; files = front }) old new None
+  line_added line old {new} wrote = record { gets = λ before at. out_more told before (record { out = out; files = front }) old new line at wrote }
+
+  pub tells_line : (line : List ℕ) (old : List Slot) {new : List Slot} (fault : Option Fault) → AllClosed front → 0 < length old → Wrote told 0 line old new fault
+      → Becomes told (record { out = out; files = front }) (record { out = out ++ line; files = front }) old new fault
+  tells_line line old None closed some wrote = line_added line old wrote
+  tells_line line old (Some _) closed some (short.broke n cut) =
+      becomes_again (line_begins (take n line)) (line_added (take n line) old refl) (halts_here (record { out = take_begins_after n out line; files = files_begin_themselves front })
+      (turn_next front closed) (let size : length (with_written 0 (told_of told (take n line)) old) ≡ length old = length-changed_at 0 _ old in omega (arith, some), cut.slots)
+      (λ before at. inl refl))
+
+-- Lemmas on the writer of sections.
+
+-- a `?` handed a fault on
+pub stop_is : {T : Type 0} (P : Option Fault → Type 0) (result : Result T Fault) (fault : Fault) → IsErrAnd result (λ given. given ≡ fault) → P (Some fault) → P (fault_in result)
+stop_is P result fault handed holds = subst (λ given. P (fault_in given)) (sym (handed_on result fault handed)) holds
 
 -- From one state of the outputs to another. The writers follow from the steps.
 
-pub moves_again : (told : Bool) (low middle high : Part) (old mid new : List Slot) {one two three : WriterState} → Moves told one two low middle old mid → Moves told two three middle high mid new → Moves told one three low high old new
-moves_again told low middle high old mid new first second before at = second before (first before at)
+there_from : (told : Bool) (next : WriterState) (before : List Slot) {low middle : Part} (high : Part) (new : List Slot) (fault : Option Fault) → Begins low middle → IsThere told next before middle high new fault → IsThere told next before low high new fault
+there_from told next before high new None begins at = at
+there_from told next before {low} {middle} high new (Some fault) begins at = turn_between told before low middle high high fault new begins at (part_begins_itself high)
 
-pub halts_after : (told : Bool) (low middle high : Part) (old mid new : List Slot) (fault : Fault) {one two : WriterState} → Begins low middle → Moves told one two low middle old mid → Halts told two middle high mid new fault → Halts told one low high old new fault
-halts_after told low middle high old mid new fault begins moves halts before at =
-    turn_between told before low middle high high fault new begins (halts before (moves before at)) (part_begins_itself high)
+pub reaches_again : {told : Bool} {low middle high : Part} {old mid new : List Slot} {fault : Option Fault} {one two three : WriterState} → Begins low middle → Reaches told one two low middle old mid None → Reaches told two three middle high mid new fault
+    → Reaches told one three low high old new fault
+reaches_again {told} {high = high} {new = new} {fault} {three = three} begins first second = record { there = λ before at. there_from told three before high new fault begins (second.there before (first.there before at)) }
 
-pub halts_wider : (told : Bool) (low middle high : Part) (old new : List Slot) (fault : Fault) {writer : WriterState} → Halts told writer low middle old new fault → Begins middle high → Halts told writer low high old new fault
-halts_wider told low middle high old new fault halts begins before at =
-    turn_between told before low low middle high fault new (part_begins_itself low) (halts before at) begins
+-- it was stopped on its way to more
+pub stops_wider : {told : Bool} {low middle high : Part} {old new : List Slot} {fault : Fault} {writer next : WriterState} → Reaches told writer next low middle old new (Some fault) → Begins middle high → Reaches told writer next low high old new (Some fault)
+stops_wider {told} {low} {middle} {high} {new = new} {fault = fault} stops begins =
+    record { there = λ before at. turn_between told before low low middle high fault new (part_begins_itself low) (stops.there before at) begins }
+
+-- which writer is left then doesn't matter
+pub stops_in : {told : Bool} {low high : Part} {old new : List Slot} {fault : Fault} {writer next other : WriterState} → Reaches told writer next low high old new (Some fault) → Reaches told writer other low high old new (Some fault)
+stops_in stops = record { there = stops.there }
 
 -- a step that is known of the outputs alone, as long as the file of the open section is the last
-pub goes_by : (told : Bool) (low high : Part) (old new : List Slot) {writer next : WriterState} → KeepsFiles writer next old new → (IsLast writer.current old → Becomes told low high old new) → Moves told writer next low high old new
-goes_by told low high old new keeps becomes before at = record { owns = keeps.owns (length before) at.owns; outputs = becomes at.owns.last before at.outputs }
+pub reaches_by : {told : Bool} {low high : Part} {old new : List Slot} {fault : Option Fault} {writer next : WriterState} → KeepsFiles writer next old new → (IsLast writer.current old → Becomes told low high old new fault) → Reaches told writer next low high old new fault
+reaches_by {told} {low} {high} {old} {new} {fault} {writer} {next} keeps becomes = record { there = λ before at. by fault before at ((becomes at.owns.last).gets before at.outputs) } where
+  by : (fault : Option Fault) (before : List Slot) → At told writer before low old → GetsTo told before low high new fault → IsThere told next before low high new fault
+  by None before at outputs = record { owns = keeps.owns (length before) at.owns; outputs = outputs }
+  by (Some why) before at stops = stops
 
-pub stops_by : (told : Bool) (low high : Part) (old new : List Slot) (fault : Fault) {writer : WriterState} → (IsLast writer.current old → Falls told low high old new fault) → Halts told writer low high old new fault
-stops_by told low high old new fault falls before at = falls at.owns.last before at.outputs
+-- the same of parts that are written otherwise
+pub reaches_as : {told : Bool} {low low' high high' : Part} {old new : List Slot} {fault : Option Fault} {writer next : WriterState} → low ≡ low' → high ≡ high' → Reaches told writer next low' high' old new fault → Reaches told writer next low high old new fault
+reaches_as {told} {low} {high' = high'} {old} {new} {fault} {writer} {next} is_low is_high reaches =
+    subst (λ part. Reaches told writer next low part old new fault) (sym is_high) (subst (λ part. Reaches told writer next part high' old new fault) (sym is_low) reaches)
+
+pub reaches_still : {told : Bool} {low high : Part} {slots : List Slot} {writer : WriterState} → low ≡ high → Reaches told writer writer low high slots slots None
+reaches_still {told} {slots = slots} {writer = writer} is = record { there = λ before at. subst (λ part. At told writer before part slots) is at }
 
 -- What is written of a draft only grows: the open section isn't closed.
 
@@ -52,26 +216,44 @@ section_begins style kept draft =
 
 -- Outputs that were broken stay broken, and files stay the writer's own.
 
-pub breaks_later : (style : Style) (old mid new : List Slot) (fault : Fault) → KeepsBroken old mid → Breaks style mid new fault → Breaks style old new fault
-breaks_later style old mid new Memory keeps breaks = tt
-breaks_later style old mid new (Write slot) keeps breaks = (breaks.0, rose_later slot old mid new keeps breaks.1)
-breaks_later style old mid new (Open slot) keeps breaks = rose_later slot old mid new keeps breaks
-breaks_later style old mid new _ keeps breaks = absurd breaks
+-- what is so of a call that went well
+pub where_well : {A B : Type 0} (fault : Option Fault) → IfNone fault A → (A → B) → IfNone fault B
+where_well None holds follows = follows holds
+where_well (Some why) holds follows = tt
 
-pub owns_again : (one two three : WriterState) (old mid new : List Slot) → KeepsFiles one two old mid → KeepsFiles two three mid new → KeepsFiles one three old new
-owns_again one two three old mid new before after = record { owns = λ first own. after.owns first (before.owns first own); there = λ are. after.there (before.there are) }
+pub in_any : {A : Type 0} (fault : Option Fault) → A → IfNone fault A
+in_any None holds = holds
+in_any (Some why) holds = tt
 
-pub owns_still : (writer : WriterState) (slots : List Slot) → KeepsFiles writer writer slots slots
-owns_still writer slots = record { owns = λ first own. own; there = λ are. are }
+pub where_three : {A B C D : Type 0} (fault : Option Fault) → IfNone fault A → IfNone fault B → IfNone fault C → (A → B → C → D) → IfNone fault D
+where_three None one two three follows = follows one two three
+where_three (Some why) one two three follows = tt
 
--- The same of parts that are written otherwise
+pub well_in : {T : Type 0} (A : Type 0) (result : Result T Fault) → OnOk result A → IfNone (fault_in result) A
+well_in A (Ok value) holds = holds
+well_in A (Err why) holds = tt
 
-pub moves_as : (told : Bool) (low low' high high' : Part) (old new : List Slot) {writer next : WriterState} → low ≡ low' → high ≡ high' → Moves told writer next low' high' old new → Moves told writer next low high old new
-moves_as told low low' high high' old new {writer = writer} {next = next} is_low is_high moves before at = subst (λ part. At told next before part new) (sym is_high) (moves before (subst (λ part. At told writer before part old) is_low at))
+slots_again : (style : Style) (old mid new : List Slot) (fault : Option Fault) → KeepsBroken old mid → KeepsOrBreaks style mid new fault → KeepsOrBreaks style old new fault
+slots_again style old mid new None keeps also = keeps_again old mid new keeps also
+slots_again style old mid new (Some Memory) keeps breaks = tt
+slots_again style old mid new (Some (Write slot)) keeps breaks = (breaks.0, rose_later slot old mid new keeps breaks.1)
+slots_again style old mid new (Some (Open slot)) keeps breaks = rose_later slot old mid new keeps breaks
+slots_again style old mid new (Some _) keeps breaks = absurd breaks
 
-pub moves_same : (told : Bool) (low high : Part) (slots : List Slot) {writer : WriterState} → low ≡ high → Moves told writer writer low high slots slots
-moves_same told low high slots {writer = writer} is before at = subst (λ part. At told writer before part slots) is at
+owns_again : {one two three : WriterState} {old mid new : List Slot} → KeepsFiles one two old mid → KeepsFiles two three mid new → KeepsFiles one three old new
+owns_again before after = record { owns = λ first own. after.owns first (before.owns first own); there = λ are. after.there (before.there are) }
 
-pub halts_as : (told : Bool) (low low' high high' : Part) (old new : List Slot) (fault : Fault) {writer : WriterState} → low ≡ low' → high ≡ high' → Halts told writer low' high' old new fault → Halts told writer low high old new fault
-halts_as told low low' high high' old new fault {writer = writer} is_low is_high halts before at =
-    subst (λ part. StoppedInTurn told before part high fault new) (sym is_low) (subst (λ part. StoppedInTurn told before low' part fault new) (sym is_high) (halts before (subst (λ part. At told writer before part old) is_low at)))
+pub leaves_again : {one two three : WriterState} {old mid new : List Slot} {fault : Option Fault} → Leaves one two old mid None → Leaves two three mid new fault → Leaves one three old new fault
+leaves_again {one} {old = old} {mid} {new} {fault} first second = record {
+  style = second.style ∙ first.style;
+  owns = owns_again first.owns second.owns;
+  slots = slots_again one.style old mid new fault first.slots (subst (λ style. KeepsOrBreaks style mid new fault) first.style second.slots);
+  ready = second.ready;
+}
+
+pub leaves_still : {writer : WriterState} {slots : List Slot} → IsReady writer slots → Leaves writer writer slots slots None
+leaves_still {slots = slots} ready = record { style = refl; owns = record { owns = λ first own. own; there = λ are. are }; slots = keeps_same slots slots refl; ready = ready }
+
+-- want of memory leaves them as they are
+pub leaves_lacking : {writer : WriterState} {slots : List Slot} → Leaves writer writer slots slots (Some Memory)
+leaves_lacking = record { style = refl; owns = record { owns = λ first own. own; there = λ are. are }; slots = tt; ready = tt }

@@ -1,9 +1,5 @@
 pub mod CsplitState
 pub mod Cutter
-pub mod Draft
-pub mod MatchLaws
+pub mod Writer
 pub mod PlanLaws
 pub mod Progress
-pub mod SectionLaws
-pub mod Writer
-pub mod WriterSteps

@@ -1,4 +1,3 @@
 pub mod InputLaws
-pub mod MatchLaws
 pub mod PlanLaws
 pub mod SectionLaws

@@ -10,6 +10,7 @@ ghost use Rattle.csplit_core.specs.inner.CsplitState.{Closes, Passes};
 ghost use Rattle.csplit_core.specs.CsplitState.{Holds, IsReady, Owns, files, work};
 ghost use Rattle.csplit_core.specs.inner.Cutter.{IsLine, Takes};
 ghost use Rattle.csplit_core.specs.Cutter.{IsSound, load};
+ghost use Rattle.csplit_core.specs.inner.Writer.{fault_in};
 ghost use Rattle.csplit_core.specs.Input.{newline};
 ghost use Rattle.csplit_core.specs.laws.InputLaws.{lawful};
 ghost use Rattle.csplit_core.specs.Writer.{Breaks, IsReady as CanWrite};
@@ -90,7 +91,7 @@ impl<'o> Csplitter<'o> {
         requires ready { CanWrite self.old.cutter.writer (O.slots outs.old) }
         ensures taken { self.new.taken ≡ self.old.taken }
         ensures rest { OnOk result (self.new.rest ≡ []) }
-        ensures takes { Takes O.told self.old.cutter (self.old.rest ++ lines.now) (O.slots outs.old) (O.slots outs.new) self.new.cutter result }
+        ensures takes { Takes O.told self.old.cutter (self.old.rest ++ lines.now) (O.slots outs.old) (O.slots outs.new) self.new.cutter (fault_in result) }
     {
         if self.rest.is_empty() {
             return self.cutter.take(lines, outs);
@@ -109,7 +110,7 @@ impl<'o> Csplitter<'o> {
         requires ready { CanWrite self.old.cutter.writer (O.slots outs.old) }
         ensures taken { self.new.taken ≡ self.old.taken }
         ensures rest { OnOk result (self.new.rest ≡ []) }
-        ensures takes { Takes O.told self.old.cutter (self.old.rest ++ end.now) (O.slots outs.old) (O.slots outs.new) self.new.cutter result }
+        ensures takes { Takes O.told self.old.cutter (self.old.rest ++ end.now) (O.slots outs.old) (O.slots outs.new) self.new.cutter (fault_in result) }
     {
         self.rest.extend_from_slice(end)?;
         self.cutter.take_line(&self.rest, outs)?;
@@ -138,7 +139,7 @@ impl<'o> Csplitter<'o> {
         requires open { delimiters newline self.old.rest ≡ 0 }
         requires ready { CanWrite self.old.cutter.writer (O.slots outs.old) }
         ensures taken { self.new.taken ≡ self.old.taken }
-        ensures takes { Takes O.told self.old.cutter self.old.rest (O.slots outs.old) (O.slots outs.new) self.new.cutter result }
+        ensures takes { Takes O.told self.old.cutter self.old.rest (O.slots outs.old) (O.slots outs.new) self.new.cutter (fault_in result) }
     {
         if self.rest.is_empty() {
             return Ok(());

@@ -2,8 +2,7 @@
 ghost use Rattle.std.specs.Prelude.{◌≡◌, ◌+◌, ◌<◌, ◌≤◌, ◌^◌, ◌++◌, [], length, take, IfOk, IfErr, OnOk};
 ghost use Rattle.seg_core.specs.Line.{but_last_lines, last_lines};
 ghost use Rattle.seg_core.specs.Window.{without_first};
-ghost use Rattle.csplit_core.specs.inner.Draft.{with_bytes};
-ghost use Rattle.csplit_core.specs.inner.Writer.{Goes};
+ghost use Rattle.csplit_core.specs.inner.Writer.{with_bytes, Goes, fault_in};
 ghost use Rattle.csplit_core.specs.Writer.{IsReady, size_of};
 
 use crate::section_writer::SectionWriter;
@@ -25,7 +24,7 @@ pub(crate) fn hold_last<O: Outs>(
 ) -> Result<(), Fault>
     requires fits { size_of writer.old.current + length window.old.held + length text.now < 2 ^ 64 }
     requires ready { IsReady writer.old (O.slots outs.old) }
-    ensures goes { Goes O.told writer.old (with_bytes (but_last_lines window.old.delim window.old.most (window.old.held ++ text.now))) (O.slots outs.old) (O.slots outs.new) writer.new result }
+    ensures goes { Goes O.told writer.old (with_bytes (but_last_lines window.old.delim window.old.most (window.old.held ++ text.now))) (O.slots outs.old) (O.slots outs.new) writer.new (fault_in result) }
     ensures window { OnOk result (window.new ≡ record { most = window.old.most; delim = window.old.delim; held = last_lines window.old.delim window.old.most (window.old.held ++ text.now) }) }
     ensures size { OnOk result (size_of writer.new.current + length window.new.held ≤ size_of writer.old.current + length window.old.held + length text.now) }
 {
@@ -47,7 +46,7 @@ pub(crate) fn write_front<O: Outs>(
     requires held { n ≤ length window.old.held }
     requires fits { size_of writer.old.current + length window.old.held < 2 ^ 64 }
     requires ready { IsReady writer.old (O.slots outs.old) }
-    ensures goes { Goes O.told writer.old (with_bytes (take n window.old.held)) (O.slots outs.old) (O.slots outs.new) writer.new result }
+    ensures goes { Goes O.told writer.old (with_bytes (take n window.old.held)) (O.slots outs.old) (O.slots outs.new) writer.new (fault_in result) }
     ensures window { OnOk result (window.new ≡ without_first window.old n) }
     ensures size { OnOk result (size_of writer.new.current + length window.new.held ≤ size_of writer.old.current + length window.old.held) }
 {

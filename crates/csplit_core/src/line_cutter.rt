@@ -9,11 +9,12 @@ ghost use Rattle.csplit_core.specs.Plan.{above, missed};
 ghost use Rattle.csplit_core.specs.Planned.{plan};
 ghost use Rattle.ports_core.specs.Swept.{AreThere};
 ghost use Rattle.csplit_core.specs.Cutter.{AimHolds, IsFit, IsSound, load, most_by, pattern_by, state_in, suppress_in};
-ghost use Rattle.csplit_core.specs.inner.Cutter.{AreClear, Clears, CutAllNot, CutAt, CutNot, CutsAll, CutsOn, EndsAll, GoesOn, IsJudged, Opens, Holds, IsFound, IsLine, IsNextFound, IsNoCut, IsWhole, PassesClear, PassesOn, PassesOver, Spread, StopsAt, Stretches, Takes, Tries, TriesNext, WillCut};
+ghost use Rattle.csplit_core.specs.inner.Cutter.{AreClear, Clears, CutAt, CutsAll, CutsOn, EndsAll, GoesOn, IsJudged, Opens, Holds, IsFound, IsLine, IsNextFound, IsNoCut, IsWhole, PassesClear, PassesOn, PassesOver, Spread, StopsAt, Stretches, Takes, Tries, TriesNext, WillCut};
 ghost use Rattle.csplit_core.specs.Input.{all_lines, newline, without_newline};
 ghost use Rattle.csplit_core.specs.Measure.{Fits};
 ghost use Rattle.csplit_core.specs.Operand.{Line};
 ghost use Rattle.csplit_core.specs.inner.PlanLaws.{needed};
+ghost use Rattle.csplit_core.specs.inner.Writer.{fault_in};
 ghost use Rattle.csplit_core.specs.inner.Progress.{AreSeen, MovesOn, Turns};
 ghost use Rattle.csplit_core.specs.Writer.{IsReady, size_of};
 ghost use Rattle.csplit_core.specs.declared.progress.Turn.TheVariants as turn_is;
@@ -139,7 +140,7 @@ impl<'o> LineCutter<'o> {
         requires fits { load self.old < 2 ^ 63 }
         requires sound { IsSound self.old }
         requires ready { IsReady self.old.writer (O.slots outs.old) }
-        ensures { EndsAll O.told self.old (O.slots outs.old) (O.slots outs.new) self.new result }
+        ensures { EndsAll O.told self.old (O.slots outs.old) (O.slots outs.new) self.new (fault_in result) }
     {
         let held = self.window.len();
         write_front(&mut self.window, held, &mut self.writer, outs)?;
@@ -181,7 +182,7 @@ impl<'o> LineCutter<'o> {
         requires fits { load self.old + length text.now < 2 ^ 63 }
         requires sound { IsSound self.old }
         requires ready { IsReady self.old.writer (O.slots outs.old) }
-        ensures { Takes O.told self.old text.now (O.slots outs.old) (O.slots outs.new) self.new result }
+        ensures { Takes O.told self.old text.now (O.slots outs.old) (O.slots outs.new) self.new (fault_in result) }
     {
         let mut left = text;
         let mut found = None;
@@ -253,7 +254,7 @@ impl<'o> LineCutter<'o> {
         requires none { self.old.window.held ≡ [] }
         requires cuts { WillCut self.old cut }
         requires ready { IsReady self.old.writer (O.slots outs.old) }
-        ensures { CutsOn O.told self.old cut text.now size (O.slots outs.old) (O.slots outs.new) self.new result }
+        ensures { CutsOn O.told self.old cut (take size text.now) (drop size text.now) (O.slots outs.old) (O.slots outs.new) self.new result }
     {
         let line = &text[..size];
         let left = self.cut_often(cut, self.lines, line, line, outs)?;
@@ -275,7 +276,7 @@ impl<'o> LineCutter<'o> {
         requires fits { size_of self.old.writer.current + length self.old.window.held + length text.now < 2 ^ 63 }
         requires sound { IsSound self.old }
         requires ready { IsReady self.old.writer (O.slots outs.old) }
-        ensures { GoesOn O.told self.old text.now kept (O.slots outs.old) (O.slots outs.new) self.new result }
+        ensures { GoesOn O.told self.old (take kept text.now) (drop kept text.now) (O.slots outs.old) (O.slots outs.new) self.new result }
     {
         let passed = self.pass_over(&text[kept..]);
         let size = kept + passed.size;
@@ -292,7 +293,7 @@ impl<'o> LineCutter<'o> {
         requires fits { load self.old + length line.now < 2 ^ 63 }
         requires sound { IsSound self.old }
         requires ready { IsReady self.old.writer (O.slots outs.old) }
-        ensures { Takes O.told self.old line.now (O.slots outs.old) (O.slots outs.new) self.new result }
+        ensures { Takes O.told self.old line.now (O.slots outs.old) (O.slots outs.new) self.new (fault_in result) }
     {
         if self.is_past() {
             return Ok(());
@@ -508,7 +509,7 @@ impl<'o> LineCutter<'o> {
         requires fit { IsFit self.old }
         requires cuts { WillCut self.old cut }
         requires ready { IsReady self.old.writer (O.slots outs.old) }
-        ensures { CutsAll O.told self.old cut (self.old.lines - delimiters newline self.old.window.held) (self.old.window.held ++ line.now) line.now (O.slots outs.old) (O.slots outs.new) self.new result }
+        ensures { CutsAll O.told self.old cut (self.old.lines - delimiters newline self.old.window.held) (self.old.window.held ++ line.now) line.now [] (O.slots outs.old) (O.slots outs.new) self.new (fault_in result) }
     {
         if self.window.is_empty() {
             return self.cut_all(cut, self.lines, line, line, outs);
@@ -536,7 +537,7 @@ impl<'o> LineCutter<'o> {
         requires none { self.old.window.held ≡ [] }
         requires cuts { WillCut self.old cut }
         requires ready { IsReady self.old.writer (O.slots outs.old) }
-        ensures { CutsAll O.told self.old cut place waiting.now line.now (O.slots outs.old) (O.slots outs.new) self.new result }
+        ensures { CutsAll O.told self.old cut place waiting.now line.now [] (O.slots outs.old) (O.slots outs.new) self.new (fault_in result) }
     {
         let left = self.cut_often(cut, place, waiting, line, outs)?;
         self.hold(left, outs)
@@ -559,7 +560,7 @@ impl<'o> LineCutter<'o> {
         requires cuts { WillCut self.old cut }
         requires ready { IsReady self.old.writer (O.slots outs.old) }
         ensures ok { IfOk result (λ left. Spread O.told self.old cut place waiting.now line.now (O.slots outs.old) (O.slots outs.new) self.new left.now) }
-        ensures err { IfErr result (CutAllNot O.told self.old cut place waiting.now line.now [] (O.slots outs.old) (O.slots outs.new) self.new) }
+        ensures err { IfErr result (λ fault. CutsAll O.told self.old cut place waiting.now line.now [] (O.slots outs.old) (O.slots outs.new) self.new (Some fault)) }
     {
         let mut left = self.cut_at(cut, place, waiting, outs)?;
         while let Some(cut) = self.try_last(line, false) {
@@ -584,7 +585,7 @@ impl<'o> LineCutter<'o> {
         requires cuts { WillCut self.old cut }
         requires ready { IsReady self.old.writer (O.slots outs.old) }
         ensures ok { IfOk result (λ rest. CutAt O.told self.old cut place waiting.now (O.slots outs.old) (O.slots outs.new) self.new rest.now) }
-        ensures err { IfErr result (CutNot O.told self.old cut place waiting.now (O.slots outs.old) (O.slots outs.new) self.new) }
+        ensures err { IfErr result (λ fault. (line : List ℕ) → CutsAll O.told self.old cut place waiting.now line [] (O.slots outs.old) (O.slots outs.new) self.new (Some fault)) }
     {
         let (before, rest) = split_lines(waiting, cut.line.saturating_sub(place));
         self.writer.put(before, outs)?;
@@ -634,7 +635,7 @@ impl<'o> LineCutter<'o> {
         requires fits { size_of self.old.writer.current + length self.old.window.held + length text.now < 2 ^ 63 }
         requires fit { IsFit self.old }
         requires ready { IsReady self.old.writer (O.slots outs.old) }
-        ensures { Holds O.told self.old (self.old.window.held ++ text.now) (O.slots outs.old) (O.slots outs.new) self.new result }
+        ensures { Holds O.told self.old (self.old.window.held ++ text.now) (O.slots outs.old) (O.slots outs.new) self.new (fault_in result) }
     {
         if self.is_past() {
             self.window.drop_front(self.window.len());

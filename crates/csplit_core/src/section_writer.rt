@@ -1,13 +1,10 @@
 //! Writing sections: a file for each that is kept, and its size on standard output.
-ghost use Rattle.std.specs.Prelude.{◌≡◌, ◌+◌, ◌<◌, ◌≤◌, ◌^◌, ◌++◌, ◌∷◌, [], length, decimal, vec_capacity, vec_len, IsTrue, IfErr, OnOk};
-ghost use Rattle.ports_core.specs.Slot.{is_writable, told_of, with_written};
+ghost use Rattle.std.specs.Prelude.{◌≡◌, ◌+◌, ◌<◌, ◌≤◌, ◌^◌, ◌++◌, ◌∷◌, [], length, decimal, vec_capacity, vec_len, IsTrue, OnOk};
+ghost use Rattle.ports_core.specs.Slot.{is_writable};
 ghost use Rattle.ports_core.specs.Swept.{AreThere, Removes};
-ghost use Rattle.ports_core.specs.inner.Write.{WritesShort};
-ghost use Rattle.csplit_core.specs.inner.Draft.{with_bytes, with_section};
+ghost use Rattle.csplit_core.specs.inner.Writer.{with_bytes, with_section, Begins, Ends, Goes, fault_in, Appends, Makes, Starts, Wrote};
 ghost use Rattle.csplit_core.specs.Input.{newline};
-ghost use Rattle.csplit_core.specs.inner.Writer.{Begins, Ends, Goes};
 ghost use Rattle.csplit_core.specs.Writer.{IsReady, size_of};
-ghost use Rattle.csplit_core.specs.inner.WriterSteps.{Appends, Makes, Starts};
 ghost use Rattle.csplit_core.specs.declared.section_writer.Current.TheVariants.{File};
 
 use crate::Style;
@@ -94,7 +91,7 @@ impl SectionWriter {
     pub(crate) fn put<O: Outs>(&mut self, bytes: &[u8], outs: &mut O) -> Result<(), Fault>
         requires ready { IsReady self.old (O.slots outs.old) }
         requires fits { size_of self.old.current + length bytes.now < 2 ^ 64 }
-        ensures goes { Goes O.told self.old (with_bytes bytes.now) (O.slots outs.old) (O.slots outs.new) self.new result }
+        ensures goes { Goes O.told self.old (with_bytes bytes.now) (O.slots outs.old) (O.slots outs.new) self.new (fault_in result) }
         ensures size { OnOk result (size_of self.new.current ≤ size_of self.old.current + length bytes.now) }
     {
         match self.current {
@@ -118,7 +115,7 @@ impl SectionWriter {
     /// `Write` where the file or standard output broke, `Memory` and `Open` as `open`.
     pub(crate) fn next<O: Outs>(&mut self, is_kept: bool, outs: &mut O) -> Result<(), Fault>
         requires { IsReady self.old (O.slots outs.old) }
-        ensures goes { Goes O.told self.old (with_section is_kept) (O.slots outs.old) (O.slots outs.new) self.new result }
+        ensures goes { Goes O.told self.old (with_section is_kept) (O.slots outs.old) (O.slots outs.new) self.new (fault_in result) }
         ensures size { OnOk result (size_of self.new.current ≡ 0) }
     {
         self.end(outs)?;
@@ -132,7 +129,7 @@ impl SectionWriter {
     /// `Write` where the file or standard output broke.
     pub(crate) fn end<O: Outs>(&mut self, outs: &mut O) -> Result<(), Fault>
         requires { IsReady self.old (O.slots outs.old) }
-        ensures { Ends O.told self.old (O.slots outs.old) (O.slots outs.new) self.new result }
+        ensures { Ends O.told self.old (O.slots outs.old) (O.slots outs.new) self.new (fault_in result) }
     {
         match self.current {
             Current::Skipped => Ok(()),
@@ -156,7 +153,7 @@ impl SectionWriter {
     /// Begins a section, where none is open.
     fn begin<O: Outs>(&mut self, is_kept: bool, outs: &mut O) -> Result<(), Fault>
         requires { IsReady self.old (O.slots outs.old) }
-        ensures { Starts O.told self.old.style self.old is_kept (O.slots outs.old) (O.slots outs.new) self.new result }
+        ensures { Starts O.told self.old is_kept (O.slots outs.old) (O.slots outs.new) self.new (fault_in result) }
     {
         if !is_kept {
             self.current = Current::Skipped;
@@ -199,7 +196,7 @@ impl SectionWriter {
     ) -> Result<(), Fault>
         requires writable { IsTrue (is_writable (O.slots outs.old) slot) }
         requires fits { size + length bytes.now < 2 ^ 64 }
-        ensures { Appends O.told self.old slot size bytes.now (O.slots outs.old) (O.slots outs.new) self.new result }
+        ensures { Appends O.told self.old slot size bytes.now (O.slots outs.old) (O.slots outs.new) self.new (fault_in result) }
     {
         write_whole(outs, slot, bytes)?;
         self.current = Current::File {
@@ -213,7 +210,7 @@ impl SectionWriter {
     fn end_file<O: Outs>(&mut self, slot: usize, size: u64, outs: &mut O) -> Result<(), Fault>
         requires ready { IsReady self.old (O.slots outs.old) }
         requires file { self.old.current ≡ File slot size }
-        ensures { Ends O.told self.old (O.slots outs.old) (O.slots outs.new) self.new result }
+        ensures { Ends O.told self.old (O.slots outs.old) (O.slots outs.new) self.new (fault_in result) }
     {
         self.current = Current::Skipped;
         outs.close(slot)?;
@@ -241,8 +238,7 @@ const LONGEST_LINE: usize = 21;
 /// Writes the size of a file to standard output, and a newline, as one line.
 fn write_size<O: Outs>(size: u64, outs: &mut O) -> Result<(), Fault>
     requires { IsTrue (is_writable (O.slots outs.old) 0) }
-    ensures ok { OnOk result (O.slots outs.new ≡ with_written 0 (told_of O.told (decimal size ++ newline ∷ [])) (O.slots outs.old)) }
-    ensures err { IfErr result (WritesShort O.told 0 (decimal size ++ newline ∷ []) (O.slots outs.old) (O.slots outs.new)) }
+    ensures { Wrote O.told 0 (decimal size ++ newline ∷ []) (O.slots outs.old) (O.slots outs.new) (fault_in result) }
 {
     let mut buffer = Buffer::new();
     let digits = buffer.format(size).as_bytes();

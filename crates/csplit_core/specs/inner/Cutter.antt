@@ -1,12 +1,11 @@
 -- What private calls say: what contracts see of the cutter of lines, and what its calls do.
-use Rattle.std.specs.Prelude.{◌≡◌, ◌⊎◌, ℕ, ◌+◌, ◌<◌, ◌≤◌, Bool, true, false, List, [], ◌∷◌, ◌++◌, length, take, drop, get_or, Option, Some, None, IfSome, Result, Ok, Err}
+use Rattle.std.specs.Prelude.{◌≡◌, ◌⊎◌, ℕ, ◌+◌, ◌<◌, ◌≤◌, Bool, true, false, List, [], ◌∷◌, ◌++◌, length, take, drop, get_or, Option, Some, None, IfNone, IfSome, IfOk, Result, Ok, Err}
 use Rattle.bre_core.specs.Pattern.{Pattern}
 use Rattle.bre_core.specs.Search.{contains}
 use Rattle.seg_core.specs.Line.{lines_of, line_count, ends_with}
 use Rattle.ports_core.specs.Part.{Part, Begins, nothing}
 use Rattle.ports_core.specs.Slot.{Slot}
 use Rattle.ports_core.specs.Swept.{Removes}
-use Rattle.ports_core.specs.inner.Slot.{KeepsBroken}
 use Rattle.ports_core.specs.declared.fault.Fault.{Fault}
 use Rattle.csplit_core.specs.Csplit.{settled_of, whole_of}
 use Rattle.csplit_core.specs.Draft.{draft_part}
@@ -20,8 +19,8 @@ use Rattle.csplit_core.specs.inner.PlanLaws.{needed}
 use Rattle.csplit_core.specs.Progress.{AimsAt}
 use Rattle.csplit_core.specs.inner.Progress.{GoesPast}
 use Rattle.csplit_core.specs.Section.{is_final}
-use Rattle.csplit_core.specs.Writer.{OwnsFiles, IsReady, Breaks, size_of}
-use Rattle.csplit_core.specs.inner.Writer.{BegunNot, KeepsFiles, Halts, Moves as Gets, new_writer}
+use Rattle.csplit_core.specs.Writer.{OwnsFiles, IsReady, size_of}
+use Rattle.csplit_core.specs.inner.Writer.{BegunNot, Leaves, Reaches, fault_in, new_writer}
 use Rattle.csplit_core.specs.declared.progress.Turn.{Turn}
 use Rattle.csplit_core.specs.declared.progress.Turn.TheVariants.{UsedUp, Missed, Above, Below, Cuts}
 use Rattle.csplit_core.specs.declared.line_cutter.Cut.{Cut}
@@ -48,36 +47,23 @@ pub record IsJudged (cutter : CutterState) (x : List ℕ) : Type 0 where
   pub last : state_in cutter ≡ (plan (suppress_in cutter) cutter.operands (all_lines x)).last
   pub aims : AimsAt cutter.aim (plan (suppress_in cutter) cutter.operands (all_lines x)).ending
 
--- the same operands and style
-pub record IsSame (cutter next : CutterState) : Type 0 where
+-- What any call leaves of a cutter and its outputs.
+pub record Keeps (cutter next : CutterState) (old new : List Slot) (fault : Option Fault) : Type 0 where
   pub operands : next.operands ≡ cutter.operands
-  pub style : next.writer.style ≡ cutter.writer.style
+  pub writer : Leaves cutter.writer next.writer old new fault
 
--- These bytes came in, and what is settled with them is written.
-pub record Took (told : Bool) (cutter : CutterState) (text : List ℕ) (old new : List Slot)
-    (next : CutterState) : Type 0 where
-  pub same : IsSame cutter next
+-- these bytes came in
+pub record Took (cutter : CutterState) (text : List ℕ) (next : CutterState) : Type 0 where
   pub stands : (x : List ℕ) → IsWhole x → Stands cutter x → Stands next (x ++ text)
-  pub moves : (x : List ℕ) → IsWhole x → Stands cutter x
-      → Gets told cutter.writer next.writer (settled_part cutter x) (settled_part cutter (x ++ text)) old new
-  pub keeps : KeepsBroken old new
-  pub owns : KeepsFiles cutter.writer next.writer old new
-  pub ready : IsReady next.writer new
   pub sound : IsSound next
   pub size : load next ≤ load cutter + length text
 
--- A fault came among them.
-pub record TookNot (told : Bool) (cutter : CutterState) (text : List ℕ) (old new : List Slot) (next : CutterState)
-    (fault : Fault) : Type 0 where
-  pub same : IsSame cutter next
-  pub halts : (x : List ℕ) → IsWhole x → Stands cutter x
-      → Halts told cutter.writer (settled_part cutter x) (settled_part cutter (x ++ text)) old new fault
-  pub breaks : Breaks cutter.writer.style old new fault
-  pub owns : KeepsFiles cutter.writer next.writer old new
-
-abbrev pub Takes : Bool → CutterState → List ℕ → List Slot → List Slot → CutterState → Result (Unit {0}) Fault → Type 0
-Takes told cutter text old new next (Ok done) = Took told cutter text old new next
-Takes told cutter text old new next (Err fault) = TookNot told cutter text old new next fault
+-- These bytes came in, and what is settled with them is written; or a fault came among them.
+pub record Takes (told : Bool) (cutter : CutterState) (text : List ℕ) (old new : List Slot) (next : CutterState) (fault : Option Fault) : Type 0 where
+  pub keeps : Keeps cutter next old new fault
+  pub reaches : (x : List ℕ) → IsWhole x → Stands cutter x
+      → Reaches told cutter.writer next.writer (settled_part cutter x) (settled_part cutter (x ++ text)) old new fault
+  pub went : IfNone fault (Took cutter text next)
 
 -- The plan over x ends where the cutter stands, and what is written of the open section is settled.
 pub record Arrives (cutter : CutterState) (x left : List ℕ) (at : IsAt cutter x left) : Type 0 where
@@ -85,31 +71,19 @@ pub record Arrives (cutter : CutterState) (x left : List ℕ) (at : IsAt cutter 
   pub low : is_final ends.ending ≡ true → at.taken ≡ 0
   pub enough : (at.taken ≡ 0) ⊎ (cutter.window.most ≤ line_count newline left)
 
--- What `hold` does: the lines up to x came in, and these were left.
-pub record Held (told : Bool) (cutter : CutterState) (left : List ℕ) (old new : List Slot)
-    (next : CutterState) : Type 0 where
+-- these lines were left, and what is to wait of them does
+pub record Held (cutter : CutterState) (left : List ℕ) (next : CutterState) : Type 0 where
   pub same : next ≡ record cutter { writer = next.writer; window = next.window }
-  pub style : next.writer.style ≡ cutter.writer.style
   pub window : next.window ≡ record cutter.window { held = next.window.held }
   pub stands : (x : List ℕ) (at : IsAt cutter x left) → Arrives cutter x left at → Stands next x
-  pub moves : (x : List ℕ) (at : IsAt cutter x left) → Arrives cutter x left at
-      → Gets told cutter.writer next.writer (part_at cutter x left at) (settled_part cutter x) old new
-  pub keeps : KeepsBroken old new
-  pub owns : KeepsFiles cutter.writer next.writer old new
-  pub ready : IsReady next.writer new
   pub size : size_of next.writer.current + length next.window.held ≤ size_of cutter.writer.current + length left
 
-pub record HeldNot (told : Bool) (cutter : CutterState) (left : List ℕ) (old new : List Slot) (next : CutterState)
-    (fault : Fault) : Type 0 where
-  pub same : IsSame cutter next
-  pub halts : (x : List ℕ) (at : IsAt cutter x left) → Arrives cutter x left at
-      → Halts told cutter.writer (part_at cutter x left at) (settled_part cutter x) old new fault
-  pub breaks : Breaks cutter.writer.style old new fault
-  pub owns : KeepsFiles cutter.writer next.writer old new
-
-abbrev pub Holds : Bool → CutterState → List ℕ → List Slot → List Slot → CutterState → Result (Unit {0}) Fault → Type 0
-Holds told cutter left old new next (Ok done) = Held told cutter left old new next
-Holds told cutter left old new next (Err fault) = HeldNot told cutter left old new next fault
+-- What `hold` does: the lines up to x came in, and these were left.
+pub record Holds (told : Bool) (cutter : CutterState) (left : List ℕ) (old new : List Slot) (next : CutterState) (fault : Option Fault) : Type 0 where
+  pub keeps : Keeps cutter next old new fault
+  pub reaches : (x : List ℕ) (at : IsAt cutter x left) → Arrives cutter x left at
+      → Reaches told cutter.writer next.writer (part_at cutter x left at) (settled_part cutter x) old new fault
+  pub went : IfNone fault (Held cutter left next)
 
 -- a line stands last in x, which ends with its newline where it has one
 abbrev pub IsLastLine : List ℕ → List ℕ → Type 0
@@ -203,47 +177,25 @@ pub record IsAfter (told : Bool) (cutter : CutterState) (x line : List ℕ) (nex
   pub near : next.lines ≤ search_line (suppress_in next) (state_in next)
   pub none : now.taken ≡ 0
   pub grows : Begins low (part_at next x rest now)
-  pub moves : Gets told cutter.writer next.writer low (part_at next x rest now) old new
-
--- The open section ended at a cut, and the next one began.
-pub record CutAt (told : Bool) (cutter : CutterState) (cut : Cut) (place : ℕ) (left : List ℕ) (old new : List Slot)
-    (next : CutterState) (rest : List ℕ) : Type 0 where
-  pub same : IsSame cutter next
-  pub lines : next.lines ≡ cutter.lines
-  pub fit : IsFit next
-  pub fewer : needed next.lines (state_in next) < needed cutter.lines (state_in cutter)
-  pub held : next.window.held ≡ []
-  pub after : (x line : List ℕ) (at : IsAt cutter x left) → CutsNow cutter x left line cut place at
-      → IsAfter told cutter x line next rest (part_at cutter x left at) old new
-  pub keeps : KeepsBroken old new
-  pub owns : KeepsFiles cutter.writer next.writer old new
-  pub ready : IsReady next.writer new
-  pub size : size_of next.writer.current + length rest ≤ size_of cutter.writer.current + length left
-  pub end : IsEnd rest left
-
--- A fault came before that.
-pub record CutNot (told : Bool) (cutter : CutterState) (cut : Cut) (place : ℕ) (left : List ℕ) (old new : List Slot)
-    (next : CutterState) (fault : Fault) : Type 0 where
-  pub same : IsSame cutter next
-  pub halts : (x line : List ℕ) (at : IsAt cutter x left) → CutsNow cutter x left line cut place at
-      → Halts told cutter.writer (part_at cutter x left at) (settled_part cutter x) old new fault
-  pub breaks : Breaks cutter.writer.style old new fault
-  pub owns : KeepsFiles cutter.writer next.writer old new
+  pub reaches : Reaches told cutter.writer next.writer low (part_at next x rest now) old new None
 
 -- Some cuts were made, and these lines are left.
 pub record Spreading (told : Bool) (cutter : CutterState) (cut : Cut) (place : ℕ) (waiting line : List ℕ)
     (old new : List Slot) (now : CutterState) (left : List ℕ) : Type 0 where
-  pub same : IsSame cutter now
+  pub keeps : Keeps cutter now old new None
   pub lines : now.lines ≡ cutter.lines
   pub fit : IsFit now
   pub held : now.window.held ≡ []
   pub after : (x : List ℕ) (at : IsAt cutter x waiting) → CutsNow cutter x waiting line cut place at
       → IsAfter told cutter x line now left (part_at cutter x waiting at) old new
-  pub keeps : KeepsBroken old new
-  pub owns : KeepsFiles cutter.writer now.writer old new
-  pub ready : IsReady now.writer new
   pub size : size_of now.writer.current + length left ≤ size_of cutter.writer.current + length waiting
   pub end : IsEnd left waiting
+
+-- The open section ended at a cut, and the next one began.
+pub record CutAt (told : Bool) (cutter : CutterState) (cut : Cut) (place : ℕ) (left : List ℕ) (old new : List Slot)
+    (next : CutterState) (rest : List ℕ) : Type 0 where
+  pub fewer : needed next.lines (state_in next) < needed cutter.lines (state_in cutter)
+  pub spreading : (line : List ℕ) → Spreading told cutter cut place left line old new next rest
 
 -- No operand cuts any more what is left, and nothing of it is written or waits yet.
 pub record Spread (told : Bool) (cutter : CutterState) (cut : Cut) (place : ℕ) (waiting line : List ℕ)
@@ -254,35 +206,21 @@ pub record Spread (told : Bool) (cutter : CutterState) (cut : Cut) (place : ℕ)
   pub tries : Tries now line next None
   pub aim : AimHolds next.operands next.lines next.progress next.aim
 
--- What cutting as often as operands cut does, from the first cut on, and then taking in more lines that aren't cut.
-pub record CutAll (told : Bool) (cutter : CutterState) (cut : Cut) (place : ℕ) (left line more : List ℕ)
-    (old new : List Slot) (next : CutterState) : Type 0 where
-  pub same : IsSame cutter next
+-- the lines that were left were cut as often as operands cut, and more came in that aren't cut
+pub record CutAll (cutter : CutterState) (cut : Cut) (place : ℕ) (left line more : List ℕ) (next : CutterState) : Type 0 where
   pub lines : next.lines ≤ cutter.lines + length more
   pub sound : IsSound next
-  pub stands : (x : List ℕ) (at : IsAt cutter x left) → CutsNow cutter x left line cut place at
-      → Stands next (x ++ more)
-  pub moves : (x : List ℕ) (at : IsAt cutter x left) → CutsNow cutter x left line cut place at
-      → Gets told cutter.writer next.writer (part_at cutter x left at) (settled_part cutter (x ++ more)) old new
-  pub keeps : KeepsBroken old new
-  pub owns : KeepsFiles cutter.writer next.writer old new
-  pub ready : IsReady next.writer new
+  pub stands : (x : List ℕ) (at : IsAt cutter x left) → CutsNow cutter x left line cut place at → Stands next (x ++ more)
   pub size : size_of next.writer.current + length next.window.held
       ≤ size_of cutter.writer.current + length left + length more
 
-pub record CutAllNot (told : Bool) (cutter : CutterState) (cut : Cut) (place : ℕ) (left line more : List ℕ)
-    (old new : List Slot) (next : CutterState) (fault : Fault) : Type 0 where
-  pub same : IsSame cutter next
-  pub halts : (x : List ℕ) (at : IsAt cutter x left) → CutsNow cutter x left line cut place at
-      → Halts told cutter.writer (part_at cutter x left at) (settled_part cutter (x ++ more)) old new fault
-  pub breaks : Breaks cutter.writer.style old new fault
-  pub owns : KeepsFiles cutter.writer next.writer old new
-
-abbrev pub CutsAll : Bool → CutterState → Cut → ℕ → List ℕ → List ℕ → List Slot → List Slot → CutterState
-    → Result (Unit {0}) Fault → Type 0
-CutsAll told cutter cut place left line old new next (Ok done) = CutAll told cutter cut place left line [] old new next
-CutsAll told cutter cut place left line old new next (Err fault) =
-    CutAllNot told cutter cut place left line [] old new next fault
+-- What cutting as often as operands cut does, from the first cut on, and then taking in more lines that aren't cut.
+pub record CutsAll (told : Bool) (cutter : CutterState) (cut : Cut) (place : ℕ) (left line more : List ℕ) (old new : List Slot)
+    (next : CutterState) (fault : Option Fault) : Type 0 where
+  pub keeps : Keeps cutter next old new fault
+  pub reaches : (x : List ℕ) (at : IsAt cutter x left) → CutsNow cutter x left line cut place at
+      → Reaches told cutter.writer next.writer (part_at cutter x left at) (settled_part cutter (x ++ more)) old new fault
+  pub went : IfNone fault (CutAll cutter cut place left line more next)
 
 -- What passing over lines says: the next operand stands as it did.
 pub record PassesOver (cutter : CutterState) (text : List ℕ) (next : CutterState) (n : ℕ) : Type 0 where
@@ -321,56 +259,37 @@ pub record PassesClear (cutter : CutterState) (text : List ℕ) (next : CutterSt
   pub count : next.lines ≡ cutter.lines + line_count newline (take n text)
   pub clear : (pattern : Pattern) → cutter.sought ≡ Some pattern → AreClear pattern (take n text)
 
--- A stretch of the text was taken in, or a fault came.
-pub record Stretched (told : Bool) (cutter : CutterState) (text : List ℕ) (old new : List Slot) (next : CutterState)
-    (passed : Passed) : Type 0 where
-  pub some : 0 < passed.size
-  pub within : passed.size ≤ length text
-  pub whole : IsWhole (take passed.size text)
-  pub took : Took told cutter (take passed.size text) old new next
-  pub found : IfSome passed.found (IsNextFound next (drop passed.size text))
+-- A stretch of the text was taken in, of this many bytes; or a fault came among them. Returned are these, and how many bytes
+-- the next line is, where the pattern that is searched for was found in it.
+pub record Stretches (told : Bool) (cutter : CutterState) (text : List ℕ) (old new : List Slot) (next : CutterState)
+    (result : Result Passed Fault) : Type 0 where
+  pub n : ℕ
+  pub some : 0 < n
+  pub within : n ≤ length text
+  pub whole : IsWhole (take n text)
+  pub took : Takes told cutter (take n text) old new next (fault_in result)
+  pub size : IfOk result (λ passed. passed.size ≡ n)
+  pub found : IfOk result (λ passed. IfSome passed.found (IsNextFound next (drop n text)))
 
-abbrev pub Stretches : Bool → CutterState → List ℕ → List Slot → List Slot → CutterState → Result Passed Fault → Type 0
-Stretches told cutter text old new next (Ok passed) = Stretched told cutter text old new next passed
-Stretches told cutter text old new next (Err fault) = TookNot told cutter text old new next fault
-
--- The lines of a text after the first bytes were passed over, and then these bytes and those lines were held together.
-pub record GoneOn (told : Bool) (cutter : CutterState) (text : List ℕ) (kept : ℕ) (old new : List Slot)
-    (next : CutterState) (passed : Passed) : Type 0 where
+-- The lines of a text were passed over, and then held together with what is left before them.
+pub record GoesOn (told : Bool) (cutter : CutterState) (left rest : List ℕ) (old new : List Slot) (next : CutterState)
+    (result : Result Passed Fault) : Type 0 where
   pub mid : CutterState
   pub n : ℕ
-  pub size : passed.size ≡ kept + n
-  pub over : PassesOver cutter (drop kept text) mid n
-  pub held : Held told mid (mid.window.held ++ take (kept + n) text) old new next
-  pub found : IfSome passed.found (IsNextFound mid (drop n (drop kept text)))
+  pub over : PassesOver cutter rest mid n
+  pub held : Holds told mid (mid.window.held ++ (left ++ take n rest)) old new next (fault_in result)
+  pub size : IfOk result (λ passed. passed.size ≡ length left + n)
+  pub found : IfOk result (λ passed. IfSome passed.found (IsNextFound mid (drop n rest)))
 
--- A fault came while they were held.
-pub record NotGoneOn (told : Bool) (cutter : CutterState) (text : List ℕ) (kept : ℕ) (old new : List Slot)
-    (next : CutterState) (fault : Fault) : Type 0 where
-  pub mid : CutterState
+-- A line was cut, and of the text after it the lines that aren't cut were taken in too, which are this many bytes.
+pub record CutsOn (told : Bool) (cutter : CutterState) (cut : Cut) (line rest : List ℕ) (old new : List Slot) (next : CutterState)
+    (result : Result Passed Fault) : Type 0 where
   pub n : ℕ
-  pub over : PassesOver cutter (drop kept text) mid n
-  pub held : HeldNot told mid (mid.window.held ++ take (kept + n) text) old new next fault
-
--- The first line of a text, which has this many bytes, was cut, and the lines after it that aren't cut were taken in too.
-pub record CutOn (told : Bool) (cutter : CutterState) (cut : Cut) (text : List ℕ) (size : ℕ) (old new : List Slot)
-    (next : CutterState) (passed : Passed) : Type 0 where
-  pub n : ℕ
-  pub size_is : passed.size ≡ size + n
-  pub within : n ≤ length (drop size text)
-  pub whole : IsWhole (take n (drop size text))
-  pub all : CutAll told cutter cut cutter.lines (take size text) (take size text) (take n (drop size text)) old new next
-  pub found : IfSome passed.found (IsNextFound next (drop n (drop size text)))
-
-abbrev pub CutsOn : Bool → CutterState → Cut → List ℕ → ℕ → List Slot → List Slot → CutterState → Result Passed Fault
-    → Type 0
-CutsOn told cutter cut text size old new next (Ok passed) = CutOn told cutter cut text size old new next passed
-CutsOn told cutter cut text size old new next (Err fault) =
-    CutAllNot told cutter cut cutter.lines (take size text) (take size text) (drop size text) old new next fault
-
-abbrev pub GoesOn : Bool → CutterState → List ℕ → ℕ → List Slot → List Slot → CutterState → Result Passed Fault → Type 0
-GoesOn told cutter text kept old new next (Ok passed) = GoneOn told cutter text kept old new next passed
-GoesOn told cutter text kept old new next (Err fault) = NotGoneOn told cutter text kept old new next fault
+  pub within : n ≤ length rest
+  pub whole : IsWhole (take n rest)
+  pub all : CutsAll told cutter cut cutter.lines line line (take n rest) old new next (fault_in result)
+  pub size : IfOk result (λ passed. passed.size ≡ length line + n)
+  pub found : IfOk result (λ passed. IfSome passed.found (IsNextFound next (drop n rest)))
 
 -- what is written where the input ends after these lines
 abbrev pub whole_part : CutterState → List ℕ → Part
@@ -382,7 +301,7 @@ pub record Opened (told : Bool) (style : Style) (operands : List Operand) (old n
   pub asked : cutter.writer.style ≡ style
   pub operands_are : cutter.operands ≡ operands
   pub stands : Stands cutter []
-  pub moves : Gets told (new_writer style) cutter.writer nothing (settled_of style operands []) old new
+  pub reaches : Reaches told (new_writer style) cutter.writer nothing (settled_of style operands []) old new None
   pub owns : OwnsFiles cutter.writer (length old) new
   pub ready : IsReady cutter.writer new
   pub sound : IsSound cutter
@@ -392,28 +311,12 @@ abbrev pub Opens : Bool → Style → List Operand → List Slot → List Slot �
 Opens told style operands old new (Ok cutter) = Opened told style operands old new cutter
 Opens told style operands old new (Err fault) = BegunNot told style (settled_of style operands []) old new fault
 
--- The last section ended.
-pub record EndedAll (told : Bool) (cutter : CutterState) (old new : List Slot) (next : CutterState) : Type 0 where
-  pub same : IsSame cutter next
-  pub moves : (x : List ℕ) → Stands cutter x
-      → Gets told cutter.writer next.writer (settled_part cutter x) (whole_part cutter x) old new
-  -- how the plan ends stays
-  pub judged : (x : List ℕ) → Stands cutter x → IsJudged next x
-  pub keeps : KeepsBroken old new
-  pub owns : KeepsFiles cutter.writer next.writer old new
-  pub ready : IsReady next.writer new
-
-pub record EndedNone (told : Bool) (cutter : CutterState) (old new : List Slot) (next : CutterState)
-    (fault : Fault) : Type 0 where
-  pub same : IsSame cutter next
-  pub halts : (x : List ℕ) → Stands cutter x
-      → Halts told cutter.writer (settled_part cutter x) (whole_part cutter x) old new fault
-  pub breaks : Breaks cutter.writer.style old new fault
-  pub owns : KeepsFiles cutter.writer next.writer old new
-
-abbrev pub EndsAll : Bool → CutterState → List Slot → List Slot → CutterState → Result (Unit {0}) Fault → Type 0
-EndsAll told cutter old new next (Ok done) = EndedAll told cutter old new next
-EndsAll told cutter old new next (Err fault) = EndedNone told cutter old new next fault
+-- The last section ended, or a fault came before that. How the plan ends stays.
+pub record EndsAll (told : Bool) (cutter : CutterState) (old new : List Slot) (next : CutterState) (fault : Option Fault) : Type 0 where
+  pub keeps : Keeps cutter next old new fault
+  pub reaches : (x : List ℕ) → Stands cutter x
+      → Reaches told cutter.writer next.writer (settled_part cutter x) (whole_part cutter x) old new fault
+  pub judged : IfNone fault ((x : List ℕ) → Stands cutter x → IsJudged next x)
 
 -- The files that were there are removed, and those are left whose removal failed.
 pub record Clears (cutter : CutterState) (old new : List Slot) (next : CutterState) : Type 0 where

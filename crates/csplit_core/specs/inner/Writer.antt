@@ -1,106 +1,112 @@
 -- What private calls say: what contracts see of the writer of sections, and what its calls do.
-use Rattle.std.specs.Prelude.{◌≡◌, ℕ, Bool, true, List, [], ◌∷◌, ◌++◌, length, Result, Ok, Err}
+use Rattle.std.specs.Prelude.{Bool, true, List, [], ◌∷◌, ◌++◌, ℕ, ◌≡◌, length, Option, Some, None, IfNone, Result, Ok, Err, ◌+◌, IfSome}
 use Rattle.ports_core.specs.Part.{Part, OutputsAt, nothing}
+use Rattle.csplit_core.specs.Output.{Style, part_by, Contents, files_of}
+use Rattle.csplit_core.specs.Draft.{Draft, last_contents, draft_part, AreClosed}
 use Rattle.ports_core.specs.inner.Part.{StoppedInTurn}
-use Rattle.ports_core.specs.Slot.{Slot}
+use Rattle.ports_core.specs.Slot.{Slot, FailsToOpen, opened, told_of, with_written}
 use Rattle.ports_core.specs.inner.Slot.{KeepsBroken}
 use Rattle.ports_core.specs.Swept.{AreThere, HasNoFiles}
 use Rattle.ports_core.specs.declared.fault.Fault.{Fault}
-use Rattle.csplit_core.specs.Draft.{Draft, draft_part, last_contents, AreClosed}
-use Rattle.csplit_core.specs.inner.Draft.{ended_part, first_draft}
-use Rattle.csplit_core.specs.Output.{Style, Contents, files_of}
 use Rattle.csplit_core.specs.Writer.{WriterState, size_of, Writes, OwnsFiles, IsReady, Breaks}
-use Rattle.csplit_core.specs.declared.section_writer.Current.TheVariants.{Skipped}
+use Rattle.csplit_core.specs.declared.section_writer.Current.TheVariants.{Skipped, File, Unopened}
+use Rattle.ports_core.specs.Name.{numbered_name}
+use Rattle.ports_core.specs.inner.Write.{WritesShort}
+use Rattle.ports_core.specs.declared.fault.Fault.TheVariants.{Memory}
+use Rattle.ports_core.specs.declared.slot.Mode.TheVariants.{Fresh}
+
+-- What private calls say: what stands of all sections at some moment: those that ended, and the one that is open.
+
+-- what is written of it once the open section ended as well
+abbrev pub ended_part : Style → Draft → Part
+ended_part style draft = part_by style (draft.ended ++ last_contents true draft ∷ [])
+
+-- before anything: no section ended, and one is open
+abbrev pub first_draft : Bool → Draft
+first_draft kept = record { ended = []; is_kept = kept; bytes = [] }
+
+-- the open section gets more bytes
+abbrev pub with_bytes : List ℕ → Draft → Draft
+with_bytes bytes draft = record { ended = draft.ended; is_kept = draft.is_kept; bytes = draft.bytes ++ bytes }
+
+-- the open section ends, and another begins
+abbrev pub with_section : Bool → Draft → Draft
+with_section kept draft = record { ended = draft.ended ++ last_contents true draft ∷ []; is_kept = kept; bytes = [] }
+
+-- What private calls say: what contracts see of the writer of sections, and what its calls do.
 
 -- The outputs have this part, and those after the first ones are the writer's own.
 pub record At (told : Bool) (writer : WriterState) (before : List Slot) (part : Part) (now : List Slot) : Type 0 where
   pub owns : OwnsFiles writer (length before) now
   pub outputs : OutputsAt told before part now
 
--- outputs that had one part have another
-abbrev pub Moves : Bool → WriterState → WriterState → Part → Part → List Slot → List Slot → Type 0
-Moves told writer next low high old new = (before : List Slot) → At told writer before low old
-    → At told next before high new
+-- the fault of a call, if it ended with one
+abbrev pub fault_in : {T : Type 0} → Result T Fault → Option Fault
+fault_in (Ok result) = None
+fault_in (Err fault) = Some fault
 
--- a fault stopped them between the two
-abbrev pub Halts : Bool → WriterState → Part → Part → List Slot → List Slot → Fault → Type 0
-Halts told writer low high old new fault = (before : List Slot) → At told writer before low old
-    → StoppedInTurn told before low high fault new
+-- outputs that were to get from one part to another have that, or a fault stopped them between the two
+abbrev pub IsThere : Bool → WriterState → List Slot → Part → Part → List Slot → Option Fault → Type 0
+IsThere told next before low high new None = At told next before high new
+IsThere told next before low high new (Some fault) = StoppedInTurn told before low high fault new
+
+-- so it is of outputs that had the one part
+pub record Reaches (told : Bool) (writer next : WriterState) (low high : Part) (old new : List Slot) (fault : Option Fault) : Type 0 where
+  pub there : (before : List Slot) → At told writer before low old → IsThere told next before low high new fault
 
 -- the files stay its own, and there
 pub record KeepsFiles (writer next : WriterState) (old new : List Slot) : Type 0 where
   pub owns : (first : ℕ) → OwnsFiles writer first old → OwnsFiles next first new
   pub there : AreThere writer.files old → AreThere next.files new
 
+-- no slot that was broken is sound again, where the call went well; else it broke one, if its fault names one
+abbrev pub KeepsOrBreaks : Style → List Slot → List Slot → Option Fault → Type 0
+KeepsOrBreaks style old new None = KeepsBroken old new
+KeepsOrBreaks style old new (Some fault) = Breaks style old new fault
+
+-- What any call leaves of a writer and its outputs.
+pub record Leaves (writer next : WriterState) (old new : List Slot) (fault : Option Fault) : Type 0 where
+  pub style : next.style ≡ writer.style
+  pub owns : KeepsFiles writer next old new
+  pub slots : KeepsOrBreaks writer.style old new fault
+  pub ready : IfNone fault (IsReady next new)
+
 -- a writer that has begun no section
 abbrev pub new_writer : Style → WriterState
 new_writer style = record { style = style; files = []; current = Skipped }
 
--- The sections changed as this says, and so did the outputs.
-pub record Went (told : Bool) (writer : WriterState) (change : Draft → Draft) (old new : List Slot)
-    (next : WriterState) : Type 0 where
-  pub style : next.style ≡ writer.style
-  pub writes : (draft : Draft) → Writes writer draft → Writes next (change draft)
-  pub moves : (draft : Draft) → Writes writer draft
-      → Moves told writer next (draft_part writer.style draft) (draft_part writer.style (change draft)) old new
-  pub keeps : KeepsBroken old new
-  pub owns : KeepsFiles writer next old new
-  pub ready : IsReady next new
-
--- A fault stopped them.
-pub record Stopped (told : Bool) (writer : WriterState) (change : Draft → Draft) (old new : List Slot)
-    (next : WriterState) (fault : Fault) : Type 0 where
-  pub style : next.style ≡ writer.style
-  pub halts : (draft : Draft) → Writes writer draft
-      → Halts told writer (draft_part writer.style draft) (draft_part writer.style (change draft)) old new fault
-  pub breaks : Breaks writer.style old new fault
-  pub owns : KeepsFiles writer next old new
-
-abbrev pub Goes : Bool → WriterState → (Draft → Draft) → List Slot → List Slot → WriterState → Result (Unit {0}) Fault
-    → Type 0
-Goes told writer change old new next (Ok done) = Went told writer change old new next
-Goes told writer change old new next (Err fault) = Stopped told writer change old new next fault
+-- The sections changed as this says, and so did the outputs; or a fault stopped them.
+pub record Goes (told : Bool) (writer : WriterState) (change : Draft → Draft) (old new : List Slot) (next : WriterState) (fault : Option Fault) : Type 0 where
+  pub leaves : Leaves writer next old new fault
+  pub reaches : (draft : Draft) → Writes writer draft
+      → Reaches told writer next (draft_part writer.style draft) (draft_part writer.style (change draft)) old new fault
+  pub writes : IfNone fault ((draft : Draft) → Writes writer draft → Writes next (change draft))
 
 -- these sections ended, and no other began
 pub record Pauses (writer : WriterState) (ended : List Contents) : Type 0 where
   pub closed : AreClosed ended
   pub made : length writer.files ≡ length (files_of writer.style 0 ended)
 
--- The open section ended, and no other begins.
-pub record Ended (told : Bool) (writer : WriterState) (old new : List Slot) (next : WriterState) : Type 0 where
-  pub style : next.style ≡ writer.style
-  pub moves : (draft : Draft) → Writes writer draft
-      → Moves told writer next (draft_part writer.style draft) (ended_part writer.style draft) old new
-  pub keeps : KeepsBroken old new
-  pub owns : KeepsFiles writer next old new
-  pub ready : IsReady next new
-  pub pauses : (draft : Draft) → Writes writer draft → Pauses next (draft.ended ++ last_contents true draft ∷ [])
-
-pub record EndedNot (told : Bool) (writer : WriterState) (old new : List Slot) (next : WriterState)
-    (fault : Fault) : Type 0 where
-  pub style : next.style ≡ writer.style
-  pub halts : (draft : Draft) → Writes writer draft
-      → Halts told writer (draft_part writer.style draft) (ended_part writer.style draft) old new fault
-  pub breaks : Breaks writer.style old new fault
-  pub owns : KeepsFiles writer next old new
-
-abbrev pub Ends : Bool → WriterState → List Slot → List Slot → WriterState → Result (Unit {0}) Fault → Type 0
-Ends told writer old new next (Ok done) = Ended told writer old new next
-Ends told writer old new next (Err fault) = EndedNot told writer old new next fault
+-- The open section ended, and no other begins; or a fault stopped that.
+pub record Ends (told : Bool) (writer : WriterState) (old new : List Slot) (next : WriterState) (fault : Option Fault) : Type 0 where
+  pub leaves : Leaves writer next old new fault
+  pub reaches : (draft : Draft) → Writes writer draft
+      → Reaches told writer next (draft_part writer.style draft) (ended_part writer.style draft) old new fault
+  pub pauses : IfNone fault ((draft : Draft) → Writes writer draft → Pauses next (draft.ended ++ last_contents true draft ∷ []))
 
 -- a writer was made, with its first section
 pub record Begun (told : Bool) (style : Style) (is_kept : Bool) (old new : List Slot)
     (writer : WriterState) : Type 0 where
   pub asked : writer.style ≡ style
   pub writes : Writes writer (first_draft is_kept)
-  pub moves : Moves told (new_writer style) writer nothing (draft_part style (first_draft is_kept)) old new
+  pub reaches : Reaches told (new_writer style) writer nothing (draft_part style (first_draft is_kept)) old new None
   pub size : size_of writer.current ≡ 0
   pub owns : OwnsFiles writer (length old) new
   pub ready : IsReady writer new
 
 -- The first section could not begin, of which this part is due: a file could not be made, or there was no memory.
 pub record BegunNot (told : Bool) (style : Style) (part : Part) (old new : List Slot) (fault : Fault) : Type 0 where
-  pub halts : Halts told (new_writer style) nothing part old new fault
+  pub reaches : Reaches told (new_writer style) (new_writer style) nothing part old new (Some fault)
   pub breaks : Breaks style old new fault
   -- no file was made
   pub none : HasNoFiles (length old) new
@@ -109,3 +115,49 @@ abbrev pub Begins : Bool → Style → Bool → List Slot → List Slot → Resu
 Begins told style is_kept old new (Ok writer) = Begun told style is_kept old new writer
 Begins told style is_kept old new (Err fault) =
     BegunNot told style (draft_part style (first_draft is_kept)) old new fault
+
+-- What the steps of the writer of sections do.
+
+-- a slot got these bytes, or broke among them
+abbrev pub Wrote : Bool → ℕ → List ℕ → List Slot → List Slot → Option Fault → Type 0
+Wrote told slot bytes old new None = new ≡ with_written slot (told_of told bytes) old
+Wrote told slot bytes old new (Some fault) = WritesShort told slot bytes old new fault
+
+-- the file of the open section, which has `size` bytes, got these as well, or broke among them
+pub record Appends (told : Bool) (writer : WriterState) (slot size : ℕ) (bytes : List ℕ) (old new : List Slot) (next : WriterState) (fault : Option Fault) : Type 0 where
+  pub same : next ≡ record writer { current = next.current }
+  pub current : IfNone fault (next.current ≡ File slot (size + length bytes))
+  pub still : IfSome fault (λ why. next.current ≡ writer.current)
+  pub wrote : Wrote told slot bytes old new fault
+
+abbrev pub next_name : WriterState → List ℕ
+next_name writer = numbered_name writer.style.prefix writer.style.digits (length writer.files)
+
+-- the next file was made
+pub record Made (writer : WriterState) (old new : List Slot) (next : WriterState) (slot : ℕ) : Type 0 where
+  pub place : slot ≡ length old
+  pub added : new ≡ old ++ opened (next_name writer) Fresh ∷ []
+  pub same : next ≡ record writer { files = writer.files ++ slot ∷ []; current = File slot 0 }
+
+-- why a file with this name wasn't made: there was no memory for the name, or it couldn't be opened
+pub data MakesNone (old : List Slot) (name : List ℕ) (new : List Slot) : Fault → Type 0 where
+  unnamed : new ≡ old → MakesNone old name new Memory
+  failed : (fault : Fault) → FailsToOpen old name new fault → MakesNone old name new fault
+
+abbrev pub Makes : WriterState → List Slot → List Slot → WriterState → Result ℕ Fault → Type 0
+Makes writer old new next (Ok slot) = Made writer old new next slot
+Makes writer old new next (Err fault) = (next ≡ record writer { current = Unopened })
+    × MakesNone old (next_name writer) new fault
+
+-- these sections, and one more that began
+abbrev pub begun_after : List Contents → Bool → Draft
+begun_after ended kept = record { ended = ended; is_kept = kept; bytes = [] }
+
+-- A section began, after those that ended; or it could not, since its file wasn't made.
+pub record Starts (told : Bool) (writer : WriterState) (kept : Bool) (old new : List Slot) (next : WriterState) (fault : Option Fault) : Type 0 where
+  pub leaves : Leaves writer next old new fault
+  pub reaches : (ended : List Contents) → Pauses writer ended
+      → Reaches told writer next (part_by writer.style ended) (draft_part writer.style (begun_after ended kept)) old new fault
+  pub writes : IfNone fault ((ended : List Contents) → Pauses writer ended → Writes next (begun_after ended kept))
+  pub size : IfNone fault (size_of next.current ≡ 0)
+  pub none_made : IfSome fault (λ why. next.files ≡ writer.files)

@@ -1,14 +1,131 @@
 -- Laws that traits cite: the plan that is computed is the one plan there is, and it goes on as the lines do.
-use Rattle.std.proofs.Common.{◌≡◌, ℕ, zero, suc, ◌+◌, ◌*◌, ◌<◌, ◌≤◌, Bool, true, false, cond, nat_lt, List, [], ◌∷◌, ◌++◌, length, Option, Some, None, refl, sym, ◌∙◌, ap, subst, arith, length-append}
+use Rattle.std.proofs.Common.{◌≡◌, inl, inr, ℕ, zero, suc, ◌+◌, ◌-◌, ◌<◌, ◌≤◌, max, eqb, ◌&&◌, Bool, true, false, cond, List, [], ◌∷◌, ◌++◌, length, drop, get_or, Option, Some, None, refl, sym, ◌∙◌, ap, arith, length-append, length-drop, ◌*◌, nat_lt, subst}
+use Rattle.std.proofs.lemmas.Bool.{false≢true, cases_lt}
+use Rattle.std.proofs.lemmas.List.{get_or-drop, get_or_append_left}
+use Rattle.std.proofs.Math.Nat.{le-max_right}
+use Rattle.csplit_core.specs.Operand.{Operand, Line, unmarked, is_match, Offset, Target, Number, Search, moved, has_more}
+use Rattle.csplit_core.specs.Plan.{State, search_line, IsFirst, MatchesNone, start, Step, Ending, used_up, missed, above, below, CutsAt, Misses, line_after, operands_after, repetition_after, state_after, step_of, Runs, is_used_up, misses, is_above, is_below, cuts}
+use Rattle.csplit_core.specs.Planned.{first_among, first_match, Turn, ends, goes, turn_at, turn_from, turn_to, turn_of, ended, with_step, plan_within, plan}
+use Rattle.csplit_core.specs.inner.PlanLaws.{FromAs, MatchesAs, after, left_of, needed_by, needed, so, RunsAs}
 use Rattle.std.proofs.lemmas.Bool.Decides.{nat_tests}
 use Rattle.bre_core.specs.Pattern.{Pattern}
-use Rattle.csplit_core.specs.Operand.{Offset, Target, Number, Search, Operand, Line, moved, has_more}
 use Rattle.csplit_core.specs.Measure.{Moves}
-use Rattle.csplit_core.specs.Plan.{State, start, Step, Ending, used_up, missed, above, below, search_line, CutsAt, Misses, line_after, operands_after, repetition_after, state_after, step_of, Runs, is_used_up, misses, is_above, is_below, cuts}
-use Rattle.csplit_core.specs.Planned.{first_match, Turn, ends, goes, turn_at, turn_from, turn_to, turn_of, ended, with_step, plan_within, plan}
-use Rattle.csplit_core.specs.laws.MatchLaws.{first_match_as, first_is_match, none_is_match, search_some, search_past, first_still}
-use Rattle.csplit_core.specs.inner.MatchLaws.{MatchesAs}
-use Rattle.csplit_core.specs.inner.PlanLaws.{after, left_of, needed_by, needed, so, RunsAs}
+
+-- Laws that traits cite: laws of the first match of an operand.
+
+later : (operand : Operand) (at : ℕ) (line : Line) (lines : List Line) → line.marks operand ≡ false
+    → (matched : Option ℕ) → FromAs operand (suc at) lines matched → FromAs operand at (line ∷ lines) matched
+later operand at line lines is None none = λ k less. each k less where
+  each : (k : ℕ) → k < suc (length lines) → (get_or (line ∷ lines) k unmarked).marks operand ≡ false
+  each zero less = is
+  each (suc k) less = none k (omega arith)
+later operand at line lines is (Some number) some = (suc some.0, omega (arith, some.1), omega (arith, some.2), some.3, λ j less. each j less) where
+  each : (j : ℕ) → j < suc some.0 → (get_or (line ∷ lines) j unmarked).marks operand ≡ false
+  each zero less = is
+  each (suc j) less = some.4 j (omega arith)
+
+from_by : (operand : Operand) (at : ℕ) (line : Line) (lines : List Line) (has : Bool) → line.marks operand ≡ has
+    → FromAs operand (suc at) lines (first_among operand (suc at) lines)
+    → FromAs operand at (line ∷ lines) (cond has (Some at) (first_among operand (suc at) lines))
+from_by operand at line lines true is rest = (0, omega arith, omega arith, is, λ j less. absurd (omega (arith, less)))
+from_by operand at line lines false is rest = later operand at line lines is (first_among operand (suc at) lines) rest
+
+first_among_as : (operand : Operand) (at : ℕ) (lines : List Line) → FromAs operand at lines (first_among operand at lines)
+first_among_as operand at [] = λ k less. absurd (omega (arith, less))
+first_among_as operand at (line ∷ lines) = from_by operand at line lines (line.marks operand) refl (first_among_as operand (suc at) lines)
+
+dropped : (operand : Operand) (lines : List Line) (from line k : ℕ) → 1 ≤ from → line ≡ from + k
+    → (get_or (drop (from - 1) lines) k unmarked).marks operand ≡ is_match operand lines line
+dropped operand lines from line k some is =
+    ap (λ (l : Line). l.marks operand) (get_or-drop (from - 1) lines k unmarked
+    ∙ ap (λ i. get_or lines i unmarked) (let e : from - 1 + k ≡ line - 1 = omega (arith, some, is) in e))
+
+matched_by : (operand : Operand) (lines : List Line) (from : ℕ) → 1 ≤ from → (matched : Option ℕ)
+    → FromAs operand from (drop (from - 1) lines) matched → MatchesAs operand lines from matched
+matched_by operand lines from some None none = λ line from_on within. sym (dropped operand lines from line (line - from) some (omega (arith, from_on)))
+    ∙ none (line - from) (let e : length (drop (from - 1) lines)
+    ≡ length lines - (from - 1) = length-drop (from - 1) lines in omega (arith, e, from_on, within, some))
+matched_by operand lines from some (Some line) (k, is, within, here, before) = record {
+  not_before = omega (arith, is);
+  within = let e : length (drop (from - 1) lines) ≡ length lines - (from - 1) =
+      length-drop (from - 1) lines in omega (arith, e, is, within, some);
+  match = sym (dropped operand lines from line k some is) ∙ here;
+  first = λ other from_on less. sym (dropped operand lines from other (other - from) some (omega (arith, from_on)))
+      ∙ before (other - from) (omega (arith, from_on, less, is));
+}
+
+pub first_match_as : (operand : Operand) (lines : List Line) (from : ℕ) → 1 ≤ from → MatchesAs operand lines from (first_match operand lines from)
+first_match_as operand lines from some =
+    matched_by operand lines from some (first_match operand lines from) (first_among_as operand from (drop (from - 1) lines))
+
+-- no other line is the first
+pub one_first : {operand : Operand} {lines : List Line} {from : ℕ} (one other : ℕ) → IsFirst operand lines from one
+    → IsFirst operand lines from other → one ≡ other
+one_first one other is are = elim (cases_lt one other) [
+  | inl less ↦ absurd (false≢true (sym (are.first one is.not_before less) ∙ is.match))
+  | inr most ↦ elim (cases_lt other one) [
+    | inl less ↦ absurd (false≢true (sym (is.first other are.not_before less) ∙ are.match))
+    | inr least ↦ omega (arith, most, least)
+  ]
+]
+
+some_by : {operand : Operand} {lines : List Line} {from : ℕ} (line : ℕ) → IsFirst operand lines from line
+    → (matched : Option ℕ) → MatchesAs operand lines from matched → matched ≡ Some line
+some_by line is None none = absurd (false≢true (sym (none line is.not_before is.within) ∙ is.match))
+some_by line is (Some other) are = ap Some (one_first other line are is)
+
+pub first_is_match : {operand : Operand} {lines : List Line} {from : ℕ} (line : ℕ) → 1 ≤ from
+    → IsFirst operand lines from line → first_match operand lines from ≡ Some line
+first_is_match {operand} {lines} {from} line some is = some_by line is (first_match operand lines from) (first_match_as operand lines from some)
+
+first_none : (operand : Operand) (lines : List Line) (from : ℕ) → MatchesNone operand lines from → (matched : Option ℕ)
+    → MatchesAs operand lines from matched → matched ≡ None
+first_none operand lines from none None is = refl
+first_none operand lines from none (Some line) is = absurd (false≢true (sym (none line is.not_before is.within) ∙ is.match))
+
+pub none_is_match : (operand : Operand) (lines : List Line) (from : ℕ) → 1 ≤ from → MatchesNone operand lines from → first_match operand lines from ≡ None
+none_is_match operand lines from some none = first_none operand lines from none (first_match operand lines from) (first_match_as operand lines from some)
+
+-- where the search begins
+search_by : (state : State) (b : Bool) → 1 ≤ cond b 1 (suc (max state.current state.matched))
+search_by state true = omega arith
+search_by state false = omega arith
+
+pub search_some : (suppress : Bool) (state : State) → 1 ≤ search_line suppress state
+search_some true state = omega arith
+search_some false state = search_by state (eqb state.current 1 && eqb state.matched 0)
+
+past_by : (current matched : ℕ) (one none : Bool) → eqb current 1 ≡ one → eqb matched 0 ≡ none → matched < cond (one && none) 1 (suc (max current matched))
+past_by current matched true true is none = grind (arith, none)
+past_by current matched one none is are = let e : matched ≤ max current matched = le-max_right current matched in omega (arith, e)
+
+pub search_past : (suppress : Bool) (state : State) → state.matched < search_line suppress state
+search_past true state = let e : state.matched ≤ max (state.current - 1) state.matched = le-max_right (state.current - 1) state.matched in omega (arith, e)
+search_past false state = past_by state.current state.matched (eqb state.current 1) (eqb state.matched 0) refl refl
+
+-- more lines
+pub match_still : (operand : Operand) (a b : List Line) (line : ℕ) → 1 ≤ line → line ≤ length a → is_match operand (a ++ b) line ≡ is_match operand a line
+match_still operand a b line some within = ap (λ (l : Line). l.marks operand) (get_or_append_left a b unmarked (line - 1) (omega (arith, some, within)))
+
+pub first_still : {operand : Operand} {a : List Line} (b : List Line) {from : ℕ} (line : ℕ) → 1 ≤ from → IsFirst operand a from line
+    → IsFirst operand (a ++ b) from line
+first_still {operand} {a} b line some is = record {
+  not_before = is.not_before;
+  within = let e : length (a ++ b) ≡ length a + length b = length-append a b in omega (arith, e, is.within);
+  match = match_still operand a b line (omega (arith, some, is.not_before)) is.within ∙ is.match;
+  first = λ other from_on less. match_still operand a b other (omega (arith, some, from_on)) (omega (arith, less, is.within)) ∙ is.first other from_on less;
+}
+
+-- where no line matched, a match among more lines is past them
+pub first_beyond : {operand : Operand} (a b : List Line) {from : ℕ} (line : ℕ) → 1 ≤ from → MatchesNone operand a from
+    → IsFirst operand (a ++ b) from line → length a < line
+first_beyond {operand} a b line some none is = elim (cases_lt (length a) line) [
+  | inl less ↦ less
+  | inr within ↦ absurd (false≢true (sym (none line is.not_before within)
+      ∙ sym (match_still operand a b line (omega (arith, some, is.not_before)) within) ∙ is.match))
+]
+
+-- Laws that traits cite: the plan that is computed is the one plan there is, and it goes on as the lines do.
 
 pub less_test : (a b : ℕ) → a < b → nat_lt a b ≡ true
 less_test a b less = grind (arith, nat_tests, less)
@@ -24,25 +141,20 @@ from_not_less a b is = grind (arith, nat_tests, is)
 
 -- What a plan says, the computation does
 
-turn_at_cut : (suppress : Bool) (lines : List Line) (state : State) (operand : Operand) (operands : List Operand)
-    (target : Target) (matched cut : ℕ)
-    → CutsAt suppress lines state operand target matched cut
-    → turn_to suppress lines state operand operands target
+turn_at_cut : (suppress : Bool) (lines : List Line) (state : State) (operand : Operand) (operands : List Operand) (target : Target) (matched cut : ℕ)
+    → CutsAt suppress lines state operand target matched cut → turn_to suppress lines state operand operands target
     ≡ turn_at suppress (length lines) state operand operands matched cut
 turn_at_cut suppress lines state operand operands (Number n) matched cut at =
     ap (λ f. turn_at suppress (length lines) state operand operands f (n * (state.repetition + 1))) (sym at.0)
     ∙ ap (turn_at suppress (length lines) state operand operands matched) (sym at.1)
 turn_at_cut suppress lines state operand operands (Search pattern kept offset) matched cut at =
-    ap (turn_from suppress (length lines) state operand operands offset)
-    (first_is_match operand lines (search_line suppress state) matched (search_some suppress state) at.0)
+    ap (turn_from suppress (length lines) state operand operands offset) (first_is_match matched (search_some suppress state) at.0)
     ∙ ap (turn_at suppress (length lines) state operand operands matched) (sym at.1)
 
-turn_missed : (suppress : Bool) (lines : List Line) (state : State) (operand : Operand) (operands : List Operand)
-    (target : Target)
-    → Misses suppress lines state operand target
-    → turn_to suppress lines state operand operands target ≡ ends (missed operand state.repetition)
-turn_missed suppress lines state operand operands (Number n) none = absurd none
-turn_missed suppress lines state operand operands (Search pattern kept offset) none =
+turn_missed : (suppress : Bool) (lines : List Line) (state : State) {operand : Operand} (operands : List Operand) (target : Target)
+    → Misses suppress lines state operand target → turn_to suppress lines state operand operands target ≡ ends (missed operand state.repetition)
+turn_missed suppress lines state operands (Number n) none = absurd none
+turn_missed suppress lines state {operand} operands (Search pattern kept offset) none =
     ap (turn_from suppress (length lines) state operand operands offset)
     (none_is_match operand lines (search_line suppress state) (search_some suppress state) none)
 
@@ -50,234 +162,171 @@ left_most : (total : ℕ) (state : State) (target : Target) → left_of total st
 left_most total state (Number n) = omega arith
 left_most total state (Search pattern kept offset) = omega arith
 
-fewer_operands : (total : ℕ) (state : State) (operands : List Operand)
-    → needed_by total state operands < length operands * (total + 1) + 1
+fewer_operands : (total : ℕ) (state : State) (operands : List Operand) → needed_by total state operands < length operands * (total + 1) + 1
 fewer_operands total state [] = omega arith
 fewer_operands total state (operand ∷ operands) =
     let most : left_of total state operand.target ≤ total = left_most total state operand.target in
-    let more : suc (length operands) * (total + 1) ≡ length operands * (total + 1) + (total + 1) =
-    omega arith in omega (arith, most, more)
+    let more : suc (length operands) * (total + 1) ≡ length operands * (total + 1) + (total + 1) = omega arith in omega (arith, most, more)
 
 pub moves_of : (suppress : Bool) (lines : List Line) (state : State) (operand : Operand) (target : Target)
-    (matched cut : ℕ) → CutsAt suppress lines state operand target matched cut
-    → Moves (length lines) state target matched cut
+    (matched cut : ℕ) → CutsAt suppress lines state operand target matched cut → Moves (length lines) state target matched cut
 moves_of suppress lines state operand (Number n) matched cut at = at.1
 moves_of suppress lines state operand (Search pattern kept offset) matched cut at =
-    let more : state.matched < search_line suppress state =
-    search_past suppress state in (omega (arith, more, at.0.not_before), at.0.within)
+    let more : state.matched < search_line suppress state = search_past suppress state in (omega (arith, more, at.0.not_before), at.0.within)
 
-fewer_left : (total : ℕ) (state next : State) (target : Target) (matched cut : ℕ) → Moves total state target matched cut
-    → 1 ≤ cut → cut ≤ total
-    → next.repetition ≡ state.repetition + 1 → next.matched ≡ matched
-    → left_of total next target < left_of total state target
-fewer_left total state next (Number zero) matched cut at some within again same =
-    absurd (none (omega (arith, at)) some) where
-      none : cut ≡ 0 → 1 ≤ cut → ⊥
-      none is some = omega (arith, is, some)
-fewer_left total state next (Number (suc n)) matched cut at some within again same =
+fewer_left : (total : ℕ) (state next : State) (target : Target) {matched : ℕ} (cut : ℕ) → Moves total state target matched cut → 1 ≤ cut → cut ≤ total
+    → next.repetition ≡ state.repetition + 1 → next.matched ≡ matched → left_of total next target < left_of total state target
+fewer_left total state next (Number zero) cut at some within again same = absurd (none (omega (arith, at)) some) where
+  none : cut ≡ 0 → 1 ≤ cut → ⊥
+  none is some = omega (arith, is, some)
+fewer_left total state next (Number (suc n)) cut at some within again same =
     let is : suc n * (state.repetition + 1) ≡ n * (state.repetition + 1) + (state.repetition + 1) = omega arith in
     let cut_is : cut ≡ suc n * (state.repetition + 1) = at in omega (arith, is, cut_is, within, again)
-fewer_left total state next (Search pattern kept offset) matched cut at some within again same =
-    omega (arith, at.0, at.1, same)
+fewer_left total state next (Search pattern kept offset) cut at some within again same = omega (arith, at.0, at.1, same)
 
-fewer_by : (total : ℕ) (state : State) (operand : Operand) (operands : List Operand) (matched cut : ℕ)
-    → Moves total state operand.target matched cut → 1 ≤ cut → cut ≤ total
-    → (more : Bool) (next : State) → next.operands ≡ operands_after more operand operands
-    → next.repetition ≡ repetition_after more state.repetition → next.matched ≡ matched
-    → needed total next < needed_by total state (operand ∷ operands)
-fewer_by total state operand operands matched cut at some within true next left again same =
+fewer_by : (total : ℕ) (state : State) (operand : Operand) (operands : List Operand) {matched : ℕ} (cut : ℕ)
+    → Moves total state operand.target matched cut → 1 ≤ cut → cut ≤ total → (more : Bool) (next : State) → next.operands ≡ operands_after more operand operands
+    → next.repetition ≡ repetition_after more state.repetition → next.matched ≡ matched → needed total next < needed_by total state (operand ∷ operands)
+fewer_by total state operand operands cut at some within true next left again same =
     let fewer : left_of total next operand.target < left_of total state operand.target =
-    fewer_left total state next operand.target matched cut at some within again same in
+    fewer_left total state next operand.target cut at some within again same in
     let is : needed total next ≡ needed_by total next (operand ∷ operands) = ap (needed_by total next) left in
     omega (arith, fewer, is)
-fewer_by total state operand operands matched cut at some within false next left again same =
+fewer_by total state operand operands cut at some within false next left again same =
     let fewer : needed_by total next operands < length operands * (total + 1) + 1 =
     fewer_operands total next operands in
     let is : needed total next ≡ needed_by total next operands = ap (needed_by total next) left in
     omega (arith, fewer, is)
 
-pub fewer_moves : (suppress : Bool) (total : ℕ) (state : State) (operand : Operand) (operands : List Operand)
-    (matched cut : ℕ) → state.operands ≡ operand ∷ operands
-    → Moves total state operand.target matched cut → 1 ≤ cut → cut ≤ total
+pub fewer_moves : (suppress : Bool) (total : ℕ) (state : State) {operand : Operand} {operands : List Operand}
+    (matched cut : ℕ) → state.operands ≡ operand ∷ operands → Moves total state operand.target matched cut → 1 ≤ cut → cut ≤ total
     → needed total (state_after suppress operand operands state.repetition matched cut) < needed total state
-fewer_moves suppress total state operand operands matched cut is at some within =
-    subst (λ those. needed total (state_after suppress operand operands state.repetition matched cut) < needed_by total
-    state those) (sym is)
-    (fewer_by total state operand operands matched cut at some within (has_more operand.times state.repetition)
+fewer_moves suppress total state {operand} {operands} matched cut is at some within =
+    subst (λ those. needed total (state_after suppress operand operands state.repetition matched cut) < needed_by total state those) (sym is)
+    (fewer_by total state operand operands cut at some within (has_more operand.times state.repetition)
     (state_after suppress operand operands state.repetition matched cut) refl refl refl)
 
-pub fewer : (suppress : Bool) (lines : List Line) (state : State) (operand : Operand) (operands : List Operand)
-    (matched cut : ℕ) → state.operands ≡ operand ∷ operands
-    → CutsAt suppress lines state operand operand.target matched cut → 1 ≤ cut → cut ≤ length lines
-    → needed (length lines) (state_after suppress operand operands state.repetition matched cut) < needed (length lines)
-    state
-fewer suppress lines state operand operands matched cut is at some within =
-    fewer_moves suppress (length lines) state operand operands matched cut is
-    (moves_of suppress lines state operand operand.target matched cut at) some within
+pub fewer : (suppress : Bool) (lines : List Line) (state : State) {operand : Operand} {operands : List Operand}
+    (matched cut : ℕ) → state.operands ≡ operand ∷ operands → CutsAt suppress lines state operand operand.target matched cut → 1 ≤ cut → cut ≤ length lines
+    → needed (length lines) (state_after suppress operand operands state.repetition matched cut) < needed (length lines) state
+fewer suppress lines state {operand} matched cut is at some within =
+    fewer_moves suppress (length lines) state matched cut is (moves_of suppress lines state operand operand.target matched cut at) some within
 
 pub line_some : (suppress : Bool) (cut : ℕ) → cut ≤ line_after suppress cut
 line_some true cut = omega arith
 line_some false cut = omega arith
 
-no_bound : (total : ℕ) (state : State) (operand : Operand) (operands : List Operand)
-    → state.operands ≡ operand ∷ operands → needed total state ≤ 0 → ⊥
-no_bound total state operand operands is enough =
-    none (needed_by total state (operand ∷ operands)) (omega arith)
-    (subst (λ those. needed_by total state those ≤ 0) is enough) where
+no_bound : (total : ℕ) (state : State) {operand : Operand} {operands : List Operand} → state.operands ≡ operand ∷ operands → needed total state ≤ 0 → ⊥
+no_bound total state {operand} {operands} is enough =
+    none (needed_by total state (operand ∷ operands)) (omega arith) (subst (λ those. needed_by total state those ≤ 0) is enough) where
       none : (n : ℕ) → 1 ≤ n → n ≤ 0 → ⊥
       none n some few = omega (arith, some, few)
 
-turns_to : (bound : ℕ) (suppress : Bool) (lines : List Line) (state : State) (operand : Operand)
-    (operands : List Operand) (turn' : Turn) → state.operands ≡ operand ∷ operands
-    → turn_to suppress lines state operand operands operand.target ≡ turn'
+turns_to : (bound : ℕ) (suppress : Bool) (lines : List Line) (state : State) {operand : Operand}
+    {operands : List Operand} {turn' : Turn} → state.operands ≡ operand ∷ operands → turn_to suppress lines state operand operands operand.target ≡ turn'
     → plan_within (suc bound) suppress lines state ≡ after bound suppress lines state turn'
-turns_to bound suppress lines state operand operands turn' is e =
-    ap (λ those. after bound suppress lines state (turn_of suppress lines state those)) is
-    ∙ ap (after bound suppress lines state) e
+turns_to bound suppress lines state is e =
+    ap (λ those. after bound suppress lines state (turn_of suppress lines state those)) is ∙ ap (after bound suppress lines state) e
 
-ends_within : (bound : ℕ) (suppress : Bool) (lines : List Line) (state : State) (operand : Operand)
-    (operands : List Operand) (ending : Ending) → state.operands ≡ operand ∷ operands
+ends_within : (bound : ℕ) (suppress : Bool) (lines : List Line) (state : State) {operand : Operand}
+    {operands : List Operand} {ending : Ending} → state.operands ≡ operand ∷ operands
     → turn_to suppress lines state operand operands operand.target ≡ ends ending → needed (length lines) state ≤ bound
     → plan_within bound suppress lines state ≡ so [] state ending
-ends_within zero suppress lines state operand operands ending is e enough =
-    absurd (no_bound (length lines) state operand operands is enough)
-ends_within (suc bound) suppress lines state operand operands ending is e enough =
-    turns_to bound suppress lines state operand operands (ends ending) is e
+ends_within zero suppress lines state is e enough = absurd (no_bound (length lines) state is enough)
+ends_within (suc bound) suppress lines state is e enough = turns_to bound suppress lines state is e
 
 tested : (suppress : Bool) (total : ℕ) (state : State) (operand : Operand) (operands : List Operand) (matched cut : ℕ)
-    (far low : Bool) → nat_lt total cut ≡ far → nat_lt cut state.current ≡ low
-    → turn_at suppress total state operand operands matched cut
-    ≡ cond far (ends (above operand state.repetition matched cut))
-    (cond low (ends (below operand state.repetition))
+    {far low : Bool} → nat_lt total cut ≡ far → nat_lt cut state.current ≡ low → turn_at suppress total state operand operands matched cut
+    ≡ cond far (ends (above operand state.repetition matched cut)) (cond low (ends (below operand state.repetition))
     (goes (step_of state operand matched cut) (state_after suppress operand operands state.repetition matched cut)))
-tested suppress total state operand operands matched cut far low is are =
-    ap (λ b. cond b (ends (above operand state.repetition matched cut))
-    (cond (nat_lt cut state.current) (ends (below operand state.repetition))
-    (goes (step_of state operand matched cut)
-    (state_after suppress operand operands state.repetition matched cut)))) is
-    ∙ ap (λ b. cond far (ends (above operand state.repetition matched cut))
-    (cond b (ends (below operand state.repetition))
-    (goes (step_of state operand matched cut)
-    (state_after suppress operand operands state.repetition matched cut)))) are
+tested suppress total state operand operands matched cut {far} is are =
+    ap (λ b. cond b (ends (above operand state.repetition matched cut)) (cond (nat_lt cut state.current) (ends (below operand state.repetition))
+    (goes (step_of state operand matched cut) (state_after suppress operand operands state.repetition matched cut)))) is
+    ∙ ap (λ b. cond far (ends (above operand state.repetition matched cut)) (cond b (ends (below operand state.repetition))
+    (goes (step_of state operand matched cut) (state_after suppress operand operands state.repetition matched cut)))) are
 
 -- A plan is the one that is computed
-pub computed : (suppress : Bool) (lines : List Line) (first : State) (all : List Step) (end : State) (how : Ending)
-    → Runs suppress lines first all end how
-    → (bound : ℕ) → needed (length lines) first ≤ bound → 1 ≤ first.current
-    → plan_within bound suppress lines first ≡ so all end how
-computed suppress lines first all end how (is_used_up state none) zero enough some = refl
-computed suppress lines first all end how (is_used_up state none) (suc bound) enough some =
+pub computed : {suppress : Bool} {lines : List Line} {first : State} (all : List Step) (end : State) {how : Ending} → Runs suppress lines first all end how
+    → (bound : ℕ) → needed (length lines) first ≤ bound → 1 ≤ first.current → plan_within bound suppress lines first ≡ so all end how
+computed all end (is_used_up state none) zero enough some = refl
+computed {suppress} {lines} all end (is_used_up state none) (suc bound) enough some =
     ap (λ those. after bound suppress lines state (turn_of suppress lines state those)) none
-computed suppress lines first all end how (misses state operand operands is none) bound enough some =
-    ends_within bound suppress lines state operand operands (missed operand state.repetition) is
-    (turn_missed suppress lines state operand operands operand.target none) enough
-computed suppress lines first all end how (is_above state operand operands matched cut is at far) bound enough some =
-    ends_within bound suppress lines state operand operands (above operand state.repetition matched cut) is
-    (turn_at_cut suppress lines state operand operands operand.target matched cut at
-    ∙ tested suppress (length lines) state operand operands matched cut true (nat_lt cut state.current)
-    (less_test (length lines) cut far) refl) enough
-computed suppress lines first all end how (is_below state operand operands matched cut is at within low) bound enough
-    some =
-    ends_within bound suppress lines state operand operands (below operand state.repetition) is
-    (turn_at_cut suppress lines state operand operands operand.target matched cut at
-    ∙ tested suppress (length lines) state operand operands matched cut false true
-    (not_less_test (length lines) cut within) (less_test cut state.current low)) enough
-computed suppress lines first all end how
-    (cuts state operand operands matched cut steps last ending is at from within rest) zero enough some =
-    absurd (no_bound (length lines) state operand operands is enough)
-computed suppress lines first all end how
-    (cuts state operand operands matched cut steps last ending is at from within rest) (suc bound) enough some =
-    turns_to bound suppress lines state operand operands
-    (goes (step_of state operand matched cut) (state_after suppress operand operands state.repetition matched cut))
-    is
-    (turn_at_cut suppress lines state operand operands operand.target matched cut at
-    ∙ tested suppress (length lines) state operand operands matched cut false false
-    (not_less_test (length lines) cut within) (not_less_test cut state.current from))
-    ∙ ap (with_step (step_of state operand matched cut))
-    (computed suppress lines (state_after suppress operand operands state.repetition matched cut) steps last ending
-    rest bound
+computed {suppress} {lines} all end (misses state operand operands is none) bound enough some =
+    ends_within bound suppress lines state is (turn_missed suppress lines state operands operand.target none) enough
+computed {suppress} {lines} all end (is_above state operand operands matched cut is at far) bound enough some =
+    ends_within bound suppress lines state is (turn_at_cut suppress lines state operand operands operand.target matched cut at
+    ∙ tested suppress (length lines) state operand operands matched cut (less_test (length lines) cut far) refl) enough
+computed {suppress} {lines} all end (is_below state operand operands matched cut is at within low) bound enough some =
+    ends_within bound suppress lines state is (turn_at_cut suppress lines state operand operands operand.target matched cut at
+    ∙ tested suppress (length lines) state operand operands matched cut (not_less_test (length lines) cut within) (less_test cut state.current low)) enough
+computed {lines} all end (cuts state operand operands matched cut steps last ending is at from within rest) zero enough some =
+    absurd (no_bound (length lines) state is enough)
+computed {suppress} {lines} all end (cuts state operand operands matched cut steps last ending is at from within rest) (suc bound) enough some =
+    turns_to bound suppress lines state is (turn_at_cut suppress lines state operand operands operand.target matched cut at
+    ∙ tested suppress (length lines) state operand operands matched cut (not_less_test (length lines) cut within) (not_less_test cut state.current from))
+    ∙ ap (with_step (step_of state operand matched cut)) (computed steps last rest bound
     (let less : needed (length lines) (state_after suppress operand operands state.repetition matched cut) < needed
-    (length lines) state = fewer suppress lines state operand operands matched cut is at (omega (arith, some, from))
-    within in omega (arith, less, enough))
+    (length lines) state = fewer suppress lines state matched cut is at (omega (arith, some, from)) within in omega (arith, less, enough))
     (let least : cut ≤ line_after suppress cut = line_some suppress cut in omega (arith, least, some, from)))
 
-runs_at : (bound : ℕ) (suppress : Bool) (lines : List Line) (state : State) (operand : Operand)
-    (operands : List Operand) (matched cut : ℕ) → state.operands ≡ operand ∷ operands
-    → CutsAt suppress lines state operand operand.target matched cut
-    → (state.current ≤ cut → cut ≤ length lines
-    → RunsAs suppress lines (state_after suppress operand operands state.repetition matched cut)
+runs_at : (bound : ℕ) (suppress : Bool) (lines : List Line) (state : State) {operand : Operand}
+    {operands : List Operand} (matched cut : ℕ) → state.operands ≡ operand ∷ operands → CutsAt suppress lines state operand operand.target matched cut
+    → (state.current ≤ cut → cut ≤ length lines → RunsAs suppress lines (state_after suppress operand operands state.repetition matched cut)
     (plan_within bound suppress lines (state_after suppress operand operands state.repetition matched cut)))
-    → (far low : Bool) → nat_lt (length lines) cut ≡ far → nat_lt cut state.current ≡ low
-    → RunsAs suppress lines state (after bound suppress lines state
-    (cond far (ends (above operand state.repetition matched cut))
-    (cond low (ends (below operand state.repetition))
-    (goes (step_of state operand matched cut)
+    → (far low : Bool) → nat_lt (length lines) cut ≡ far → nat_lt cut state.current ≡ low → RunsAs suppress lines state (after bound suppress lines state
+    (cond far (ends (above operand state.repetition matched cut)) (cond low (ends (below operand state.repetition)) (goes (step_of state operand matched cut)
     (state_after suppress operand operands state.repetition matched cut)))))
-runs_at bound suppress lines state operand operands matched cut is at rest true low far_is low_is =
+runs_at bound suppress lines state {operand} {operands} matched cut is at rest true low far_is low_is =
     is_above state operand operands matched cut is at (from_less (length lines) cut far_is)
-runs_at bound suppress lines state operand operands matched cut is at rest false true far_is low_is =
-    is_below state operand operands matched cut is at (from_not_less (length lines) cut far_is)
-    (from_less cut state.current low_is)
-runs_at bound suppress lines state operand operands matched cut is at rest false false far_is low_is =
+runs_at bound suppress lines state {operand} {operands} matched cut is at rest false true far_is low_is =
+    is_below state operand operands matched cut is at (from_not_less (length lines) cut far_is) (from_less cut state.current low_is)
+runs_at bound suppress lines state {operand} {operands} matched cut is at rest false false far_is low_is =
     let from : state.current ≤ cut = from_not_less cut state.current low_is in
     let within : cut ≤ length lines = from_not_less (length lines) cut far_is in
     cuts state operand operands matched cut _ _ _ is at from within (rest from within)
 
-runs_matched : (bound : ℕ) (suppress : Bool) (lines : List Line) (state : State) (operand : Operand)
-    (operands : List Operand) (pattern' : Pattern) (kept : Bool) (offset : Offset) → state.operands ≡ operand ∷ operands
-    → operand.target ≡ Search pattern' kept offset
-    → ((matched cut : ℕ) → CutsAt suppress lines state operand operand.target matched cut → state.current ≤ cut
-    → cut ≤ length lines → RunsAs suppress lines
-    (state_after suppress operand operands state.repetition matched cut)
+runs_matched : (bound : ℕ) (suppress : Bool) (lines : List Line) (state : State) {operand : Operand}
+    {operands : List Operand} (pattern' : Pattern) (kept : Bool) (offset : Offset) → state.operands ≡ operand ∷ operands
+    → operand.target ≡ Search pattern' kept offset → ((matched cut : ℕ) → CutsAt suppress lines state operand operand.target matched cut → state.current ≤ cut
+    → cut ≤ length lines → RunsAs suppress lines (state_after suppress operand operands state.repetition matched cut)
     (plan_within bound suppress lines (state_after suppress operand operands state.repetition matched cut)))
-    → (matched : Option ℕ) → MatchesAs operand lines (search_line suppress state) matched
-    → RunsAs suppress lines state (after bound suppress lines state
+    → (matched : Option ℕ) → MatchesAs operand lines (search_line suppress state) matched → RunsAs suppress lines state (after bound suppress lines state
     (turn_from suppress (length lines) state operand operands offset matched))
-runs_matched bound suppress lines state operand operands pattern' kept offset is target rest None none =
+runs_matched bound suppress lines state {operand} {operands} pattern' kept offset is target rest None none =
     misses state operand operands is (subst (Misses suppress lines state operand) (sym target) none)
-runs_matched bound suppress lines state operand operands pattern' kept offset is target rest (Some matched) first =
+runs_matched bound suppress lines state {operand} pattern' kept offset is target rest (Some matched) first =
     let at : CutsAt suppress lines state operand operand.target matched (moved offset matched) =
     subst (λ t. CutsAt suppress lines state operand t matched (moved offset matched)) (sym target) (first, refl) in
-    runs_at bound suppress lines state operand operands matched (moved offset matched) is at
-    (rest matched (moved offset matched) at) _ _ refl refl
+    runs_at bound suppress lines state matched (moved offset matched) is at (rest matched (moved offset matched) at) _ _ refl refl
 
-runs_target : (bound : ℕ) (suppress : Bool) (lines : List Line) (state : State) (operand : Operand)
-    (operands : List Operand) → state.operands ≡ operand ∷ operands
-    → ((matched cut : ℕ) → CutsAt suppress lines state operand operand.target matched cut → state.current ≤ cut
-    → cut ≤ length lines → RunsAs suppress lines
+runs_target : (bound : ℕ) (suppress : Bool) (lines : List Line) (state : State) {operand : Operand}
+    {operands : List Operand} → state.operands ≡ operand ∷ operands
+    → ((matched cut : ℕ) → CutsAt suppress lines state operand operand.target matched cut → state.current ≤ cut → cut ≤ length lines → RunsAs suppress lines
     (state_after suppress operand operands state.repetition matched cut)
-    (plan_within bound suppress lines (state_after suppress operand operands state.repetition matched cut)))
-    → (target : Target) → operand.target ≡ target
-    → RunsAs suppress lines state (after bound suppress lines state
-    (turn_to suppress lines state operand operands target))
-runs_target bound suppress lines state operand operands is rest (Number n) target =
+    (plan_within bound suppress lines (state_after suppress operand operands state.repetition matched cut))) → (target : Target) → operand.target ≡ target
+    → RunsAs suppress lines state (after bound suppress lines state (turn_to suppress lines state operand operands target))
+runs_target bound suppress lines state {operand} is rest (Number n) target =
     let at : CutsAt suppress lines state operand operand.target state.matched (n * (state.repetition + 1)) =
-    subst (λ t. CutsAt suppress lines state operand t state.matched (n * (state.repetition + 1))) (sym target)
-    (refl, refl) in
-    runs_at bound suppress lines state operand operands state.matched (n * (state.repetition + 1)) is at
-    (rest state.matched (n * (state.repetition + 1)) at) _ _ refl refl
-runs_target bound suppress lines state operand operands is rest (Search pattern' kept offset) target =
-    runs_matched bound suppress lines state operand operands pattern' kept offset is target rest
-    (first_match operand lines (search_line suppress state))
+    subst (λ t. CutsAt suppress lines state operand t state.matched (n * (state.repetition + 1))) (sym target) (refl, refl) in
+    runs_at bound suppress lines state state.matched (n * (state.repetition + 1)) is at (rest state.matched (n * (state.repetition + 1)) at) _ _ refl refl
+runs_target bound suppress lines state {operand} is rest (Search pattern' kept offset) target =
+    runs_matched bound suppress lines state pattern' kept offset is target rest (first_match operand lines (search_line suppress state))
     (first_match_as operand lines (search_line suppress state) (search_some suppress state))
 
-mutual_runs : (bound : ℕ) (suppress : Bool) (lines : List Line) (state : State) (operands : List Operand)
-    → state.operands ≡ operands
+mutual_runs : (bound : ℕ) (suppress : Bool) (lines : List Line) (state : State) (operands : List Operand) → state.operands ≡ operands
     → ((operand : Operand) (rest : List Operand) → state.operands ≡ operand ∷ rest → (matched cut : ℕ)
     → CutsAt suppress lines state operand operand.target matched cut → state.current ≤ cut → cut ≤ length lines
     → RunsAs suppress lines (state_after suppress operand rest state.repetition matched cut)
     (plan_within bound suppress lines (state_after suppress operand rest state.repetition matched cut)))
     → RunsAs suppress lines state (after bound suppress lines state (turn_of suppress lines state operands))
 mutual_runs bound suppress lines state [] is rest = is_used_up state is
-mutual_runs bound suppress lines state (operand ∷ operands) is rest =
-    runs_target bound suppress lines state operand operands is (rest operand operands is) operand.target refl
+mutual_runs bound suppress lines state (operand ∷ operands) is rest = runs_target bound suppress lines state is (rest operand operands is) operand.target refl
 
 none_by : (suppress : Bool) (lines : List Line) (state : State) (operands : List Operand) → state.operands ≡ operands
     → needed_by (length lines) state operands ≤ 0 → RunsAs suppress lines state (ended state used_up)
 none_by suppress lines state [] is enough = is_used_up state is
 none_by suppress lines state (operand ∷ operands) is enough =
-    absurd (no_bound (length lines) state operand operands is
-    (subst (λ those. needed_by (length lines) state those ≤ 0) (sym is) enough))
+    absurd (no_bound (length lines) state is (subst (λ those. needed_by (length lines) state those ≤ 0) (sym is) enough))
 
 pub runs : (bound : ℕ) (suppress : Bool) (lines : List Line) (state : State) → needed (length lines) state ≤ bound
     → 1 ≤ state.current → RunsAs suppress lines state (plan_within bound suppress lines state)
@@ -285,8 +334,7 @@ runs zero suppress lines state enough some = none_by suppress lines state state.
 runs (suc bound) suppress lines state enough some =
     mutual_runs bound suppress lines state state.operands refl (λ operand operands is matched cut at from within.
     let less : needed (length lines) (state_after suppress operand operands state.repetition matched cut) < needed
-    (length lines) state = fewer suppress lines state operand operands matched cut is at (omega (arith, some, from))
-    within in
+    (length lines) state = fewer suppress lines state matched cut is at (omega (arith, some, from)) within in
     let least : cut ≤ line_after suppress cut = line_some suppress cut in
     runs bound suppress lines (state_after suppress operand operands state.repetition matched cut)
     (omega (arith, less, enough)) (omega (arith, least, some, from)))
@@ -296,39 +344,34 @@ enough_at_start total [] = omega arith
 enough_at_start total (operand ∷ operands) =
     let most : left_of total (start (operand ∷ operands)) operand.target ≤ total =
     left_most total (start (operand ∷ operands)) operand.target in
-    let more : suc (length operands) * (total + 1) ≡ length operands * (total + 1) + (total + 1) =
-    omega arith in omega (arith, most, more)
+    let more : suc (length operands) * (total + 1) ≡ length operands * (total + 1) + (total + 1) = omega arith in omega (arith, most, more)
 
-pub plan_runs : (suppress : Bool) (operands : List Operand) (lines : List Line)
-    → RunsAs suppress lines (start operands) (plan suppress operands lines)
+pub plan_runs : (suppress : Bool) (operands : List Operand) (lines : List Line) → RunsAs suppress lines (start operands) (plan suppress operands lines)
 plan_runs suppress operands lines = runs (length operands * (length lines + 1)) suppress lines (start operands)
     (enough_at_start (length lines) operands) (omega arith)
 
 pub plan_once : (suppress : Bool) (operands : List Operand) (lines : List Line) (steps : List Step) (last : State)
-    (ending : Ending) → Runs suppress lines (start operands) steps last ending
-    → plan suppress operands lines ≡ so steps last ending
+    (ending : Ending) → Runs suppress lines (start operands) steps last ending → plan suppress operands lines ≡ so steps last ending
 plan_once suppress operands lines steps last ending is =
-    computed suppress lines (start operands) steps last ending is (length operands * (length lines + 1))
-    (enough_at_start (length lines) operands) (omega arith)
+    computed steps last is (length operands * (length lines + 1)) (enough_at_start (length lines) operands) (omega arith)
+
+-- so is one from any state on
+pub run_once : {suppress : Bool} {lines : List Line} {first : State} {one : List Step} {last : State} {ending : Ending} {other : List Step} {end : State} {how : Ending} → 1 ≤ first.current
+    → Runs suppress lines first one last ending → Runs suppress lines first other end how → so other end how ≡ so one last ending
+run_once {lines = lines} {first} {one} {last} {other = other} {end} some runs again =
+    sym (computed other end again (needed (length lines) first) (omega arith) some) ∙ computed one last runs (needed (length lines) first) (omega arith) some
 
 -- What was cut off stays so
 
 pub cuts_still : (suppress : Bool) (a b : List Line) (state : State) (operand : Operand) (target : Target)
-    (matched cut : ℕ) → CutsAt suppress a state operand target matched cut
-    → CutsAt suppress (a ++ b) state operand target matched cut
+    (matched cut : ℕ) → CutsAt suppress a state operand target matched cut → CutsAt suppress (a ++ b) state operand target matched cut
 cuts_still suppress a b state operand (Number n) matched cut at = at
-cuts_still suppress a b state operand (Search pattern kept offset) matched cut at =
-    (first_still operand a b (search_line suppress state) matched (search_some suppress state) at.0, at.1)
+cuts_still suppress a b state operand (Search pattern kept offset) matched cut at = (first_still b matched (search_some suppress state) at.0, at.1)
 
-pub goes_on : (suppress : Bool) (a b : List Line) (first : State) (steps : List Step) (last : State) (ending : Ending)
-    (more : List Step) (end : State) (how : Ending)
-    → Runs suppress a first steps last ending → Runs suppress (a ++ b) last more end how
+pub goes_on : {suppress : Bool} {a : List Line} (b : List Line) {first : State} {steps : List Step} {last : State} {ending : Ending}
+    (more : List Step) (end : State) {how : Ending} → Runs suppress a first steps last ending → Runs suppress (a ++ b) last more end how
     → Runs suppress (a ++ b) first (steps ++ more) end how
-goes_on suppress a b first steps last ending more end how
-    (cuts state operand operands matched cut steps' last' ending' is at from within rest') rest =
-    cuts state operand operands matched cut (steps' ++ more) end how is
-    (cuts_still suppress a b state operand operand.target matched cut at) from
-    (let e : length (a ++ b) ≡ length a + length b = length-append a b in omega (arith, e, within))
-    (goes_on suppress a b (state_after suppress operand operands state.repetition matched cut) steps' last' ending' more
-    end how rest' rest)
-goes_on suppress a b first steps last ending more end how run rest = rest
+goes_on {suppress} {a} b more end {how} (cuts state operand operands matched cut steps' last' ending' is at from within rest') rest =
+    cuts state operand operands matched cut (steps' ++ more) end how is (cuts_still suppress a b state operand operand.target matched cut at) from
+    (let e : length (a ++ b) ≡ length a + length b = length-append a b in omega (arith, e, within)) (goes_on b more end rest' rest)
+goes_on b more end run rest = rest

@@ -5,15 +5,13 @@ use Rattle.std.proofs.lemmas.List.{append-nil, map-append, drop-append-le, take-
 use Rattle.ports_core.specs.Part.{File, IsBeginning, FilesBegin, Begins}
 use Rattle.ports_core.proofs.PartLemmas.{begins_itself}
 use Rattle.csplit_core.specs.Operand.{Plus, Minus, Target, Number, Search, Operand, Line, moved, most_held, is_kept}
-use Rattle.csplit_core.specs.Plan.{State, start, Step, Ending, used_up, missed, above, below, search_line, CutsAt, Misses, line_after, state_after, Runs, is_used_up, misses, is_above, is_below, cuts}
+use Rattle.csplit_core.specs.Plan.{State, start, Step, Ending, used_up, missed, above, below, CutsAt, Misses, line_after, state_after, Runs, is_used_up, misses, is_above, is_below, cuts}
 use Rattle.csplit_core.specs.Planned.{plan_within, plan}
 use Rattle.csplit_core.specs.Section.{Section, section, section_of, lines_between, bytes_of, is_last_kept, whole_end, settled_end, sections_by, settled_sections}
 use Rattle.csplit_core.specs.Output.{Style, Contents, contents_of, is_empty, makes_file, file_at, files_of, size_line, size_lines, part_by, part_of}
 use Rattle.csplit_core.specs.Csplit.{settled_of, whole_of}
-use Rattle.csplit_core.specs.laws.MatchLaws.{one_first, search_some, first_beyond}
-use Rattle.csplit_core.specs.laws.PlanLaws.{line_some, cuts_still, goes_on, runs, plan_runs, plan_once}
-use Rattle.csplit_core.specs.inner.PlanLaws.{needed}
-use Rattle.csplit_core.specs.inner.SectionLaws.{EndsAs, AreWithin, Next, Covers, Grow, GoesOn}
+use Rattle.csplit_core.specs.laws.PlanLaws.{run_once, one_first, search_some, first_beyond, line_some, cuts_still, goes_on, runs, plan_runs, plan_once}
+use Rattle.csplit_core.specs.inner.PlanLaws.{needed, EndsAs, AreWithin, Next, Covers, Grow, GoesOn}
 
 -- Stretches of lines
 
@@ -21,16 +19,13 @@ pub take_begins : {X : Type 0} (n m : ℕ) (xs : List X) → n ≤ m → (rest :
 take_begins zero m xs less = (take m xs, refl)
 take_begins (suc n) zero xs less = absurd (omega arith)
 take_begins (suc n) (suc m) [] less = ([], refl)
-take_begins (suc n) (suc m) (x ∷ xs) less = let rest =
-    take_begins n m xs (omega arith) in (rest.0, ap (λ those. x ∷ those) rest.1)
+take_begins (suc n) (suc m) (x ∷ xs) less = let rest = take_begins n m xs (omega arith) in (rest.0, ap (λ those. x ∷ those) rest.1)
 
 -- more lines change nothing before them
-pub between_still : (first past : ℕ) (a b : List Line) → 1 ≤ first → past ≤ length a + 1
-    → lines_between first past (a ++ b) ≡ lines_between first past a
+pub between_still : (first past : ℕ) (a b : List Line) → 1 ≤ first → past ≤ length a + 1 → lines_between first past (a ++ b) ≡ lines_between first past a
 between_still first past a b some within = elim (cases_lt (length a) (first - 1)) [
   | inl beyond ↦ let none : past - first ≡ 0 =
-      omega (arith, beyond, within) in ap (λ n. take n (drop (first - 1) (a ++ b))) none
-      ∙ sym (ap (λ n. take n (drop (first - 1) a)) none)
+      omega (arith, beyond, within) in ap (λ n. take n (drop (first - 1) (a ++ b))) none ∙ sym (ap (λ n. take n (drop (first - 1) a)) none)
   | inr on ↦
       let left : length (drop (first - 1) a) ≡ length a - (first - 1) = length-drop (first - 1) a in
       ap (take (past - first)) (drop-append-le (first - 1) a b on)
@@ -44,59 +39,47 @@ between_grows first past more a b some within (inl less) =
     let grown = take_begins (past - first) (more - first) (drop (first - 1) (a ++ b)) (omega (arith, less)) in
     (grown.0, grown.1 ∙ ap (λ those. those ++ grown.0) (between_still first past a b some within))
 between_grows first past more a b some within (inr less) =
-    let none : past - first ≡ 0 = omega (arith, less)
-    in (
+    let none : past - first ≡ 0 = omega (arith, less) in (
       lines_between first more (a ++ b),
-      sym
-          (ap (λ n. take n (drop (first - 1) a) ++ lines_between first more (a ++ b)) none),
+      sym (ap (λ n. take n (drop (first - 1) a) ++ lines_between first more (a ++ b)) none),
     )
 
 pub ends_as : (suppress : Bool) (lines : List Line) (first : State) (steps : List Step) (last : State) (ending : Ending)
     → Runs suppress lines first steps last ending → EndsAs suppress lines last ending
 ends_as suppress lines first steps last ending (is_used_up state none) = none
 ends_as suppress lines first steps last ending (misses state operand operands is none) = (operands, is, none)
-ends_as suppress lines first steps last ending (is_above state operand operands matched cut is at far) =
-    (operands, is, at, far)
-ends_as suppress lines first steps last ending (is_below state operand operands matched cut is at within low) =
-    (operands, matched, cut, is, at, within, low)
-ends_as suppress lines first steps last ending
-    (cuts state operand operands matched cut steps' last' ending' is at from within rest) =
-    ends_as suppress lines (state_after suppress operand operands state.repetition matched cut) steps' last' ending'
-    rest
+ends_as suppress lines first steps last ending (is_above state operand operands matched cut is at far) = (operands, is, at, far)
+ends_as suppress lines first steps last ending (is_below state operand operands matched cut is at within low) = (operands, matched, cut, is, at, within, low)
+ends_as suppress lines first steps last ending (cuts state operand operands matched cut steps' last' ending' is at from within rest) =
+    ends_as suppress lines (state_after suppress operand operands state.repetition matched cut) steps' last' ending' rest
 
 pub are_within : (suppress : Bool) (lines : List Line) (first : State) (steps : List Step) (last : State)
-    (ending : Ending) → Runs suppress lines first steps last ending → 1 ≤ first.current
-    → AreWithin (length lines) steps × (1 ≤ last.current)
-are_within suppress lines first steps last ending
-    (cuts state operand operands matched cut steps' last' ending' is at from within rest) some =
+    (ending : Ending) → Runs suppress lines first steps last ending → 1 ≤ first.current → AreWithin (length lines) steps × (1 ≤ last.current)
+are_within suppress lines first steps last ending (cuts state operand operands matched cut steps' last' ending' is at from within rest) some =
     let least : cut ≤ line_after suppress cut = line_some suppress cut in
     let those = are_within suppress lines (state_after suppress operand operands state.repetition matched cut) steps'
     last' ending' rest (omega (arith, least, some, from)) in
     ((some, from, within, those.0), those.1)
 are_within suppress lines first steps last ending run some = (tt, some)
 
-pub closed_still : (a b : List Line) (steps : List Step) → AreWithin (length a) steps
-    → map (section_of (a ++ b)) steps ≡ map (section_of a) steps
+pub closed_still : (a b : List Line) (steps : List Step) → AreWithin (length a) steps → map (section_of (a ++ b)) steps ≡ map (section_of a) steps
 closed_still a b [] within = refl
 closed_still a b (step ∷ steps) within =
-    ap (λ lines. section (is_kept step.operand.target) true lines ∷ map (section_of (a ++ b)) steps)
-    (between_still step.current step.cut a b within.0
-    (let less : step.cut ≤ length a = within.2 in omega (arith, less)))
-    ∙ ap (λ those. section_of a step ∷ those) (closed_still a b steps within.3)
+    ap (λ lines. section (is_kept step.operand.target) true lines ∷ map (section_of (a ++ b)) steps) (between_still step.current step.cut a b within.0
+    (let less : step.cut ≤ length a = within.2 in omega (arith, less))) ∙ ap (λ those. section_of a step ∷ those) (closed_still a b steps within.3)
 
-pub front_of : (one other : Operand) (ones others : List Operand) → one ∷ ones ≡ other ∷ others → one ≡ other
-front_of one other ones others is = ap (λ those. elim those [ [] ↦ one | first ∷ rest ↦ first ]) is
+pub front_of : (one other : Operand) {ones others : List Operand} → one ∷ ones ≡ other ∷ others → one ≡ other
+front_of one other is = ap (λ those. elim those [ [] ↦ one | first ∷ rest ↦ first ]) is
 
-pub none_there : (one : Operand) (ones : List Operand) → [] ≡ one ∷ ones → ⊥
-none_there one ones is = let e : 0 ≡ suc (length ones) = ap length is in none (length ones) e where
+pub none_there : (one : Operand) {ones : List Operand} → [] ≡ one ∷ ones → ⊥
+none_there one {ones} is = let e : 0 ≡ suc (length ones) = ap length is in none (length ones) e where
   none : (n : ℕ) → 0 ≡ suc n → ⊥
   none n is = omega (arith, is)
 
-next_by : (a b : List Line) (current past more : ℕ) (kept closed other_kept : Bool) (rest : List Section) → 1 ≤ current
-    → past ≤ length a + 1 → (past ≤ more) ⊎ (past ≤ current) → kept ≡ other_kept
-    → Next (section kept false (lines_between current past a))
+next_by : (a b : List Line) (current past more : ℕ) {kept : Bool} (closed : Bool) {other_kept : Bool} {rest : List Section} → 1 ≤ current
+    → past ≤ length a + 1 → (past ≤ more) ⊎ (past ≤ current) → kept ≡ other_kept → Next (section kept false (lines_between current past a))
     (section other_kept closed (lines_between current more (a ++ b)) ∷ rest)
-next_by a b current past more kept closed other_kept rest some within less same =
+next_by a b current past more {kept} closed {other_kept} {rest} some within less same =
     let grown = between_grows current past more a b some within less in
     record {
       other = section other_kept closed (lines_between current more (a ++ b));
@@ -107,101 +90,75 @@ next_by a b current past more kept closed other_kept rest some within less same 
       lines = grown.1;
     }
 
-next_with : (suppress closed : Bool) (end_of : ℕ → Ending → ℕ) → Covers end_of
-    → (a b : List Line) (first : State) (operand : Operand) (operands : List Operand) (past : ℕ) → 1 ≤ first.current
+next_with : {suppress : Bool} (closed : Bool) (end_of : ℕ → Ending → ℕ) → Covers end_of
+    → (a b : List Line) {first : State} {operand : Operand} {operands : List Operand} (past : ℕ) → 1 ≤ first.current
     → past ≤ length a + 1 → first.operands ≡ operand ∷ operands
     → ((matched cut : ℕ) → CutsAt suppress (a ++ b) first operand operand.target matched cut → past ≤ cut)
     → (Misses suppress (a ++ b) first operand operand.target → past ≤ suc (length (a ++ b)) - most_held operand.target)
-    → (more : List Step) (end : State) (how : Ending) → Runs suppress (a ++ b) first more end how
+    → (more : List Step) (end : State) {how : Ending} → Runs suppress (a ++ b) first more end how
     → Next (section (is_kept operand.target) false (lines_between first.current past a))
     (sections_by closed end_of (a ++ b) (record { steps = more; last = end; ending = how }))
-next_with suppress closed end_of covers a b first operand operands past some within is cut_at missed_at more end how
-    (is_used_up state none) = absurd (none_there operand operands (sym none ∙ is))
-next_with suppress closed end_of covers a b first operand operands past some within is cut_at missed_at more end how
-    (misses state operand' operands' are none) =
-    let same = front_of operand operand' operands operands' (sym is ∙ are) in
+next_with closed end_of covers a b {operand} past some within is cut_at missed_at more end (is_used_up state none) = absurd (none_there operand (sym none ∙ is))
+next_with {suppress} closed end_of covers a b {operand} past some within is cut_at missed_at more end (misses state operand' operands' are none) =
+    let same = front_of operand operand' (sym is ∙ are) in
     let far = missed_at (subst (λ o. Misses suppress (a ++ b) state o o.target) (sym same) none) in
-    let most : suc (length (a ++ b)) - most_held operand'.target
-    ≤ end_of (length (a ++ b)) (missed operand' state.repetition) =
+    let most : suc (length (a ++ b)) - most_held operand'.target ≤ end_of (length (a ++ b)) (missed operand' state.repetition) =
     covers (length (a ++ b)) (missed operand' state.repetition) in
     let alike : most_held operand.target ≡ most_held operand'.target = ap (λ (o : Operand). most_held o.target) same in
-    next_by a b state.current past (end_of (length (a ++ b)) (missed operand' state.repetition))
-    (is_kept operand.target) closed (is_kept operand'.target) [] some within (inl (omega (arith, far, most, alike)))
+    next_by a b state.current past (end_of (length (a ++ b)) (missed operand' state.repetition)) closed some within (inl (omega (arith, far, most, alike)))
     (ap (λ (o : Operand). is_kept o.target) same)
-next_with suppress closed end_of covers a b first operand operands past some within is cut_at missed_at more end how
-    (is_above state operand' operands' matched cut are at far) =
-    let same = front_of operand operand' operands operands' (sym is ∙ are) in
+next_with closed end_of covers a b {operand} past some within is cut_at missed_at more end (is_above state operand' operands' matched cut are at far) =
+    let same = front_of operand operand' (sym is ∙ are) in
     let most : suc (length (a ++ b)) ≤ end_of (length (a ++ b)) (above operand' state.repetition matched cut) =
     covers (length (a ++ b)) (above operand' state.repetition matched cut) in
     let longer : length (a ++ b) ≡ length a + length b = length-append a b in
-    next_by a b state.current past (end_of (length (a ++ b)) (above operand' state.repetition matched cut))
-    (is_kept operand.target) closed (is_kept operand'.target) [] some within
+    next_by a b state.current past (end_of (length (a ++ b)) (above operand' state.repetition matched cut)) closed some within
     (inl (omega (arith, most, longer, within))) (ap (λ (o : Operand). is_kept o.target) same)
-next_with suppress closed end_of covers a b first operand operands past some within is cut_at missed_at more end how
+next_with {suppress} closed end_of covers a b {operand} past some within is cut_at missed_at more end
     (is_below state operand' operands' matched cut are at in_lines low) =
-    let same = front_of operand operand' operands operands' (sym is ∙ are) in
-    let most : past ≤ cut = cut_at matched cut
-    (subst (λ o. CutsAt suppress (a ++ b) state o o.target matched cut) (sym same) at) in
-    next_by a b state.current past (end_of (length (a ++ b)) (below operand' state.repetition)) (is_kept operand.target)
-    closed (is_kept operand'.target) [] some within (inr (omega (arith, most, low)))
+    let same = front_of operand operand' (sym is ∙ are) in
+    let most : past ≤ cut = cut_at matched cut (subst (λ o. CutsAt suppress (a ++ b) state o o.target matched cut) (sym same) at) in
+    next_by a b state.current past (end_of (length (a ++ b)) (below operand' state.repetition)) closed some within (inr (omega (arith, most, low)))
     (ap (λ (o : Operand). is_kept o.target) same)
-next_with suppress closed end_of covers a b first operand operands past some within is cut_at missed_at more end how
+next_with {suppress} closed end_of covers a b {operand} past some within is cut_at missed_at more end
     (cuts state operand' operands' matched cut steps' last' ending' are at from in_lines rest) =
-    let same = front_of operand operand' operands operands' (sym is ∙ are) in
-    let most : past ≤ cut = cut_at matched cut
-    (subst (λ o. CutsAt suppress (a ++ b) state o o.target matched cut) (sym same) at) in
-    next_by a b state.current past cut (is_kept operand.target) true (is_kept operand'.target)
-    (sections_by closed end_of (a ++ b) (record { steps = steps'; last = last'; ending = ending' })) some within
-    (inl most) (ap (λ (o : Operand). is_kept o.target) same)
+    let same = front_of operand operand' (sym is ∙ are) in
+    let most : past ≤ cut = cut_at matched cut (subst (λ o. CutsAt suppress (a ++ b) state o o.target matched cut) (sym same) at) in
+    next_by a b state.current past cut true some within (inl most) (ap (λ (o : Operand). is_kept o.target) same)
 
-next_used_up : (suppress closed : Bool) (end_of : ℕ → Ending → ℕ) → Covers end_of → (a b : List Line) (first : State)
-    → 1 ≤ first.current → first.operands ≡ []
-    → (more : List Step) (end : State) (how : Ending) → Runs suppress (a ++ b) first more end how
+next_used_up : {suppress : Bool} (closed : Bool) (end_of : ℕ → Ending → ℕ) → Covers end_of → (a b : List Line) {first : State}
+    → 1 ≤ first.current → first.operands ≡ [] → (more : List Step) (end : State) {how : Ending} → Runs suppress (a ++ b) first more end how
     → Next (section true false (lines_between first.current (suc (length a)) a))
     (sections_by closed end_of (a ++ b) (record { steps = more; last = end; ending = how }))
-next_used_up suppress closed end_of covers a b first some is more end how (is_used_up state none) =
+next_used_up {suppress} closed end_of covers a b {first} some is more end run =
     let most : suc (length (a ++ b)) ≤ end_of (length (a ++ b)) used_up = covers (length (a ++ b)) used_up in
     let longer : length (a ++ b) ≡ length a + length b = length-append a b in
-    next_by a b state.current (suc (length a)) (end_of (length (a ++ b)) used_up) true closed true [] some (omega arith)
-    (inl (omega (arith, most, longer))) refl
-next_used_up suppress closed end_of covers a b first some is more end how (misses state operand operands are none) =
-    absurd (none_there operand operands (sym is ∙ are))
-next_used_up suppress closed end_of covers a b first some is more end how
-    (is_above state operand operands matched cut are at far) = absurd (none_there operand operands (sym is ∙ are))
-next_used_up suppress closed end_of covers a b first some is more end how
-    (is_below state operand operands matched cut are at within low) =
-    absurd (none_there operand operands (sym is ∙ are))
-next_used_up suppress closed end_of covers a b first some is more end how
-    (cuts state operand operands matched cut steps' last' ending' are at from within rest) =
-    absurd (none_there operand operands (sym is ∙ are))
+    subst (λ plan. Next (section true false (lines_between first.current (suc (length a)) a)) (sections_by closed end_of (a ++ b) plan)) (sym (run_once some (is_used_up first is) run))
+    (next_by a b first.current (suc (length a)) (end_of (length (a ++ b)) used_up) closed some (omega arith) (inl (omega (arith, most, longer))) refl)
 
 -- where a pattern matched no line, the cut is past what is settled
 pub missed_cut : (suppress : Bool) (a b : List Line) (state : State) (operand : Operand) (target : Target)
-    → Misses suppress a state operand target → (matched cut : ℕ)
-    → CutsAt suppress (a ++ b) state operand target matched cut
+    → Misses suppress a state operand target → (matched cut : ℕ) → CutsAt suppress (a ++ b) state operand target matched cut
     → suc (length a) - most_held target ≤ cut
 missed_cut suppress a b state operand (Number n) none matched cut at = absurd none
 missed_cut suppress a b state operand (Search pattern kept (Plus k)) none matched cut at =
-    let beyond : length a < matched = first_beyond operand a b (search_line suppress state) matched
+    let beyond : length a < matched = first_beyond a b matched
     (search_some suppress state) none at.0 in let is : cut ≡ matched + k = at.1 in omega (arith, beyond, is)
 missed_cut suppress a b state operand (Search pattern kept (Minus k)) none matched cut at =
-    let beyond : length a < matched = first_beyond operand a b (search_line suppress state) matched
+    let beyond : length a < matched = first_beyond a b matched
     (search_some suppress state) none at.0 in let is : cut ≡ matched - k = at.1 in omega (arith, beyond, is)
 
 -- a cut is one
 pub cut_once : (suppress : Bool) (lines : List Line) (state : State) (operand : Operand) (target : Target)
-    (matched cut matched' cut' : ℕ) → CutsAt suppress lines state operand target matched cut
+    {matched : ℕ} (cut : ℕ) {matched' cut' : ℕ} → CutsAt suppress lines state operand target matched cut
     → CutsAt suppress lines state operand target matched' cut' → (matched ≡ matched') × (cut ≡ cut')
-cut_once suppress lines state operand (Number n) matched cut matched' cut' at other =
-    (at.0 ∙ sym other.0, at.1 ∙ sym other.1)
-cut_once suppress lines state operand (Search pattern kept offset) matched cut matched' cut' at other =
-    let same = one_first operand lines (search_line suppress state) matched matched' at.0 other.0
-    in (same, at.1 ∙ ap (moved offset) same ∙ sym other.1)
+cut_once suppress lines state operand (Number n) cut at other = (at.0 ∙ sym other.0, at.1 ∙ sym other.1)
+cut_once suppress lines state operand (Search pattern kept offset) {matched} cut {matched'} at other =
+    let same = one_first matched matched' at.0 other.0 in (same, at.1 ∙ ap (moved offset) same ∙ sym other.1)
 
 -- an operand that cuts doesn't miss
 pub cuts_or_misses : (suppress : Bool) (lines : List Line) (state : State) (operand : Operand) (target : Target)
-    (matched cut : ℕ) → CutsAt suppress lines state operand target matched cut
-    → Misses suppress lines state operand target → ⊥
+    (matched cut : ℕ) → CutsAt suppress lines state operand target matched cut → Misses suppress lines state operand target → ⊥
 cuts_or_misses suppress lines state operand (Number n) matched cut at none = none
 cuts_or_misses suppress lines state operand (Search pattern kept offset) matched cut at none =
     false≢true (sym (none matched at.0.not_before at.0.within) ∙ at.0.match)
@@ -211,88 +168,65 @@ pub next_of : (suppress closed : Bool) (end_of : ℕ → Ending → ℕ) → Cov
     → (more : List Step) (end : State) (how : Ending) → Runs suppress (a ++ b) last more end how
     → Next (section (is_last_kept ending) false (lines_between last.current (settled_end (length a) ending) a))
     (sections_by closed end_of (a ++ b) (record { steps = more; last = end; ending = how }))
-next_of suppress closed end_of covers a b last used_up some is more end how rest =
-    next_used_up suppress closed end_of covers a b last some is more end how rest
+next_of suppress closed end_of covers a b last used_up some is more end how rest = next_used_up closed end_of covers a b some is more end rest
 next_of suppress closed end_of covers a b last (missed operand repetition) some (operands, is, none) more end how rest =
-    next_with suppress closed end_of covers a b last operand operands (suc (length a) - most_held operand.target) some
-    (omega arith) is
+    next_with closed end_of covers a b (suc (length a) - most_held operand.target) some (omega arith) is
     (missed_cut suppress a b last operand operand.target none)
-    (λ again. let longer : length (a ++ b) ≡ length a + length b = length-append a b in omega (arith, longer)) more end
-    how rest
-next_of suppress closed end_of covers a b last (above operand repetition matched cut) some (operands, is, at, far) more
-    end how rest =
-    next_with suppress closed end_of covers a b last operand operands (suc (length a)) some (omega arith) is
-    (λ matched' cut' at'. let same : cut ≡ cut' = (cut_once suppress (a ++ b) last operand operand.target matched cut
-    matched' cut' (cuts_still suppress a b last operand operand.target matched cut at) at').1 in omega
-    (arith, far, same))
-    (λ none. absurd (cuts_or_misses suppress (a ++ b) last operand operand.target matched cut
-    (cuts_still suppress a b last operand operand.target matched cut at) none)) more end how rest
-next_of suppress closed end_of covers a b last (below operand repetition) some
-    (operands, matched, cut, is, at, within, low) more end how rest =
-    next_with suppress closed end_of covers a b last operand operands 0 some (omega arith) is
-    (λ matched' cut' at'. omega arith) (λ none. omega arith) more end how rest
+    (λ again. let longer : length (a ++ b) ≡ length a + length b = length-append a b in omega (arith, longer)) more end rest
+next_of suppress closed end_of covers a b last (above operand repetition matched cut) some (operands, is, at, far) more end how rest =
+    next_with closed end_of covers a b (suc (length a)) some (omega arith) is
+    (λ matched' cut' at'. let same : cut ≡ cut' = (cut_once suppress (a ++ b) last operand operand.target cut (cuts_still suppress a b last operand operand.target matched cut at) at').1 in omega
+    (arith, far, same)) (λ none. absurd (cuts_or_misses suppress (a ++ b) last operand operand.target matched cut
+    (cuts_still suppress a b last operand operand.target matched cut at) none)) more end rest
+next_of suppress closed end_of covers a b last (below operand repetition) some (operands, matched, cut, is, at, within, low) more end how rest =
+    next_with closed end_of covers a b 0 some (omega arith) is (λ matched' cut' at'. omega arith) (λ none. omega arith) more end rest
 
-sections_grow : (suppress closed : Bool) (end_of : ℕ → Ending → ℕ) → Covers end_of
-    → (a b : List Line) (first : State) (steps : List Step) (last : State) (ending : Ending) (more : List Step)
-    (end : State) (how : Ending) → 1 ≤ first.current
-    → Runs suppress a first steps last ending → Runs suppress (a ++ b) last more end how
+sections_grow : {suppress : Bool} (closed : Bool) (end_of : ℕ → Ending → ℕ) → Covers end_of
+    → {a : List Line} (b : List Line) {first : State} {steps : List Step} {last : State} {ending : Ending} (more : List Step)
+    (end : State) {how : Ending} → 1 ≤ first.current → Runs suppress a first steps last ending → Runs suppress (a ++ b) last more end how
     → Grow (settled_sections a (record { steps = steps; last = last; ending = ending }))
     (sections_by closed end_of (a ++ b) (record { steps = steps ++ more; last = end; ending = how }))
-sections_grow suppress closed end_of covers a b first steps last ending more end how some runs_a rest =
+sections_grow {suppress} closed end_of covers {a} b {first} {steps} {last} {ending} more end {how} some runs_a rest =
     let within = are_within suppress a first steps last ending runs_a some in record {
       front = map (section_of a) steps;
       begun = section (is_last_kept ending) false (lines_between last.current (settled_end (length a) ending) a);
       is_open = refl;
       low_is = refl;
       after = sections_by closed end_of (a ++ b) (record { steps = more; last = end; ending = how });
-      high_is = ap (λ those. those ++ section (is_last_kept how) closed
-          (lines_between end.current (end_of (length (a ++ b)) how) (a ++ b)) ∷ [])
-          (map-append (section_of (a ++ b)) steps more
-          ∙ ap (λ those. those ++ map (section_of (a ++ b)) more) (closed_still a b steps within.0))
+      high_is = ap (λ those. those ++ section (is_last_kept how) closed (lines_between end.current (end_of (length (a ++ b)) how) (a ++ b)) ∷ [])
+          (map-append (section_of (a ++ b)) steps more ∙ ap (λ those. those ++ map (section_of (a ++ b)) more) (closed_still a b steps within.0))
           ∙ append_assoc (map (section_of a) steps) (map (section_of (a ++ b)) more) _;
-      next = next_of suppress closed end_of covers a b last ending within.1
-          (ends_as suppress a first steps last ending runs_a) more end how rest;
+      next = next_of suppress closed end_of covers a b last ending within.1 (ends_as suppress a first steps last ending runs_a) more end how rest;
     }
 
-pub plan_goes_on : (suppress : Bool) (operands : List Operand) (a b : List Line) → GoesOn suppress operands a b
-plan_goes_on suppress operands a b =
+pub plan_goes_on : {suppress : Bool} (operands : List Operand) (a b : List Line) → GoesOn suppress operands a b
+plan_goes_on {suppress} operands a b =
     let here = plan_runs suppress operands a in
     let within = are_within suppress a (start operands) (plan suppress operands a).steps (plan suppress operands a).last
     (plan suppress operands a).ending here (omega arith) in
-    let rest = runs (needed (length (a ++ b)) (plan suppress operands a).last) suppress (a ++ b)
-    (plan suppress operands a).last (omega arith) within.1 in
+    let rest = runs (needed (length (a ++ b)) (plan suppress operands a).last) suppress (a ++ b) (plan suppress operands a).last (omega arith) within.1 in
     record {
-      more = (plan_within (needed (length (a ++ b)) (plan suppress operands a).last) suppress (a ++ b)
-          (plan suppress operands a).last).steps;
-      end = (plan_within (needed (length (a ++ b)) (plan suppress operands a).last) suppress (a ++ b)
-          (plan suppress operands a).last).last;
-      how = (plan_within (needed (length (a ++ b)) (plan suppress operands a).last) suppress (a ++ b)
-          (plan suppress operands a).last).ending;
+      more = (plan_within (needed (length (a ++ b)) (plan suppress operands a).last) suppress (a ++ b) (plan suppress operands a).last).steps;
+      end = (plan_within (needed (length (a ++ b)) (plan suppress operands a).last) suppress (a ++ b) (plan suppress operands a).last).last;
+      how = (plan_within (needed (length (a ++ b)) (plan suppress operands a).last) suppress (a ++ b) (plan suppress operands a).last).ending;
       rest = rest;
-      is = plan_once suppress operands (a ++ b) _ _ _ (goes_on suppress a b (start operands) _ _ _ _ _ _ here rest);
+      is = plan_once suppress operands (a ++ b) _ _ _ (goes_on b _ _ here rest);
     }
 
-pub plan_grows : (suppress closed : Bool) (end_of : ℕ → Ending → ℕ) → Covers end_of
-    → (operands : List Operand) (a b : List Line)
-    → Grow (settled_sections a (plan suppress operands a))
-    (sections_by closed end_of (a ++ b) (plan suppress operands (a ++ b)))
+pub plan_grows : (suppress closed : Bool) (end_of : ℕ → Ending → ℕ) → Covers end_of → (operands : List Operand) (a b : List Line)
+    → Grow (settled_sections a (plan suppress operands a)) (sections_by closed end_of (a ++ b) (plan suppress operands (a ++ b)))
 plan_grows suppress closed end_of covers operands a b =
-    let goes = plan_goes_on suppress operands a b in
-    subst (λ p. Grow (settled_sections a (plan suppress operands a)) (sections_by closed end_of (a ++ b) p))
-    (sym goes.is)
-    (sections_grow suppress closed end_of covers a b (start operands) (plan suppress operands a).steps
-    (plan suppress operands a).last (plan suppress operands a).ending goes.more goes.end goes.how (omega arith)
-    (plan_runs suppress operands a) goes.rest)
+    let goes = plan_goes_on operands a b in
+    subst (λ p. Grow (settled_sections a (plan suppress operands a)) (sections_by closed end_of (a ++ b) p)) (sym goes.is)
+    (sections_grow closed end_of covers b goes.more goes.end (omega arith) (plan_runs suppress operands a) goes.rest)
 
 -- What is put out grows with them
 
 bytes-append : (a b : List Line) → bytes_of (a ++ b) ≡ bytes_of a ++ bytes_of b
 bytes-append [] b = refl
-bytes-append (line ∷ a) b = ap (λ those. line.text ++ those) (bytes-append a b)
-    ∙ sym (append_assoc line.text (bytes_of a) (bytes_of b))
+bytes-append (line ∷ a) b = ap (λ those. line.text ++ those) (bytes-append a b) ∙ sym (append_assoc line.text (bytes_of a) (bytes_of b))
 
-pub size_lines-append : (style : Style) (a b : List Contents)
-    → size_lines style (a ++ b) ≡ size_lines style a ++ size_lines style b
+pub size_lines-append : (style : Style) (a b : List Contents) → size_lines style (a ++ b) ≡ size_lines style a ++ size_lines style b
 size_lines-append style [] b = refl
 size_lines-append style (one ∷ a) b = ap (λ those. size_line style one ++ those) (size_lines-append style a b)
     ∙ sym (append_assoc (size_line style one) (size_lines style a) (size_lines style b))
@@ -305,17 +239,14 @@ no_size true closed quiet line is = ap (λ c. cond (c && quiet) line []) is
 pub open_sizes : (style : Style) (front : List Contents) (begun : Contents) → begun.is_closed ≡ false
     → size_lines style (front ++ begun ∷ []) ≡ size_lines style front
 open_sizes style front begun is_open =
-    size_lines-append style front (begun ∷ [])
-    ∙ ap (λ those. size_lines style front ++ (those ++ []))
-    (no_size (makes_file style begun) begun.is_closed (not style.quiet) _ is_open)
-    ∙ append-nil (size_lines style front)
+    size_lines-append style front (begun ∷ []) ∙ ap (λ those. size_lines style front ++ (those ++ []))
+    (no_size (makes_file style begun) begun.is_closed (not style.quiet) _ is_open) ∙ append-nil (size_lines style front)
 
 out_grows : (style : Style) (front : List Contents) (begun : Contents) (after : List Contents) → begun.is_closed ≡ false
     → IsBeginning (size_lines style (front ++ begun ∷ [])) (size_lines style (front ++ after))
 out_grows style front begun after is_open = (
   size_lines style after,
-  size_lines-append style front after
-      ∙ ap (λ those. those ++ size_lines style after) (sym (open_sizes style front begun is_open)),
+  size_lines-append style front after ∙ ap (λ those. those ++ size_lines style after) (sym (open_sizes style front begun is_open)),
 )
 
 -- a file that was made begins the one that is made
@@ -335,11 +266,9 @@ last_by style place begun other more true true makes is_open begins =
     (refl, refl, refl, inl (ap (λ c. (file_at style place (record begun { is_closed = c })).state) is_open), begins, tt)
 last_by style place begun other more true false makes is_open begins = absurd (false≢true (makes refl))
 
-files_by : (style : Style) (place : ℕ) (one : Contents) (low low' high high' : List File) (makes : Bool)
-    → FilesBegin low high → FilesBegin low' high'
+files_by : (style : Style) (place : ℕ) (one : Contents) (low low' high high' : List File) (makes : Bool) → FilesBegin low high → FilesBegin low' high'
     → FilesBegin (cond makes (file_at style place one ∷ low) low') (cond makes (file_at style place one ∷ high) high')
-files_by style place one low low' high high' true rest other =
-    (refl, refl, refl, inr refl, begins_itself one.bytes, rest)
+files_by style place one low low' high high' true rest other = (refl, refl, refl, inr refl, begins_itself one.bytes, rest)
 files_by style place one low low' high high' false rest other = other
 
 files_grow : (style : Style) (place : ℕ) (front : List Contents) (begun other : Contents) (more : List Contents)
@@ -348,14 +277,12 @@ files_grow : (style : Style) (place : ℕ) (front : List Contents) (begun other 
 files_grow style place [] begun other more is_open kept rest bytes =
     last_by style place begun other more (makes_file style begun) (makes_file style other)
     (λ made. ap (λ those. other.is_kept && not (style.elide && is_empty those)) bytes
-    ∙ ap (λ k. k && not (style.elide && is_empty (begun.bytes ++ rest))) (sym kept)
-    ∙ made_more style.elide begun.is_kept begun.bytes rest made)
+    ∙ ap (λ k. k && not (style.elide && is_empty (begun.bytes ++ rest))) (sym kept) ∙ made_more style.elide begun.is_kept begun.bytes rest made)
     is_open (rest, bytes)
 files_grow style place (one ∷ front) begun other more is_open kept rest bytes =
     files_by style place one (files_of style (place + 1) (front ++ begun ∷ []))
     (files_of style place (front ++ begun ∷ [])) (files_of style (place + 1) (front ++ other ∷ more))
-    (files_of style place (front ++ other ∷ more)) (makes_file style one)
-    (files_grow style (place + 1) front begun other more is_open kept rest bytes)
+    (files_of style place (front ++ other ∷ more)) (makes_file style one) (files_grow style (place + 1) front begun other more is_open kept rest bytes)
     (files_grow style place front begun other more is_open kept rest bytes)
 
 -- what is written of sections whose last one goes on, and may end
@@ -367,17 +294,14 @@ part_grows style front begun other more is_open kept rest bytes = record {
   files = files_grow style 0 front begun other more is_open kept rest bytes;
 }
 
-pub parts_grow : (style : Style) (low high : List Section) → Grow low high
-    → Begins (part_of style low) (part_of style high)
-parts_grow style low high grow =
+pub parts_grow : (style : Style) {low high : List Section} → Grow low high → Begins (part_of style low) (part_of style high)
+parts_grow style {high} grow =
     let lines : bytes_of grow.next.other.lines ≡ bytes_of grow.begun.lines ++ bytes_of grow.next.rest =
     ap bytes_of grow.next.lines ∙ bytes-append grow.begun.lines grow.next.rest in
     subst (λ those. Begins (part_by style those) (part_of style high))
     (sym (ap (map contents_of) grow.low_is ∙ map-append contents_of grow.front (grow.begun ∷ [])))
-    (subst (λ those. Begins (part_by style (map contents_of grow.front ++ contents_of grow.begun ∷ []))
-    (part_by style those)) (sym (ap (map contents_of)
-    (grow.high_is ∙ ap (λ those. grow.front ++ those) grow.next.are)
-    ∙ map-append contents_of grow.front (grow.next.other ∷ grow.next.more)))
+    (subst (λ those. Begins (part_by style (map contents_of grow.front ++ contents_of grow.begun ∷ [])) (part_by style those)) (sym (ap (map contents_of)
+    (grow.high_is ∙ ap (λ those. grow.front ++ those) grow.next.are) ∙ map-append contents_of grow.front (grow.next.other ∷ grow.next.more)))
     (part_grows style (map contents_of grow.front) (contents_of grow.begun) (contents_of grow.next.other)
     (map contents_of grow.next.more) grow.is_open grow.next.kept (bytes_of grow.next.rest) lines))
 
@@ -389,11 +313,8 @@ whole_covers total used_up = omega arith
 whole_covers total ending = omega arith
 
 -- The two laws of what is settled: it only grows, and what is put out in the end begins with it.
-pub grows : (style : Style) (operands : List Operand) (a b : List Line)
-    → Begins (settled_of style operands a) (settled_of style operands (a ++ b))
-grows style operands a b = parts_grow style _ _
-    (plan_grows style.suppress false settled_end settled_covers operands a b)
+pub grows : (style : Style) (operands : List Operand) (a b : List Line) → Begins (settled_of style operands a) (settled_of style operands (a ++ b))
+grows style operands a b = parts_grow style (plan_grows style.suppress false settled_end settled_covers operands a b)
 
-pub ends_with : (style : Style) (operands : List Operand) (a b : List Line)
-    → Begins (settled_of style operands a) (whole_of style operands (a ++ b))
-ends_with style operands a b = parts_grow style _ _ (plan_grows style.suppress true whole_end whole_covers operands a b)
+pub ends_with : (style : Style) (operands : List Operand) (a b : List Line) → Begins (settled_of style operands a) (whole_of style operands (a ++ b))
+ends_with style operands a b = parts_grow style (plan_grows style.suppress true whole_end whole_covers operands a b)

@@ -1,40 +1,40 @@
 use Rattle.std.proofs.Common.{◌<◌, ◌^◌, length, arith}
 use Rattle.std.proofs.lemmas.Grind.{common_steps}
-use Rattle.ports_core.proofs.HandedOn.{result_is}
 use Rattle.csplit_core.specs.inner.Writer.{Goes}
 use Rattle.csplit_core.proofs.HoldLemmas.{starts, fits_front, empties, empties_short, emptied_went, emptied_window, left_within}
+use Rattle.csplit_core.proofs.WriterLemmas.{stop_is}
 use Rattle.csplit_core.proofs.holding.write_front.Goals as goal
 
 pub loop-left-init : goal.loop-left-init
-loop-left-init g c = starts g.O.Outs.told c.args.writer.now c.args.window.now c.args.n (g.O.Outs.slots c.args.outs.now) c.requires.ready
+loop-left-init g c = starts c.requires.ready
 
 pub put-requires-clause-ready : goal.put-requires-clause-ready
-put-requires-clause-ready g c = c.loop-left.invariant.went.ready
+put-requires-clause-ready g c = c.loop-left.invariant.went.leaves.ready
 
 pub put-requires-clause-fits : goal.put-requires-clause-fits
-put-requires-clause-fits g c = fits_front _ _ _ _ _ _ _ c.min-bytes.result (2 ^ 64) c.front-front.result.now _ _ _ c.loop-left.invariant c.front-front.ensures.front.1 (omega (arith, c.min-bytes.ensures)) c.requires.fits
+put-requires-clause-fits g c = fits_front c.loop-left.invariant c.min-bytes.result (2 ^ 64) c.front-front.result.now _ c.front-front.ensures.front.1 (omega (arith, c.min-bytes.ensures)) c.requires.fits
 
 pub returns-in_err-put-clause-goes : goal.returns-in_err-put-clause-goes
-returns-in_err-put-clause-goes g c = result_is (Goes _ _ _ _ _ _) _ _ c.from_residual.ensures.1
-    (empties_short _ _ _ _ _ _ _ _ c.min-bytes.result c.front-front.result.now _ _ _ _ _ c.loop-left.invariant c.front-front.ensures.front.1 (omega (arith, c.min-bytes.ensures)) (omega (arith, c.min-bytes.ensures)) c.in_err-put.ensures.goes)
+returns-in_err-put-clause-goes g c = stop_is (Goes _ _ _ _ _ _) _ _ c.from_residual.ensures.1
+    (empties_short c.loop-left.invariant c.min-bytes.result c.front-front.result.now _ c.front-front.ensures.front.1 (omega (arith, c.min-bytes.ensures)) (omega (arith, c.min-bytes.ensures)) c.in_err-put.ensures.goes)
 
 pub drop_front-requires : goal.drop_front-requires
 drop_front-requires g c = grind (arith, common_steps)
 
 pub loop-left-smaller : goal.loop-left-smaller
 loop-left-smaller g c =
-    let some : 0 < length c.front-front.result.now = c.front-front.ensures.some (omega (arith, c.loop-left-test.true, left_within _ _ _ _ _ _ _ _ _ c.requires.held c.loop-left.invariant)) in
+    let some : 0 < length c.front-front.result.now = c.front-front.ensures.some (omega (arith, c.loop-left-test.true, left_within c.loop-left.invariant c.requires.held)) in
     omega (arith, some, c.min-bytes.ensures, c.loop-left-test.true)
 
 pub loop-left-preserved : goal.loop-left-preserved
 loop-left-preserved g c =
-    empties _ _ _ _ _ _ _ _ _ c.min-bytes.result c.front-front.result.now _ _ _ _ c.loop-left.invariant c.front-front.ensures.front.1 (omega (arith, c.min-bytes.ensures)) (omega (arith, c.min-bytes.ensures)) c.drop_front.ensures c.in_ok-put.ensures.goes c.in_ok-put.ensures.size
+    empties c.loop-left.invariant c.min-bytes.result c.front-front.result.now _ c.front-front.ensures.front.1 (omega (arith, c.min-bytes.ensures)) (omega (arith, c.min-bytes.ensures)) c.drop_front.ensures c.in_ok-put.ensures.goes c.in_ok-put.ensures.size
 
 pub returns-clause-goes : goal.returns-clause-goes
-returns-clause-goes g c = emptied_went _ _ _ _ _ _ _ _ _ c.loop-left.invariant (omega (arith, c.loop-left-test.false))
+returns-clause-goes g c = emptied_went c.loop-left.invariant (omega (arith, c.loop-left-test.false))
 
 pub returns-clause-window : goal.returns-clause-window
-returns-clause-window g c = emptied_window _ _ _ _ _ _ _ _ _ c.loop-left.invariant (omega (arith, c.loop-left-test.false))
+returns-clause-window g c = emptied_window c.loop-left.invariant (omega (arith, c.loop-left-test.false))
 
 pub returns-clause-size : goal.returns-clause-size
 returns-clause-size g c = c.loop-left.invariant.size

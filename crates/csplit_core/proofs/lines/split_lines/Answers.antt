@@ -4,10 +4,10 @@ use Rattle.csplit_core.proofs.LineLemmas.{rest_is, short_all, short_none}
 use Rattle.csplit_core.proofs.lines.split_lines.Goals as goal
 
 pub returns-in-Ends-clause-rest : goal.returns-in-Ends-clause-rest
-returns-in-Ends-clause-rest c = c.split_at.ensures.back ∙ rest_is c.args.lines c.args.text.now c.in-Ends.end c.in-Ends.ensures
+returns-in-Ends-clause-rest c = c.split_at.ensures.back ∙ rest_is c.in-Ends.end c.in-Ends.ensures
 
 pub returns-in-Short-clause-first : goal.returns-in-Short-clause-first
-returns-in-Short-clause-first c = c.split_at-in-Short.ensures.front ∙ take_all (length c.args.text.now) c.args.text.now (omega arith) ∙ short_all c.args.lines c.args.text.now c.in-Short.field-0 c.in-Short.ensures
+returns-in-Short-clause-first c = c.split_at-in-Short.ensures.front ∙ take_all (length c.args.text.now) c.args.text.now (omega arith) ∙ short_all c.in-Short.ensures
 
 pub returns-in-Short-clause-rest : goal.returns-in-Short-clause-rest
-returns-in-Short-clause-rest c = c.split_at-in-Short.ensures.back ∙ drop_all (length c.args.text.now) c.args.text.now (omega arith) ∙ short_none c.args.lines c.args.text.now c.in-Short.field-0 c.in-Short.ensures
+returns-in-Short-clause-rest c = c.split_at-in-Short.ensures.back ∙ drop_all (length c.args.text.now) c.args.text.now (omega arith) ∙ short_none c.in-Short.ensures

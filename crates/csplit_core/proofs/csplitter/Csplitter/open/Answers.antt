@@ -7,7 +7,7 @@ use Rattle.ports_core.proofs.HandedOn.{fault_is}
 use Rattle.csplit_core.specs.Csplit.{settled_by}
 use Rattle.csplit_core.specs.CsplitState.{CsplitState, Holds, IsReady, Owns}
 use Rattle.csplit_core.specs.Input.{newline}
-use Rattle.csplit_core.proofs.StageClauses.{begins_at, cannot_begin}
+use Rattle.csplit_core.proofs.StageLemmas.{begins_at, cannot_begin}
 use Rattle.csplit_core.proofs.csplitter.Csplitter.open.Goals as goal
 
 pub returns-clause-holds : goal.returns-clause-holds
@@ -27,8 +27,8 @@ pub returns-clause-owns : goal.returns-clause-owns
 returns-clause-owns g c = subst (λ (guard : GuardState CsplitState). Owns guard.stage (length (g.O.Outs.slots c.args.outs.now)) (g.O.Outs.slots c.open.new.outs)) (sym c.new-2.ensures) c.in_ok-cutter.ensures.owns
 
 pub returns-clause-outputs : goal.returns-clause-outputs
-returns-clause-outputs g c = begins_at g.O.Outs.told c.args.style c.as_slice.result.now c.args.operands.now _ _ _ c.as_slice.ensures c.requires.streams c.in_ok-cutter.ensures.moves
+returns-clause-outputs g c = begins_at g.O.Outs.told c.args.style c.as_slice.ensures c.requires.streams c.in_ok-cutter.ensures.reaches
 
 pub returns-in_err-cutter-clause-cut : goal.returns-in_err-cutter-clause-cut
 returns-in_err-cutter-clause-cut g c = fault_is c.from_residual.result (λ fault. (before : List Slot) → OutputsAt g.O.Outs.told before nothing _ → StoppedBetween g.O.Outs.told before nothing (settled_by c.args.style c.args.operands.now []) fault _) _ c.from_residual.ensures.1
-    (cannot_begin g.O.Outs.told c.args.style c.as_slice.result.now c.args.operands.now _ _ _ c.as_slice.ensures c.requires.streams c.in_err-cutter.ensures)
+    (cannot_begin g.O.Outs.told c.as_slice.ensures c.requires.streams c.in_err-cutter.ensures)

@@ -1,18 +1,18 @@
-use Rattle.std.proofs.Common.{arith}
+use Rattle.std.proofs.Common.{◌∙◌, arith, sym}
 use Rattle.std.proofs.lemmas.Grind.{common_steps}
-use Rattle.ports_core.proofs.HandedOn.{result_is}
+use Rattle.csplit_core.proofs.WriterLemmas.{stop_is}
 use Rattle.seg_core.proofs.LineCounts.{ends_with-some}
 use Rattle.csplit_core.specs.inner.Cutter.{Takes}
 use Rattle.csplit_core.specs.Input.{newline}
-use Rattle.csplit_core.proofs.ByteLemmas.{first_line, others_whole}
-use Rattle.csplit_core.proofs.StageSteps.{lines_stop, lines_after}
+use Rattle.csplit_core.proofs.LineLemmas.{first_line, others_whole}
+use Rattle.csplit_core.proofs.StageLemmas.{lines_alone, lines_stop, lines_after}
 use Rattle.csplit_core.proofs.csplitter.Csplitter.take_lines.Goals as goal
 
 pub returns-then-is_empty-clause-rest : goal.returns-then-is_empty-clause-rest
 returns-then-is_empty-clause-rest g c = grind (arith, common_steps)
 
 pub returns-then-is_empty-clause-takes : goal.returns-then-is_empty-clause-takes
-returns-then-is_empty-clause-takes g c = grind (arith, common_steps)
+returns-then-is_empty-clause-takes g c = lines_alone c.self.view_is (omega arith) (sym c.is_empty.ensures ∙ c.if-is_empty.true) c.take.ensures
 
 pub take_open-requires-clause-fits : goal.take_open-requires-clause-fits
 take_open-requires-clause-fits g c = grind (arith, common_steps)
@@ -21,15 +21,15 @@ pub take_open-requires-clause-line : goal.take_open-requires-clause-line
 take_open-requires-clause-line g c = first_line c.args.lines.now c.next_line.result.0.now c.next_line.result.1.now (c.next_line.ensures.first (ends_with-some newline c.args.lines.now c.requires.whole))
 
 pub returns-in_err-take_open-clause-takes : goal.returns-in_err-take_open-clause-takes
-returns-in_err-take_open-clause-takes g c = result_is (Takes g.O.Outs.told c.args.self.now.cutter _ _ _ c.take_open.new.self.cutter) c.from_residual.result _ c.from_residual.ensures.1
-    (lines_stop g.O.Outs.told _ _ c.args.self.now.rest c.args.lines.now c.next_line.result.0.now c.next_line.result.1.now _ _ _ c.next_line.ensures.joined c.next_line.ensures.last c.requires.whole c.in_err-take_open.ensures.takes)
+returns-in_err-take_open-clause-takes g c = stop_is (Takes _ _ _ _ _ _) _ _ c.from_residual.ensures.1
+    (lines_stop c.args.self.now.rest c.next_line.result.0.now c.next_line.ensures.joined c.next_line.ensures.last c.requires.whole c.in_err-take_open.ensures.takes)
 
 pub take-requires-2-clause-whole : goal.take-requires-2-clause-whole
-take-requires-2-clause-whole g c = others_whole c.args.lines.now c.next_line.result.0.now c.next_line.result.1.now c.next_line.ensures.joined c.requires.whole
+take-requires-2-clause-whole g c = others_whole c.next_line.result.0.now c.next_line.result.1.now c.next_line.ensures.joined c.requires.whole
 
 pub take-requires-2-clause-fits : goal.take-requires-2-clause-fits
 take-requires-2-clause-fits g c = grind (arith, common_steps)
 
 pub returns-clause-takes : goal.returns-clause-takes
-returns-clause-takes g c = lines_after g.O.Outs.told _ _ _ c.take_open.new.self c.args.self.now.rest c.args.lines.now c.next_line.result.0.now c.next_line.result.1.now _ _ _ c.take-2.result c.self-2.view_is c.next_line.ensures.joined c.next_line.ensures.last c.requires.whole
+returns-clause-takes g c = lines_after c.args.self.now.rest c.next_line.result.0.now c.self-2.view_is c.next_line.ensures.joined c.next_line.ensures.last c.requires.whole
     c.in_ok-take_open.ensures.takes c.take-2.ensures

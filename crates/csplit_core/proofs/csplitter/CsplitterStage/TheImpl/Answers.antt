@@ -1,6 +1,8 @@
 use Rattle.std.proofs.Common.{arith}
+use Rattle.csplit_core.specs.Csplit.{csplit_work}
+use Rattle.csplit_core.proofs.CutterLemmas.{same_by}
 use Rattle.csplit_core.proofs.HeldBytes.{held_is}
-use Rattle.csplit_core.proofs.StageClauses.{cuts_off, end_cut, end_met, end_outputs, end_own, end_same, end_there, end_writable, pass_met, pass_own, pass_ready, pass_same, pass_there, puts_out, takes_in}
+use Rattle.csplit_core.proofs.StageLemmas.{cuts_off, end_cut, end_met, end_outputs, end_own, end_same, end_there, end_writable, pass_met, pass_ready, puts_out, takes_in}
 use Rattle.csplit_core.proofs.csplitter.CsplitterStage.TheImpl.Goals as goal
 
 pub pass-tells : goal.pass-tells
@@ -9,13 +11,13 @@ pass-tells g c =
     let stage = c.args.self.now in
     let next = c.new.self.now in
     let piece = c.args.piece.now in record {
-      same = pass_same told stage next piece _ _ c.result c.ensures.passes;
+      same = same_by csplit_work c.ensures.passes.took.keeps;
       size = omega (arith, c.ensures.taken);
       holds = takes_in told stage next piece _ _ c.result c.ensures.passes;
       outputs = puts_out told stage next piece _ _ c.result c.ensures.passes;
       ready = pass_ready told stage next piece _ _ c.result c.ensures.passes c.requires.ready c.ensures.taken c.requires.fits;
-      owns = pass_own told stage next piece _ _ c.result c.ensures.passes;
-      there = pass_there told stage next piece _ _ c.result c.ensures.passes;
+      owns = c.ensures.passes.took.keeps.writer.owns.owns;
+      there = c.ensures.passes.took.keeps.writer.owns.there;
       cut = cuts_off told stage next piece _ _ c.result c.ensures.passes;
       met = pass_met told stage next piece _ _ c.result c.ensures.passes;
     }
@@ -25,15 +27,15 @@ finish-tells g c =
     let told = g.O.Outs.told in
     let stage = c.args.self.now in
     let next = c.new.self.now in record {
-      same = end_same told stage next _ _ c.result c.ensures.closes;
+      same = end_same told stage next _ _ c.ensures.closes;
       size = c.ensures.bound;
-      outputs = end_outputs told stage next _ _ c.result c.ensures.closes;
-      writable = end_writable told stage next _ _ c.result c.ensures.closes;
-      owns = end_own told stage next _ _ c.result c.ensures.closes;
+      outputs = end_outputs told stage next _ _ c.ensures.closes;
+      writable = end_writable told stage next _ _ c.ensures.closes;
+      owns = end_own told stage next _ _ c.ensures.closes;
       there = end_there told stage next _ _ c.result c.ensures.closes;
-      cut = end_cut told stage next _ _ c.result c.ensures.closes;
-      met = end_met told stage next _ _ c.result c.ensures.closes;
+      cut = end_cut told stage next _ _ c.ensures.closes;
+      met = end_met told stage next _ _ c.ensures.closes;
     }
 
 pub waits-tells : goal.waits-tells
-waits-tells g c x few holds = held_is c.args.self.now x c.result holds few c.ensures
+waits-tells g c x few holds = held_is holds few c.ensures

@@ -1,7 +1,7 @@
 use Rattle.std.proofs.Common.{◌∙◌, ap, sym}
 use Rattle.csplit_core.specs.CsplitState.{CsplitState}
 use Rattle.csplit_core.specs.Output.{Style}
-use Rattle.csplit_core.proofs.StageClauses.{cleared_own, cleared_swept, cleared_there}
+use Rattle.csplit_core.proofs.StageLemmas.{cleared_own, cleared_swept, cleared_there}
 use Rattle.csplit_core.proofs.csplitter.CsplitterStage.clear.Goals as goal
 
 pub returns-then-not-style-clause-swept : goal.returns-then-not-style-clause-swept

@@ -7,18 +7,17 @@ use Rattle.csplit_core.specs.Cutter.{IsSound}
 use Rattle.csplit_core.specs.Input.{newline}
 use Rattle.csplit_core.specs.Writer.{IsReady}
 use Rattle.csplit_core.specs.inner.CsplitState.{Passes}
-use Rattle.csplit_core.proofs.ByteLemmas.{piece_ends}
-use Rattle.csplit_core.proofs.StageSteps.{none_counted, past_passes, some_counted, stop_counted}
-use Rattle.csplit_core.proofs.LineLemmas.{rest_all}
+use Rattle.csplit_core.proofs.LineLemmas.{piece_ends, rest_all}
+use Rattle.csplit_core.proofs.StageLemmas.{none_passes, past_passes, some_passes, some_stopped}
 use Rattle.csplit_core.proofs.csplitter.CsplitterStage.pass.Goals as goal
 
 pub returns-then-is_past-clause-passes : goal.returns-then-is_past-clause-passes
-returns-then-is_past-clause-passes g c = past_passes g.O.Outs.told _ c.args.self.now _ c.args.piece.now _ c.self.view_is (c.is_past.ensures.past c.if-is_past.true) c.requires.ready.writer c.requires.ready.sound c.requires.ready.unbroken
+returns-then-is_past-clause-passes g c = past_passes c.self.view_is (c.is_past.ensures.past c.if-is_past.true) c.requires.ready.writer c.requires.ready.sound c.requires.ready.unbroken
 
 pub take_lines-requires : goal.take_lines-requires
 take_lines-requires g c = record {
   fits = grind (arith, common_steps);
-  whole = piece_ends c.args.piece.now c.in-Some.end c.in-Some.ensures.some;
+  whole = piece_ends c.in-Some.end c.in-Some.ensures.some;
   sound = subst (λ (stage : CsplitState). IsSound stage.cutter) (sym c.self.view_is) c.requires.ready.sound;
   «open» = subst (λ (stage : CsplitState). delimiters newline stage.rest ≡ 0) (sym c.self.view_is) c.requires.ready.unbroken;
   ready = subst (λ (stage : CsplitState). IsReady stage.cutter.writer (g.O.Outs.slots c.args.outs.now)) (sym c.self.view_is) c.requires.ready.writer;
@@ -26,12 +25,12 @@ take_lines-requires g c = record {
 
 pub returns-in_err-take_lines-in-Some-clause-passes : goal.returns-in_err-take_lines-in-Some-clause-passes
 returns-in_err-take_lines-in-Some-clause-passes g c = result_is (Passes g.O.Outs.told c.args.self.now c.args.piece.now _ _ c.take_lines.new.self) c.from_residual.result _ c.from_residual.ensures.1
-    (stop_counted g.O.Outs.told _ c.args.self.now c.take_lines.new.self.cutter c.args.piece.now _ c.in-Some.end _ _ _ c.self.view_is c.in-Some.ensures.some refl c.in_err-take_lines-in-Some.ensures.takes)
+    (some_stopped c.take_lines.new.self c.in-Some.end c.self.view_is c.in-Some.ensures.some refl c.in_err-take_lines-in-Some.ensures.takes)
 
 pub returns-in-None-clause-passes : goal.returns-in-None-clause-passes
-returns-in-None-clause-passes g c = none_counted g.O.Outs.told _ c.args.self.now c.wait.new.self 0 c.args.piece.now _ c.wait.result c.self.view_is (c.is_past.ensures.live c.if-is_past.false) c.in-None.ensures.none c.requires.ready.writer c.requires.ready.sound c.requires.ready.unbroken
+returns-in-None-clause-passes g c = none_passes c.wait.new.self c.wait.result c.self.view_is (c.is_past.ensures.live c.if-is_past.false) c.in-None.ensures.none c.requires.ready.writer c.requires.ready.sound c.requires.ready.unbroken
     c.wait.ensures.cutter c.wait.ensures.live c.wait.ensures.err
 
 pub returns-in_ok-take_lines-in-Some-clause-passes : goal.returns-in_ok-take_lines-in-Some-clause-passes
-returns-in_ok-take_lines-in-Some-clause-passes g c = some_counted g.O.Outs.told _ c.args.self.now c.take_lines.new.self c.wait-in-Some.new.self 0 c.args.piece.now _ _ c.in-Some.end _ _ c.wait-in-Some.result c.self.view_is (c.is_past.ensures.live c.if-is_past.false) c.in-Some.ensures.some refl (rest_all c.in-Some.end c.args.piece.now) c.requires.ready.unbroken
+returns-in_ok-take_lines-in-Some-clause-passes g c = some_passes c.take_lines.new.self c.wait-in-Some.new.self _ c.in-Some.end c.wait-in-Some.result c.self.view_is (c.is_past.ensures.live c.if-is_past.false) c.in-Some.ensures.some refl (rest_all c.in-Some.end c.args.piece.now)
     c.in_ok-take_lines-in-Some.ensures.takes c.in_ok-take_lines-in-Some.ensures.rest c.wait-in-Some.ensures.cutter c.wait-in-Some.ensures.past c.wait-in-Some.ensures.live c.wait-in-Some.ensures.err

@@ -1,36 +1,33 @@
-use Rattle.std.proofs.Common.{refl, sym, ◌∙◌, ap}
+use Rattle.std.proofs.Common.{◌∙◌, ap, arith}
+use Rattle.seg_core.specs.Line.{first_lines, after_lines}
 use Rattle.ports_core.proofs.HandedOn.{fault_is}
-use Rattle.csplit_core.specs.Output.{Style}
 use Rattle.csplit_core.specs.Cutter.{kept_next}
+use Rattle.csplit_core.specs.Input.{newline}
+use Rattle.csplit_core.specs.Output.{Style}
 use Rattle.csplit_core.proofs.CutLemmas.{cut_put_stopped, cut_pass_stopped, cut_next_stopped, cut_done}
 use Rattle.csplit_core.proofs.line_cutter.LineCutter.cut_at.Goals as goal
-use Rattle.seg_core.specs.Line.{first_lines, after_lines}
-use Rattle.csplit_core.specs.Input.{newline}
 
 pub returns-in_err-put-clause-err : goal.returns-in_err-put-clause-err
-returns-in_err-put-clause-err g c = fault_is _ _ _ c.from_residual.ensures.1
-    (cut_put_stopped _ c.args.self.now _ c.put.new.self c.args.cut c.args.place c.args.waiting.now c.split_lines.result.0.now _ _ _ c.self.view_is c.requires.fit c.requires.cuts
-    (c.split_lines.ensures.first ∙ ap (λ n. first_lines newline n c.args.waiting.now) c.saturating_sub.ensures) c.in_err-put.ensures.goes)
+returns-in_err-put-clause-err g c = fault_is _ _ _ c.from_residual.ensures.1 (λ line.
+    cut_put_stopped c.self.view_is c.requires.fit c.requires.cuts (c.split_lines.ensures.first ∙ ap (λ n. first_lines newline n c.args.waiting.now) c.saturating_sub.ensures) line c.in_err-put.ensures.goes)
 
 pub returns-in_err-pass-clause-err : goal.returns-in_err-pass-clause-err
-returns-in_err-pass-clause-err g c = fault_is _ _ _ c.from_residual-in_err-pass.ensures.1
-    (cut_pass_stopped _ c.args.self.now _ c.pass.new.self c.put.new.self c.args.cut c.args.place c.args.waiting.now c.split_lines.result.0.now _ _ _ c.self.view_is c.requires.fit c.requires.cuts
-    (c.split_lines.ensures.first ∙ ap
-    (λ n. first_lines newline n c.args.waiting.now) c.saturating_sub.ensures) c.in_ok-put.ensures.goes c.in_err-pass.ensures.err)
+returns-in_err-pass-clause-err g c = fault_is _ _ _ c.from_residual-in_err-pass.ensures.1 (λ line.
+    cut_pass_stopped c.self.view_is c.requires.fit c.requires.cuts (c.split_lines.ensures.first ∙ ap (λ n. first_lines newline n c.args.waiting.now) c.saturating_sub.ensures) line c.in_ok-put.ensures.goes
+    c.in_err-pass.ensures.err)
 
 pub returns-in_err-next-clause-err : goal.returns-in_err-next-clause-err
-returns-in_err-next-clause-err g c = fault_is _ _ _ c.from_residual-in_err-next.ensures.1
-    (cut_next_stopped _ c.args.self.now _ c.pass.new.self _ c.put.new.self c.next.new.self c.args.cut c.args.place c.args.waiting.now c.split_lines.result.0.now c.is_kept-is_kept.result _ _ _ _ c.self.view_is c.self-2.view_is c.requires.fit c.requires.cuts
-    (c.split_lines.ensures.first ∙ ap (λ n. first_lines newline n c.args.waiting.now) c.saturating_sub.ensures) c.in_ok-put.ensures.goes
+returns-in_err-next-clause-err g c = fault_is _ _ _ c.from_residual-in_err-next.ensures.1 (λ line.
+    cut_next_stopped c.self.view_is c.requires.fit c.requires.cuts (c.split_lines.ensures.first ∙ ap (λ n. first_lines newline n c.args.waiting.now) c.saturating_sub.ensures) line c.in_ok-put.ensures.goes c.self-2.view_is
     (record { same = c.in_ok-pass.ensures.same; held = c.in_ok-pass.ensures.held; fit = c.in_ok-pass.ensures.fit; fewer = c.in_ok-pass.ensures.fewer; state = c.in_ok-pass.ensures.state })
     (c.is_kept-is_kept.ensures ∙ ap kept_next c.next_operand.ensures) c.in_err-next.ensures.goes)
 
 pub returns-clause-ok : goal.returns-clause-ok
 returns-clause-ok g c =
-    cut_done _ c.args.self.now _ c.pass.new.self _ c.put.new.self c.next.new.self c.args.cut c.args.place c.args.waiting.now c.split_lines.result.0.now c.skip_line.result.now c.split_lines.result.1.now c.is_kept-is_kept.result _ _ _ c.self.view_is c.self-2.view_is c.requires.fit c.requires.cuts
+    cut_done c.split_lines.result.1.now c.self.view_is c.requires.fit c.requires.cuts
     (c.split_lines.ensures.first ∙ ap (λ n. first_lines newline n c.args.waiting.now) c.saturating_sub.ensures)
     (c.split_lines.ensures.rest ∙ ap (λ n. after_lines newline n c.args.waiting.now) c.saturating_sub.ensures)
     (λ is. c.skip_line.ensures.first (ap (λ (s : Style). s.suppress) (c.behind-self.view_is ∙ c.style.ensures) ∙ is)) (λ is. c.skip_line.ensures.none (ap (λ (s : Style). s.suppress) (c.behind-self.view_is ∙ c.style.ensures) ∙ is))
-    c.in_ok-put.ensures.goes
+    c.in_ok-put.ensures.goes c.self-2.view_is
     (record { same = c.in_ok-pass.ensures.same; held = c.in_ok-pass.ensures.held; fit = c.in_ok-pass.ensures.fit; fewer = c.in_ok-pass.ensures.fewer; state = c.in_ok-pass.ensures.state })
-    (c.is_kept-is_kept.ensures ∙ ap kept_next c.next_operand.ensures) c.in_ok-next.ensures.goes c.in_ok-next.ensures.size (omega (Rattle.std.proofs.Common.arith, c.skip_line.ensures.shorter, c.split_lines.ensures.shorter))
+    (c.is_kept-is_kept.ensures ∙ ap kept_next c.next_operand.ensures) c.in_ok-next.ensures.goes c.in_ok-next.ensures.size (omega (arith, c.skip_line.ensures.shorter, c.split_lines.ensures.shorter))

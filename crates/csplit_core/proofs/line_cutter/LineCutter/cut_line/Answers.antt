@@ -1,20 +1,20 @@
 use Rattle.std.proofs.Common.{refl, sym, subst, ◌∙◌, arith}
 use Rattle.std.proofs.lemmas.Grind.{common_steps}
-use Rattle.ports_core.proofs.HandedOn.{result_is}
 use Rattle.csplit_core.specs.Cutter.{CutterState}
 use Rattle.csplit_core.specs.Writer.{IsReady}
 use Rattle.csplit_core.specs.inner.Cutter.{CutsAll}
-use Rattle.csplit_core.proofs.CutLineLemmas.{none_there, cut_alone, cut_drained, cut_lacks, waiting_count, waiting_size}
+use Rattle.csplit_core.proofs.SpreadLemmas.{none_there, cut_alone, cut_drained, cut_lacks, waiting_count, waiting_size}
+use Rattle.csplit_core.proofs.WriterLemmas.{stop_is}
 use Rattle.csplit_core.proofs.line_cutter.LineCutter.cut_line.Goals as goal
 
 pub cut_all-requires-clause-none : goal.cut_all-requires-clause-none
 cut_all-requires-clause-none g c = grind (arith, common_steps)
 
 pub returns-then-is_empty : goal.returns-then-is_empty
-returns-then-is_empty g c = cut_alone _ c.args.self.now _ _ _ c.args.cut c.args.line.now _ _ c.cut_all-then-is_empty.result c.self.view_is c.cut_all.view_is (none_there c.self.inside.window.held c.is_empty.result c.is_empty.ensures c.if-is_empty.true) c.cut_all-then-is_empty.ensures
+returns-then-is_empty g c = cut_alone c.self.view_is c.cut_all.view_is (none_there c.is_empty.ensures c.if-is_empty.true) c.cut_all-then-is_empty.ensures
 
 pub returns-in_err-waiting : goal.returns-in_err-waiting
-returns-in_err-waiting g c = result_is (CutsAll _ _ _ _ _ _ _ _ _) _ _ c.from_residual.ensures.1 (cut_lacks _ c.args.self.now _ c.drain.new.window c.args.cut c.args.line.now _ _ c.self.view_is c.requires.fit c.requires.cuts c.in_err-waiting.ensures.err)
+returns-in_err-waiting g c = stop_is (CutsAll _ _ _ _ _ _ _ _ _ _) _ _ c.from_residual.ensures.1 (cut_lacks c.self.view_is c.requires.fit c.requires.cuts c.in_err-waiting.ensures.err)
 
 pub slice_bounds-count_delimiters-count : goal.slice_bounds-count_delimiters-count
 slice_bounds-count_delimiters-count g c = grind (arith, common_steps)
@@ -31,4 +31,5 @@ cut_all-requires-2 g c = record {
 }
 
 pub returns : goal.returns
-returns g c = cut_drained _ c.args.self.now _ _ c.drain.new.window c.args.cut c.saturating_sub-place.result c.deref-2.result.now c.args.line.now _ _ c.cut_all-2.result c.self.view_is (c.deref-2.ensures.value ∙ c.in_ok-waiting.ensures.ok) (waiting_count c.self.inside.lines c.self.inside.window.held c.deref.result.now c.args.line.now _ _ c.count_delimiters-lines.result _ (c.deref.ensures.value ∙ c.in_ok-waiting.ensures.ok) (waiting_size c.self.inside.window.held c.args.line.now c.deref.result.now c.len.result (c.deref.ensures.value ∙ c.in_ok-waiting.ensures.ok) (c.len.ensures ∙ sym c.deref.ensures.len)) refl c.count_delimiters-lines.ensures c.saturating_sub-place.ensures) c.cut_all-2.ensures
+returns g c = cut_drained c.self.view_is (c.deref-2.ensures.value ∙ c.in_ok-waiting.ensures.ok)
+    (waiting_count c.self.inside.lines c.self.inside.window.held c.args.line.now _ (c.deref.ensures.value ∙ c.in_ok-waiting.ensures.ok) (waiting_size c.self.inside.window.held c.args.line.now (c.deref.ensures.value ∙ c.in_ok-waiting.ensures.ok) (c.len.ensures ∙ sym c.deref.ensures.len)) refl c.count_delimiters-lines.ensures c.saturating_sub-place.ensures) c.cut_all-2.ensures

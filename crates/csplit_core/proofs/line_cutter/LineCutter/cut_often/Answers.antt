@@ -1,15 +1,15 @@
-use Rattle.std.proofs.Common.{◌∙◌, ap, arith}
+use Rattle.std.proofs.Common.{◌∙◌, ap, arith, rules}
 use Rattle.ports_core.proofs.HandedOn.{fault_is}
 use Rattle.csplit_core.specs.Cutter.{CutterState}
-use Rattle.csplit_core.proofs.SpreadLemmas.{spread_once, spread_more, spread_stopped, first_stopped, spread_fit, spread_ready, spread_fewer}
+use Rattle.csplit_core.proofs.SpreadLemmas.{spread_more, spread_stopped, spread_fit, spread_ready, spread_fewer}
 use Rattle.csplit_core.proofs.line_cutter.LineCutter.cut_often.Goals as goal
 use Rattle.csplit_core.specs.Writer.{size_of}
 
 pub returns-in_err-left-clause-err : goal.returns-in_err-left-clause-err
-returns-in_err-left-clause-err g c = fault_is _ _ _ c.from_residual.ensures.1 (first_stopped _ _ _ _ _ _ _ _ _ _ c.in_err-left.ensures.err)
+returns-in_err-left-clause-err g c = fault_is _ _ _ c.from_residual.ensures.1 (c.in_err-left.ensures.err c.args.line.now)
 
 pub loop-cut-init : goal.loop-cut-init
-loop-cut-init g c = spread_once _ _ _ _ _ _ _ _ _ _ c.in_ok-left.ensures.ok
+loop-cut-init g c = c.in_ok-left.ensures.ok.spreading c.args.line.now
 
 pub try_last-requires-clause-few : goal.try_last-requires-clause-few
 try_last-requires-clause-few g c = omega (arith, c.loop-cut.invariant.lines, c.requires.few)
@@ -17,32 +17,25 @@ try_last-requires-clause-few g c = omega (arith, c.loop-cut.invariant.lines, c.r
 pub try_last-requires-clause-fit : goal.try_last-requires-clause-fit
 try_last-requires-clause-fit g c = c.loop-cut.invariant.fit
 
-pub cut_at-requires-in-Some-clause-few : goal.cut_at-requires-in-Some-clause-few
-cut_at-requires-in-Some-clause-few g c =
-    omega (arith, ap (λ (cutter : CutterState). cutter.lines) c.try_last.ensures.same, c.loop-cut.invariant.lines, c.requires.few)
-
-pub cut_at-requires-in-Some-clause-fits : goal.cut_at-requires-in-Some-clause-fits
-cut_at-requires-in-Some-clause-fits g c =
-    omega (arith, ap (λ (cutter : CutterState). size_of cutter.writer.current) c.try_last.ensures.same, c.loop-cut.invariant.size, c.requires.fits)
-
-pub cut_at-requires-in-Some-clause-fit : goal.cut_at-requires-in-Some-clause-fit
-cut_at-requires-in-Some-clause-fit g c = spread_fit c.loop-cut.self c.try_last.new.self c.try_last.ensures.same c.loop-cut.invariant.fit
-
-pub cut_at-requires-in-Some-clause-none : goal.cut_at-requires-in-Some-clause-none
-cut_at-requires-in-Some-clause-none g c = ap (λ (cutter : CutterState). cutter.window.held) c.try_last.ensures.same ∙ c.loop-cut.invariant.held
-
-pub cut_at-requires-in-Some-clause-ready : goal.cut_at-requires-in-Some-clause-ready
-cut_at-requires-in-Some-clause-ready g c = spread_ready c.loop-cut.self c.try_last.new.self _ c.try_last.ensures.same c.loop-cut.invariant.ready
+pub cut_at-requires-in-Some : goal.cut_at-requires-in-Some
+cut_at-requires-in-Some g c = let same = c.try_last.ensures.same in record {
+  few = omega (arith, ap (λ (cutter : CutterState). cutter.lines) same, c.loop-cut.invariant.lines, c.requires.few);
+  fits = omega (arith, ap (λ (cutter : CutterState). size_of cutter.writer.current) same, c.loop-cut.invariant.size, c.requires.fits);
+  fit = spread_fit same c.loop-cut.invariant.fit;
+  none = ap (λ (cutter : CutterState). cutter.window.held) same ∙ c.loop-cut.invariant.held;
+  cuts = search rules;
+  ready = spread_ready c.loop-cut.self same c.loop-cut.invariant.keeps.writer.ready;
+}
 
 pub returns-in_err-left-2-clause-err : goal.returns-in_err-left-2-clause-err
 returns-in_err-left-2-clause-err g c = fault_is _ _ _ c.from_residual-in_err-left-2.ensures.1
-    (spread_stopped _ _ c.loop-cut.self c.try_last.new.self _ _ c.in-Some.cut _ _ _ _ _ _ _ _ _ (ap (λ (cutter : CutterState). cutter.progress.current) c.cut_at-in-Some.view_is) c.loop-cut.invariant c.try_last.ensures.same c.in-Some.ensures.tries c.in-Some.ensures.cuts c.in_err-left-2.ensures.err)
+    (spread_stopped (ap (λ (cutter : CutterState). cutter.progress.current) c.cut_at-in-Some.view_is) c.loop-cut.invariant c.try_last.ensures.same c.in-Some.ensures.tries c.in-Some.ensures.cuts (c.in_err-left-2.ensures.err c.args.line.now))
 
 pub loop-cut-smaller : goal.loop-cut-smaller
-loop-cut-smaller g c = spread_fewer c.loop-cut.self c.try_last.new.self _ c.try_last.ensures.same c.in_ok-left-2.ensures.ok.fewer
+loop-cut-smaller g c = spread_fewer c.loop-cut.self c.try_last.ensures.same c.in_ok-left-2.ensures.ok.fewer
 
 pub loop-cut-preserved : goal.loop-cut-preserved
-loop-cut-preserved g c = spread_more _ _ c.loop-cut.self c.try_last.new.self _ _ c.in-Some.cut _ _ _ _ _ _ _ _ _ (ap (λ (cutter : CutterState). cutter.progress.current) c.cut_at-in-Some.view_is) c.loop-cut.invariant c.try_last.ensures.same c.in-Some.ensures.tries c.in-Some.ensures.cuts c.in_ok-left-2.ensures.ok
+loop-cut-preserved g c = spread_more (ap (λ (cutter : CutterState). cutter.progress.current) c.cut_at-in-Some.view_is) c.loop-cut.invariant c.try_last.ensures.same c.in-Some.ensures.tries c.in-Some.ensures.cuts c.in_ok-left-2.ensures.ok
 
 pub returns-clause-ok : goal.returns-clause-ok
 returns-clause-ok g c = record { now = c.loop-cut.self; so_far = c.loop-cut.invariant; is = c.try_last.ensures.same; tries = c.in_default.ensures.tries; aim = c.in_default.ensures.aim }

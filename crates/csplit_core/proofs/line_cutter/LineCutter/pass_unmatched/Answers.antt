@@ -5,7 +5,7 @@ use Rattle.csplit_core.proofs.line_cutter.LineCutter.pass_unmatched.Goals as goa
 use Rattle.csplit_core.proofs.LineLemmas.{rest_all}
 
 pub loop-end-init : goal.loop-end-init
-loop-end-init c = more_clear c.args.self.now c.args.text.now c.args.text.now _ c.args.self.now _ _ c.pass_clear-clear.result (none_yet c.args.self.now c.args.text.now) refl c.pass_clear-clear.ensures (rest_all c.pass_clear-clear.result c.args.text.now)
+loop-end-init c = more_clear (none_yet) refl c.pass_clear-clear.ensures (rest_all c.pass_clear-clear.result c.args.text.now)
 
 pub overflow_sub-result : goal.overflow_sub-result
 overflow_sub-result c = grind (arith, common_steps)
@@ -15,28 +15,28 @@ overflow_add-result c = grind (arith, common_steps)
 
 pub returns-then-is_match : goal.returns-then-is_match
 returns-then-is_match c = let place = c.in-Some.ensures in record {
-  over = all_passed_at _ _ _ _ _ c.requires.sound c.requires.aim c.loop-end.invariant c.is_match-in-Some.ensures.same;
-  found = next_found _ _ c.loop-end.left.now _ _ _ c.in-Some.end _ c.requires.aim c.loop-end.invariant c.is_match.view_is c.is_match-in-Some.ensures.same place.0.high place.1 place.0.before c.is_match-in-Some.ensures.found c.if-is_match.true;
+  over = all_passed_at c.requires.sound c.requires.aim c.loop-end.invariant c.is_match-in-Some.ensures.same;
+  found = next_found c.in-Some.end c.requires.aim c.loop-end.invariant c.is_match.view_is c.is_match-in-Some.ensures.same place.0.high place.1 place.0.before c.is_match-in-Some.ensures.found c.if-is_match.true;
 }
 
 pub returns : goal.returns
-returns c = stops_unfound _ _ _ _ c.unfound.result (all_passed_at _ _ _ _ _ c.requires.sound c.requires.aim c.loop-end.invariant refl) c.unfound.ensures.size c.unfound.ensures.found
+returns c = stops_unfound c.unfound.result (all_passed_at c.requires.sound c.requires.aim c.loop-end.invariant refl) c.unfound.ensures.size c.unfound.ensures.found
 
 pub overflow_add-self : goal.overflow_add-self
-overflow_add-self c = let few = few_counted_at _ _ _ _ _ c.loop-end.invariant c.is_match.view_is c.requires.fits in omega (arith, few)
+overflow_add-self c = let few = few_counted_at c.loop-end.invariant c.is_match.view_is c.requires.fits in omega (arith, few)
 
 pub overflow_add-self-in-Some : goal.overflow_add-self-in-Some
-overflow_add-self-in-Some c = let few = few_counted_at _ _ _ _ _ c.loop-end.invariant (c.self.view_is ∙ c.is_match-in-Some.ensures.same) c.requires.fits in omega (arith, few)
+overflow_add-self-in-Some c = let few = few_counted_at c.loop-end.invariant (c.self.view_is ∙ c.is_match-in-Some.ensures.same) c.requires.fits in omega (arith, few)
 
 pub pass_clear-clear-requires-in-Some-clause-whole : goal.pass_clear-clear-requires-in-Some-clause-whole
 pass_clear-clear-requires-in-Some-clause-whole c =
     let place = c.in-Some.ensures in
-    left_whole _ _ _ _ c.requires.whole (one_more_at _ _ c.loop-end.left.now _ _ _ _ _ c.in-Some.end _ c.loop-end.invariant c.is_match.view_is c.is_match-in-Some.ensures.same c.self.view_is place.0.high place.1 place.0.before c.is_match-in-Some.ensures.found c.if-is_match.false (all_left c.loop-end.left.now _ c.in-Some.end refl))
+    left_whole c.requires.whole (one_more_at c.in-Some.end c.loop-end.invariant c.is_match.view_is c.is_match-in-Some.ensures.same c.self.view_is place.0.high place.1 place.0.before c.is_match-in-Some.ensures.found c.if-is_match.false (all_left c.loop-end.left.now c.in-Some.end refl))
 
 pub pass_clear-clear-requires-in-Some-clause-fits : goal.pass_clear-clear-requires-in-Some-clause-fits
 pass_clear-clear-requires-in-Some-clause-fits c =
     let place = c.in-Some.ensures in
-    few_left _ _ _ _ (one_more_at _ _ c.loop-end.left.now _ _ _ _ _ c.in-Some.end _ c.loop-end.invariant c.is_match.view_is c.is_match-in-Some.ensures.same c.self.view_is place.0.high place.1 place.0.before c.is_match-in-Some.ensures.found c.if-is_match.false (all_left c.loop-end.left.now _ c.in-Some.end refl)) c.requires.fits
+    few_left (one_more_at c.in-Some.end c.loop-end.invariant c.is_match.view_is c.is_match-in-Some.ensures.same c.self.view_is place.0.high place.1 place.0.before c.is_match-in-Some.ensures.found c.if-is_match.false (all_left c.loop-end.left.now c.in-Some.end refl)) c.requires.fits
 
 pub overflow_add-left : goal.overflow_add-left
 overflow_add-left c = grind (arith, common_steps)
@@ -44,4 +44,4 @@ overflow_add-left c = grind (arith, common_steps)
 pub loop-end-preserved : goal.loop-end-preserved
 loop-end-preserved c =
     let place = c.in-Some.ensures in
-    more_clear _ _ _ _ _ _ _ c.pass_clear-clear-in-Some.result (one_more_at _ _ c.loop-end.left.now _ _ _ _ _ c.in-Some.end _ c.loop-end.invariant c.is_match.view_is c.is_match-in-Some.ensures.same c.self.view_is place.0.high place.1 place.0.before c.is_match-in-Some.ensures.found c.if-is_match.false (all_left c.loop-end.left.now _ c.in-Some.end refl)) refl c.pass_clear-clear-in-Some.ensures (rest_all c.pass_clear-clear-in-Some.result _)
+    more_clear (one_more_at c.in-Some.end c.loop-end.invariant c.is_match.view_is c.is_match-in-Some.ensures.same c.self.view_is place.0.high place.1 place.0.before c.is_match-in-Some.ensures.found c.if-is_match.false (all_left c.loop-end.left.now c.in-Some.end refl)) refl c.pass_clear-clear-in-Some.ensures (rest_all c.pass_clear-clear-in-Some.result _)

@@ -1,25 +1,23 @@
-use Rattle.std.proofs.Common.{Ok, Err, length, take, ap, arith, sym, ◌∙◌, subst}
+use Rattle.std.proofs.Common.{Ok, Err, take, ap, arith, sym, ◌∙◌, subst}
 use Rattle.std.proofs.lemmas.Grind.{common_steps}
 use Rattle.ports_core.proofs.HandedOn.{result_is}
 use Rattle.csplit_core.specs.Cutter.{CutterState}
 use Rattle.csplit_core.specs.Writer.{IsReady}
 use Rattle.csplit_core.specs.inner.Cutter.{IsWhole, Stretches}
-use Rattle.csplit_core.proofs.CutLineLemmas.{none_there}
-use Rattle.csplit_core.proofs.GoLemmas.{first_stopped, stretch_cut, stretch_first, stretch_on}
+use Rattle.csplit_core.proofs.SpreadLemmas.{none_there, stretch_cut, stretch_first, stretch_on}
 use Rattle.csplit_core.proofs.LineLemmas.{whole_drop}
 use Rattle.std.proofs.Math.Seq.{take-length}
 use Rattle.csplit_core.proofs.TakeLemmas.{take_some, took_past}
 use Rattle.csplit_core.proofs.line_cutter.LineCutter.stretch.Goals as goal
 
 pub returns-then-is_past : goal.returns-then-is_past
-returns-then-is_past g c = stretch_first _ c.args.self.now c.args.self.now c.args.text.now (length c.args.text.now) c.unfound.result _ _ c.requires.some (omega arith)
-    (subst IsWhole (sym (take-length c.args.text.now)) c.requires.whole) c.unfound.ensures.size c.unfound.ensures.found
-    (took_past _ c.args.self.now (take (length c.args.text.now) c.args.text.now) _ (c.is_past.ensures.past c.if-is_past.true) c.requires.sound c.requires.ready)
+returns-then-is_past g c = stretch_first (Ok c.unfound.result) c.requires.some (omega arith) (subst IsWhole (sym (take-length c.args.text.now)) c.requires.whole)
+    (took_past (c.is_past.ensures.past c.if-is_past.true) c.requires.sound c.requires.ready) (c.unfound.ensures.size, c.unfound.ensures.found)
 
 pub go_on-requires : goal.go_on-requires
 go_on-requires g c = record {
   within = c.first_size-size.ensures.within;
-  rest = whole_drop c.first_size-size.result c.args.text.now c.requires.whole;
+  rest = whole_drop c.first_size-size.result c.requires.whole;
   lines = grind (arith, common_steps);
   fits = grind (arith, common_steps);
   sound = record { fit = c.try_line.ensures.fit; aim = c.in_default.ensures.aim };
@@ -27,14 +25,14 @@ go_on-requires g c = record {
 }
 
 pub returns-in_default : goal.returns-in_default
-returns-in_default g c = stretch_on _ c.args.self.now c.try_line.new.self _ c.args.text.now c.first_size-size.result _ _ c.go_on.result c.requires.sound.fit (c.is_past.ensures.live c.if-is_past.false) c.first_size-size.ensures.some c.first_size-size.ensures.within
+returns-in_default g c = stretch_on c.go_on.result c.requires.sound.fit (c.is_past.ensures.live c.if-is_past.false) c.first_size-size.ensures.some c.first_size-size.ensures.within
     c.first_size-size.ensures.line c.first_size-size.ensures.whole c.try_line.ensures.same c.in_default.ensures.tries c.go_on.ensures
 
 pub cut_on-requires : goal.cut_on-requires
 cut_on-requires g c = record {
   within = c.first_size-size.ensures.within;
   line = c.first_size-size.ensures.line;
-  rest = whole_drop c.first_size-size.result c.args.text.now c.requires.whole;
+  rest = whole_drop c.first_size-size.result c.requires.whole;
   complete = grind (arith, common_steps);
   lines = grind (arith, common_steps);
   fits = grind (arith, common_steps);
@@ -45,9 +43,9 @@ cut_on-requires g c = record {
 }
 
 pub returns-then-is_empty : goal.returns-then-is_empty
-returns-then-is_empty g c = stretch_cut _ c.args.self.now c.try_line.new.self _ c.args.text.now c.first_size-size.result _ _ _ c.cut_on.result c.requires.sound.fit (c.is_past.ensures.live c.if-is_past.false) c.first_size-size.ensures.some c.first_size-size.ensures.within
+returns-then-is_empty g c = stretch_cut c.cut_on.result c.requires.sound.fit (c.is_past.ensures.live c.if-is_past.false) c.first_size-size.ensures.some c.first_size-size.ensures.within
     c.first_size-size.ensures.line c.first_size-size.ensures.whole c.try_line.ensures.same
-    (sym (ap (λ (cutter : CutterState). cutter.window.held) c.self.view_is) ∙ none_there c.self.inside.window.held c.is_empty.result c.is_empty.ensures c.if-is_empty.true) c.in-Some.ensures.cuts c.in-Some.ensures.tries c.cut_on.ensures
+    (sym (ap (λ (cutter : CutterState). cutter.window.held) c.self.view_is) ∙ none_there c.is_empty.ensures c.if-is_empty.true) c.in-Some.ensures.cuts c.in-Some.ensures.tries c.cut_on.ensures
 
 pub cut_line-requires : goal.cut_line-requires
 cut_line-requires g c = record {
@@ -61,9 +59,9 @@ cut_line-requires g c = record {
 
 pub returns-in_err-cut_line : goal.returns-in_err-cut_line
 returns-in_err-cut_line g c = result_is (Stretches _ _ _ _ _ _) _ _ c.from_residual.ensures.1
-    (first_stopped _ c.args.self.now _ c.args.text.now c.first_size-size.result _ _ c.in_err-cut_line.field-0.0 c.first_size-size.ensures.whole
-    (take_some _ c.args.self.now c.try_line.new.self _ (take c.first_size-size.result c.args.text.now) c.in-Some.cut _ _ (Err c.in_err-cut_line.field-0.0) c.requires.sound.fit (c.is_past.ensures.live c.if-is_past.false) c.first_size-size.ensures.line c.try_line.ensures.same c.in-Some.ensures.cuts c.in-Some.ensures.tries c.in_err-cut_line.ensures))
+    (stretch_first (Err c.in_err-cut_line.field-0.0) c.first_size-size.ensures.some c.first_size-size.ensures.within c.first_size-size.ensures.whole
+    (take_some (take c.first_size-size.result c.args.text.now) c.requires.sound.fit (c.is_past.ensures.live c.if-is_past.false) c.first_size-size.ensures.line c.try_line.ensures.same c.in-Some.ensures.cuts c.in-Some.ensures.tries c.in_err-cut_line.ensures) tt)
 
 pub returns : goal.returns
-returns g c = stretch_first _ c.args.self.now _ c.args.text.now c.first_size-size.result c.unfound-2.result _ _ c.first_size-size.ensures.some c.first_size-size.ensures.within c.first_size-size.ensures.whole c.unfound-2.ensures.size c.unfound-2.ensures.found
-    (take_some _ c.args.self.now c.try_line.new.self _ (take c.first_size-size.result c.args.text.now) c.in-Some.cut _ _ (Ok c.in_ok-cut_line.field-0) c.requires.sound.fit (c.is_past.ensures.live c.if-is_past.false) c.first_size-size.ensures.line c.try_line.ensures.same c.in-Some.ensures.cuts c.in-Some.ensures.tries c.in_ok-cut_line.ensures)
+returns g c = stretch_first (Ok c.unfound-2.result) c.first_size-size.ensures.some c.first_size-size.ensures.within c.first_size-size.ensures.whole
+    (take_some (take c.first_size-size.result c.args.text.now) c.requires.sound.fit (c.is_past.ensures.live c.if-is_past.false) c.first_size-size.ensures.line c.try_line.ensures.same c.in-Some.ensures.cuts c.in-Some.ensures.tries c.in_ok-cut_line.ensures) (c.unfound-2.ensures.size, c.unfound-2.ensures.found)

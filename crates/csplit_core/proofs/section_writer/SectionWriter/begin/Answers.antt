@@ -1,25 +1,24 @@
-use Rattle.std.proofs.Common.{◌∙◌, ap, sym, subst}
-use Rattle.ports_core.proofs.HandedOn.{result_is}
+use Rattle.std.proofs.Common.{None, ◌∙◌, ap, sym, subst}
+use Rattle.csplit_core.proofs.WriterLemmas.{stop_is}
 use Rattle.csplit_core.specs.Writer.{WriterState}
-use Rattle.csplit_core.specs.inner.WriterSteps.{Started, Starts}
+use Rattle.csplit_core.specs.inner.Writer.{Starts}
 use Rattle.csplit_core.specs.declared.section_writer.Current.TheVariants.{Skipped, Unmade}
-use Rattle.csplit_core.proofs.MakeLemmas.{state_of}
-use Rattle.csplit_core.proofs.BeginLemmas.{begin_skipped, begin_unmade, begin_made, begin_not}
+use Rattle.csplit_core.proofs.WriterCalls.{state_of, begin_skipped, begin_unmade, begin_made, begin_not}
 use Rattle.csplit_core.proofs.section_writer.SectionWriter.begin.Goals as goal
 
 pub returns-then-not-is_kept : goal.returns-then-not-is_kept
 returns-then-not-is_kept g c =
-    subst (Started g.O.Outs.told c.args.self.now.style c.args.self.now c.args.is_kept _ _) (sym (ap (λ (w : WriterState). record w { current = Skipped }) c.self.view_is))
-    (begin_skipped g.O.Outs.told c.args.self.now c.args.is_kept _ c.if-not-is_kept.true c.requires)
+    subst (λ next. Starts g.O.Outs.told c.args.self.now c.args.is_kept (g.O.Outs.slots c.args.outs.now) (g.O.Outs.slots c.args.outs.now) next None) (sym (ap (λ (w : WriterState). record w { current = Skipped }) c.self.view_is))
+    (begin_skipped c.if-not-is_kept.true c.requires)
 
 pub returns-then-self : goal.returns-then-self
 returns-then-self g c =
-    subst (Started g.O.Outs.told c.args.self.now.style c.args.self.now c.args.is_kept _ _) (sym (ap (λ i. state_of i.style i.files.items Unmade) c.self-inside.view_is ∙ ap (λ (w : WriterState). record w { current = Unmade }) c.self.view_is))
-    (begin_unmade g.O.Outs.told c.args.self.now c.args.is_kept _ c.if-not-is_kept.false (sym (ap (λ i. i.style.elide) c.self-inside.view_is ∙ ap (λ (w : WriterState). w.style.elide) c.self.view_is) ∙ c.if-self.true) c.requires)
+    subst (λ next. Starts g.O.Outs.told c.args.self.now c.args.is_kept (g.O.Outs.slots c.args.outs.now) (g.O.Outs.slots c.args.outs.now) next None) (sym (ap (λ i. state_of i.style i.files.items Unmade) c.self-inside.view_is ∙ ap (λ (w : WriterState). record w { current = Unmade }) c.self.view_is))
+    (begin_unmade c.if-not-is_kept.false (sym (ap (λ i. i.style.elide) c.self-inside.view_is ∙ ap (λ (w : WriterState). w.style.elide) c.self.view_is) ∙ c.if-self.true) c.requires)
 
 pub returns-in_err-make_file : goal.returns-in_err-make_file
-returns-in_err-make_file g c = result_is (Starts g.O.Outs.told c.args.self.now.style c.args.self.now c.args.is_kept _ _ c.make_file.new.self) _ _ c.from_residual.ensures.1
-    (begin_not g.O.Outs.told c.args.self.now c.make_file.new.self c.args.is_kept _ _ _ c.if-not-is_kept.false (sym (ap (λ i. i.style.elide) c.self-inside.view_is ∙ ap (λ (w : WriterState). w.style.elide) c.self.view_is) ∙ c.if-self.false) c.requires c.in_err-make_file.ensures)
+returns-in_err-make_file g c = stop_is (Starts g.O.Outs.told c.args.self.now c.args.is_kept _ _ c.make_file.new.self) _ _ c.from_residual.ensures.1
+    (begin_not c.if-not-is_kept.false (sym (ap (λ i. i.style.elide) c.self-inside.view_is ∙ ap (λ (w : WriterState). w.style.elide) c.self.view_is) ∙ c.if-self.false) c.in_err-make_file.ensures)
 
 pub returns : goal.returns
-returns g c = begin_made g.O.Outs.told c.args.self.now c.make_file.new.self c.args.is_kept c.in_ok-make_file.field-0 _ _ c.if-not-is_kept.false (sym (ap (λ i. i.style.elide) c.self-inside.view_is ∙ ap (λ (w : WriterState). w.style.elide) c.self.view_is) ∙ c.if-self.false) c.requires c.in_ok-make_file.ensures
+returns g c = begin_made c.if-not-is_kept.false (sym (ap (λ i. i.style.elide) c.self-inside.view_is ∙ ap (λ (w : WriterState). w.style.elide) c.self.view_is) ∙ c.if-self.false) c.requires c.in_ok-make_file.ensures

@@ -1,0 +1,524 @@
+-- What the calls of the writer of sections do.
+use Rattle.std.proofs.Common.{◌≡◌, ℕ, ◌+◌, ◌<◌, zero, suc, List, [], ◌∷◌, ◌++◌, length, take, drop, replicate, decimal, refl, ◌∙◌, ap, arith, sym, subst, eqb, ◌≤◌, Bool, true, false, not, ◌&&◌, Option, Some, None, IsTrue, length-append, Err}
+use Rattle.std.proofs.Math.Seq.{take-append-add}
+use Rattle.csplit_core.specs.Input.{newline}
+use Rattle.ports_core.specs.Slot.{Slot, FailsToOpen, is_writable, told_of, opened, changed_at, closes, with_broken}
+use Rattle.ports_core.specs.declared.fault.Fault.{Fault}
+use Rattle.ports_core.specs.declared.fault.Fault.TheVariants.{Memory}
+use Rattle.csplit_core.specs.Output.{Style, Contents, is_empty, makes_file, files_of, size_lines, file_at, part_by, size_line}
+use Rattle.csplit_core.specs.Writer.{WriterState, Writes, IsCurrent, IsLast, IsReady, OwnsFiles, IsOpenAt, size_of}
+use Rattle.csplit_core.specs.inner.Writer.{MakesNone, unnamed, failed, Appends, Wrote, Made, Makes, Starts, next_name, begun_after, with_bytes, first_draft, ended_part, with_section, Goes, KeepsOrBreaks, Leaves, KeepsFiles, Pauses, Begun, BegunNot, new_writer, Ends}
+use Rattle.csplit_core.specs.declared.section_writer.Current.{Current}
+use Rattle.std.proofs.lemmas.Bool.{false≢true, eq-eqb}
+use Rattle.std.specs.Prelude.{IfNone}
+use Rattle.ports_core.specs.Part.{Part, OutputsAt, IsNext, File as PartFile, Begins}
+use Rattle.csplit_core.specs.Draft.{Draft, draft_part, last_contents, AreClosed}
+use Rattle.csplit_core.specs.laws.SectionLaws.{made_more}
+use Rattle.csplit_core.specs.declared.section_writer.Current.TheVariants.{Skipped, Unmade, File}
+use Rattle.csplit_core.proofs.WriterLemmas.{leaves_still, reaches_as, reaches_by, reaches_still, where_well, writes_to, leaves_again, stops_in, Becomes, becomes_again, file_of, with_last, file_begins, opens, opens_not, reaches_again, stops_wider, end_begins, in_any, falls_wider, line_begins, close_begins, closes_last, closes_not, tells_line}
+use Rattle.ports_core.proofs.SlotSteps.{KeepsMade, keeps_write, made_write, written_writable, made_short, keeps_same, keeps_open, writable_before, opened_writable, opened_last, none_past, made_same, made_again, made_close, made_break, keeps_close, writable_elsewhere}
+use Rattle.csplit_core.proofs.DraftLemmas.{name_after, part_none, open_part, count_made, closed_files, part_made, count_none, more_begins, closed_part, line_of, all_closed}
+use Rattle.csplit_core.proofs.OwnLemmas.{at_file, last_file, there_same, owned_same, write_breaks, owned_opened, owned_unopened, make_breaks, line_breaks, close_breaks}
+use Rattle.ports_core.specs.Name.{numbered_name}
+use Rattle.ports_core.specs.Swept.{is_among, SweptFrom, Removes}
+use Rattle.ports_core.specs.declared.slot.Mode.TheVariants.{Fresh}
+use Rattle.std.proofs.lemmas.List.{append-nil}
+use Rattle.ports_core.specs.inner.Part.{AllClosed}
+use Rattle.ports_core.proofs.SweepLemmas.{all_cleared, left_apart, left_has, left_there, same_size}
+use Rattle.ports_core.specs.declared.slot.State.TheVariants as state
+use Rattle.ports_core.specs.declared.fault.Fault.TheVariants as fault
+
+-- The line with a file's size.
+
+one_left : (n all : ℕ) → n < all → take 1 (drop n (replicate all newline)) ≡ newline ∷ []
+one_left zero (suc all) less = refl
+one_left (suc n) (suc all) less = one_left n all (omega arith)
+one_left n all less = absurd (omega arith)
+
+-- of a row of newlines the front was replaced by the digits, and one more is taken
+pub line_is : (size all : ℕ) {digits : List ℕ} (copied : List ℕ) → copied ≡ digits → digits ≡ decimal size → length digits < all → take (length digits + 1) (copied ++ drop (length digits) (replicate all newline)) ≡ decimal size ++ newline ∷ []
+line_is size all {digits} copied same is fits =
+    ap (λ front. take (length digits + 1) (front ++ drop (length digits) (replicate all newline))) same
+    ∙ take-append-add digits (drop (length digits) (replicate all newline)) 1 ∙ ap (λ rest. digits ++ rest) (one_left (length digits) all fits)
+    ∙ ap (λ front. front ++ newline ∷ []) is
+
+-- Why a file wasn't made.
+
+pub not_named : {slots : List Slot} {name : List ℕ} {fault : Fault} → fault ≡ Memory → MakesNone slots name slots fault
+not_named {slots} {name} is = subst (MakesNone slots name slots) (sym is) (unnamed refl)
+
+pub not_opened : {old : List Slot} {given name : List ℕ} {new : List Slot} {fault : Fault} → given ≡ name → FailsToOpen old given new fault → MakesNone old name new fault
+not_opened {old} {new} {fault} is fails = failed fault (subst (λ those. FailsToOpen old those new fault) is fails)
+
+abbrev pub state_of : Style → List ℕ → Current → WriterState
+state_of style files current = record { style = style; files = files; current = current }
+
+-- where there is room for one more
+pub with_room : {style : Style} {files now : List ℕ} (current : Current) {writer : WriterState} → now ≡ files → state_of style files current ≡ writer → state_of style now current ≡ writer
+with_room {style} current same is = ap (λ those. state_of style those current) same ∙ is
+
+-- More bytes of the open section
+
+-- What the open section is
+
+pub now_file : {writer : WriterState} {draft : Draft} {slot size : ℕ} → writer.current ≡ File slot size → Writes writer draft → (makes_file writer.style (last_contents false draft) ≡ true) × (size ≡ length draft.bytes)
+now_file {writer} {draft} is writes = subst (λ current. IsCurrent writer.style draft.is_kept draft.bytes current) is writes.current
+
+pub now_skipped : {writer : WriterState} {draft : Draft} → writer.current ≡ Skipped → Writes writer draft → draft.is_kept ≡ false
+now_skipped {writer} {draft} is writes = subst (λ current. IsCurrent writer.style draft.is_kept draft.bytes current) is writes.current
+
+pub now_unmade : {writer : WriterState} {draft : Draft} → writer.current ≡ Unmade → Writes writer draft → (draft.is_kept ≡ true) × (writer.style.elide ≡ true) × (draft.bytes ≡ [])
+now_unmade {writer} {draft} is writes = subst (λ current. IsCurrent writer.style draft.is_kept draft.bytes current) is writes.current
+
+-- a section that is skipped makes no file, and neither does an empty one where those are left out
+pub skips_file : (style : Style) (one : Contents) → one.is_kept ≡ false → makes_file style one ≡ false
+skips_file style one kept = ap (λ k. k && not (style.elide && is_empty one.bytes)) kept
+
+pub elides_file : (style : Style) (one : Contents) → style.elide ≡ true → one.bytes ≡ [] → makes_file style one ≡ false
+elides_file style one elide none = ap (λ bytes. one.is_kept && not (style.elide && is_empty bytes)) none ∙ ap (λ e. one.is_kept && not (e && true)) elide ∙ never one.is_kept where
+  never : (kept : Bool) → (kept && false) ≡ false
+  never true = refl
+  never false = refl
+
+-- Nothing is written of a section that is skipped
+
+skipped_part : (writer : WriterState) (bytes : List ℕ) (draft : Draft) → draft.is_kept ≡ false → draft_part writer.style draft ≡ draft_part writer.style (with_bytes bytes draft)
+skipped_part writer bytes draft kept =
+    part_none writer.style draft.ended (last_contents false draft) (skips_file writer.style (last_contents false draft) kept)
+    ∙ sym (part_none writer.style draft.ended (last_contents false (with_bytes bytes draft)) (skips_file writer.style (last_contents false (with_bytes bytes draft)) kept))
+
+pub put_skipped : {told : Bool} {writer : WriterState} (bytes : List ℕ) {slots : List Slot} → writer.current ≡ Skipped → IsReady writer slots → Goes told writer (with_bytes bytes) slots slots writer None
+put_skipped {writer = writer} bytes is ready = record {
+  leaves = leaves_still ready;
+  reaches = λ draft writes. reaches_still (skipped_part writer bytes draft (now_skipped is writes));
+  writes = λ draft writes. record {
+    closed = writes.closed;
+    made = writes.made ∙ ap (λ (part : Part). length part.files) (skipped_part writer bytes draft (now_skipped is writes));
+    current = subst (λ current. IsCurrent writer.style draft.is_kept (draft.bytes ++ bytes) current) (sym is) (now_skipped is writes);
+  };
+}
+
+-- The file of the open section gets more bytes, or breaks.
+
+still_makes : (style : Style) (draft : Draft) (bytes : List ℕ) → makes_file style (last_contents false draft) ≡ true → makes_file style (last_contents false (with_bytes bytes draft)) ≡ true
+still_makes style draft bytes makes = made_more style.elide draft.is_kept draft.bytes bytes makes
+
+file_now : {told : Bool} {writer next : WriterState} {slot size : ℕ} {bytes : List ℕ} {old new : List Slot} (fault : Option Fault) → writer.current ≡ File slot size → Appends told writer slot size bytes old new next fault → (more : ℕ) × (next.current ≡ File slot more)
+file_now {size = size} {bytes} None is appends = (size + length bytes, appends.current)
+file_now {size = size} (Some why) is appends = (size, appends.still ∙ is)
+
+pub wrote_made : (told : Bool) (slot : ℕ) (bytes : List ℕ) {old new : List Slot} (fault : Option Fault) → Wrote told slot bytes old new fault → KeepsMade old new
+wrote_made told slot bytes {old} {new} None wrote = made_write slot _ old new wrote
+wrote_made told slot bytes {old} {new} (Some why) cut = made_short told slot bytes old new why cut
+
+wrote_slots : (told : Bool) (style : Style) (slot : ℕ) (bytes : List ℕ) (old new : List Slot) (fault : Option Fault) → (2 ≤ slot) × IsTrue (is_writable old slot) → Wrote told slot bytes old new fault → KeepsOrBreaks style old new fault
+wrote_slots told style slot bytes old new None at wrote = keeps_write slot _ old new wrote
+wrote_slots told style slot bytes old new (Some why) at cut = write_breaks told style at.0 at.1 cut
+
+appends_ready : {told : Bool} {writer next : WriterState} {slot size : ℕ} {bytes : List ℕ} {old new : List Slot} (fault : Option Fault) → (2 ≤ slot) × IsTrue (is_writable old slot) → IsReady writer old → Appends told writer slot size bytes old new next fault
+    → IfNone fault (IsReady next new)
+appends_ready {told} {writer} {slot = slot} {bytes = bytes} {old} {new} None at ready appends =
+    let made = made_write slot _ old new appends.wrote in
+    subst (λ those. IsReady those new) (sym (appends.same ∙ ap (λ current. record writer { current = current }) appends.current)) (record {
+      streams = (let size = made.size in let two = ready.streams in omega (arith, size, two));
+      output = written_writable old new 0 slot (told_of told bytes) ready.output appends.wrote;
+      files = there_same writer.files made ready.files;
+      current = (at.0, written_writable old new slot slot (told_of told bytes) at.1 appends.wrote);
+    })
+appends_ready (Some why) at ready appends = tt
+
+pub appends_leaves : {told : Bool} {writer next : WriterState} {slot size : ℕ} {bytes : List ℕ} {old new : List Slot} {fault : Option Fault} → writer.current ≡ File slot size → IsReady writer old → Appends told writer slot size bytes old new next fault
+    → Leaves writer next old new fault
+appends_leaves {told} {writer} {slot = slot} {bytes = bytes} {old} {new} {fault} is ready appends =
+    let made = wrote_made told slot bytes fault appends.wrote in record {
+      style = ap (λ (those : WriterState). those.style) appends.same;
+      owns = owned_same (ap (λ (those : WriterState). those.files) appends.same)
+          (λ last. subst (λ current. IsLast current new) (sym (file_now fault is appends).1) (last_file writer old is last ∙ sym made.size)) made;
+      slots = wrote_slots told writer.style slot bytes old new fault (at_file is ready) appends.wrote;
+      ready = appends_ready fault (at_file is ready) ready appends;
+    }
+
+pub put_file : {told : Bool} {writer next : WriterState} {slot size : ℕ} (bytes : List ℕ) {old new : List Slot} {fault : Option Fault} → writer.current ≡ File slot size → IsReady writer old → Appends told writer slot size bytes old new next fault
+    → Goes told writer (with_bytes bytes) old new next fault
+put_file {told} {writer} bytes {old} {fault = fault} is ready appends = record {
+  leaves = appends_leaves is ready appends;
+  reaches = λ draft writes. let now = now_file is writes in
+      reaches_as (open_part writer.style draft now.0) (open_part writer.style (with_bytes bytes draft) (still_makes writer.style draft bytes now.0))
+      (reaches_by (appends_leaves is ready appends).owns (λ last. writes_to told (size_lines writer.style draft.ended) (files_of writer.style 0 draft.ended) (name_after writer.style draft.ended)
+      draft.bytes bytes old fault (closed_files writer.style 0 draft.ended writes.closed) (last_file writer old is last) appends.wrote));
+  writes = where_well fault appends.current (λ current draft writes. let now = now_file is writes in let makes = still_makes writer.style draft bytes now.0 in
+      subst (λ those. Writes those (with_bytes bytes draft)) (sym (appends.same ∙ ap (λ current. record writer { current = current }) current)) (record {
+        closed = writes.closed;
+        made = writes.made ∙ count_made writer.style draft.ended (last_contents false draft) now.0 ∙ sym (count_made writer.style draft.ended (last_contents false (with_bytes bytes draft)) makes);
+        current = (makes, ap (λ n. n + length bytes) now.1 ∙ sym (length-append draft.bytes bytes));
+      }));
+}
+
+pub some_bytes : (bytes : List ℕ) → false ≡ eqb (length bytes) 0 → is_empty bytes ≡ false
+some_bytes [] is = absurd (false≢true (is ∙ eq-eqb 0 0 refl))
+some_bytes (byte ∷ bytes) is = refl
+
+-- A file is made for the open section, and a section begins.
+
+-- The next file
+
+made_becomes : {told : Bool} {writer next : WriterState} (ended : List Contents) {slot : ℕ} {old new : List Slot} → length writer.files ≡ length (files_of writer.style 0 ended) → Made writer old new next slot
+    → Becomes told (part_by writer.style ended) (with_last (size_lines writer.style ended) (files_of writer.style 0 ended) (file_of (name_after writer.style ended) [] state.Open)) old new None
+made_becomes {told} {writer} ended {old = old} count made = opens told (size_lines writer.style ended) (files_of writer.style 0 ended) (name_after writer.style ended)
+    (made.added ∙ ap (λ n. old ++ opened (numbered_name writer.style.prefix writer.style.digits n) Fresh ∷ []) count)
+
+next_file : (style : Style) (ended : List Contents) (one : Contents) → makes_file style one ≡ true → IsNext (part_by style ended) (part_by style (ended ++ one ∷ [])) (name_after style ended)
+next_file style ended one makes = record {
+  front = files_of style 0 ended;
+  file = file_at style (length (files_of style 0 ended)) one;
+  rest = [];
+  files = ap (λ (part : Part). part.files) (part_made style ended one makes);
+  place = refl;
+  name_is = refl;
+}
+
+unmade_falls : {told : Bool} (writer : WriterState) (ended : List Contents) (one : Contents) {old new : List Slot} {f : Fault} → makes_file writer.style one ≡ true → AreClosed ended → length writer.files ≡ length (files_of writer.style 0 ended)
+    → MakesNone old (next_name writer) new f → Becomes told (part_by writer.style ended) (part_by writer.style (ended ++ one ∷ [])) old new (Some f)
+unmade_falls {told} writer ended one {old} {new} {f} makes closed count none =
+    opens_not told (size_lines writer.style ended) (files_of writer.style 0 ended) (closed_files writer.style 0 ended closed) (more_begins writer.style ended one) (next_file writer.style ended one makes)
+    (subst (λ n. MakesNone old (numbered_name writer.style.prefix writer.style.digits n) new f) count none)
+
+current_made : {writer next : WriterState} {slot : ℕ} {old new : List Slot} → Made writer old new next slot → next.current ≡ File slot 0
+current_made made = ap (λ (those : WriterState). those.current) made.same
+
+pub made_ready : {writer next : WriterState} {slot : ℕ} {old new : List Slot} → IsReady writer old → Made writer old new next slot → IsReady next new
+made_ready {writer} {slot} {old} {new} ready made = record {
+  streams = (let two = ready.streams in let size : length new ≡ length old + 1 = ap length made.added ∙ length-append old (opened (next_name writer) Fresh ∷ []) in omega (arith, two, size));
+  output = writable_before old new 0 (opened (next_name writer) Fresh) (let two = ready.streams in omega (arith, two)) made.added ready.output;
+  files = (owned_opened ready.streams made).there ready.files;
+  current = subst (λ current. IsOpenAt current new) (sym (current_made made)) (
+    (let two = ready.streams in let here : slot ≡ length old = made.place in omega (arith, two, here)),
+    opened_writable old new slot (next_name writer) Fresh made.place made.added,
+  );
+}
+
+made_leaves : {writer next : WriterState} {slot : ℕ} {old new : List Slot} → IsReady writer old → Made writer old new next slot → Leaves writer next old new None
+made_leaves {old = old} {new} ready made =
+    record { style = ap (λ (those : WriterState). those.style) made.same; owns = owned_opened ready.streams made; slots = keeps_open _ old new made.added; ready = made_ready ready made }
+
+unmade_leaves : {writer next : WriterState} {old new : List Slot} {f : Fault} → Makes writer old new next (Err f) → Leaves writer next old new (Some f)
+unmade_leaves {writer} {old = old} {new} (same, none) = record {
+  style = ap (λ (those : WriterState). those.style) same;
+  owns = subst (λ those. KeepsFiles writer those old new) (sym same) (owned_unopened none);
+  slots = make_breaks writer.style none;
+  ready = tt;
+}
+
+-- The first bytes of a section whose file isn't made before them
+
+first_makes : (style : Style) (draft : Draft) (bytes : List ℕ) → draft.is_kept ≡ true → style.elide ≡ true → draft.bytes ≡ [] → is_empty bytes ≡ false → makes_file style (last_contents false (with_bytes bytes draft)) ≡ true
+first_makes style draft bytes kept elide none some =
+    ap (λ those. draft.is_kept && not (style.elide && is_empty (those ++ bytes))) none ∙ ap (λ e. draft.is_kept && not (style.elide && e)) some
+    ∙ ap (λ e. draft.is_kept && not (e && false)) elide ∙ ap (λ k. k && true) kept
+
+-- what is known of a draft whose section has no file yet
+record Unwritten (writer : WriterState) (bytes : List ℕ) (draft : Draft) : Type 0 where
+  makes : makes_file writer.style (last_contents false (with_bytes bytes draft)) ≡ true
+  none : makes_file writer.style (last_contents false draft) ≡ false
+  count : length writer.files ≡ length (files_of writer.style 0 draft.ended)
+  high : draft_part writer.style (with_bytes bytes draft) ≡ with_last (size_lines writer.style draft.ended) (files_of writer.style 0 draft.ended) (file_of (name_after writer.style draft.ended) bytes state.Open)
+  size : 0 + length bytes ≡ length (draft.bytes ++ bytes)
+
+unwritten : {writer : WriterState} {bytes : List ℕ} {draft : Draft} → writer.current ≡ Unmade → is_empty bytes ≡ false → Writes writer draft → Unwritten writer bytes draft
+unwritten {writer} {bytes} {draft} is some writes = record {
+  makes = makes;
+  none = none;
+  count = writes.made ∙ count_none writer.style draft.ended (last_contents false draft) none;
+  high = open_part writer.style (with_bytes bytes draft) makes ∙ ap (λ those. with_last (size_lines writer.style draft.ended) (files_of writer.style 0 draft.ended) (file_of (name_after writer.style draft.ended) (those ++ bytes) state.Open)) now.2;
+  size = (let e : 0 + length bytes ≡ length bytes = omega arith in e) ∙ sym (ap (λ those. length (those ++ bytes)) now.2);
+} where
+  now : (draft.is_kept ≡ true) × (writer.style.elide ≡ true) × (draft.bytes ≡ [])
+  now = now_unmade is writes
+
+  makes : makes_file writer.style (last_contents false (with_bytes bytes draft)) ≡ true
+  makes = let now = now_unmade is writes in first_makes writer.style draft bytes now.0 now.1 now.2 some
+
+  none : makes_file writer.style (last_contents false draft) ≡ false
+  none = let now = now_unmade is writes in elides_file writer.style (last_contents false draft) now.1 now.2
+
+pub put_first : {told : Bool} {writer made next : WriterState} {slot : ℕ} (bytes : List ℕ) {old mid new : List Slot} {fault : Option Fault} → writer.current ≡ Unmade → is_empty bytes ≡ false → IsReady writer old → Made writer old mid made slot
+    → Appends told made slot 0 bytes mid new next fault → Goes told writer (with_bytes bytes) old new next fault
+put_first {told} {writer} {made} {next} {slot} bytes {old} {mid} {new} {fault} is some ready makes appends = record {
+  leaves = leaves;
+  reaches = λ draft writes. let so = unwritten is some writes in reaches_as (part_none writer.style draft.ended (last_contents false draft) so.none) so.high
+      (reaches_by leaves.owns (λ last. becomes_again (file_begins (files_of writer.style 0 draft.ended) (file_of (name_after writer.style draft.ended) [] state.Open)) (made_becomes draft.ended so.count makes)
+      (writes_to told (size_lines writer.style draft.ended) (files_of writer.style 0 draft.ended) (name_after writer.style draft.ended) [] bytes mid fault
+      (closed_files writer.style 0 draft.ended writes.closed) (opened_last old mid slot (next_name writer) Fresh makes.place makes.added) appends.wrote)));
+  writes = where_well fault appends.current (λ current draft writes. let so = unwritten is some writes in
+      subst (λ those. Writes those (with_bytes bytes draft)) (sym (appends.same ∙ ap (λ (those : WriterState). record those { current = next.current }) makes.same ∙ ap (λ current. record writer { files = writer.files ++ slot ∷ []; current = current }) current)) (record {
+        closed = writes.closed;
+        made = length-append writer.files (slot ∷ []) ∙ ap (λ n. n + 1) so.count ∙ sym (count_made writer.style draft.ended (last_contents false (with_bytes bytes draft)) so.makes);
+        current = (so.makes, so.size);
+      }));
+} where
+  leaves : Leaves writer next old new fault
+  leaves = leaves_again (made_leaves ready makes) (appends_leaves (current_made makes) (made_ready ready makes) appends)
+
+pub put_unmade : {told : Bool} {writer next : WriterState} (bytes : List ℕ) {old new : List Slot} {f : Fault} → writer.current ≡ Unmade → is_empty bytes ≡ false → Makes writer old new next (Err f) → Goes told writer (with_bytes bytes) old new next (Some f)
+put_unmade {writer = writer} bytes is some makes = record {
+  leaves = unmade_leaves makes;
+  reaches = λ draft writes. let so = unwritten is some writes in reaches_as (part_none writer.style draft.ended (last_contents false draft) so.none) refl
+      (reaches_by (unmade_leaves makes).owns (λ last. unmade_falls writer draft.ended (last_contents false (with_bytes bytes draft)) so.makes writes.closed so.count makes.1));
+  writes = tt;
+}
+
+-- A section begins
+
+abbrev begun : Bool → Contents
+begun kept = record { is_kept = kept; is_closed = false; bytes = [] }
+
+-- one without a file
+begun_none : {told : Bool} {writer : WriterState} {kept : Bool} {current : Current} {slots : List Slot} → makes_file writer.style (begun kept) ≡ false → Rattle.csplit_core.specs.Writer.IsCurrent writer.style kept [] current → IsOpenAt current slots → IsLast current slots → size_of current ≡ 0
+    → IsReady writer slots → Starts told writer kept slots slots (record writer { current = current }) None
+begun_none {told} {writer} {kept} {slots = slots} none is at last size ready = record {
+  leaves = record {
+    style = refl;
+    owns = owned_same refl (λ before. last) (made_same slots);
+    slots = keeps_same slots slots refl;
+    ready = record { streams = ready.streams; output = ready.output; files = ready.files; current = at };
+  };
+  reaches = λ ended pauses. reaches_by (owned_same refl (λ before. last) (made_same slots))
+      (λ before. record { gets = λ these outputs. subst (λ part. OutputsAt told these part slots) (sym (part_none writer.style ended (begun kept) none)) outputs });
+  writes = λ ended pauses. record { closed = pauses.closed; made = pauses.made ∙ sym (count_none writer.style ended (begun kept) none); current = is };
+  size = size;
+  none_made = tt;
+}
+
+pub begin_skipped : {told : Bool} {writer : WriterState} {kept : Bool} {slots : List Slot} → kept ≡ false → IsReady writer slots → Starts told writer kept slots slots (record writer { current = Skipped }) None
+begin_skipped {writer = writer} {kept} is ready = begun_none (skips_file writer.style (begun kept) is) is tt tt refl ready
+
+pub begin_unmade : {told : Bool} {writer : WriterState} {kept : Bool} {slots : List Slot} → kept ≡ true → writer.style.elide ≡ true → IsReady writer slots → Starts told writer kept slots slots (record writer { current = Unmade }) None
+begin_unmade {writer = writer} {kept} is elide ready = begun_none (elides_file writer.style (begun kept) elide refl) (is, elide, refl) tt tt refl ready
+
+-- one with a file
+begun_makes : (style : Style) {kept : Bool} → kept ≡ true → style.elide ≡ false → makes_file style (begun kept) ≡ true
+begun_makes style is elide = ap (λ k. k && not (style.elide && true)) is ∙ ap (λ e. true && not (e && true)) elide
+
+pub begin_made : {told : Bool} {writer next : WriterState} {kept : Bool} {slot : ℕ} {old new : List Slot} → kept ≡ true → writer.style.elide ≡ false → IsReady writer old → Made writer old new next slot → Starts told writer kept old new next None
+begin_made {writer = writer} {kept = kept} {slot} is elide ready made = let makes = begun_makes writer.style is elide in record {
+  leaves = made_leaves ready made;
+  reaches = λ ended pauses. reaches_as refl (open_part writer.style (begun_after ended kept) makes) (reaches_by (owned_opened ready.streams made) (λ last. made_becomes ended pauses.made made));
+  writes = λ ended pauses. subst (λ those. Writes those (begun_after ended kept)) (sym made.same) (record {
+    closed = pauses.closed;
+    made = length-append writer.files (slot ∷ []) ∙ ap (λ n. n + 1) pauses.made ∙ sym (count_made writer.style ended (begun kept) makes);
+    current = (makes, refl);
+  });
+  size = ap size_of (current_made made);
+  none_made = tt;
+}
+
+pub begin_not : {told : Bool} {writer next : WriterState} {kept : Bool} {old new : List Slot} {f : Fault} → kept ≡ true → writer.style.elide ≡ false → Makes writer old new next (Err f) → Starts told writer kept old new next (Some f)
+begin_not {writer = writer} {kept = kept} is elide makes = record {
+  leaves = unmade_leaves makes;
+  reaches = λ ended pauses. reaches_by (unmade_leaves makes).owns (λ last. unmade_falls writer ended (begun kept) (begun_makes writer.style is elide) pauses.closed pauses.made makes.1);
+  writes = tt;
+  size = tt;
+  none_made = ap (λ (those : WriterState). those.files) makes.0;
+}
+
+-- The first section
+
+pub new_owns : (style : Style) {slots : List Slot} → 2 ≤ length slots → OwnsFiles (new_writer style) (length slots) slots
+new_owns style {slots} two = record {
+  streams = two;
+  within = omega arith;
+  from = λ place among. absurd (false≢true among);
+  own = λ place past. none_past slots place past;
+  there = tt;
+  last = tt;
+}
+
+new_pauses : (style : Style) → Pauses (new_writer style) []
+new_pauses style = record { closed = tt; made = refl }
+
+-- The same of a writer whose list of files is empty
+
+pub empty_ready : (style : Style) {files : List ℕ} {slots : List Slot} → files ≡ [] → 2 ≤ length slots → IsTrue (is_writable slots 0) → IsReady (state_of style files Skipped) slots
+empty_ready style {files} {slots} none two can =
+    subst (λ those. IsReady (state_of style those Skipped) slots) (sym none) (record { streams = two; output = can; files = tt; current = tt })
+
+pub opens_begun : {told : Bool} {style : Style} {files : List ℕ} {kept : Bool} {old new : List Slot} {next : WriterState} → files ≡ [] → 2 ≤ length old → Starts told (state_of style files Skipped) kept old new next None → Begun told style kept old new next
+opens_begun {told} {style} {kept = kept} {old} {new} {next} none two begun =
+    let started = subst (λ those. Starts told (state_of style those Skipped) kept old new next None) none begun in record {
+      asked = started.leaves.style;
+      writes = started.writes [] (new_pauses style);
+      reaches = started.reaches [] (new_pauses style);
+      size = started.size;
+      owns = started.leaves.owns.owns (length old) (new_owns style two);
+      ready = started.leaves.ready;
+    }
+
+pub opens_not_begun : {told : Bool} {style : Style} {files : List ℕ} {kept : Bool} {old new : List Slot} {next : WriterState} {f : Fault} → files ≡ [] → 2 ≤ length old → Starts told (state_of style files Skipped) kept old new next (Some f)
+    → BegunNot told style (draft_part style (first_draft kept)) old new f
+opens_not_begun {told} {style} {kept = kept} {old} {new} {next} {f} none two not_begun =
+    let started = subst (λ those. Starts told (state_of style those Skipped) kept old new next (Some f)) none not_begun in record {
+      reaches = stops_in (started.reaches [] (new_pauses style));
+      breaks = started.leaves.slots;
+      none = λ place past. (started.leaves.owns.owns (length old) (new_owns style two)).own place past ∙ ap (is_among place) started.none_made;
+    }
+
+-- A section ends, and the next begins.
+
+-- A section without a file
+
+end_none : {told : Bool} {writer : WriterState} {slots : List Slot} → ((draft : Draft) → Writes writer draft → (closed : Bool) → makes_file writer.style (last_contents closed draft) ≡ false) → IsReady writer slots → Ends told writer slots slots writer None
+end_none {writer = writer} none ready = record {
+  leaves = leaves_still ready;
+  reaches = λ draft writes. reaches_still (part_none writer.style draft.ended (last_contents false draft) (none draft writes false) ∙ sym (part_none writer.style draft.ended (last_contents true draft) (none draft writes true)));
+  pauses = λ draft writes. record {
+    closed = all_closed draft.ended (last_contents true draft) writes.closed refl;
+    made = writes.made ∙ count_none writer.style draft.ended (last_contents false draft) (none draft writes false) ∙ sym (count_none writer.style draft.ended (last_contents true draft) (none draft writes true));
+  };
+}
+
+pub end_skipped : {told : Bool} {writer : WriterState} {slots : List Slot} → writer.current ≡ Skipped → IsReady writer slots → Ends told writer slots slots writer None
+end_skipped {writer = writer} is ready = end_none (λ draft writes closed. skips_file writer.style (last_contents closed draft) (now_skipped is writes)) ready
+
+pub end_unmade : {told : Bool} {writer : WriterState} {slots : List Slot} → writer.current ≡ Unmade → IsReady writer slots → Ends told writer slots slots writer None
+end_unmade {writer = writer} is ready = end_none (λ draft writes closed. elides_file writer.style (last_contents closed draft) (now_unmade is writes).1 (now_unmade is writes).2) ready
+
+-- A section with one
+
+abbrev pub ended_writer : WriterState → WriterState
+ended_writer writer = record writer { current = Skipped }
+
+file_pauses : {writer : WriterState} {draft : Draft} (slot size : ℕ) → writer.current ≡ File slot size → Writes writer draft → Pauses (ended_writer writer) (draft.ended ++ last_contents true draft ∷ [])
+file_pauses {writer} {draft} slot size is writes = record {
+  closed = all_closed draft.ended (last_contents true draft) writes.closed refl;
+  made = writes.made ∙ count_made writer.style draft.ended (last_contents false draft) (now_file is writes).0 ∙ sym (count_made writer.style draft.ended (last_contents true draft) (now_file is writes).0);
+}
+
+file_closed : {writer : WriterState} {old new : List Slot} → KeepsMade old new → KeepsFiles writer (ended_writer writer) old new
+file_closed keeps = owned_same refl (λ last. tt) keeps
+
+closed_ready : {writer : WriterState} (slot size : ℕ) {old new : List Slot} → writer.current ≡ File slot size → IsReady writer old → new ≡ changed_at slot closes old → IsReady (ended_writer writer) new
+closed_ready {writer} slot size {old} {new} is ready closed =
+    let keeps = made_close slot old new (at_file is ready).1 closed in record {
+      streams = (let size = keeps.size in let two = ready.streams in omega (arith, size, two));
+      output = writable_elsewhere old new 0 slot closes (λ same. (let at = (at_file is ready).0 in omega (arith, same, at))) closed ready.output;
+      files = there_same writer.files keeps ready.files;
+      current = tt;
+    }
+
+closed_leaves : {writer : WriterState} (slot size : ℕ) {old new : List Slot} → writer.current ≡ File slot size → IsReady writer old → new ≡ changed_at slot closes old → Leaves writer (ended_writer writer) old new None
+closed_leaves slot size {old} {new} is ready closed =
+    record { style = refl; owns = file_closed (made_close slot old new (at_file is ready).1 closed); slots = keeps_close slot old new closed; ready = closed_ready slot size is ready closed }
+
+-- the same of the size line
+line_leaves : (told : Bool) (writer : WriterState) (line : List ℕ) {old new : List Slot} (fault : Option Fault) → writer.style.quiet ≡ false → IsReady (ended_writer writer) old → Wrote told 0 line old new fault → Leaves (ended_writer writer) (ended_writer writer) old new fault
+line_leaves told writer line {old} {new} None said_so ready wrote = let keeps = made_write 0 (told_of told line) old new wrote in record {
+  style = refl;
+  owns = owned_same refl (λ last. tt) keeps;
+  slots = keeps_write 0 (told_of told line) old new wrote;
+  ready = record {
+    streams = (let size = keeps.size in let two = ready.streams in omega (arith, size, two));
+    output = written_writable old new 0 0 (told_of told line) ready.output wrote;
+    files = there_same writer.files keeps ready.files;
+    current = tt;
+  };
+}
+line_leaves told writer line {old} {new} (Some why) said_so ready cut =
+    record { style = refl; owns = owned_same refl (λ last. tt) (made_short told 0 line old new why cut); slots = line_breaks told writer.style line said_so ready.output cut; ready = tt }
+
+-- the part of the ended section, with its size line
+size_part : {writer : WriterState} {draft : Draft} (slot size : ℕ) → writer.current ≡ File slot size → writer.style.quiet ≡ false → Writes writer draft
+    → ended_part writer.style draft ≡ with_last (size_lines writer.style draft.ended ++ (decimal size ++ newline ∷ [])) (files_of writer.style 0 draft.ended) (file_of (name_after writer.style draft.ended) draft.bytes state.Closed)
+size_part {writer} {draft} slot size is said_so writes =
+    closed_part writer.style draft (decimal size ++ newline ∷ []) (now_file is writes).0
+    (line_of writer.style draft false (now_file is writes).0 said_so ∙ ap (λ n. decimal n ++ newline ∷ []) (sym (now_file is writes).1))
+
+quiet_part : {writer : WriterState} {draft : Draft} (slot size : ℕ) → writer.current ≡ File slot size → writer.style.quiet ≡ true → Writes writer draft
+    → ended_part writer.style draft ≡ with_last (size_lines writer.style draft.ended) (files_of writer.style 0 draft.ended) (file_of (name_after writer.style draft.ended) draft.bytes state.Closed)
+quiet_part {writer} {draft} slot size is quiet writes =
+    closed_part writer.style draft [] (now_file is writes).0 (line_of writer.style draft true (now_file is writes).0 quiet)
+    ∙ ap (λ out. with_last out (files_of writer.style 0 draft.ended) (file_of (name_after writer.style draft.ended) draft.bytes state.Closed)) (append-nil (size_lines writer.style draft.ended))
+
+pub end_quiet : {told : Bool} {writer : WriterState} (slot size : ℕ) {old new : List Slot} → writer.current ≡ File slot size → IsReady writer old → writer.style.quiet ≡ true → new ≡ changed_at slot closes old → Ends told writer old new (ended_writer writer) None
+end_quiet {told} {writer} slot size {old} {new} is ready quiet closed = record {
+  leaves = closed_leaves slot size is ready closed;
+  reaches = λ draft writes. reaches_as (open_part writer.style draft (now_file is writes).0) (quiet_part slot size is quiet writes) (reaches_by (closed_leaves slot size is ready closed).owns
+      (λ last. closes_last told (size_lines writer.style draft.ended) (files_of writer.style 0 draft.ended) (name_after writer.style draft.ended) draft.bytes old (last_file writer old is last) closed));
+  pauses = λ draft writes. file_pauses slot size is writes;
+}
+
+-- the file breaks as it is closed
+pub close_not : {told : Bool} {writer : WriterState} (slot size : ℕ) {old new : List Slot} {f : Fault} → writer.current ≡ File slot size → IsReady writer old → f ≡ fault.Write slot → new ≡ with_broken slot (changed_at slot closes old)
+    → Ends told writer old new (ended_writer writer) (Some f)
+close_not {told} {writer} slot size {old} {new} is ready which broken = subst (λ f. Ends told writer old new (ended_writer writer) (Some f)) (sym which) (record {
+  leaves = record { style = refl; owns = owns; slots = close_breaks writer.style slot old (at_file is ready).0 (at_file is ready).1 broken; ready = tt };
+  reaches = λ draft writes. reaches_as (open_part writer.style draft (now_file is writes).0) (closed_part writer.style draft (size_line writer.style (last_contents true draft)) (now_file is writes).0 refl)
+      (reaches_by owns (λ last. falls_wider (closes_not told (size_lines writer.style draft.ended) (files_of writer.style 0 draft.ended) (name_after writer.style draft.ended) draft.bytes old
+      (closed_files writer.style 0 draft.ended writes.closed) (last_file writer old is last) broken) (line_begins (size_line writer.style (last_contents true draft)))));
+  pauses = tt;
+}) where
+  owns : KeepsFiles writer (ended_writer writer) old new
+  owns = file_closed (made_again old (changed_at slot closes old) new (made_close slot old _ (at_file is ready).1 refl) (made_break slot _ new broken))
+
+last_closed : (files : List PartFile) (file : PartFile) → AllClosed files → file.state ≡ state.Closed → AllClosed (files ++ file ∷ [])
+last_closed [] file closed is = (is, tt)
+last_closed (first ∷ files) file closed is = (closed.0, last_closed files file closed.1 is)
+
+-- the size is written, or standard output breaks
+pub end_sized : {told : Bool} {writer : WriterState} (slot size : ℕ) {old mid new : List Slot} {fault : Option Fault} → writer.current ≡ File slot size → IsReady writer old → writer.style.quiet ≡ false → mid ≡ changed_at slot closes old
+    → Wrote told 0 (decimal size ++ newline ∷ []) mid new fault → Ends told writer old new (ended_writer writer) fault
+end_sized {told} {writer} slot size {old} {mid} {new} {fault} is ready said_so closed wrote = record {
+  leaves = leaves;
+  reaches = λ draft writes. reaches_as (open_part writer.style draft (now_file is writes).0) (size_part slot size is said_so writes) (reaches_by leaves.owns (λ last. becomes_again
+      (close_begins (size_lines writer.style draft.ended) (files_of writer.style 0 draft.ended) (name_after writer.style draft.ended) draft.bytes)
+      (closes_last told (size_lines writer.style draft.ended) (files_of writer.style 0 draft.ended) (name_after writer.style draft.ended) draft.bytes old (last_file writer old is last) closed)
+      (tells_line told (size_lines writer.style draft.ended) _ (decimal size ++ newline ∷ []) mid fault
+      (last_closed (files_of writer.style 0 draft.ended) (file_of (name_after writer.style draft.ended) draft.bytes state.Closed) (closed_files writer.style 0 draft.ended writes.closed) refl)
+      (let two = (closed_ready slot size is ready closed).streams in omega (arith, two)) wrote)));
+  pauses = in_any fault (λ draft writes. file_pauses slot size is writes);
+} where
+  leaves : Leaves writer (ended_writer writer) old new fault
+  leaves = leaves_again (closed_leaves slot size is ready closed) (line_leaves told writer (decimal size ++ newline ∷ []) fault said_so (closed_ready slot size is ready closed) wrote)
+
+-- One section ends, and the next begins.
+
+next_begins : (style : Style) (kept : Bool) (draft : Draft) → Begins (ended_part style draft) (draft_part style (with_section kept draft))
+next_begins style kept draft = more_begins style (draft.ended ++ last_contents true draft ∷ []) (last_contents false (with_section kept draft))
+
+pub next_not_ended : {told : Bool} {writer next : WriterState} (kept : Bool) {old new : List Slot} {f : Fault} → Ends told writer old new next (Some f) → Goes told writer (with_section kept) old new next (Some f)
+next_not_ended {writer = writer} kept ended = record { leaves = ended.leaves; reaches = λ draft writes. stops_wider (ended.reaches draft writes) (next_begins writer.style kept draft); writes = tt }
+
+pub next_begun : {told : Bool} {writer mid next : WriterState} {kept : Bool} {old between new : List Slot} {fault : Option Fault} → Ends told writer old between mid None → Starts told mid kept between new next fault → Goes told writer (with_section kept) old new next fault
+next_begun {writer = writer} {kept = kept} {fault = fault} ended start = record {
+  leaves = leaves_again ended.leaves start.leaves;
+  reaches = λ draft writes. reaches_again (end_begins writer.style draft) (ended.reaches draft writes)
+      (reaches_as (ap (λ style. part_by style (draft.ended ++ last_contents true draft ∷ [])) (sym ended.leaves.style)) (ap (λ style. draft_part style (with_section kept draft)) (sym ended.leaves.style))
+      (start.reaches (draft.ended ++ last_contents true draft ∷ []) (ended.pauses draft writes)));
+  writes = where_well fault start.writes (λ started draft writes. started (draft.ended ++ last_contents true draft ∷ []) (ended.pauses draft writes));
+}
+
+-- The files are removed.
+
+pub files_cleared : {writer : WriterState} {left : List ℕ} {old new : List Slot} → Removes writer.files old left new → {first : ℕ} → OwnsFiles writer first old → SweptFrom first old new
+files_cleared {writer} {left} {old} {new} removes {first} own = all_cleared first writer.files left old new removes own.there own.from own.own
+
+pub files_left : {writer next : WriterState} {old new : List Slot} → next.current ≡ writer.current → Removes writer.files old next.files new → KeepsFiles writer next old new
+files_left {writer} {next} {old} {new} same removes = record {
+  owns = λ first own. record {
+    streams = own.streams;
+    within = (let size = same_size writer.files next.files old new removes in let within = own.within in omega (arith, size, within));
+    from = λ place among. own.from place (left_among writer.files next.files old new place removes among);
+    own = λ place above. left_has writer.files next.files old new place removes own.there (own.own place above);
+    there = left_there writer.files next.files old new removes own.there;
+    last = subst (λ current. IsLast current new) (sym same) (last_still writer.current old new (same_size writer.files next.files old new removes) own.last);
+  };
+  there = left_there writer.files next.files old new removes;
+} where
+  last_still : (current : Current) (old new : List Slot) → length new ≡ length old → IsLast current old → IsLast current new
+  last_still (File slot size) old new same last = last ∙ sym same
+  last_still _ old new size last = tt
+
+  left_among : (files left : List ℕ) (old new : List Slot) (place : ℕ) → Removes files old left new → is_among place left ≡ true → is_among place files ≡ true
+  left_among files left old new place removes among = by (is_among place files) refl where
+    by : (has : Bool) → is_among place files ≡ has → is_among place files ≡ true
+    by true is = is
+    by false is = absurd (false≢true (sym (left_apart files left old new place removes is) ∙ among))
