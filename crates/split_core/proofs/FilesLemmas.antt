@@ -130,12 +130,12 @@ length-added (bytes ∷ these) [] = omega arith
 length-added (bytes ∷ these) (next ∷ more) = let rest = length-added these more in omega arith
 
 -- one more of what is to be added
-pub added_next : (place : ℕ) (these more : List (List ℕ)) (next : List ℕ) → place < length more → next ≡ get_or more place next → changed_at place (λ had. had ++ next) (filled (suc place) (added these (take place more))) ≡ added these (take (suc place) more)
-added_next place these [] next within is = absurd (omega arith)
-added_next zero [] (first ∷ more) next within is = ap (λ one. one ∷ []) is
-added_next zero (bytes ∷ these) (first ∷ more) next within is = ap (λ one. (bytes ++ one) ∷ these) is ∙ ap (λ rest. (bytes ++ first) ∷ rest) (sym (added_none these))
-added_next (suc place) [] (first ∷ more) next within is = ap (λ rest. first ∷ rest) (added_next place [] more next (omega arith) is)
-added_next (suc place) (bytes ∷ these) (first ∷ more) next within is = ap (λ rest. (bytes ++ first) ∷ rest) (added_next place these more next (omega arith) is)
+pub added_next : (place : ℕ) (these more : List (List ℕ)) {next : List ℕ} → place < length more → next ≡ get_or more place next → changed_at place (λ had. had ++ next) (filled (suc place) (added these (take place more))) ≡ added these (take (suc place) more)
+added_next place these [] within is = absurd (omega arith)
+added_next zero [] (first ∷ more) within is = ap (λ one. one ∷ []) is
+added_next zero (bytes ∷ these) (first ∷ more) within is = ap (λ one. (bytes ++ one) ∷ these) is ∙ ap (λ rest. (bytes ++ first) ∷ rest) (sym (added_none these))
+added_next (suc place) [] (first ∷ more) within is = ap (λ rest. first ∷ rest) (added_next place [] more (omega arith) is)
+added_next (suc place) (bytes ∷ these) (first ∷ more) within is = ap (λ rest. (bytes ++ first) ∷ rest) (added_next place these more (omega arith) is)
 
 -- Files
 
@@ -168,13 +168,13 @@ closed_all [] = refl
 closed_all (bytes ∷ these) = ap (λ rest. share Closed bytes ∷ rest) (closed_all these)
 
 -- the files of the same names
-pub renamed : (told : Bool) (before now : List Slot) (names others : Naming) (these : List (List ℕ)) → from_start others ≡ from_start names → OutputsAt told before (open_part others these) now → OutputsAt told before (open_part names these) now
-renamed told before now names others these same at = subst (λ those. OutputsAt told before (only_files (filed those 0 (map (share Open) these))) now) same at
+pub renamed : (told : Bool) {before now : List Slot} (names others : Naming) (these : List (List ℕ)) → from_start others ≡ from_start names → OutputsAt told before (open_part others these) now → OutputsAt told before (open_part names these) now
+renamed told {before} {now} names others these same at = subst (λ those. OutputsAt told before (only_files (filed those 0 (map (share Open) these))) now) same at
 
 -- Outputs
 
 pub caused_later : (old mid new : List Slot) (why : Fault) → KeepsBroken old mid → IsOfFiles mid new why → IsOfFiles old new why
-caused_later old mid new why keeps caused = (breaks_later old mid new why keeps caused.0, caused.1)
+caused_later old mid new why keeps caused = (breaks_later keeps caused.0, caused.1)
 
 -- Files in order
 
@@ -275,8 +275,8 @@ next_due names part those name due =
 
 -- Steps in a row
 
-pub nothing_made : (told : Bool) (files : FilesState) (makes : List (List ℕ) → List (List ℕ)) (slots : List Slot) → AreReady files slots → ((these : List (List ℕ)) → makes these ≡ these) → Became told files makes 0 slots files slots
-nothing_made told files makes slots ready same = record {
+pub nothing_made : (told : Bool) {files : FilesState} {makes : List (List ℕ) → List (List ℕ)} {slots : List Slot} → AreReady files slots → ((these : List (List ℕ)) → makes these ≡ these) → Became told files makes 0 slots files slots
+nothing_made told {files} {slots} ready same = record {
   ready = ready;
   opened = omega arith;
   names = refl;
@@ -287,53 +287,53 @@ nothing_made told files makes slots ready same = record {
 }
 
 -- where the files stand after a step
-pub stand_then : (told : Bool) (files between : FilesState) (makes : List (List ℕ) → List (List ℕ)) (count : ℕ) (old mid before : List Slot) (these : List (List ℕ)) → Became told files makes count old between mid → StandAt told files before these old → StandAt told between before (makes these) mid
-stand_then told files between makes count old mid before these became at = record {
+pub stand_then : (told : Bool) {files : FilesState} (between : FilesState) {makes : List (List ℕ) → List (List ℕ)} {count : ℕ} {old mid before : List Slot} {these : List (List ℕ)} → Became told files makes count old between mid → StandAt told files before these old → StandAt told between before (makes these) mid
+stand_then told {files} between {makes} {count} {before} {these} became at = record {
   count = became.lengths these at.count;
   owns = became.owned (length before) at.owns;
-  outputs = renamed told before mid between.names files.names (makes these) (sym became.names) (became.outputs before these at);
+  outputs = renamed told between.names files.names (makes these) (sym became.names) (became.outputs before these at);
 }
 
-pub became_then : (told : Bool) (files : FilesState) (first second both : List (List ℕ) → List (List ℕ)) (one two count : ℕ) (old mid new : List Slot) (between next : FilesState)
+pub became_then : (told : Bool) {files : FilesState} {first second both : List (List ℕ) → List (List ℕ)} (one : ℕ) {two count : ℕ} {old mid new : List Slot} (between : FilesState) {next : FilesState}
     → Became told files first one old between mid → Became told between second two mid next new → ((these : List (List ℕ)) → second (first these) ≡ both these) → count ≡ max one two → Became told files both count old next new
-became_then told files first second both one two count old mid new between next before after same most = record {
+became_then told {files} {first} {second} one {two} {old} {mid} {new} between {next} before after same most = record {
   ready = after.ready;
   opened = let here : length between.outputs ≡ max (length files.outputs) one = before.opened in let there : length next.outputs ≡ max (length between.outputs) two = after.opened in omega arith;
   names = after.names ∙ before.names;
   lengths = λ these is. ap length (sym (same these)) ∙ after.lengths (first these) (before.lengths these is);
   outputs = λ start these at. subst (λ those. OutputsAt told start (open_part files.names those) new) (same these)
-      (renamed told start new files.names between.names (second (first these)) before.names (after.outputs start (first these) (stand_then told files between first one old mid start these before at)));
+      (renamed told files.names between.names (second (first these)) before.names (after.outputs start (first these) (stand_then told between before at)));
   owned = λ from owns. after.owned from (before.owned from owns);
   sound = keeps_again old mid new before.sound after.sound;
 }
 
 -- A fault of a later step, on the way from what was there at first to all that was to be. By then the files before its place
 -- have all, and those after it have what they had.
-pub halted_wider : (told : Bool) (start now : List Slot) (names others : Naming) (these low high all : List (List ℕ)) (place : ℕ) (why : Fault) → from_start others ≡ from_start names → HaltedAt told start others low high place why now
+pub halted_wider : (told : Bool) {start now : List Slot} {names others : Naming} {these low high : List (List ℕ)} (all : List (List ℕ)) {place : ℕ} {why : Fault} → from_start others ≡ from_start names → HaltedAt told start others low high place why now
     → AllBegin these low → AllBegin high all → drop (suc place) low ≡ drop (suc place) these → take place high ≡ take place all → HaltedAt told start names these all place why now
-halted_wider told start now names others these low high all place why same stop above below past before = record {
+halted_wider told {now} {names} {others} {these} {low} {high} all {why} same stop above below past before = record {
   part = stop.part;
   above = all_trans these low stop.part above stop.above;
   below = all_trans stop.part high all stop.below below;
   done = stop.done ∙ before;
   untouched = stop.untouched ∙ past;
   reached = stop.reached;
-  outputs = renamed told start stop.reached names others stop.part same stop.outputs;
+  outputs = renamed told names others stop.part same stop.outputs;
   marks = marks_by (IsDue others stop.part high) (IsDue names stop.part all) why stop.reached now
       (λ name due. (due.0 ∙ ap (λ those. name_of those (length stop.part)) same, (let more = length_begin high all below in let less : length stop.part < length high = due.1 in omega arith))) stop.marks;
   from = stop.from;
 }
 
-pub halts_then : (told : Bool) (files : FilesState) (first second all : List (List ℕ) → List (List ℕ)) (one place : ℕ) (old mid new : List Slot) (between : FilesState) (why : Fault) → Became told files first one old between mid → StopsAt told between second place mid new why
+pub halts_then : (told : Bool) {files : FilesState} {first second : List (List ℕ) → List (List ℕ)} (all : List (List ℕ) → List (List ℕ)) (one : ℕ) {place : ℕ} {old mid new : List Slot} (between : FilesState) {why : Fault} → Became told files first one old between mid → StopsAt told between second place mid new why
     → ((these : List (List ℕ)) → AllBegin these (first these)) → ((these : List (List ℕ)) → AllBegin (second (first these)) (all these)) → ((these : List (List ℕ)) → drop (suc place) (first these) ≡ drop (suc place) these)
     → ((these : List (List ℕ)) → length these ≡ length files.outputs → take place (second (first these)) ≡ take place (all these)) → StopsAt told files all place old new why
-halts_then told files first second all one place old mid new between why before stops low high past done start these at =
-    halted_wider told start new files.names between.names these (first these) (second (first these)) (all these) place why before.names
-    (stops start (first these) (stand_then told files between first one old mid start these before at)) (low these) (high these) (past these) (done these at.count)
+halts_then told {first} all one between before stops low high past done start these at =
+    halted_wider told (all these) before.names
+    (stops start (first these) (stand_then told between before at)) (low these) (high these) (past these) (done these at.count)
 
 -- so the files are in order where the fault stopped them
-pub stops_in_order : (told : Bool) (files : FilesState) (makes : List (List ℕ) → List (List ℕ)) (place : ℕ) (old new : List Slot) (why : Fault) → StopsAt told files makes place old new why → StopsShort told files makes old new why
-stops_in_order told files makes place old new why stops before these at =
+pub stops_in_order : (told : Bool) {files : FilesState} {makes : List (List ℕ) → List (List ℕ)} {place : ℕ} {old new : List Slot} {why : Fault} → StopsAt told files makes place old new why → StopsShort told files makes old new why
+stops_in_order told {files} {makes} {place} {new} {why} stops before these at =
     let stop = stops before these at in
     record {
       part = open_part files.names stop.part;

@@ -61,31 +61,31 @@ part_drawn names next shares is = ap (λ (those : Naming). part_of those shares)
 
 -- from one state of the outputs to another
 
-pub moves_same : (told : Bool) (names : Naming) (shares : List Share) (old new : List Slot) → new ≡ old → Moves told names shares shares old new
-moves_same told names shares old new is before at = subst (OutputsAt told before (part_of names shares)) (sym is) at
+pub moves_same : (told : Bool) (names : Naming) (shares : List Share) {old new : List Slot} → new ≡ old → Moves told names shares shares old new
+moves_same told names shares is before at = subst (OutputsAt told before (part_of names shares)) (sym is) at
 
-pub moves_same_by : (told : Bool) (names : Naming) (low high : List Share) (old new : List Slot) → low ≡ high → new ≡ old → Moves told names low high old new
-moves_same_by told names low high old new same is = subst (λ shares. Moves told names low shares old new) same (moves_same told names low old new is)
+pub moves_same_by : (told : Bool) (names : Naming) {low high : List Share} {old new : List Slot} → low ≡ high → new ≡ old → Moves told names low high old new
+moves_same_by told names {low} {old} {new} same is = subst (λ shares. Moves told names low shares old new) same (moves_same told names low is)
 
 pub moves_again : (told : Bool) (names : Naming) (low middle high : List Share) (old mid new : List Slot) → Moves told names low middle old mid → Moves told names middle high mid new → Moves told names low high old new
 moves_again told names low middle high old mid new first second before at = second before (first before at)
 
-pub moves_by : (told : Bool) (names next : Naming) (low high : List Share) (old new : List Slot) → next ≡ record names { drawn = next.drawn } → Moves told next low high old new → Moves told names low high old new
-moves_by told names next low high old new is moves before at =
+pub moves_by : (told : Bool) (names : Naming) {next : Naming} (low high : List Share) (old new : List Slot) → next ≡ record names { drawn = next.drawn } → Moves told next low high old new → Moves told names low high old new
+moves_by told names {next} low high old new is moves before at =
     subst (λ part. OutputsAt told before part new) (part_drawn names next high is) (moves before (subst (λ part. OutputsAt told before part old) (sym (part_drawn names next low is)) at))
 
-pub halts_by : (told : Bool) (names next : Naming) (low high : List Share) (old new : List Slot) (fault : Fault) → next ≡ record names { drawn = next.drawn } → Halts told next low high old new fault → Halts told names low high old new fault
-halts_by told names next low high old new fault is halts before at =
+pub halts_by : (told : Bool) (names : Naming) {next : Naming} (low high : List Share) {old new : List Slot} {fault : Fault} → next ≡ record names { drawn = next.drawn } → Halts told next low high old new fault → Halts told names low high old new fault
+halts_by told names {next} low high {old} {new} {fault} is halts before at =
     subst (λ part. StoppedInTurn told before part (part_of names high) fault new) (part_drawn names next low is)
     (subst (λ part. StoppedInTurn told before (part_of next low) part fault new) (part_drawn names next high is)
     (halts before (subst (λ part. OutputsAt told before part old) (sym (part_drawn names next low is)) at)))
 
-pub halts_after : (told : Bool) (names : Naming) (low middle high : List Share) (old mid new : List Slot) (fault : Fault) → SharesBegin low middle → Moves told names low middle old mid → Halts told names middle high mid new fault → Halts told names low high old new fault
-halts_after told names low middle high old mid new fault begins moves halts before at =
+pub halts_after : (told : Bool) (names : Naming) (low middle high : List Share) {old mid new : List Slot} {fault : Fault} → SharesBegin low middle → Moves told names low middle old mid → Halts told names middle high mid new fault → Halts told names low high old new fault
+halts_after told names low middle high {new} {fault} begins moves halts before at =
     turn_between told before (part_of names low) (part_of names middle) (part_of names high) (part_of names high) fault new (part_begins names low middle begins) (halts before (moves before at)) (part_begins_itself _)
 
-pub halts_wider : (told : Bool) (names : Naming) (low middle high : List Share) (old new : List Slot) (fault : Fault) → Halts told names low middle old new fault → SharesBegin middle high → Halts told names low high old new fault
-halts_wider told names low middle high old new fault halts begins before at =
+pub halts_wider : (told : Bool) (names : Naming) (low middle high : List Share) {old new : List Slot} {fault : Fault} → Halts told names low middle old new fault → SharesBegin middle high → Halts told names low high old new fault
+halts_wider told names low middle high {new} {fault} halts begins before at =
     turn_between told before (part_of names low) (part_of names low) (part_of names middle) (part_of names high) fault new (part_begins_itself _) (halts before at) (part_begins names middle high begins)
 
 -- the files of closed shares are closed, and there are as many where the next has a name
@@ -113,16 +113,16 @@ pub last_turn : (names : Naming) (shares : List Share) (one : Share) → is_name
 last_turn names shares one is shut = subst (λ files. InTurn files (length shares)) (sym (named_at names shares [] one is)) (turn_last (named names 0 shares) (file_at names (length shares) one) (length shares) (all_named names shares is) (shut_files names 0 shares shut))
 
 -- the last slot is that of the last file
-pub last_from : (told : Bool) (names : Naming) (shares : List Share) (one : Share) (before old : List Slot) (slot : ℕ) → is_named names (length shares) ≡ true → suc slot ≡ length old → OutputsAt told before (part_of names (shares ++ one ∷ [])) old → slot ≡ length before + length shares
-last_from told names shares one before old slot is last at =
+pub last_from : (told : Bool) (names : Naming) (shares : List Share) (one : Share) {before old : List Slot} {slot : ℕ} → is_named names (length shares) ≡ true → suc slot ≡ length old → OutputsAt told before (part_of names (shares ++ one ∷ [])) old → slot ≡ length before + length shares
+last_from told names shares one {before} {old} is last at =
     let count : length old ≡ length before + length (named names 0 (shares ++ one ∷ [])) = outputs_count told before (part_of names (shares ++ one ∷ [])) old at in
     let files : length (named names 0 (shares ++ one ∷ [])) ≡ length (named names 0 shares) + 1 = ap length (named_at names shares [] one is) ∙ length-append (named names 0 shares) (file_at names (length shares) one ∷ []) in
     let all : length (named names 0 shares) ≡ length shares = all_named names shares is in omega arith
 
 -- a fault that comes while the outputs still have the lower shares
-pub halts_here : (told : Bool) (names : Naming) (low high : List Share) (old new : List Slot) (fault : Fault) (place : ℕ) → SharesBegin low high → InTurn (named names 0 low) place → Marks (IsNext (part_of names low) (part_of names high)) fault old new
+pub halts_here : (told : Bool) (names : Naming) (low high : List Share) {old new : List Slot} {fault : Fault} {place : ℕ} → SharesBegin low high → InTurn (named names 0 low) place → Marks (IsNext (part_of names low) (part_of names high)) fault old new
     → ((before : List Slot) → OutputsAt told before (part_of names low) old → IsAt fault (length before) place (length (named names 0 low))) → Halts told names low high old new fault
-halts_here told names low high old new fault place begins turn marks from before at = record {
+halts_here told names low high {old} {place} begins turn marks from before at = record {
   part = part_of names low;
   above = part_begins_itself (part_of names low);
   below = part_begins names low high begins;
@@ -137,57 +137,56 @@ halts_here told names low high old new fault place begins turn marks from before
 -- the file of the part that was begun is the last output
 
 pub last_moves : (told : Bool) (change : Slot → Slot) (makes : File → File) → ((slot : Slot) (file : File) → Rattle.ports_core.specs.Part.file_of slot ≡ Rattle.ports_core.specs.Part.told_file told file → Rattle.ports_core.specs.Part.file_of (change slot) ≡ Rattle.ports_core.specs.Part.told_file told (makes file))
-    → (names : Naming) (shares : List Share) (one other : Share) (old new : List Slot) (slot : ℕ) → makes (file_at names (length shares) one) ≡ file_at names (length shares) other → is_named names (length shares) ≡ true → suc slot ≡ length old → new ≡ changed_at slot change old
+    → (names : Naming) (shares : List Share) (one other : Share) (old : List Slot) {new : List Slot} {slot : ℕ} → makes (file_at names (length shares) one) ≡ file_at names (length shares) other → is_named names (length shares) ≡ true → suc slot ≡ length old → new ≡ changed_at slot change old
     → Moves told names (shares ++ one ∷ []) (shares ++ other ∷ []) old new
-last_moves told change makes fits names shares one other old new slot makes_it is last change_is before at =
+last_moves told change makes fits names shares one other old {new} {slot} makes_it is last change_is before at =
     subst (λ files. OutputsAt told before (record { out = []; files = files }) new) (ap (λ file. named names 0 shares ++ file ∷ []) makes_it ∙ sym (named_at names shares [] other is))
     (last_changes told change makes fits before (part_of names (shares ++ one ∷ [])) (named names 0 shares) (file_at names (length shares) one) old new slot (named_at names shares [] one is) last at change_is)
 
-pub write_moves : (told : Bool) (names : Naming) (shares : List Share) (begun bytes : List ℕ) (old new : List Slot) (slot : ℕ) → is_named names (length shares) ≡ true → suc slot ≡ length old → new ≡ with_written slot (told_of told bytes) old
+pub write_moves : (told : Bool) (names : Naming) (shares : List Share) (begun bytes : List ℕ) (old : List Slot) {new : List Slot} {slot : ℕ} → is_named names (length shares) ≡ true → suc slot ≡ length old → new ≡ with_written slot (told_of told bytes) old
     → Moves told names (shares ++ share state.Open begun ∷ []) (shares ++ share state.Open (begun ++ bytes) ∷ []) old new
-write_moves told names shares begun bytes old new slot is last wrote =
-    last_moves told (adds (told_of told bytes)) (gets bytes) (write_makes told bytes) names shares (share state.Open begun) (share state.Open (begun ++ bytes)) old new slot refl is last wrote
+write_moves told names shares begun bytes old is last wrote =
+    last_moves told (adds (told_of told bytes)) (gets bytes) (write_makes told bytes) names shares (share state.Open begun) (share state.Open (begun ++ bytes)) old refl is last wrote
 
-pub close_moves : (told : Bool) (names : Naming) (shares : List Share) (begun : List ℕ) (old new : List Slot) (slot : ℕ) → is_named names (length shares) ≡ true → suc slot ≡ length old → new ≡ changed_at slot closes old
+pub close_moves : (told : Bool) (names : Naming) (shares : List Share) (begun : List ℕ) (old : List Slot) {new : List Slot} {slot : ℕ} → is_named names (length shares) ≡ true → suc slot ≡ length old → new ≡ changed_at slot closes old
     → Moves told names (shares ++ share state.Open begun ∷ []) (shares ++ share state.Closed begun ∷ []) old new
-close_moves told names shares begun old new slot is last closed =
-    last_moves told closes ended (close_makes told) names shares (share state.Open begun) (share state.Closed begun) old new slot refl is last closed
+close_moves told names shares begun old is last closed =
+    last_moves told closes ended (close_makes told) names shares (share state.Open begun) (share state.Closed begun) old refl is last closed
 
-within_last : (slot : ℕ) (old now : List Slot) → suc slot ≡ length old → length now ≡ length old → slot < length now
-within_last slot old now last same = omega (arith, last, same)
+within_last : {slot : ℕ} (old now : List Slot) → suc slot ≡ length old → length now ≡ length old → slot < length now
+within_last old now last same = omega (arith, last, same)
 
-pub write_halts : (told : Bool) (names : Naming) (shares : List Share) (begun bytes : List ℕ) (old new : List Slot) (slot : ℕ) (fault : Fault) → AllShut shares → is_named names (length shares) ≡ true → suc slot ≡ length old → WritesShort told slot bytes old new fault
+pub write_halts : (told : Bool) (names : Naming) (shares : List Share) (begun : List ℕ) {bytes : List ℕ} {old new : List Slot} {slot : ℕ} {fault : Fault} → AllShut shares → is_named names (length shares) ≡ true → suc slot ≡ length old → WritesShort told slot bytes old new fault
     → Halts told names (shares ++ share state.Open begun ∷ []) (shares ++ share state.Open (begun ++ bytes) ∷ []) old new fault
-write_halts told names shares begun bytes old new slot _ shut is last (broke n cut) =
-    halts_after told names _ (shares ++ share state.Open (begun ++ take n bytes) ∷ []) _ old (with_written slot (told_of told (take n bytes)) old) new (Write slot)
+write_halts told names shares begun {bytes} {old} {slot} shut is last (broke n cut) =
+    halts_after told names _ (shares ++ share state.Open (begun ++ take n bytes) ∷ []) _
     (last_grows shares [] (share state.Open begun) (share state.Open (begun ++ take n bytes)) (inl refl) (begins_more begun (take n bytes)))
-    (write_moves told names shares begun (take n bytes) old _ slot is last refl)
-    (halts_here told names _ _ _ new (Write slot) (length shares) (last_grows shares [] (share state.Open (begun ++ take n bytes)) (share state.Open (begun ++ bytes)) (inl refl) (take_begins_after n begun bytes))
+    (write_moves told names shares begun (take n bytes) old is last refl)
+    (halts_here told names _ _ (last_grows shares [] (share state.Open (begun ++ take n bytes)) (share state.Open (begun ++ bytes)) (inl refl) (take_begins_after n begun bytes))
     (last_turn names shares (share state.Open (begun ++ take n bytes)) is shut)
-    (within_last slot old (with_written slot (told_of told (take n bytes)) old) last (length-changed_at slot _ old), cut.slots)
-    (λ before at. inr (last_from told names shares (share state.Open (begun ++ take n bytes)) before _ slot is (last ∙ sym (length-changed_at slot _ old)) at)))
+    (within_last old (with_written slot (told_of told (take n bytes)) old) last (length-changed_at slot _ old), cut.slots)
+    (λ before at. inr (last_from told names shares (share state.Open (begun ++ take n bytes)) is (last ∙ sym (length-changed_at slot _ old)) at)))
 
-pub close_halts : (told : Bool) (names : Naming) (shares more : List Share) (begun : List ℕ) (old new : List Slot) (slot : ℕ) → AllShut shares → is_named names (length shares) ≡ true → suc slot ≡ length old → new ≡ with_broken slot (changed_at slot closes old)
+pub close_halts : (told : Bool) (names : Naming) (shares more : List Share) (begun : List ℕ) {old new : List Slot} {slot : ℕ} → AllShut shares → is_named names (length shares) ≡ true → suc slot ≡ length old → new ≡ with_broken slot (changed_at slot closes old)
     → Halts told names (shares ++ share state.Open begun ∷ []) (shares ++ share state.Closed begun ∷ more) old new (Write slot)
-close_halts told names shares more begun old new slot shut is last closed =
-    halts_after told names _ (shares ++ share state.Closed begun ∷ []) _ old (changed_at slot closes old) new (Write slot)
+close_halts told names shares more begun {old} {slot} shut is last closed =
+    halts_after told names _ (shares ++ share state.Closed begun ∷ []) _
     (last_grows shares [] (share state.Open begun) (share state.Closed begun) (inl refl) (begins_itself begun))
-    (close_moves told names shares begun old _ slot is last refl)
-    (halts_here told names _ _ _ new (Write slot) (length shares) (last_grows shares more (share state.Closed begun) (share state.Closed begun) (inr refl) (begins_itself begun))
-    (last_turn names shares (share state.Closed begun) is shut)
-    (within_last slot old (changed_at slot closes old) last (length-changed_at slot closes old), closed)
-    (λ before at. inr (last_from told names shares (share state.Closed begun) before _ slot is (last ∙ sym (length-changed_at slot closes old)) at)))
+    (close_moves told names shares begun old is last refl)
+    (halts_here told names _ _ (last_grows shares more (share state.Closed begun) (share state.Closed begun) (inr refl) (begins_itself begun))
+    (last_turn names shares (share state.Closed begun) is shut) (within_last old (changed_at slot closes old) last (length-changed_at slot closes old), closed)
+    (λ before at. inr (last_from told names shares (share state.Closed begun) is (last ∙ sym (length-changed_at slot closes old)) at)))
 
-pub open_moves : (told : Bool) (names : Naming) (shares : List Share) (old new : List Slot) → is_named names (length shares) ≡ true → names.drawn ≡ length shares → new ≡ old ++ opened (next_name names) Fresh ∷ []
+pub open_moves : (told : Bool) (names : Naming) (shares : List Share) (old : List Slot) {new : List Slot} → is_named names (length shares) ≡ true → names.drawn ≡ length shares → new ≡ old ++ opened (next_name names) Fresh ∷ []
     → Moves told names shares (shares ++ share state.Open [] ∷ []) old new
-open_moves told names shares old new is drawn made before at =
+open_moves told names shares old {new} is drawn made before at =
     subst (λ files. OutputsAt told before (record { out = []; files = files }) new)
     (ap (λ n. named names 0 shares ++ file_at names n (share state.Open []) ∷ []) drawn ∙ sym (named_at names shares [] (share state.Open []) is))
     (file_more told before (part_of names shares) old new (next_name names) Fresh at made)
 
 -- the next file in order has the next name
-next_file : (names : Naming) (shares more : List Share) (one : Share) → is_named names (length shares) ≡ true → names.drawn ≡ length shares → (kept : List ℕ) → kept ≡ next_name names → IsNext (part_of names shares) (part_of names (shares ++ one ∷ more)) kept
-next_file names shares more one is drawn kept named_so = record {
+next_file : (names : Naming) (shares more : List Share) (one : Share) → is_named names (length shares) ≡ true → names.drawn ≡ length shares → {kept : List ℕ} → kept ≡ next_name names → IsNext (part_of names shares) (part_of names (shares ++ one ∷ more)) kept
+next_file names shares more one is drawn named_so = record {
   front = named names 0 shares;
   file = file_at names (length shares) one;
   rest = named names (length shares + 1) more;
@@ -196,40 +195,40 @@ next_file names shares more one is drawn kept named_so = record {
   name_is = ap (λ n. name_of names n) (sym drawn) ∙ sym named_so;
 }
 
-pub open_halts : (told : Bool) (names : Naming) (shares more : List Share) (one : Share) (old new : List Slot) (fault : Fault) → AllShut shares → names.drawn ≡ length shares → OpensNone names old new fault → Halts told names shares (shares ++ one ∷ more) old new fault
-open_halts told names shares more one old new Memory shut drawn none = halts_here told names shares (shares ++ one ∷ more) old new Memory _ (shares_more shares (one ∷ more)) (turn_next _ (shut_files names 0 shares shut)) none.1 (λ before at. tt)
-open_halts told names shares more one old new (Open slot) shut drawn none =
-    halts_here told names shares (shares ++ one ∷ more) old new (Open slot) _ (shares_more shares (one ∷ more)) (turn_next _ (shut_files names 0 shares shut)) (none.0, (next_name names, none.2.0, next_file names shares more one (subst (λ n. is_named names n ≡ true) drawn none.1) drawn (next_name names) refl, none.2.1, none.2.2)) (λ before at. refl)
-open_halts told names shares more one old new Suffixes shut drawn none = halts_here told names shares (shares ++ one ∷ more) old new Suffixes _ (shares_more shares (one ∷ more)) (turn_next _ (shut_files names 0 shares shut)) none.1 (λ before at. tt)
-open_halts told names shares more one old new fault shut drawn none = absurd none
+pub open_halts : (told : Bool) (names : Naming) (shares more : List Share) (one : Share) {old new : List Slot} (fault : Fault) → AllShut shares → names.drawn ≡ length shares → OpensNone names old new fault → Halts told names shares (shares ++ one ∷ more) old new fault
+open_halts told names shares more one Memory shut drawn none = halts_here told names shares (shares ++ one ∷ more) (shares_more shares (one ∷ more)) (turn_next _ (shut_files names 0 shares shut)) none.1 (λ before at. tt)
+open_halts told names shares more one (Open slot) shut drawn none =
+    halts_here told names shares (shares ++ one ∷ more) (shares_more shares (one ∷ more)) (turn_next _ (shut_files names 0 shares shut)) (none.0, (next_name names, none.2.0, next_file names shares more one (subst (λ n. is_named names n ≡ true) drawn none.1) drawn refl, none.2.1, none.2.2)) (λ before at. refl)
+open_halts told names shares more one Suffixes shut drawn none = halts_here told names shares (shares ++ one ∷ more) (shares_more shares (one ∷ more)) (turn_next _ (shut_files names 0 shares shut)) none.1 (λ before at. tt)
+open_halts told names shares more one fault shut drawn none = absurd none
 
 -- which faults come
 
-pub breaks_later : (old mid new : List Slot) (fault : Fault) → KeepsBroken old mid → Breaks mid new fault → Breaks old new fault
-breaks_later old mid new _ keeps wants_memory = wants_memory
-breaks_later old mid new _ keeps (breaks_write slot two rose) = breaks_write slot two (rose_later slot old mid new keeps rose)
-breaks_later old mid new _ keeps (breaks_open slot rose) = breaks_open slot (rose_later slot old mid new keeps rose)
-breaks_later old mid new _ keeps lacks_names = lacks_names
+pub breaks_later : {old mid new : List Slot} {fault : Fault} → KeepsBroken old mid → Breaks mid new fault → Breaks old new fault
+breaks_later keeps wants_memory = wants_memory
+breaks_later {old} {mid} {new} keeps (breaks_write slot two rose) = breaks_write slot two (rose_later slot old mid new keeps rose)
+breaks_later {old} {mid} {new} keeps (breaks_open slot rose) = breaks_open slot (rose_later slot old mid new keeps rose)
+breaks_later keeps lacks_names = lacks_names
 
-pub write_breaks : (told : Bool) (slot : ℕ) (bytes : List ℕ) (old new : List Slot) (fault : Fault) → 2 ≤ slot → IsTrue (is_writable old slot) → WritesShort told slot bytes old new fault → Breaks old new fault
-write_breaks told slot bytes old new _ two can (broke n cut) = breaks_write slot two (write_rose told slot bytes n old new can cut)
+pub write_breaks : (told : Bool) {slot : ℕ} {bytes : List ℕ} {old new : List Slot} {fault : Fault} → 2 ≤ slot → IsTrue (is_writable old slot) → WritesShort told slot bytes old new fault → Breaks old new fault
+write_breaks told {slot} {bytes} {old} {new} two can (broke n cut) = breaks_write slot two (write_rose told slot bytes n old new can cut)
 
-pub open_breaks : (names : Naming) (old new : List Slot) (fault : Fault) → OpensNone names old new fault → Breaks old new fault
-open_breaks names old new Memory none = wants_memory
-open_breaks names old new (Open slot) none = breaks_open slot (open_rose slot none.2.0 old new none.0 none.2.2)
-open_breaks names old new Suffixes none = lacks_names
-open_breaks names old new fault none = absurd none
+pub open_breaks : (names : Naming) {old new : List Slot} (fault : Fault) → OpensNone names old new fault → Breaks old new fault
+open_breaks names Memory none = wants_memory
+open_breaks names {old} {new} (Open slot) none = breaks_open slot (open_rose slot none.2.0 old new none.0 none.2.2)
+open_breaks names Suffixes none = lacks_names
+open_breaks names fault none = absurd none
 
 -- they are no verdict but for want of names
-pub unjudged : (old new : List Slot) (fault : Fault) → Breaks old new fault → (fault ≡ Suffixes → ⊥) → is_verdict fault ≡ false
-unjudged old new _ lacks_names named = absurd (named refl)
-unjudged old new _ breaks named = refl
+pub unjudged : {old new : List Slot} {fault : Fault} → Breaks old new fault → (fault ≡ Suffixes → ⊥) → is_verdict fault ≡ false
+unjudged lacks_names named = absurd (named refl)
+unjudged breaks named = refl
 
-pub met_files : (Ends : Fault → Type 0) (old new : List Slot) (fault : Fault) → Breaks old new fault → (fault ≡ Suffixes → Ends fault) → IsMet split_means split_means.feeding (true ≡ true) Ends old new fault
-met_files Ends old new _ wants_memory ends = (refl, refl)
-met_files Ends old new _ (breaks_write slot two rose) ends = (λ none. absurd (omega (arith, none)), λ none. absurd (false≢true (sym none)), rose)
-met_files Ends old new _ (breaks_open slot rose) ends = (refl, refl, rose)
-met_files Ends old new _ lacks_names ends = ends refl
+pub met_files : (Ends : Fault → Type 0) {old new : List Slot} {fault : Fault} → Breaks old new fault → (fault ≡ Suffixes → Ends fault) → IsMet split_means split_means.feeding (true ≡ true) Ends old new fault
+met_files Ends wants_memory ends = (refl, refl)
+met_files Ends (breaks_write slot two rose) ends = (λ none. absurd (omega (arith, none)), λ none. absurd (false≢true (sym none)), rose)
+met_files Ends (breaks_open slot rose) ends = (refl, refl, rose)
+met_files Ends lacks_names ends = ends refl
 
 -- where the file of the part that was begun stands
 
@@ -257,8 +256,8 @@ pub owned_ended : (slot : ℕ) (old new : List Slot) → length new ≡ length o
 owned_ended slot old new same first owns = let above : first ≤ slot = owns.0 in let last : suc slot ≡ length old = owns.1 in omega (arith, same)
 
 -- the file was opened
-pub owned_opened : (slot : ℕ) (one : Slot) (old new : List Slot) → slot ≡ length old → new ≡ old ++ one ∷ [] → KeepsFile None old (Some slot) new
-owned_opened slot one old new at is first owns =
+pub owned_opened : {slot : ℕ} (one : Slot) (old : List Slot) {new : List Slot} → slot ≡ length old → new ≡ old ++ one ∷ [] → KeepsFile None old (Some slot) new
+owned_opened one old {new} at is first owns =
     let above : first ≤ length old = owns in
     let size : length new ≡ length old + 1 = ap length is ∙ length-append old (one ∷ []) in (omega (arith, at), omega (arith, at))
 
@@ -272,5 +271,5 @@ owned_unopened names old new Suffixes none first owns = owned_same None old new 
 owned_unopened names old new fault none first owns = absurd none
 
 -- a write doesn't fail for want of names
-pub no_suffixes : (told : Bool) (slot : ℕ) (bytes : List ℕ) (old new : List Slot) (f : Fault) → WritesShort told slot bytes old new f → f ≡ Suffixes → ⊥
-no_suffixes told slot bytes old new _ (broke n cut) is = false≢true (ap is_verdict is)
+pub no_suffixes : (told : Bool) {slot : ℕ} {bytes : List ℕ} {old new : List Slot} {f : Fault} → WritesShort told slot bytes old new f → f ≡ Suffixes → ⊥
+no_suffixes told (broke n cut) is = false≢true (ap is_verdict is)

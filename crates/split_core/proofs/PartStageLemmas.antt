@@ -28,32 +28,32 @@ use Rattle.split_core.proofs.TakenLemmas.{are_named_drawn}
 same_part : (names : Naming) (shares : List Share) → part_of (from_start names) shares ≡ part_of names shares
 same_part names shares = part_drawn names (from_start names) shares refl
 
-have_names : (state : PartsState) (x : List ℕ) (have : Bool) → are_named state.names (length (parts state.limit x)) ≡ have → are_named (from_start state.names) (length (map (share Closed) (parts state.limit x))) ≡ have
-have_names state x have is =
+have_names : (state : PartsState) (x : List ℕ) {have : Bool} → are_named state.names (length (parts state.limit x)) ≡ have → are_named (from_start state.names) (length (map (share Closed) (parts state.limit x))) ≡ have
+have_names state x is =
     ap (are_named (from_start state.names)) (length-map (parts state.limit x) (share Closed))
     ∙ are_named_drawn state.names (from_start state.names) (length (parts state.limit x)) refl ∙ is
 
-all_have : (state : PartsState) (x : List ℕ) → Stands state x → are_named (from_start state.names) (length (map (share Closed) (parts state.limit x))) ≡ true
-all_have state x stands = have_names state x true (ap (are_named state.names) (sym (settled_count state.limit x)) ∙ stands.enough)
+all_have : {state : PartsState} {x : List ℕ} → Stands state x → are_named (from_start state.names) (length (map (share Closed) (parts state.limit x))) ≡ true
+all_have {state} {x} stands = have_names state x (ap (are_named state.names) (sym (settled_count state.limit x)) ∙ stands.enough)
 
 -- as long as all parts have names, more can come
-pub never_done : (state : PartsState) (x : List ℕ) → Stands state x → false ≡ (work state).is_complete x
-never_done state x stands = sym (ap not (all_have state x stands))
+pub never_done : {state : PartsState} {x : List ℕ} → Stands state x → false ≡ (work state).is_complete x
+never_done stands = sym (ap not (all_have stands))
 
-goes_well : (state : PartsState) (x : List ℕ) → Stands state x → (work state).verdict x ≡ None
-goes_well state x stands = ap (λ (have : Bool). cond (not have) (Some Suffixes) None) (all_have state x stands)
+goes_well : {state : PartsState} {x : List ℕ} → Stands state x → (work state).verdict x ≡ None
+goes_well stands = ap (λ (have : Bool). cond (not have) (Some Suffixes) None) (all_have stands)
 
 work_by : (state next : PartsState) → next.limit ≡ state.limit → next.names ≡ record state.names { drawn = next.names.drawn } → work next ≡ work state
 work_by state next limit names = ap (λ (those : Limit). parts_work those (from_start next.names)) limit ∙ ap (λ (those : Naming). parts_work state.limit (from_start those)) names
 
-moved_out : (told : Bool) (names : Naming) (low high : List Share) (before old new : List Slot) → (OutputsAt told before (part_of names low) old → OutputsAt told before (part_of names high) new)
+moved_out : (told : Bool) (names : Naming) (low high : List Share) {before old new : List Slot} → (OutputsAt told before (part_of names low) old → OutputsAt told before (part_of names high) new)
     → OutputsAt told before (part_of (from_start names) low) old → OutputsAt told before (part_of (from_start names) high) new
-moved_out told names low high before old new moves at =
+moved_out told names low high {before} {old} {new} moves at =
     subst (λ part. OutputsAt told before part new) (sym (same_part names high)) (moves (subst (λ part. OutputsAt told before part old) (same_part names low) at))
 
-halted : (told : Bool) (names : Naming) (low high : List Share) (before old new : List Slot) (f : Fault) → (OutputsAt told before (part_of names low) old → StoppedInTurn told before (part_of names low) (part_of names high) f new)
+halted : (told : Bool) (names : Naming) (low high : List Share) {before old new : List Slot} {f : Fault} → (OutputsAt told before (part_of names low) old → StoppedInTurn told before (part_of names low) (part_of names high) f new)
     → OutputsAt told before (part_of (from_start names) low) old → StoppedBetween told before (part_of (from_start names) low) (part_of (from_start names) high) f new
-halted told names low high before old new f halts at =
+halted told names low high {before} {old} {new} {f} halts at =
     subst (λ part. StoppedBetween told before (part_of (from_start names) low) part f new) (sym (same_part names high))
     (subst (λ part. StoppedBetween told before part (part_of names high) f new) (sym (same_part names low))
     (stopped_in_turn told before _ _ f new (halts (subst (λ part. OutputsAt told before part old) (same_part names low) at))))
@@ -70,7 +70,7 @@ module _ (told : Bool) (state next : PartsState) (piece : List ℕ) (old new : L
   takes_in (Err f) passes = tt
 
   pub puts_out : (result : Result (Unit {0}) Fault) → Passes told state piece old new next result → OnOk result (PutsOut ways.Holds ways.Owns ways.work (way.Parts state) piece told old new)
-  puts_out (Ok done) passes = λ before x at. moved_out told state.names _ _ before old new (passes.moves x at.holds (owns_last state.current (length before) old at.owns) before) at.outputs
+  puts_out (Ok done) passes = λ before x at. moved_out told state.names _ _ (passes.moves x at.holds (owns_last state.current (length before) old at.owns) before) at.outputs
   puts_out (Err f) passes = tt
 
   pub still_ready : (result : Result (Unit {0}) Fault) → Passes told state piece old new next result → OnOk result (IsReady next.current new)
@@ -84,41 +84,41 @@ module _ (told : Bool) (state next : PartsState) (piece : List ℕ) (old new : L
   -- names ran out: the files that have a name are written, and nothing can change that
   settles : (f : Fault) → f ≡ Suffixes → Stopped told state piece old new next f → EndsWith ways.Holds ways.work (way.Parts state) piece f
   settles f is stop x stands =
-      let none = have_names state (x ++ piece) false (stop.short is x stands).0 in
+      let none = have_names state (x ++ piece) (stop.short is x stands).0 in
       (ap not none, ap (λ (have : Bool). cond (not have) (Some Suffixes) None) none ∙ ap Some (sym is))
 
   judged_out : Stopped told state piece old new next Suffixes → CutsOff ways.Holds ways.Owns ways.work (way.Parts state) piece told old new Suffixes
   judged_out stop before x at =
-      engine.judged refl new (moved_out told state.names _ _ before old new ((stop.short refl x at.holds).1 (owns_last state.current (length before) old at.owns) before) at.outputs) refl
+      engine.judged refl new (moved_out told state.names _ _ ((stop.short refl x at.holds).1 (owns_last state.current (length before) old at.owns) before) at.outputs) refl
 
   cut_out : (f : Fault) → is_verdict f ≡ false → Stopped told state piece old new next f → CutsOff ways.Holds ways.Owns ways.work (way.Parts state) piece told old new f
-  cut_out f is stop before x at = engine.cut is (halted told state.names _ _ before old new f (stop.halts x at.holds (owns_last state.current (length before) old at.owns) before) at.outputs)
+  cut_out f is stop before x at = engine.cut is (halted told state.names _ _ (stop.halts x at.holds (owns_last state.current (length before) old at.owns) before) at.outputs)
 
-  cut_off : (f : Fault) → Breaks old new f → Stopped told state piece old new next f → CutsOff ways.Holds ways.Owns ways.work (way.Parts state) piece told old new f
-  cut_off _ wants_memory stop = cut_out Memory refl stop
-  cut_off _ (breaks_write slot two rose) stop = cut_out (Write slot) refl stop
-  cut_off _ (breaks_open slot rose) stop = cut_out (Open slot) refl stop
-  cut_off _ lacks_names stop = judged_out stop
+  cut_off : {f : Fault} → Breaks old new f → Stopped told state piece old new next f → CutsOff ways.Holds ways.Owns ways.work (way.Parts state) piece told old new f
+  cut_off wants_memory stop = cut_out Memory refl stop
+  cut_off (breaks_write slot two rose) stop = cut_out (Write slot) refl stop
+  cut_off (breaks_open slot rose) stop = cut_out (Open slot) refl stop
+  cut_off lacks_names stop = judged_out stop
 
   pub cuts_off : (result : Result (Unit {0}) Fault) → Passes told state piece old new next result → IfErr result (CutsOff ways.Holds ways.Owns ways.work (way.Parts state) piece told old new)
   cuts_off (Ok done) passes = tt
-  cuts_off (Err f) passes = cut_off f passes.breaks passes
+  cuts_off (Err f) passes = cut_off passes.breaks passes
 
   pub met : (result : Result (Unit {0}) Fault) → Passes told state piece old new next result → IfErr result (IsMet (work state).means (work state).means.feeding (true ≡ true) (EndsWith ways.Holds ways.work (way.Parts state) piece) old new)
   met (Ok done) passes = tt
-  met (Err f) passes = met_files (EndsWith ways.Holds ways.work (way.Parts state) piece) old new f passes.breaks (λ is x stands. settles f is passes x stands)
+  met (Err f) passes = met_files (EndsWith ways.Holds ways.work (way.Parts state) piece) passes.breaks (λ is x stands. settles f is passes x stands)
 
 -- the end
 
 module _ (told : Bool) (state : PartsState) (old new : List Slot) where
   pub ends : (result : Result (Unit {0}) Fault) → Finishes told state old new result → OnOk result (engine.Finishes ways.Holds ways.Owns ways.work (way.Parts state) told old new)
-  ends (Ok done) finishes = λ before x at. (goes_well state x at.holds, moved_out told state.names _ _ before old new (finishes x at.holds (owns_last state.current (length before) old at.owns) before) at.outputs)
+  ends (Ok done) finishes = λ before x at. (goes_well at.holds, moved_out told state.names _ _ (finishes x at.holds (owns_last state.current (length before) old at.owns) before) at.outputs)
   ends (Err f) finishes = tt
 
   pub ends_short : (result : Result (Unit {0}) Fault) → Finishes told state old new result → IfErr result (EndsShort ways.Holds ways.Owns ways.work (way.Parts state) told old new)
   ends_short (Ok done) finishes = tt
   ends_short (Err f) finishes = λ before x at.
-      engine.cut (ap is_verdict finishes.0.1) (halted told state.names _ _ before old new f (finishes.1 x at.holds (owns_last state.current (length before) old at.owns) before) at.outputs)
+      engine.cut (ap is_verdict finishes.0.1) (halted told state.names _ _ (finishes.1 x at.holds (owns_last state.current (length before) old at.owns) before) at.outputs)
 
   pub end_met : (result : Result (Unit {0}) Fault) → Finishes told state old new result → IfErr result (IsMet (work state).means (work state).means.closing (Unit {0}) (EndsThere ways.Holds ways.work (way.Parts state)) old new)
   end_met (Ok done) finishes = tt

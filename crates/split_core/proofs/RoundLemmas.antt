@@ -150,8 +150,8 @@ files_after delim elide n x y some =
 
 -- The gathered piece
 
-pub first_gathered : (delim n start reached : ℕ) (piece : List ℕ) (gathered : List (List ℕ)) → gathered ≡ dealt_piece delim n start piece → reached ≡ reached_by delim n start piece → take reached gathered ≡ dealt_first delim n start piece
-first_gathered delim n start reached piece gathered is reached_is =
+pub first_gathered : (delim n start : ℕ) {reached : ℕ} (piece : List ℕ) {gathered : List (List ℕ)} → gathered ≡ dealt_piece delim n start piece → reached ≡ reached_by delim n start piece → take reached gathered ≡ dealt_first delim n start piece
+first_gathered delim n start {reached} piece is reached_is =
     ap (take reached) is ∙ ap (λ count. take count (dealt_piece delim n start piece)) reached_is
     ∙ take-map-range_with_len (λ file. dealt n file start (lines_of delim piece)) 0 n (reached_by delim n start piece) (omega arith)
 
@@ -159,9 +159,9 @@ pub no_room : (told : Bool) (files : FilesState) (more : List (List ℕ)) (slots
 no_room told files more slots before these at =
     stopped_here told before (open_part files.names these) (open_part files.names (added these more)) fault.Memory slots slots at.outputs (open_begins files.names these _ (added_begin these more)) refl tt
 
-pub became_dealt : (delim : ℕ) (told : Bool) (files next : FilesState) (n start : ℕ) (piece : List ℕ) (more : List (List ℕ)) (old new : List Slot) → more ≡ dealt_first delim n start piece → Became told files (λ these. added these more) (length more) old next new
+pub became_dealt : (delim : ℕ) (told : Bool) {files next : FilesState} (n start : ℕ) (piece : List ℕ) (more : List (List ℕ)) {old new : List Slot} → more ≡ dealt_first delim n start piece → Became told files (λ these. added these more) (length more) old next new
     → Became told files (λ these. added these (dealt_first delim n start piece)) (reached_by delim n start piece) old next new
-became_dealt delim told files next n start piece more old new is became =
+became_dealt delim told {files} {next} n start piece more {old} {new} is became =
     subst (λ count. Became told files (λ these. added these (dealt_first delim n start piece)) count old next new) (length-map-range_with_len (λ file. dealt n file start (lines_of delim piece)) 0 (reached_by delim n start piece))
     (subst (λ those. Became told files (λ these. added these those) (length those) old next new) is became)
 
@@ -174,15 +174,15 @@ same_work old new delim count elide names = ap round_work same where
       ∙ ap (λ those. round_plan old.delim old.count those (from_start new.files.names)) elide ∙ ap (λ those. round_plan old.delim old.count old.elide those) names
 
 -- what a piece makes of the files, where the stage can have been fed x
-made_is : (round : RoundState) (x piece : List ℕ) → Holds round x → open_part round.files.names (added (files_of round.delim round.elide round.count x) (dealt_first round.delim round.count round.next piece)) ≡ (work round).settled (x ++ piece)
-made_is round x piece holds =
+made_is : {round : RoundState} {x : List ℕ} (piece : List ℕ) → Holds round x → open_part round.files.names (added (files_of round.delim round.elide round.count x) (dealt_first round.delim round.count round.next piece)) ≡ (work round).settled (x ++ piece)
+made_is {round} {x} piece holds =
     ap (λ next. open_part round.files.names (added (files_of round.delim round.elide round.count x) (dealt_first round.delim round.count next piece))) holds.next
     ∙ ap (open_part round.files.names) (files_after round.delim round.elide round.count x piece holds.some)
     ∙ sym (settled_is round.delim round.files.names round.elide round.count (x ++ piece) holds.named)
 
 -- where the stage stands, its files do
-stand_at : (told : Bool) (round : RoundState) (before : List Slot) (x : List ℕ) (now : List Slot) → StandsAt ways.Holds ways.Owns (way.Round round) told before x ((work round).settled x) now → StandAt told round.files before (files_of round.delim round.elide round.count x) now
-stand_at told round before x now at = record {
+stand_at : (told : Bool) (round : RoundState) {before : List Slot} {x : List ℕ} {now : List Slot} → StandsAt ways.Holds ways.Owns (way.Round round) told before x ((work round).settled x) now → StandAt told round.files before (files_of round.delim round.elide round.count x) now
+stand_at told round {before} {x} {now} at = record {
   count = length-files_of round.delim round.elide round.count x ∙ sym at.holds.opened;
   owns = at.owns;
   outputs = subst (λ part. OutputsAt told before part now) (settled_is round.delim round.files.names round.elide round.count x at.holds.named) at.outputs;
@@ -190,17 +190,16 @@ stand_at told round before x now at = record {
 
 puts_out : (told : Bool) (round : RoundState) (piece : List ℕ) (old new : List Slot) → Makes told round.files (λ these. added these (dealt_first round.delim round.count round.next piece)) old new → PutsOut ways.Holds ways.Owns ways.work (way.Round round) piece told old new
 puts_out told round piece old new makes before x at =
-    subst (λ part. OutputsAt told before part new) (made_is round x piece at.holds) (makes before (files_of round.delim round.elide round.count x) (stand_at told round before x old at))
+    subst (λ part. OutputsAt told before part new) (made_is piece at.holds) (makes before (files_of round.delim round.elide round.count x) (stand_at told round at))
 
 cuts_off : (told : Bool) (round : RoundState) (piece : List ℕ) (old new : List Slot) (why : Fault) → IsOfFiles old new why → StopsShort told round.files (λ these. added these (dealt_first round.delim round.count round.next piece)) old new why → CutsOff ways.Holds ways.Owns ways.work (way.Round round) piece told old new why
 cuts_off told round piece old new why is stops before x at =
-    cut (unjudged old new why is.0 is.1)
-    (subst (λ high. StoppedBetween told before ((work round).settled x) high why new) (made_is round x piece at.holds)
+    cut (unjudged is.0 is.1) (subst (λ high. StoppedBetween told before ((work round).settled x) high why new) (made_is piece at.holds)
     (subst (λ low. StoppedBetween told before low (open_part round.files.names (added (files_of round.delim round.elide round.count x) (dealt_first round.delim round.count round.next piece))) why new) (sym (settled_is round.delim round.files.names round.elide round.count x at.holds.named))
-    (stops before (files_of round.delim round.elide round.count x) (stand_at told round before x old at))))
+    (stops before (files_of round.delim round.elide round.count x) (stand_at told round at))))
 
-takes_in : (told : Bool) (old new : RoundState) (piece : List ℕ) (before after : List Slot) → Deals told old piece before after new (Ok tt) → TakesIn ways.Holds piece (way.Round old) (way.Round new)
-takes_in told old new piece before after deals x holds = record {
+takes_in : (told : Bool) {old new : RoundState} {piece : List ℕ} {before after : List Slot} → Deals told old piece before after new (Ok tt) → TakesIn ways.Holds piece (way.Round old) (way.Round new)
+takes_in told {old} {new} {piece} deals x holds = record {
   some = let some : 0 < old.count = holds.some in let count : new.count ≡ old.count = deals.count in omega arith;
   named = named_same old.files.names new.files.names new.count deals.names (ap (are_named old.files.names) deals.count ∙ holds.named);
   next = deals.next ∙ ap (λ place. (place + delimiters old.delim piece) % old.count) holds.next ∙ mod-add-mod (delimiters old.delim x) old.count (delimiters old.delim piece) ∙ ap (λ lines. lines % old.count) (sym (delimiters-append old.delim x piece))
@@ -214,7 +213,7 @@ takes_in told old new piece before after deals x holds = record {
 
 module _ (told : Bool) (old new : RoundState) (piece : List ℕ) (before after : List Slot) where
   pub dealt_holds : (result : Result (Unit {0}) Fault) → Deals told old piece before after new result → OnOk result (TakesIn ways.Holds piece (way.Round old) (way.Round new))
-  dealt_holds (Ok u) deals = takes_in told old new piece before after deals
+  dealt_holds (Ok u) deals = takes_in told deals
   dealt_holds (Err why) deals = tt
 
   pub dealt_outputs : (result : Result (Unit {0}) Fault) → Deals told old piece before after new result → OnOk result (PutsOut ways.Holds ways.Owns ways.work (way.Round old) piece told before after)
@@ -231,24 +230,23 @@ module _ (told : Bool) (old new : RoundState) (piece : List ℕ) (before after :
 
   pub dealt_met : (result : Result (Unit {0}) Fault) → Deals told old piece before after new result → IfErr result (IsMet (work old).means (work old).means.feeding (true ≡ true) (EndsWith ways.Holds ways.work (way.Round old) piece) before after)
   dealt_met (Ok u) deals = tt
-  dealt_met (Err why) deals = met_files (EndsWith ways.Holds ways.work (way.Round old) piece) before after why deals.caused.0 (λ is. absurd (deals.caused.1 is))
+  dealt_met (Err why) deals = met_files (EndsWith ways.Holds ways.work (way.Round old) piece) deals.caused.0 (λ is. absurd (deals.caused.1 is))
 
 -- The end
 
-closed_part : (round : RoundState) (x : List ℕ) → Holds round x → closing_part round.files.names (length round.files.outputs) (files_of round.delim round.elide round.count x) ≡ (work round).whole x
-closed_part round x holds = ap (λ count. closing_part round.files.names count (files_of round.delim round.elide round.count x)) holds.opened ∙ sym (whole_is round.delim round.files.names round.elide round.count x holds.named)
+closed_part : {round : RoundState} {x : List ℕ} → Holds round x → closing_part round.files.names (length round.files.outputs) (files_of round.delim round.elide round.count x) ≡ (work round).whole x
+closed_part {round} {x} holds = ap (λ count. closing_part round.files.names count (files_of round.delim round.elide round.count x)) holds.opened ∙ sym (whole_is round.delim round.files.names round.elide round.count x holds.named)
 
 module _ (told : Bool) (round : RoundState) (old new : List Slot) where
   finishes : HaveClosed told round.files (length round.files.outputs) old new → Finishes ways.Holds ways.Owns ways.work (way.Round round) told old new
   finishes closed before x at =
-      (refl, subst (λ part. OutputsAt told before part new) (closed_part round x at.holds) (closed before (files_of round.delim round.elide round.count x) (stand_at told round before x old at)))
+      (refl, subst (λ part. OutputsAt told before part new) (closed_part at.holds) (closed before (files_of round.delim round.elide round.count x) (stand_at told round at)))
 
   ends_short : (why : Fault) → CannotClose old new why → ClosesShort told round.files (length round.files.outputs) old new why → EndsShort ways.Holds ways.Owns ways.work (way.Round round) told old new why
   ends_short why is stops before x at =
-      cut (ap is_verdict is.1)
-      (subst (λ high. StoppedBetween told before ((work round).settled x) high why new) (closed_part round x at.holds)
+      cut (ap is_verdict is.1) (subst (λ high. StoppedBetween told before ((work round).settled x) high why new) (closed_part at.holds)
       (subst (λ low. StoppedBetween told before low (closing_part round.files.names (length round.files.outputs) (files_of round.delim round.elide round.count x)) why new) (sym (settled_is round.delim round.files.names round.elide round.count x at.holds.named))
-      (stops before (files_of round.delim round.elide round.count x) (stand_at told round before x old at))))
+      (stops before (files_of round.delim round.elide round.count x) (stand_at told round at))))
 
   end_met : (why : Fault) → CannotClose old new why → IsMet (work round).means (work round).means.closing (Unit {0}) (EndsThere ways.Holds ways.work (way.Round round)) old new why
   end_met why is = subst (λ those. IsMet (work round).means (work round).means.closing (Unit {0}) (EndsThere ways.Holds ways.work (way.Round round)) old new those) (sym is.1)
@@ -256,15 +254,15 @@ module _ (told : Bool) (round : RoundState) (old new : List Slot) where
 
   -- by the result of closing the files
 
-  pub ended : (next : RoundState) (result : Result (Unit {0}) Fault) → Closes told round old new next result → OnOk result (Finishes ways.Holds ways.Owns ways.work (way.Round round) told old new)
-  ended next result closes = on_ok_weaker result finishes closes.closed
+  pub ended : {next : RoundState} {result : Result (Unit {0}) Fault} → Closes told round old new next result → OnOk result (Finishes ways.Holds ways.Owns ways.work (way.Round round) told old new)
+  ended {result} closes = on_ok_weaker result finishes closes.closed
 
-  pub ended_short : (next : RoundState) (result : Result (Unit {0}) Fault) → Closes told round old new next result → IfErr result (EndsShort ways.Holds ways.Owns ways.work (way.Round round) told old new)
-  ended_short next (Ok u) closes = tt
-  ended_short next (Err why) closes = ends_short why closes.caused closes.cut
+  pub ended_short : {next : RoundState} (result : Result (Unit {0}) Fault) → Closes told round old new next result → IfErr result (EndsShort ways.Holds ways.Owns ways.work (way.Round round) told old new)
+  ended_short (Ok u) closes = tt
+  ended_short (Err why) closes = ends_short why closes.caused closes.cut
 
-  pub ended_met : (next : RoundState) (result : Result (Unit {0}) Fault) → Closes told round old new next result → IfErr result (IsMet (work round).means (work round).means.closing (Unit {0}) (EndsThere ways.Holds ways.work (way.Round round)) old new)
-  ended_met next result closes = IfErr-weaker result _ _ end_met closes.caused
+  pub ended_met : {next : RoundState} {result : Result (Unit {0}) Fault} → Closes told round old new next result → IfErr result (IsMet (work round).means (work round).means.closing (Unit {0}) (EndsThere ways.Holds ways.work (way.Round round)) old new)
+  ended_met {result} closes = IfErr-weaker result _ _ end_met closes.caused
 
 -- The start
 
@@ -277,8 +275,8 @@ pub starts_with : (delim : ℕ) (elide : Bool) (n : ℕ) → cond elide 0 n ≡ 
 starts_with delim true n = omega arith
 starts_with delim false n = refl
 
-at_start : (delim : ℕ) (names : Naming) (elide : Bool) (n count : ℕ) → names.drawn ≡ 0 → are_named names n ≡ true → count ≡ opened_by delim elide n [] → open_part names (filled count []) ≡ settled_by (round_plan delim n elide names) []
-at_start delim names elide n count fresh are is =
+at_start : (delim : ℕ) (names : Naming) (elide : Bool) (n : ℕ) {count : ℕ} → names.drawn ≡ 0 → are_named names n ≡ true → count ≡ opened_by delim elide n [] → open_part names (filled count []) ≡ settled_by (round_plan delim n elide names) []
+at_start delim names elide n fresh are is =
     ap (λ k. open_part names (filled k [])) is ∙ ap (open_part names) (sym (none_dealt delim n 0 (opened_by delim elide n []))) ∙ sym (settled_is delim names elide n [] are)
     ∙ ap (λ drawn. settled_by (round_plan delim n elide (record names { drawn = drawn })) []) (sym fresh)
 
@@ -286,36 +284,35 @@ at_start delim names elide n count fresh are is =
 abbrev pub no_files : Naming → FilesState
 no_files names = record { names = names; outputs = [] }
 
-none_owned : (names : Naming) (slots : List Slot) → OwnsFiles (no_files names) (length slots) slots
-none_owned names slots = record { stand = λ place within. absurd (omega (arith, within)); last = λ same. omega arith }
+none_owned : (names : Naming) {slots : List Slot} → OwnsFiles (no_files names) (length slots) slots
+none_owned names = record { stand = λ place within. absurd (omega (arith, within)); last = λ same. omega arith }
 
-none_stand : (told : Bool) (names : Naming) (before slots : List Slot) → OutputsAt told before nothing slots → StandAt told (no_files names) before [] slots
-none_stand told names before slots at = record {
+none_stand : (told : Bool) (names : Naming) {before slots : List Slot} → OutputsAt told before nothing slots → StandAt told (no_files names) before [] slots
+none_stand told names {before} {slots} at = record {
   count = refl;
-  owns = subst (λ n. OwnsFiles (no_files names) n slots) (let all : length slots ≡ length before + 0 = outputs_count told before nothing slots at in omega arith) (none_owned names slots);
+  owns = subst (λ n. OwnsFiles (no_files names) n slots) (let all : length slots ≡ length before + 0 = outputs_count told before nothing slots at in omega arith) (none_owned names);
   outputs = at;
 }
 
-pub opens_all : (delim : ℕ) (told elide : Bool) (names : Naming) (n count : ℕ) (files next : FilesState) (old new : List Slot) → files ≡ no_files names → names.drawn ≡ 0 → are_named names n ≡ true → count ≡ opened_by delim elide n []
+pub opens_all : (delim : ℕ) (told elide : Bool) (names : Naming) (n : ℕ) {count : ℕ} {files next : FilesState} {old new : List Slot} → files ≡ no_files names → names.drawn ≡ 0 → are_named names n ≡ true → count ≡ opened_by delim elide n []
     → Became told files (filled count) count old next new → (before : List Slot) → OutputsAt told before nothing old → OutputsAt told before (settled_by (round_plan delim n elide names) []) new
-opens_all delim told elide names n count files next old new is fresh are counted became before at =
-    subst (λ part. OutputsAt told before part new) (at_start delim names elide n count fresh are counted)
-    ((subst (λ (those : FilesState). Makes told those (filled count) old new) is became.outputs) before [] (none_stand told names before old at))
+opens_all delim told elide names n {count} {old} {new} is fresh are counted became before at =
+    subst (λ part. OutputsAt told before part new) (at_start delim names elide n fresh are counted)
+    ((subst (λ (those : FilesState). Makes told those (filled count) old new) is became.outputs) before [] (none_stand told names at))
 
-pub opens_short : (delim : ℕ) (told elide : Bool) (names : Naming) (n count : ℕ) (files : FilesState) (old new : List Slot) (why : Fault) → files ≡ no_files names → names.drawn ≡ 0 → are_named names n ≡ true → count ≡ opened_by delim elide n []
+pub opens_short : (delim : ℕ) (told elide : Bool) (names : Naming) (n : ℕ) {count : ℕ} {files : FilesState} {old new : List Slot} {why : Fault} → files ≡ no_files names → names.drawn ≡ 0 → are_named names n ≡ true → count ≡ opened_by delim elide n []
     → StopsShort told files (filled count) old new why → (before : List Slot) → OutputsAt told before nothing old → StoppedBetween told before nothing (settled_by (round_plan delim n elide names) []) why new
-opens_short delim told elide names n count files old new why is fresh are counted stops before at =
-    subst (λ high. StoppedBetween told before nothing high why new) (at_start delim names elide n count fresh are counted)
-    ((subst (λ (those : FilesState). StopsShort told those (filled count) old new why) is stops) before [] (none_stand told names before old at))
+opens_short delim told elide names n {count} {old} {new} {why} is fresh are counted stops before at =
+    subst (λ high. StoppedBetween told before nothing high why new) (at_start delim names elide n fresh are counted)
+    ((subst (λ (those : FilesState). StopsShort told those (filled count) old new why) is stops) before [] (none_stand told names at))
 
-pub opens_own : (told : Bool) (names : Naming) (count : ℕ) (files next : FilesState) (old new : List Slot) → files ≡ no_files names → Became told files (filled count) count old next new → OwnsFiles next (length old) new
-opens_own told names count files next old new is became = became.owned (length old) (subst (λ (those : FilesState). OwnsFiles those (length old) old) (sym is) (none_owned names old))
+pub opens_own : (told : Bool) (names : Naming) {count : ℕ} {files next : FilesState} {old new : List Slot} → files ≡ no_files names → Became told files (filled count) count old next new → OwnsFiles next (length old) new
+opens_own told names {old} is became = became.owned (length old) (subst (λ (those : FilesState). OwnsFiles those (length old) old) (sym is) (none_owned names))
 
 -- where all files have names, the work is what was asked for
 pub does_all : (delim : ℕ) (names others : Naming) (elide : Bool) (n : ℕ) → names.drawn ≡ 0 → are_named names n ≡ true → from_start others ≡ from_start names → round_work (round_plan delim n elide (from_start others)) ≡ split_work (round_plan delim n elide names)
 does_all delim names others elide n fresh are same =
-    ap (λ those. round_work (round_plan delim n elide those)) (same ∙ ap (λ drawn. record names { drawn = drawn }) (sym fresh))
-    ∙ ap work_by never where
+    ap (λ those. round_work (round_plan delim n elide those)) (same ∙ ap (λ drawn. record names { drawn = drawn }) (sym fresh)) ∙ ap work_by never where
       never : ◌≡◌ {A = List ℕ → Bool} (λ x. false) (is_short (round_plan delim n elide names))
       never = fun_ext (λ x. never_short delim names elide n x are)
 
@@ -346,8 +343,8 @@ bytes_filed : (names : Naming) (place : ℕ) (these : List (List ℕ)) → map (
 bytes_filed names place [] = refl
 bytes_filed names place (bytes ∷ these) = ap (λ rest. bytes ∷ rest) (bytes_filed names (place + 1) these)
 
-pub none_waits : (round : RoundState) (x : List ℕ) → Holds round x → 0 ≡ length ((work round).waiting x)
-none_waits round x holds = sym (ap length (ap (λ count. drop count x) all ∙ drop-length x)) where
+pub none_waits : {round : RoundState} {x : List ℕ} → Holds round x → 0 ≡ length ((work round).waiting x)
+none_waits {round} {x} holds = sym (ap length (ap (λ count. drop count x) all ∙ drop-length x)) where
   files : List (List ℕ)
   files = files_of round.delim round.elide round.count x
 

@@ -45,12 +45,12 @@ shut_more (share ∷ shares) one shut is = (shut.0, shut_more shares one shut.1 
 
 -- a text that isn't empty has a part
 
-some_by : (full : List (List ℕ)) (rest x : List ℕ) → joined full ++ rest ≡ x → 0 < length x → 0 < length (full ++ unless_empty rest)
-some_by [] [] x is some = absurd (omega (arith, some, ap length is))
-some_by full rest x is some = omega arith
+some_by : (full : List (List ℕ)) (rest : List ℕ) {x : List ℕ} → joined full ++ rest ≡ x → 0 < length x → 0 < length (full ++ unless_empty rest)
+some_by [] [] is some = absurd (omega (arith, some, ap length is))
+some_by full rest is some = omega arith
 
 pub parts_some : (limit : Limit) (x : List ℕ) → 0 < length x → 0 < length (parts limit x)
-parts_some limit x some = some_by (cut_up limit x).full (cut_up limit x).rest x (cut_all limit x) some
+parts_some limit x some = some_by (cut_up limit x).full (cut_up limit x).rest (cut_all limit) some
 
 -- a part that was begun, or wasn't yet, begins the same part with more bytes
 pub begun_grows : (front : List Share) (begun more : List ℕ) → IsBeginning begun more → SharesBegin (front ++ map (share Open) (unless_empty begun)) (front ++ share Open more ∷ [])

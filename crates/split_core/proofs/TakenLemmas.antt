@@ -44,8 +44,8 @@ full_of parts x = map (share file_state.Closed) (cut_up parts.limit x).full
 abbrev begun_of : PartsState → List ℕ → List ℕ
 begun_of parts x = settled_rest parts.limit (rest_of parts x)
 
-begun_so : (parts : PartsState) (x : List ℕ) → Stands parts x → Begun parts (full_of parts x) (begun_of parts x)
-begun_so parts x stands = record { drawn = stands.drawn; enough = stands.enough; given = stands.opened; shut = shut_map (cut_up parts.limit x).full }
+begun_so : {parts : PartsState} {x : List ℕ} → Stands parts x → Begun parts (full_of parts x) (begun_of parts x)
+begun_so {parts} {x} stands = record { drawn = stands.drawn; enough = stands.enough; given = stands.opened; shut = shut_map (cut_up parts.limit x).full }
 
 -- what is begun, what waits and more are together what is left and more
 all_of : (parts : PartsState) (x more : List ℕ) → Stands parts x → begun_of parts x ++ (parts.waiting ++ more) ≡ rest_of parts x ++ more
@@ -65,26 +65,26 @@ module _ (parts : PartsState) (x taken : List ℕ) where
   shares_by full rest is = settled_on parts.limit x taken ∙ ap (λ (cut : CutUp). full_of parts x ++ (map (share file_state.Closed) cut.full ++ begun_share (settled_rest parts.limit cut.rest))) is
 
   -- all that is left goes to the part that was begun
-  shares_go : (left : ℕ) (has_line : Bool) → 0 < length taken → IsSettled parts.limit (rest_of parts x ++ taken) left has_line → settled_parts parts.limit (x ++ taken) ≡ full_of parts x ++ share file_state.Open (rest_of parts x ++ taken) ∷ []
-  shares_go left has_line some leads =
+  shares_go : {left : ℕ} {has_line : Bool} → 0 < length taken → IsSettled parts.limit (rest_of parts x ++ taken) left has_line → settled_parts parts.limit (x ++ taken) ≡ full_of parts x ++ share file_state.Open (rest_of parts x ++ taken) ∷ []
+  shares_go some leads =
       shares_by [] (rest_of parts x ++ taken) (cut_none parts.limit (rest_of parts x ++ taken) leads.short)
       ∙ ap (λ begun. full_of parts x ++ begun_share begun) leads.settled ∙ ap (λ more. full_of parts x ++ more) (some_share file_state.Open (rest_of parts x ++ taken) (some_bytes (rest_of parts x) taken some))
 
   -- the part is full, and the next has begun
-  shares_turn : (first next : List ℕ) → IsTurned parts.limit (rest_of parts x ++ taken) first next → settled_parts parts.limit (x ++ taken) ≡ full_of parts x ++ share file_state.Closed first ∷ begun_share next
-  shares_turn first next leads =
-      shares_by (first ∷ []) next (cut_two parts.limit (rest_of parts x ++ taken) first next leads.full leads.first_is leads.both leads.begun.short)
+  shares_turn : {first next : List ℕ} → IsTurned parts.limit (rest_of parts x ++ taken) first next → settled_parts parts.limit (x ++ taken) ≡ full_of parts x ++ share file_state.Closed first ∷ begun_share next
+  shares_turn {first} {next} leads =
+      shares_by (first ∷ []) next (cut_two parts.limit next leads.full leads.first_is leads.both leads.begun.short)
       ∙ ap (λ begun. full_of parts x ++ share file_state.Closed first ∷ begun_share begun) leads.begun.settled
 
   -- nothing more is settled
-  shares_wait : (left : ℕ) (has_line : Bool) → IsHeld parts.limit (rest_of parts x) taken left has_line → settled_parts parts.limit (x ++ taken) ≡ settled_parts parts.limit x
-  shares_wait left has_line leads =
+  shares_wait : {left : ℕ} {has_line : Bool} → IsHeld parts.limit (rest_of parts x) taken left has_line → settled_parts parts.limit (x ++ taken) ≡ settled_parts parts.limit x
+  shares_wait leads =
       shares_by [] (rest_of parts x ++ taken) (cut_none parts.limit (rest_of parts x ++ taken) leads.short) ∙ ap (λ begun. full_of parts x ++ begun_share begun) leads.settled
 
 -- x can be what came in, by how it is cut
-stands_at : (next : PartsState) (x : List ℕ) (full : List (List ℕ)) (rest : List ℕ) → cut_up next.limit x ≡ cut_so full rest → next.names.drawn ≡ length (settled_parts next.limit x) → are_named next.names (length (settled_parts next.limit x)) ≡ true
+stands_at : {next : PartsState} {x : List ℕ} {full : List (List ℕ)} {rest : List ℕ} → cut_up next.limit x ≡ cut_so full rest → next.names.drawn ≡ length (settled_parts next.limit x) → are_named next.names (length (settled_parts next.limit x)) ≡ true
     → Lacks next.limit rest next.left next.has_line → next.waiting ≡ waiting_rest next.limit rest → is_given next.current ≡ is_some (settled_rest next.limit rest) → Stands next x
-stands_at next x full rest is drawn enough lacks waits given = record {
+stands_at {next} is drawn enough lacks waits given = record {
   drawn = drawn;
   enough = enough;
   lacks = subst (λ (cut : CutUp). Lacks next.limit cut.rest next.left next.has_line) (sym is) lacks;
@@ -104,10 +104,10 @@ taken_some piece bytes some within = let all : length (take bytes piece) ≡ byt
 
 -- names ran out before the part after some full ones
 
-short_by : (told : Bool) (parts : PartsState) (x piece taken past : List ℕ) (full : List (List ℕ)) (rest : List ℕ) (old new : List Slot) → taken ++ past ≡ piece → cut_up parts.limit (x ++ taken) ≡ cut_so full rest → 0 < length (rest ++ past)
+short_by : (told : Bool) (parts : PartsState) (x : List ℕ) {piece : List ℕ} (taken past : List ℕ) (full : List (List ℕ)) (rest : List ℕ) (old new : List Slot) → taken ++ past ≡ piece → cut_up parts.limit (x ++ taken) ≡ cut_so full rest → 0 < length (rest ++ past)
     → is_named parts.names (length full) ≡ false → (IsAtEnd parts.current old → Moves told parts.names (settled_parts parts.limit x) (map (share file_state.Closed) full) old new)
     → (are_named parts.names (length (Rattle.split_core.specs.Parts.parts parts.limit (x ++ piece))) ≡ false) × (IsAtEnd parts.current old → Moves told parts.names (settled_parts parts.limit x) (settled_parts parts.limit (x ++ piece)) old new)
-short_by told state x piece taken past full rest old new split is some none moves = (
+short_by told state x {piece} taken past full rest old new split is some none moves = (
   subst (λ all. are_named state.names (length (parts state.limit all)) ≡ false) whole nameless,
   λ at_end before at. subst (λ files. Rattle.ports_core.specs.Part.OutputsAt told before (record { out = []; files = files }) new)
       (sym (ap (λ all. named state.names 0 (settled_parts state.limit all)) (sym whole) ∙ ap (named state.names 0) shares
@@ -132,25 +132,25 @@ short_by told state x piece taken past full rest old new split is some none move
 
 -- all that is left goes to the part that was begun
 
-pub goes_on : (told : Bool) (parts found next : PartsState) (piece : List ℕ) (bytes left slot : ℕ) (has_line : Bool) (old new : List Slot) → 0 < bytes → bytes ≤ length piece → LeadsOn parts piece (Goes bytes left has_line)
+pub goes_on : (told : Bool) {parts found next : PartsState} (piece : List ℕ) (bytes : ℕ) {left slot : ℕ} {has_line : Bool} {old new : List Slot} → 0 < bytes → bytes ≤ length piece → LeadsOn parts piece (Goes bytes left has_line)
     → Extended told parts (take bytes piece) old new found slot → next ≡ record found { left = left; has_line = has_line } → Took told parts (take bytes piece) old new next
-goes_on told parts found next piece bytes left slot has_line old new some within leads extends is =
+goes_on told {parts} {found} {next} piece bytes {left} {slot} {has_line} {old} {new} some within leads extends is =
     subst (λ those. Took told parts (take bytes piece) old new those) (sym whole) (record {
       limit_same = refl;
       names_same = extends.names_same;
       stands = λ x stands.
           let settled : IsSettled parts.limit (rest_of parts x ++ taken) left has_line = leads (rest_of parts x) stands.lacks in
-          let shares = shares_go parts x taken left has_line (taken_some piece bytes some within) settled in
-          let last : IsLast found (full_of parts x) = extends.drawn (full_of parts x) (begun_of parts x) (begun_so parts x stands) in
+          let shares = shares_go parts x taken (taken_some piece bytes some within) settled in
+          let last : IsLast found (full_of parts x) = extends.drawn (full_of parts x) (begun_of parts x) (begun_so stands) in
           let count = ap length shares ∙ count_one (full_of parts x) (share file_state.Open (rest_of parts x ++ taken)) in
-          stands_at those (x ++ taken) _ (rest_of parts x ++ taken) (cut_by parts x taken [] (rest_of parts x ++ taken) (cut_none parts.limit (rest_of parts x ++ taken) settled.short))
+          stands_at (cut_by parts x taken [] (rest_of parts x ++ taken) (cut_none parts.limit (rest_of parts x ++ taken) settled.short))
           (last.drawn ∙ sym count) (ap (are_named found.names) count ∙ last.named) settled.lacks (sym settled.waits)
           (sym (ap is_some settled.settled ∙ some_bytes (rest_of parts x) taken (taken_some piece bytes some within)));
       moves = λ x stands at_end.
           let settled : IsSettled parts.limit (rest_of parts x ++ taken) left has_line = leads (rest_of parts x) stands.lacks in
           subst (λ high. Moves told parts.names (settled_parts parts.limit x) high old new)
-          (ap (λ begun. full_of parts x ++ share file_state.Open begun ∷ []) (all_of parts x taken stands) ∙ sym (shares_go parts x taken left has_line (taken_some piece bytes some within) settled))
-          (extends.moves (full_of parts x) (begun_of parts x) (begun_so parts x stands) at_end);
+          (ap (λ begun. full_of parts x ++ share file_state.Open begun ∷ []) (all_of parts x taken stands) ∙ sym (shares_go parts x taken (taken_some piece bytes some within) settled))
+          (extends.moves (full_of parts x) (begun_of parts x) (begun_so stands) at_end);
       keeps = extends.keeps;
       owned = subst (λ current. KeepsFile parts.current old current new) (ap (λ (one : PartsState). one.current) extends.same) extends.owned;
       ready = extends.ready;
@@ -166,27 +166,26 @@ goes_on told parts found next piece bytes left slot has_line old new some within
 
 -- the part that was begun ended, and the next has begun
 
-turned_stands : (parts mid next : PartsState) (x taken first past : List ℕ) → mid.limit ≡ parts.limit → Stands parts x → IsTurned parts.limit (rest_of parts x ++ taken) first past
+turned_stands : {parts : PartsState} (mid : PartsState) {next : PartsState} {x : List ℕ} (taken : List ℕ) {first past : List ℕ} → mid.limit ≡ parts.limit → Stands parts x → IsTurned parts.limit (rest_of parts x ++ taken) first past
     → next ≡ record mid { names = next.names; left = most mid.limit - length past; has_line = false; waiting = []; current = next.current }
     → next.names.drawn ≡ length (full_of parts x ++ share file_state.Closed first ∷ begun_share past) → are_named next.names (length (full_of parts x ++ share file_state.Closed first ∷ begun_share past)) ≡ true
     → is_given next.current ≡ is_some past → Stands next (x ++ taken)
-turned_stands parts mid next x taken first past limit stands leads is drawn enough given =
+turned_stands {parts} mid {next} {x} taken {first} {past} limit stands leads is drawn enough given =
     subst (λ those. Stands those (x ++ taken)) (sym (is ∙ ap (λ limit_is. record { limit = limit_is; names = next.names; left = most limit_is - length past; has_line = false; waiting = []; current = next.current }) limit))
-    (stands_at (record { limit = parts.limit; names = next.names; left = most parts.limit - length past; has_line = false; waiting = []; current = next.current }) (x ++ taken) _ past
-    (cut_by parts x taken (first ∷ []) past (cut_two parts.limit (rest_of parts x ++ taken) first past leads.full leads.first_is leads.both leads.begun.short))
+    (stands_at (cut_by parts x taken (first ∷ []) past (cut_two parts.limit past leads.full leads.first_is leads.both leads.begun.short))
     (drawn ∙ sym (ap length shares)) (ap (λ those. are_named next.names (length those)) shares ∙ enough) leads.begun.lacks (sym leads.begun.waits) (given ∙ sym (ap is_some leads.begun.settled))) where
       shares : settled_parts parts.limit (x ++ taken) ≡ full_of parts x ++ share file_state.Closed first ∷ begun_share past
-      shares = shares_turn parts x taken first past leads
+      shares = shares_turn parts x taken leads
 
-pub names_drawn : (names mid next : Naming) → mid ≡ record names { drawn = mid.drawn } → next ≡ record mid { drawn = next.drawn } → next ≡ record names { drawn = next.drawn }
-names_drawn names mid next first second = second ∙ ap (λ (those : Naming). record those { drawn = next.drawn }) first
+pub names_drawn : (names : Naming) {mid next : Naming} → mid ≡ record names { drawn = mid.drawn } → next ≡ record mid { drawn = next.drawn } → next ≡ record names { drawn = next.drawn }
+names_drawn names {next} first second = second ∙ ap (λ (those : Naming). record those { drawn = next.drawn }) first
 
 pub are_named_drawn : (names next : Naming) (count : ℕ) → next ≡ record names { drawn = next.drawn } → are_named next count ≡ are_named names count
 are_named_drawn names next zero is = refl
 are_named_drawn names next (suc last) is = ap (λ (those : Naming). is_named those last) is
 
-is_named_drawn : (names next : Naming) (place : ℕ) → next ≡ record names { drawn = next.drawn } → is_named next place ≡ is_named names place
-is_named_drawn names next place is = ap (λ (those : Naming). is_named those place) is
+is_named_drawn : (names : Naming) {next : Naming} (place : ℕ) → next ≡ record names { drawn = next.drawn } → is_named next place ≡ is_named names place
+is_named_drawn names place is = ap (λ (those : Naming). is_named those place) is
 
 -- a part that was begun is the last
 
@@ -200,14 +199,14 @@ last_of parts x stands some =
 
 -- what waits begins the next part
 
-pub begins_next : (told : Bool) (parts next : PartsState) (piece : List ℕ) (bytes : ℕ) (old new : List Slot) → LeadsOn parts piece (Begins bytes) → Turned told parts (take bytes piece) old new next → Took told parts (take bytes piece) old new next
-begins_next told parts next piece bytes old new leads turns = record {
+pub begins_next : (told : Bool) {parts next : PartsState} (piece : List ℕ) (bytes : ℕ) {old new : List Slot} → LeadsOn parts piece (Begins bytes) → Turned told parts (take bytes piece) old new next → Took told parts (take bytes piece) old new next
+begins_next told {parts} {next} piece bytes {old} {new} leads turns = record {
   limit_same = ap (λ (those : PartsState). those.limit) turns.same;
   names_same = turns.names_same;
   stands = λ x stands.
       let led = leads (rest_of parts x) stands.lacks in
       let drawn = turns.drawn (full_of parts x) (begun_of parts x) (last_of parts x stands led.0) (stands.opened ∙ led.0) in
-      turned_stands parts parts next x (take bytes piece) (begun_of parts x) (waiting_rest parts.limit (rest_of parts x) ++ take bytes piece) refl stands led.1
+      turned_stands parts (take bytes piece) refl stands led.1
       (turns.same ∙ ap (λ waits. record parts { names = next.names; left = most parts.limit - length (waits ++ take bytes piece); has_line = false; waiting = []; current = next.current }) stands.waits)
       (drawn.0 ∙ ap (λ waits. length (full_of parts x ++ share file_state.Closed (begun_of parts x) ∷ begun_share (waits ++ take bytes piece))) stands.waits)
       (are_named_drawn parts.names next.names _ turns.names_same ∙ sym (ap (λ waits. are_named parts.names (length (full_of parts x ++ share file_state.Closed (begun_of parts x) ∷ begun_share (waits ++ take bytes piece)))) stands.waits) ∙ drawn.1)
@@ -217,7 +216,7 @@ begins_next told parts next piece bytes old new leads turns = record {
       subst (λ low. Moves told parts.names low (settled_parts parts.limit (x ++ take bytes piece)) old new) (sym (low_is parts x led.0))
       (subst (λ high. Moves told parts.names (full_of parts x ++ share file_state.Open (begun_of parts x) ∷ []) high old new)
       (ap (λ waits. full_of parts x ++ share file_state.Closed (begun_of parts x) ∷ begun_share (waits ++ take bytes piece)) stands.waits
-      ∙ sym (shares_turn parts x (take bytes piece) (begun_of parts x) (waiting_rest parts.limit (rest_of parts x) ++ take bytes piece) led.1))
+      ∙ sym (shares_turn parts x (take bytes piece) led.1))
       (turns.moves (full_of parts x) (begun_of parts x) (last_of parts x stands led.0) (stands.opened ∙ led.0) at_end));
   keeps = turns.keeps;
   owned = turns.owned;
@@ -226,22 +225,21 @@ begins_next told parts next piece bytes old new leads turns = record {
 
 -- all wait
 
-pub waits_on : (told : Bool) (parts next : PartsState) (piece : List ℕ) (old new : List Slot) (n : ℕ) → LeadsOn parts piece Waits → IsReady parts.current old → n ≡ length piece → next ≡ record parts { left = parts.left - length piece; waiting = parts.waiting ++ piece } → new ≡ old → Took told parts (take n piece) old new next
-waits_on told parts next piece old new n leads ready count is same =
+pub waits_on : (told : Bool) {parts next : PartsState} (piece : List ℕ) {old new : List Slot} {n : ℕ} → LeadsOn parts piece Waits → IsReady parts.current old → n ≡ length piece → next ≡ record parts { left = parts.left - length piece; waiting = parts.waiting ++ piece } → new ≡ old → Took told parts (take n piece) old new next
+waits_on told {parts} {next} piece {old} {new} leads ready count is same =
     subst (λ those. Took told parts those old new next) (sym (ap (λ m. take m piece) count ∙ take-length piece))
     (subst (λ those. Took told parts piece old new those) (sym is) (record {
       limit_same = refl;
       names_same = refl;
       stands = λ x stands.
           let held : IsHeld parts.limit (rest_of parts x) piece parts.left parts.has_line = leads (rest_of parts x) stands.lacks in
-          let shares = shares_wait parts x piece parts.left parts.has_line held in
-          stands_at (record parts { left = parts.left - length piece; waiting = parts.waiting ++ piece }) (x ++ piece) _ (rest_of parts x ++ piece)
-          (cut_by parts x piece [] (rest_of parts x ++ piece) (cut_none parts.limit (rest_of parts x ++ piece) held.short))
+          let shares = shares_wait parts x piece held in
+          stands_at (cut_by parts x piece [] (rest_of parts x ++ piece) (cut_none parts.limit (rest_of parts x ++ piece) held.short))
           (stands.drawn ∙ ap length (sym shares)) (ap (λ those. are_named parts.names (length those)) shares ∙ stands.enough) held.lacks
           (ap (λ waits. waits ++ piece) stands.waits ∙ sym held.waits) (stands.opened ∙ ap is_some (sym held.settled));
       moves = λ x stands at_end.
           let held : IsHeld parts.limit (rest_of parts x) piece parts.left parts.has_line = leads (rest_of parts x) stands.lacks in
-          subst (λ high. Moves told parts.names (settled_parts parts.limit x) high old new) (sym (shares_wait parts x piece parts.left parts.has_line held)) (move.moves_same told parts.names _ old new same);
+          subst (λ high. Moves told parts.names (settled_parts parts.limit x) high old new) (sym (shares_wait parts x piece held)) (move.moves_same told parts.names _ same);
       keeps = slot_steps.keeps_same old new same;
       owned = move.owned_same parts.current old new (ap length same);
       ready = subst (IsReady parts.current) (sym same) ready;
@@ -255,71 +253,69 @@ turn_by names shares [] shut enough = (_, subst (λ those. InTurn (named names 0
 turn_by names shares (byte ∷ begun) shut enough =
     (_, move.last_turn names shares (share file_state.Open (byte ∷ begun)) (sym (ap (are_named names) (count_one shares (share file_state.Open (byte ∷ begun)))) ∙ enough) shut)
 
-here_turn : (parts : PartsState) (x : List ℕ) → Stands parts x → (place : ℕ) × InTurn (named parts.names 0 (settled_parts parts.limit x)) place
-here_turn parts x stands = turn_by parts.names (full_of parts x) (begun_of parts x) (shut_map (cut_up parts.limit x).full) stands.enough
+here_turn : {parts : PartsState} {x : List ℕ} → Stands parts x → (place : ℕ) × InTurn (named parts.names 0 (settled_parts parts.limit x)) place
+here_turn {parts} {x} stands = turn_by parts.names (full_of parts x) (begun_of parts x) (shut_map (cut_up parts.limit x).full) stands.enough
 
-pub no_room : (told : Bool) (parts next : PartsState) (piece : List ℕ) (old new : List Slot) (f : Fault) → f ≡ fault.Memory → next ≡ parts → new ≡ old → Stopped told parts piece old new next f
-no_room told parts next piece old new f is same slots =
+pub no_room : (told : Bool) {parts next : PartsState} {piece : List ℕ} {old new : List Slot} {f : Fault} → f ≡ fault.Memory → next ≡ parts → new ≡ old → Stopped told parts piece old new next f
+no_room told {parts} {next} {piece} {old} {new} is same slots =
     subst (λ those. Stopped told parts piece old new next those) (sym is) (record {
       limit_same = ap (λ (those : PartsState). those.limit) same;
       names_same = ap (λ (those : PartsState). those.names) same ∙ ap (λ n. record parts.names { drawn = n }) (sym (ap (λ (those : PartsState). those.names.drawn) same));
-      halts = λ x stands at_end. move.halts_here told parts.names _ _ old new fault.Memory _ (settled_grow parts.limit x piece) (here_turn parts x stands).1 slots (λ before at. tt);
+      halts = λ x stands at_end. move.halts_here told parts.names _ _ (settled_grow parts.limit x piece) (here_turn stands).1 slots (λ before at. tt);
       breaks = wants_memory;
       owned = subst (λ current. KeepsFile parts.current old current new) (sym (ap (λ (those : PartsState). those.current) same)) (move.owned_same parts.current old new (ap length slots));
       short = λ is_short. absurd (cc);
     })
 
 -- there is no file for the part that was begun: nothing of it is written
-short_begun : (told : Bool) (parts : PartsState) (x piece : List ℕ) (old new : List Slot) → 0 < length piece → Stands parts x → (parts.current ≡ None) × (has_next parts.names ≡ false) × (new ≡ old)
+short_begun : (told : Bool) {parts : PartsState} {x : List ℕ} (piece : List ℕ) {old new : List Slot} → 0 < length piece → Stands parts x → (parts.current ≡ None) × (has_next parts.names ≡ false) × (new ≡ old)
     → (are_named parts.names (length (Rattle.split_core.specs.Parts.parts parts.limit (x ++ piece))) ≡ false) × (IsAtEnd parts.current old → Moves told parts.names (settled_parts parts.limit x) (settled_parts parts.limit (x ++ piece)) old new)
-short_begun told state x piece old new some stands why =
-    short_by told state x piece [] piece (cut_up state.limit x).full (rest_of state x) old new refl (ap (cut_up state.limit) (append-nil x))
+short_begun told {parts = state} {x} piece {old} {new} some stands why =
+    short_by told state x [] piece (cut_up state.limit x).full (rest_of state x) old new refl (ap (cut_up state.limit) (append-nil x))
     (let size : length (rest_of state x ++ piece) ≡ length (rest_of state x) + length piece = length-append (rest_of state x) piece in omega arith)
-    (ap (is_named state.names) (sym count) ∙ why.1) (λ at_end. move.moves_same_by told state.names _ _ old new low why.2) where
+    (ap (is_named state.names) (sym count) ∙ why.1) (λ at_end. move.moves_same_by told state.names low why.2) where
       low : settled_parts state.limit x ≡ map (share file_state.Closed) (cut_up state.limit x).full
       low = ap (λ begun. full_of state x ++ begun_share begun) (none_begun (begun_of state x) (sym stands.opened ∙ ap is_given why.0)) ∙ append-nil (full_of state x)
 
       count : state.names.drawn ≡ length (cut_up state.limit x).full
       count = stands.drawn ∙ ap length low ∙ length-map (cut_up state.limit x).full (share file_state.Closed)
 
-pub extend_stopped : (told : Bool) (parts next : PartsState) (piece taken : List ℕ) (old new : List Slot) (f : Fault) → 0 < length piece
+pub extend_stopped : (told : Bool) {parts next : PartsState} {piece : List ℕ} (taken : List ℕ) {old new : List Slot} {f : Fault} → 0 < length piece
     → ((x : List ℕ) → Stands parts x → SharesBegin (full_of parts x ++ share file_state.Open (rest_of parts x ++ taken) ∷ []) (settled_parts parts.limit (x ++ piece)))
     → Interrupted told parts taken old new next f → Stopped told parts piece old new next f
-extend_stopped told parts next piece taken old new f some below cut = record {
+extend_stopped told {parts} {piece} taken {old} {new} {f} some below cut = record {
   limit_same = cut.limit_same;
   names_same = cut.names_same;
-  halts = λ x stands at_end. move.halts_wider told parts.names _ (full_of parts x ++ share file_state.Open (rest_of parts x ++ taken) ∷ []) _ old new f
+  halts = λ x stands at_end. move.halts_wider told parts.names _ (full_of parts x ++ share file_state.Open (rest_of parts x ++ taken) ∷ []) _
       (subst (λ begun. Halts told parts.names (settled_parts parts.limit x) (full_of parts x ++ share file_state.Open begun ∷ []) old new f) (all_of parts x taken stands)
-      (cut.halts (full_of parts x) (begun_of parts x) (begun_so parts x stands) at_end))
-      (below x stands);
+      (cut.halts (full_of parts x) (begun_of parts x) (begun_so stands) at_end)) (below x stands);
   breaks = cut.breaks;
   owned = cut.owned;
-  short = λ is_short x stands. short_begun told parts x piece old new some stands (cut.short is_short);
+  short = λ is_short x stands. short_begun told piece some stands (cut.short is_short);
 }
 
-pub below_goes : (parts : PartsState) (piece : List ℕ) (bytes left : ℕ) (has_line : Bool) → 0 < bytes → bytes ≤ length piece → LeadsOn parts piece (Goes bytes left has_line)
+pub below_goes : {parts : PartsState} (piece : List ℕ) (bytes left : ℕ) (has_line : Bool) → 0 < bytes → bytes ≤ length piece → LeadsOn parts piece (Goes bytes left has_line)
     → (x : List ℕ) → Stands parts x → SharesBegin (full_of parts x ++ share file_state.Open (rest_of parts x ++ take bytes piece) ∷ []) (settled_parts parts.limit (x ++ piece))
-below_goes parts piece bytes left has_line some within leads x stands =
-    subst (λ low. SharesBegin low (settled_parts parts.limit (x ++ piece))) (shares_go parts x (take bytes piece) left has_line (taken_some piece bytes some within) (leads (rest_of parts x) stands.lacks)) (grown parts.limit x piece bytes)
+below_goes {parts} piece bytes left has_line some within leads x stands =
+    subst (λ low. SharesBegin low (settled_parts parts.limit (x ++ piece))) (shares_go parts x (take bytes piece) (taken_some piece bytes some within) (leads (rest_of parts x) stands.lacks)) (grown parts.limit x piece bytes)
 
-turned_below : (parts : PartsState) (piece first past : List ℕ) (bytes : ℕ) (x : List ℕ) → IsTurned parts.limit (rest_of parts x ++ take bytes piece) first past → SharesBegin (full_of parts x ++ share file_state.Closed first ∷ begun_share past) (settled_parts parts.limit (x ++ piece))
-turned_below parts piece first past bytes x led = subst (λ low. SharesBegin low (settled_parts parts.limit (x ++ piece))) (shares_turn parts x (take bytes piece) first past led) (grown parts.limit x piece bytes)
+turned_below : (parts : PartsState) (piece : List ℕ) {first past : List ℕ} (bytes : ℕ) (x : List ℕ) → IsTurned parts.limit (rest_of parts x ++ take bytes piece) first past → SharesBegin (full_of parts x ++ share file_state.Closed first ∷ begun_share past) (settled_parts parts.limit (x ++ piece))
+turned_below parts piece bytes x led = subst (λ low. SharesBegin low (settled_parts parts.limit (x ++ piece))) (shares_turn parts x (take bytes piece) led) (grown parts.limit x piece bytes)
 
-pub below_ends : (parts : PartsState) (piece : List ℕ) (end bytes : ℕ) → LeadsOn parts piece (Ends end bytes)
+pub below_ends : {parts : PartsState} (piece : List ℕ) (end bytes : ℕ) → LeadsOn parts piece (Ends end bytes)
     → (x : List ℕ) → Stands parts x → SharesBegin (full_of parts x ++ share file_state.Open (rest_of parts x ++ take end piece) ∷ []) (settled_parts parts.limit (x ++ piece))
-below_ends parts piece end bytes leads x stands =
+below_ends {parts} piece end bytes leads x stands =
     shares_trans _ _ _ (last_grows (full_of parts x) (begun_share (drop end (take bytes piece))) (share file_state.Open (rest_of parts x ++ take end piece)) (share file_state.Closed (rest_of parts x ++ take end piece)) (inl refl) ([], sym (append-nil _)))
-    (turned_below parts piece (rest_of parts x ++ take end piece) (drop end (take bytes piece)) bytes x (leads (rest_of parts x) stands.lacks))
+    (turned_below parts piece bytes x (leads (rest_of parts x) stands.lacks))
 
 -- names ran out at the next part
-short_next : (told : Bool) (parts : PartsState) (x piece first past : List ℕ) (bytes : ℕ) (old new : List Slot) → IsTurned parts.limit (rest_of parts x ++ take bytes piece) first past → is_some past ≡ true
+short_next : (told : Bool) (parts : PartsState) (x piece : List ℕ) {first past : List ℕ} (bytes : ℕ) (old new : List Slot) → IsTurned parts.limit (rest_of parts x ++ take bytes piece) first past → is_some past ≡ true
     → is_named parts.names (suc (length (full_of parts x))) ≡ false → (IsAtEnd parts.current old → Moves told parts.names (settled_parts parts.limit x) (full_of parts x ++ share file_state.Closed first ∷ []) old new)
     → (are_named parts.names (length (Rattle.split_core.specs.Parts.parts parts.limit (x ++ piece))) ≡ false) × (IsAtEnd parts.current old → Moves told parts.names (settled_parts parts.limit x) (settled_parts parts.limit (x ++ piece)) old new)
-short_next told state x piece first past bytes old new led some none moves =
-    short_by told state x piece (take bytes piece) (drop bytes piece) ((cut_up state.limit x).full ++ first ∷ []) past old new (take-append-drop bytes piece)
-    (cut_by state x (take bytes piece) (first ∷ []) past (cut_two state.limit (rest_of state x ++ take bytes piece) first past led.full led.first_is led.both led.begun.short))
-    (some_more past (drop bytes piece) some)
-    (ap (is_named state.names) count ∙ none)
+short_next told state x piece {first} {past} bytes old new led some none moves =
+    short_by told state x (take bytes piece) (drop bytes piece) ((cut_up state.limit x).full ++ first ∷ []) past old new (take-append-drop bytes piece)
+    (cut_by state x (take bytes piece) (first ∷ []) past (cut_two state.limit past led.full led.first_is led.both led.begun.short))
+    (some_more past (drop bytes piece) some) (ap (is_named state.names) count ∙ none)
     (λ at_end. subst (λ high. Moves told state.names (settled_parts state.limit x) high old new) (sym (map-append (share file_state.Closed) (cut_up state.limit x).full (first ∷ []))) (moves at_end)) where
       some_more : (xs ys : List ℕ) → is_some xs ≡ true → 0 < length (xs ++ ys)
       some_more [] ys is = absurd (false≢true is)
@@ -328,24 +324,23 @@ short_next told state x piece first past bytes old new led some none moves =
       count : length ((cut_up state.limit x).full ++ first ∷ []) ≡ suc (length (full_of state x))
       count = length-append (cut_up state.limit x).full (first ∷ []) ∙ add-one (length (cut_up state.limit x).full) ∙ ap suc (sym (length-map (cut_up state.limit x).full (share file_state.Closed)))
 
-pub begins_stopped : (told : Bool) (parts next : PartsState) (piece : List ℕ) (bytes : ℕ) (old new : List Slot) (f : Fault) → LeadsOn parts piece (Begins bytes) → TurnsNot told parts (take bytes piece) old new next f → Stopped told parts piece old new next f
-begins_stopped told parts next piece bytes old new f leads cut = record {
+pub begins_stopped : (told : Bool) {parts next : PartsState} {piece : List ℕ} (bytes : ℕ) {old new : List Slot} {f : Fault} → LeadsOn parts piece (Begins bytes) → TurnsNot told parts (take bytes piece) old new next f → Stopped told parts piece old new next f
+begins_stopped told {parts} {piece} bytes {old} {new} {f} leads cut = record {
   limit_same = cut.limit_same;
   names_same = cut.names_same;
   halts = λ x stands at_end.
       let led = leads (rest_of parts x) stands.lacks in
-      move.halts_wider told parts.names _ (full_of parts x ++ share file_state.Closed (begun_of parts x) ∷ begun_share (waiting_rest parts.limit (rest_of parts x) ++ take bytes piece)) _ old new f
+      move.halts_wider told parts.names _ (full_of parts x ++ share file_state.Closed (begun_of parts x) ∷ begun_share (waiting_rest parts.limit (rest_of parts x) ++ take bytes piece)) _
       (subst (λ low. Halts told parts.names low (full_of parts x ++ share file_state.Closed (begun_of parts x) ∷ begun_share (waiting_rest parts.limit (rest_of parts x) ++ take bytes piece)) old new f) (sym (low_is parts x led.0))
       (subst (λ waits. Halts told parts.names (full_of parts x ++ share file_state.Open (begun_of parts x) ∷ []) (full_of parts x ++ share file_state.Closed (begun_of parts x) ∷ begun_share (waits ++ take bytes piece)) old new f) stands.waits
-      (cut.halts (full_of parts x) (begun_of parts x) (last_of parts x stands led.0) (stands.opened ∙ led.0) at_end)))
-      (turned_below parts piece _ _ bytes x led.1);
+      (cut.halts (full_of parts x) (begun_of parts x) (last_of parts x stands led.0) (stands.opened ∙ led.0) at_end))) (turned_below parts piece bytes x led.1);
   breaks = cut.breaks;
   owned = cut.owned;
   short = λ is_short x stands.
       let led = leads (rest_of parts x) stands.lacks in
       let why = cut.short is_short in
       let ran = why.1 (full_of parts x) (begun_of parts x) (last_of parts x stands led.0) (stands.opened ∙ led.0) in
-      short_next told parts x piece (begun_of parts x) (waiting_rest parts.limit (rest_of parts x) ++ take bytes piece) bytes old new led.1 (sym (ap (λ waits. is_some (waits ++ take bytes piece)) stands.waits) ∙ why.0) ran.0
+      short_next told parts x piece bytes old new led.1 (sym (ap (λ waits. is_some (waits ++ take bytes piece)) stands.waits) ∙ why.0) ran.0
       (λ at_end. subst (λ low. Moves told parts.names low (full_of parts x ++ share file_state.Closed (begun_of parts x) ∷ []) old new) (sym (low_is parts x led.0)) (ran.1 at_end));
 }
 
@@ -360,23 +355,23 @@ module _ (told : Bool) (parts mid : PartsState) (piece past : List ℕ) (end byt
   all_after : mid.waiting ++ past ≡ drop end (take bytes piece)
   all_after = ap (λ (those : PartsState). those.waiting ++ past) extends.same ∙ is
 
-  last_there : (x : List ℕ) → Stands parts x → IsLast mid (full_of parts x)
-  last_there x stands = extends.drawn (full_of parts x) (begun_of parts x) (begun_so parts x stands)
+  last_there : {x : List ℕ} → Stands parts x → IsLast mid (full_of parts x)
+  last_there {x} stands = extends.drawn (full_of parts x) (begun_of parts x) (begun_so stands)
 
   moved : (x : List ℕ) → Stands parts x → IsAtEnd parts.current old
       → Moves told parts.names (settled_parts parts.limit x) (full_of parts x ++ share file_state.Open (rest_of parts x ++ take end piece) ∷ []) old wet
   moved x stands at_end =
       subst (λ begun. Moves told parts.names (settled_parts parts.limit x) (full_of parts x ++ share file_state.Open begun ∷ []) old wet)
-      (all_of parts x (take end piece) stands) (extends.moves (full_of parts x) (begun_of parts x) (begun_so parts x stands) at_end)
+      (all_of parts x (take end piece) stands) (extends.moves (full_of parts x) (begun_of parts x) (begun_so stands) at_end)
 
-  pub ends_part : (next : PartsState) (new : List Slot) → Turned told mid past wet new next → Took told parts (take bytes piece) old new next
-  ends_part next new turns = record {
+  pub ends_part : {next : PartsState} {new : List Slot} → Turned told mid past wet new next → Took told parts (take bytes piece) old new next
+  ends_part {next} {new} turns = record {
     limit_same = ap (λ (those : PartsState). those.limit) turns.same ∙ ap (λ (those : PartsState). those.limit) extends.same;
-    names_same = names_drawn parts.names mid.names next.names extends.names_same turns.names_same;
+    names_same = names_drawn parts.names extends.names_same turns.names_same;
     stands = λ x stands.
         let led = leads (rest_of parts x) stands.lacks in
-        let drawn = turns.drawn (full_of parts x) (rest_of parts x ++ take end piece) (last_there x stands) given in
-        turned_stands parts mid next x (take bytes piece) (rest_of parts x ++ take end piece) (drop end (take bytes piece)) (ap (λ (those : PartsState). those.limit) extends.same) stands led
+        let drawn = turns.drawn (full_of parts x) (rest_of parts x ++ take end piece) (last_there stands) given in
+        turned_stands mid (take bytes piece) (ap (λ (those : PartsState). those.limit) extends.same) stands led
         (turns.same ∙ ap (λ those. record mid { names = next.names; left = most mid.limit - length those; has_line = false; waiting = []; current = next.current }) all_after)
         (drawn.0 ∙ ap (λ those. length (full_of parts x ++ share file_state.Closed (rest_of parts x ++ take end piece) ∷ begun_share those)) all_after)
         (are_named_drawn mid.names next.names _ turns.names_same ∙ sym (ap (λ those. are_named mid.names (length (full_of parts x ++ share file_state.Closed (rest_of parts x ++ take end piece) ∷ begun_share those))) all_after) ∙ drawn.1)
@@ -387,43 +382,42 @@ module _ (told : Bool) (parts mid : PartsState) (piece past : List ℕ) (end byt
         (moved x stands at_end)
         (subst (λ high. Moves told parts.names (full_of parts x ++ share file_state.Open (rest_of parts x ++ take end piece) ∷ []) high wet new)
         (ap (λ those. full_of parts x ++ share file_state.Closed (rest_of parts x ++ take end piece) ∷ begun_share those) all_after
-        ∙ sym (shares_turn parts x (take bytes piece) (rest_of parts x ++ take end piece) (drop end (take bytes piece)) led))
-        (move.moves_by told parts.names mid.names _ _ wet new extends.names_same (turns.moves (full_of parts x) (rest_of parts x ++ take end piece) (last_there x stands) given (move.stays_last parts.current mid.current old wet extends.owned at_end))));
+        ∙ sym (shares_turn parts x (take bytes piece) led))
+        (move.moves_by told parts.names _ _ wet new extends.names_same (turns.moves (full_of parts x) (rest_of parts x ++ take end piece) (last_there stands) given (move.stays_last parts.current mid.current old wet extends.owned at_end))));
     keeps = slot_steps.keeps_again old wet new extends.keeps turns.keeps;
     owned = move.owned_again parts.current mid.current next.current old wet new extends.owned turns.owned;
     ready = turns.ready;
   }
 
-  pub ends_stopped : (next : PartsState) (new : List Slot) (f : Fault) → TurnsNot told mid past wet new next f → Stopped told parts piece old new next f
-  ends_stopped next new f cut = record {
+  pub ends_stopped : {next : PartsState} {new : List Slot} {f : Fault} → TurnsNot told mid past wet new next f → Stopped told parts piece old new next f
+  ends_stopped {next} {new} {f} cut = record {
     limit_same = cut.limit_same ∙ ap (λ (those : PartsState). those.limit) extends.same;
-    names_same = names_drawn parts.names mid.names next.names extends.names_same cut.names_same;
+    names_same = names_drawn parts.names extends.names_same cut.names_same;
     halts = λ x stands at_end.
         let led = leads (rest_of parts x) stands.lacks in
-        move.halts_after told parts.names _ (full_of parts x ++ share file_state.Open (rest_of parts x ++ take end piece) ∷ []) _ old wet new f
+        move.halts_after told parts.names _ (full_of parts x ++ share file_state.Open (rest_of parts x ++ take end piece) ∷ []) _
         (begun_grows (full_of parts x) (begun_of parts x) (rest_of parts x ++ take end piece) (parts.waiting ++ take end piece, sym (all_of parts x (take end piece) stands)))
         (moved x stands at_end)
-        (move.halts_wider told parts.names _ (full_of parts x ++ share file_state.Closed (rest_of parts x ++ take end piece) ∷ begun_share (drop end (take bytes piece))) _ wet new f
+        (move.halts_wider told parts.names _ (full_of parts x ++ share file_state.Closed (rest_of parts x ++ take end piece) ∷ begun_share (drop end (take bytes piece))) _
         (subst (λ those. Halts told parts.names (full_of parts x ++ share file_state.Open (rest_of parts x ++ take end piece) ∷ []) (full_of parts x ++ share file_state.Closed (rest_of parts x ++ take end piece) ∷ begun_share those) wet new f) all_after
-        (move.halts_by told parts.names mid.names _ _ wet new f extends.names_same (cut.halts (full_of parts x) (rest_of parts x ++ take end piece) (last_there x stands) given (move.stays_last parts.current mid.current old wet extends.owned at_end))))
-        (turned_below parts piece _ _ bytes x led));
-    breaks = move.breaks_later old wet new f extends.keeps cut.breaks;
+        (move.halts_by told parts.names _ _ extends.names_same (cut.halts (full_of parts x) (rest_of parts x ++ take end piece) (last_there stands) given (move.stays_last parts.current mid.current old wet extends.owned at_end))))
+        (turned_below parts piece bytes x led));
+    breaks = move.breaks_later extends.keeps cut.breaks;
     owned = move.owned_again parts.current mid.current next.current old wet new extends.owned cut.owned;
     short = λ is_short x stands.
         let led = leads (rest_of parts x) stands.lacks in
         let why = cut.short is_short in
-        let ran = why.1 (full_of parts x) (rest_of parts x ++ take end piece) (last_there x stands) given in
-        short_next told parts x piece (rest_of parts x ++ take end piece) (drop end (take bytes piece)) bytes old new led (sym (ap is_some all_after) ∙ why.0)
-        (sym (is_named_drawn parts.names mid.names _ extends.names_same) ∙ ran.0)
+        let ran = why.1 (full_of parts x) (rest_of parts x ++ take end piece) (last_there stands) given in
+        short_next told parts x piece bytes old new led (sym (ap is_some all_after) ∙ why.0) (sym (is_named_drawn parts.names _ extends.names_same) ∙ ran.0)
         (λ at_end. move.moves_again told parts.names _ (full_of parts x ++ share file_state.Open (rest_of parts x ++ take end piece) ∷ []) _ old wet new (moved x stands at_end)
-        (move.moves_by told parts.names mid.names _ _ wet new extends.names_same (ran.1 (move.stays_last parts.current mid.current old wet extends.owned at_end))));
+        (move.moves_by told parts.names _ _ wet new extends.names_same (ran.1 (move.stays_last parts.current mid.current old wet extends.owned at_end))));
   }
 
 -- all of the piece waits, or there is no room for it
-pub waited : (told : Bool) (parts next : PartsState) (piece : List ℕ) (slots : List Slot) (result : Result ℕ Fault) → 0 < length piece → LeadsOn parts piece Waits → IsReady parts.current slots → IfOk result (λ n. n ≡ length piece)
+pub waited : (told : Bool) (parts next : PartsState) {piece : List ℕ} (slots : List Slot) (result : Result ℕ Fault) → 0 < length piece → LeadsOn parts piece Waits → IsReady parts.current slots → IfOk result (λ n. n ≡ length piece)
     → OnOk result (next ≡ record parts { left = parts.left - length piece; waiting = parts.waiting ++ piece }) → IfErr result (λ f. (f ≡ fault.Memory) × (next ≡ parts)) → Steps told parts piece slots slots next result
-waited told parts next piece slots (Ok n) some leads ready count waits err = (omega (arith, some, count), omega (arith, count), waits_on told parts next piece slots slots n leads ready count waits refl)
-waited told parts next piece slots (Err f) some leads ready count waits err = no_room told parts next piece slots slots f err.0 err.1 refl
+waited told parts next {piece} slots (Ok n) some leads ready count waits err = (omega (arith, some, count), omega (arith, count), waits_on told piece leads ready count waits refl)
+waited told parts next slots (Err f) some leads ready count waits err = no_room told err.0 err.1 refl
 
 -- what stands between two places
 pub between : (end bytes : ℕ) (xs : List ℕ) → end ≤ bytes → take (bytes - end) (drop end xs) ≡ drop end (take bytes xs)

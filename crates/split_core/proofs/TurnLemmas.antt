@@ -32,44 +32,44 @@ pub record ClosedFacts (told : Bool) (parts : PartsState) (old mid : List Slot) 
   pub moves : (shares : List Share) (begun : List ℕ) → IsLast parts shares → is_given parts.current ≡ true → IsAtEnd parts.current old → Moves told parts.names (shares ++ share state.Open begun ∷ []) (shares ++ share state.Closed begun ∷ []) old mid
 
 -- the file of that part ended
-file_ended : (parts next : PartsState) (slot : ℕ) (old mid : List Slot) → parts.current ≡ Some slot → next.current ≡ None → length mid ≡ length old → KeepsFile parts.current old next.current mid
-file_ended parts next slot old mid is none size = subst (λ current. KeepsFile current old next.current mid) (sym is) (subst (λ current. KeepsFile (Some slot) old current mid) (sym none) (move.owned_ended slot old mid size))
+file_ended : (parts next : PartsState) {slot : ℕ} (old mid : List Slot) → parts.current ≡ Some slot → next.current ≡ None → length mid ≡ length old → KeepsFile parts.current old next.current mid
+file_ended parts next {slot} old mid is none size = subst (λ current. KeepsFile current old next.current mid) (sym is) (subst (λ current. KeepsFile (Some slot) old current mid) (sym none) (move.owned_ended slot old mid size))
 
-pub closed_facts : (told : Bool) (parts : PartsState) (old mid : List Slot) (next : PartsState) → IsReady parts.current old → EndsFile parts old mid next (Ok tt) → ClosedFacts told parts old mid next
-closed_facts told parts old mid next ready (none_there none next_is same) = record {
+pub closed_facts : (told : Bool) {parts : PartsState} {old mid : List Slot} {next : PartsState} → IsReady parts.current old → EndsFile parts old mid next (Ok tt) → ClosedFacts told parts old mid next
+closed_facts told {parts} {old} {mid} ready (none_there none next_is same) = record {
   same = next_is ∙ ap (λ current. record parts { current = current }) none;
   streams = subst (λ slots. 2 ≤ length slots) (sym same) (subst (λ current. IsReady current old) none ready);
   keeps = slot_steps.keeps_same old mid same;
   owned = subst (λ current. KeepsFile parts.current old current mid) (sym (ap (λ (those : PartsState). those.current) next_is)) (move.owned_same parts.current old mid (ap length same));
   moves = λ shares begun last given at_end. absurd (false≢true (sym (ap is_given none) ∙ given));
 }
-closed_facts told parts old mid next ready (closed slot is next_is changed) =
+closed_facts told {parts} {old} {mid} {next} ready (closed slot is next_is changed) =
     let open_file : is_closable old slot = subst (λ current. IsReady current old) is ready in
     record {
       same = next_is;
       streams = let size : length mid ≡ length old = ap length changed ∙ length-changed_at slot closes old in let within : slot < length old = slot_steps.writable_within slot old open_file.1 in let after : 2 ≤ slot = open_file.0 in omega arith;
       keeps = slot_steps.keeps_close slot old mid changed;
-      owned = file_ended parts next slot old mid is (ap (λ (those : PartsState). those.current) next_is) (ap length changed ∙ length-changed_at slot closes old);
-      moves = λ shares begun last given at_end. move.close_moves told parts.names shares begun old mid slot last.named (subst (λ current. IsAtEnd current old) is at_end) changed;
+      owned = file_ended parts next old mid is (ap (λ (those : PartsState). those.current) next_is) (ap length changed ∙ length-changed_at slot closes old);
+      moves = λ shares begun last given at_end. move.close_moves told parts.names shares begun old last.named (subst (λ current. IsAtEnd current old) is at_end) changed;
     }
 
-pub turns_not_closed : (told : Bool) (parts : PartsState) (bytes : List ℕ) (old new : List Slot) (next : PartsState) (f : Fault) → IsReady parts.current old → EndsFile parts old new next (Err f) → TurnsNot told parts bytes old new next f
-turns_not_closed told parts bytes old new next _ ready (failed slot is next_is changed) =
+pub turns_not_closed : (told : Bool) {parts : PartsState} {bytes : List ℕ} {old new : List Slot} {next : PartsState} {f : Fault} → IsReady parts.current old → EndsFile parts old new next (Err f) → TurnsNot told parts bytes old new next f
+turns_not_closed told {parts} {bytes} {old} {new} {next} ready (failed slot is next_is changed) =
     let open_file : is_closable old slot = subst (λ current. IsReady current old) is ready in
     record {
       limit_same = ap (λ (those : PartsState). those.limit) next_is;
       names_same = ap (λ (those : PartsState). those.names) next_is ∙ ap (λ n. record parts.names { drawn = n }) (sym (ap (λ (those : PartsState). those.names.drawn) next_is));
-      halts = λ shares begun last given at_end. move.close_halts told parts.names shares (begun_share (parts.waiting ++ bytes)) begun old new slot last.shut last.named (subst (λ current. IsAtEnd current old) is at_end) changed;
+      halts = λ shares begun last given at_end. move.close_halts told parts.names shares (begun_share (parts.waiting ++ bytes)) begun last.shut last.named (subst (λ current. IsAtEnd current old) is at_end) changed;
       breaks = breaks_write slot open_file.0 (slot_steps.close_rose slot old new open_file.1 (slot_steps.writable_within slot old open_file.1) changed);
-      owned = file_ended parts next slot old new is (ap (λ (those : PartsState). those.current) next_is) (slot_steps.broken_size slot old new changed);
+      owned = file_ended parts next old new is (ap (λ (those : PartsState). those.current) next_is) (slot_steps.broken_size slot old new changed);
       short = λ is_short. absurd (cc);
     }
 
 -- nothing follows the part
 
-pub turned_alone : (told : Bool) (parts : PartsState) (bytes : List ℕ) (old new : List Slot) (mid next : PartsState) (left : ℕ) → ClosedFacts told parts old new mid → bytes ≡ [] → parts.waiting ≡ [] → left ≡ most parts.limit - length (parts.waiting ++ bytes)
+pub turned_alone : (told : Bool) {parts : PartsState} {bytes : List ℕ} {old new : List Slot} {mid next : PartsState} {left : ℕ} → ClosedFacts told parts old new mid → bytes ≡ [] → parts.waiting ≡ [] → left ≡ most parts.limit - length (parts.waiting ++ bytes)
     → next ≡ record mid { left = left; has_line = false } → Turned told parts bytes old new next
-turned_alone told parts bytes old new mid next left facts no_bytes none_wait left_is is =
+turned_alone told {parts} {bytes} {old} {new} {next} {left} facts no_bytes none_wait left_is is =
     let none : parts.waiting ++ bytes ≡ [] = ap (λ those. those ++ bytes) none_wait ∙ no_bytes in
     let whole : next ≡ record parts { left = left; has_line = false; current = None } = is ∙ ap (λ (those : PartsState). record those { left = left; has_line = false }) facts.same in
     record {
@@ -90,8 +90,8 @@ turned_alone told parts bytes old new mid next left facts no_bytes none_wait lef
 
 -- what waits and more begin the next part
 
-next_begun : (parts mid : PartsState) (shares : List Share) (begun : List ℕ) → mid.names ≡ parts.names → mid.current ≡ None → IsLast parts shares → Begun mid (shares ++ share state.Closed begun ∷ []) []
-next_begun parts mid shares begun names none last = record {
+next_begun : {parts mid : PartsState} {shares : List Share} (begun : List ℕ) → mid.names ≡ parts.names → mid.current ≡ None → IsLast parts shares → Begun mid (shares ++ share state.Closed begun ∷ []) []
+next_begun {parts} {shares} begun names none last = record {
   drawn = ap (λ (those : Naming). those.drawn) names ∙ last.drawn ∙ sym count;
   enough = ap (λ (those : Naming). are_named those (length ((shares ++ share state.Closed begun ∷ []) ++ []))) names ∙ ap (are_named parts.names) count ∙ last.named;
   given = ap is_given none;
@@ -119,11 +119,11 @@ module _ (told : Bool) (parts : PartsState) (bytes : List ℕ) (old wet : List S
   waits : mid.waiting ≡ parts.waiting
   waits = ap (λ (those : PartsState). those.waiting) whole
 
-  begun_next : (shares : List Share) (begun : List ℕ) → IsLast parts shares → Begun mid (shares ++ share state.Closed begun ∷ []) []
-  begun_next shares begun last = next_begun parts mid shares begun names none last
+  begun_next : {shares : List Share} (begun : List ℕ) → IsLast parts shares → Begun mid (shares ++ share state.Closed begun ∷ []) []
+  begun_next begun last = next_begun begun names none last
 
-  drawn_so : (names_of next_names : Naming) → names_of ≡ parts.names → next_names ≡ record names_of { drawn = next_names.drawn } → next_names ≡ record parts.names { drawn = next_names.drawn }
-  drawn_so names_of next_names same drawn = drawn ∙ ap (λ (those : Naming). record those { drawn = next_names.drawn }) same
+  drawn_so : {names_of next_names : Naming} → names_of ≡ parts.names → next_names ≡ record names_of { drawn = next_names.drawn } → next_names ≡ record parts.names { drawn = next_names.drawn }
+  drawn_so {next_names} same drawn = drawn ∙ ap (λ (those : Naming). record those { drawn = next_names.drawn }) same
 
   shut_owned : KeepsFile parts.current old mid.current wet
   shut_owned = subst (λ current. KeepsFile parts.current old current wet) (sym (ap (λ (those : PartsState). those.current) is)) facts.owned
@@ -140,62 +140,62 @@ module _ (told : Bool) (parts : PartsState) (bytes : List ℕ) (old wet : List S
   high_is : (shares : List Share) (begun : List ℕ) → (shares ++ share state.Closed begun ∷ []) ++ share state.Open ([] ++ (mid.waiting ++ bytes)) ∷ [] ≡ shares ++ share state.Closed begun ∷ begun_share (parts.waiting ++ bytes)
   high_is shares begun = ap (λ those. (shares ++ share state.Closed begun ∷ []) ++ share state.Open (those ++ bytes) ∷ []) waits ∙ two_shares shares begun (parts.waiting ++ bytes) (some_bytes parts.waiting bytes some)
 
-  pub turned : (new : List Slot) (next : PartsState) (slot : ℕ) → left ≡ most parts.limit - length (parts.waiting ++ bytes) → Extended told mid bytes wet new next slot → Turned told parts bytes old new next
-  turned new next slot left_is extends =
+  pub turned : {new : List Slot} {next : PartsState} {slot : ℕ} → left ≡ most parts.limit - length (parts.waiting ++ bytes) → Extended told mid bytes wet new next slot → Turned told parts bytes old new next
+  turned {new} {next} {slot} left_is extends =
       let made : next ≡ record parts { names = next.names; left = left; has_line = false; waiting = []; current = Some slot } = extends.same ∙ ap (λ (those : PartsState). record those { names = next.names; waiting = []; current = Some slot }) whole in
       record {
         same = made ∙ ap (λ n. record parts { names = next.names; left = n; has_line = false; waiting = []; current = Some slot }) left_is
             ∙ ap (λ current. record parts { names = next.names; left = most parts.limit - length (parts.waiting ++ bytes); has_line = false; waiting = []; current = current }) (sym (ap (λ (those : PartsState). those.current) made));
-        names_same = drawn_so mid.names next.names names extends.names_same;
+        names_same = drawn_so names extends.names_same;
         moves = λ shares begun last given at_end. move.moves_again told parts.names _ (shares ++ share state.Closed begun ∷ []) _ old wet new (facts.moves shares begun last given at_end)
             (subst (λ low. Moves told parts.names low (shares ++ share state.Closed begun ∷ begun_share (parts.waiting ++ bytes)) wet new) (low_is shares begun)
             (subst (λ high. Moves told parts.names ((shares ++ share state.Closed begun ∷ []) ++ begun_share []) high wet new) (high_is shares begun)
             (subst (λ (those : Naming). Moves told those ((shares ++ share state.Closed begun ∷ []) ++ begun_share []) ((shares ++ share state.Closed begun ∷ []) ++ share state.Open ([] ++ (mid.waiting ++ bytes)) ∷ []) wet new) names
-            (extends.moves (shares ++ share state.Closed begun ∷ []) [] (begun_next shares begun last) none_last))));
+            (extends.moves (shares ++ share state.Closed begun ∷ []) [] (begun_next begun last) none_last))));
         drawn = λ shares begun last given.
-            let there : IsLast next (shares ++ share state.Closed begun ∷ []) = extends.drawn (shares ++ share state.Closed begun ∷ []) [] (begun_next shares begun last) in
+            let there : IsLast next (shares ++ share state.Closed begun ∷ []) = extends.drawn (shares ++ share state.Closed begun ∷ []) [] (begun_next begun last) in
             let count : suc (length (shares ++ share state.Closed begun ∷ [])) ≡ length (shares ++ share state.Closed begun ∷ begun_share (parts.waiting ++ bytes))
             = sym (count_one (shares ++ share state.Closed begun ∷ []) (share state.Open ([] ++ (mid.waiting ++ bytes)))) ∙ ap length (high_is shares begun) in
-            (there.drawn ∙ count, ap (are_named parts.names) (sym count) ∙ sym (ap (λ (those : Naming). is_named those (length (shares ++ share state.Closed begun ∷ []))) (drawn_so mid.names next.names names extends.names_same)) ∙ there.named);
+            (there.drawn ∙ count, ap (are_named parts.names) (sym count) ∙ sym (ap (λ (those : Naming). is_named those (length (shares ++ share state.Closed begun ∷ []))) (drawn_so names extends.names_same)) ∙ there.named);
         given = ap (λ (those : PartsState). is_given those.current) made ∙ sym (some_bytes parts.waiting bytes some);
         keeps = slot_steps.keeps_again old wet new facts.keeps extends.keeps;
         owned = move.owned_again parts.current mid.current next.current old wet new shut_owned extends.owned;
         ready = subst (λ current. IsReady current new) (sym (ap (λ (those : PartsState). those.current) made)) extends.ready;
       }
 
-  pub turns_not : (new : List Slot) (next : PartsState) (f : Fault) → Interrupted told mid bytes wet new next f → TurnsNot told parts bytes old new next f
-  turns_not new next f cut = record {
+  pub turns_not : {new : List Slot} {next : PartsState} {f : Fault} → Interrupted told mid bytes wet new next f → TurnsNot told parts bytes old new next f
+  turns_not {new} {next} {f} cut = record {
     limit_same = cut.limit_same ∙ ap (λ (those : PartsState). those.limit) whole;
-    names_same = drawn_so mid.names next.names names cut.names_same;
-    halts = λ shares begun last given at_end. move.halts_after told parts.names _ (shares ++ share state.Closed begun ∷ []) _ old wet new f
+    names_same = drawn_so names cut.names_same;
+    halts = λ shares begun last given at_end. move.halts_after told parts.names _ (shares ++ share state.Closed begun ∷ []) _
         (last_grows shares [] (share state.Open begun) (share state.Closed begun) (inl refl) (begins_itself begun)) (facts.moves shares begun last given at_end)
         (subst (λ low. Halts told parts.names low (shares ++ share state.Closed begun ∷ begun_share (parts.waiting ++ bytes)) wet new f) (low_is shares begun)
         (subst (λ high. Halts told parts.names ((shares ++ share state.Closed begun ∷ []) ++ begun_share []) high wet new f) (high_is shares begun)
         (subst (λ (those : Naming). Halts told those ((shares ++ share state.Closed begun ∷ []) ++ begun_share []) ((shares ++ share state.Closed begun ∷ []) ++ share state.Open ([] ++ (mid.waiting ++ bytes)) ∷ []) wet new f) names
-        (cut.halts (shares ++ share state.Closed begun ∷ []) [] (begun_next shares begun last) none_last))));
-    breaks = move.breaks_later old wet new f facts.keeps cut.breaks;
+        (cut.halts (shares ++ share state.Closed begun ∷ []) [] (begun_next begun last) none_last))));
+    breaks = move.breaks_later facts.keeps cut.breaks;
     owned = move.owned_again parts.current mid.current next.current old wet new shut_owned cut.owned;
     short = λ is_short. (
       some_bytes parts.waiting bytes some,
       λ shares begun last given.
           let why = cut.short is_short in (
             ap (is_named parts.names) (sym last.drawn) ∙ sym (ap (λ (those : Naming). is_named those those.drawn) names) ∙ why.1,
-            λ at_end. move.moves_again told parts.names _ (shares ++ share state.Closed begun ∷ []) _ old wet new (facts.moves shares begun last given at_end) (move.moves_same told parts.names _ wet new why.2),
+            λ at_end. move.moves_again told parts.names _ (shares ++ share state.Closed begun ∷ []) _ old wet new (facts.moves shares begun last given at_end) (move.moves_same told parts.names _ why.2),
           ),
     );
   }
 
 -- the numbers of the next part
 
-pub left_next : (limit other : Limit) (waiting held bytes : List ℕ) (most_is size : ℕ) → most_is ≡ most other → other ≡ limit → size ≡ length held → held ≡ waiting → most_is - (size + length bytes) ≡ most limit - length (waiting ++ bytes)
-left_next limit other waiting held bytes most_is size is same counted holds =
+pub left_next : {limit : Limit} (other : Limit) {waiting held : List ℕ} (bytes : List ℕ) {most_is size : ℕ} → most_is ≡ most other → other ≡ limit → size ≡ length held → held ≡ waiting → most_is - (size + length bytes) ≡ most limit - length (waiting ++ bytes)
+left_next {limit} other {waiting} bytes {most_is} {size} is same counted holds =
     let full : most_is ≡ most limit = is ∙ ap most same in
     let some : size ≡ length waiting = counted ∙ ap length holds in
     let both : length (waiting ++ bytes) ≡ length waiting + length bytes = length-append waiting bytes in omega arith
 
-pub fits_next : (limit other : Limit) (waiting held bytes : List ℕ) (most_is size old_left : ℕ) (has_line : Bool) (window : ByteWindowState) → most_is ≡ most other → other ≡ limit → size ≡ length held → held ≡ waiting → length waiting + length bytes < most limit
+pub fits_next : {limit : Limit} (other : Limit) {waiting held : List ℕ} (bytes : List ℕ) {most_is size old_left : ℕ} {has_line : Bool} {window : ByteWindowState} → most_is ≡ most other → other ≡ limit → size ≡ length held → held ≡ waiting → length waiting + length bytes < most limit
     → window.held ≡ waiting → Fits other old_left has_line window → Fits other (most_is - (size + length bytes)) false window
-fits_next limit other waiting held bytes most_is size old_left has_line window is same counted holds room now fits =
+fits_next {limit} other {waiting} bytes {most_is} {size} {window} is same counted holds room now fits =
     let full : most_is ≡ most limit = is ∙ ap most same in
     let some : size ≡ length waiting = counted ∙ ap length holds in
     let here : length window.held ≡ length waiting = ap length now in

@@ -15,9 +15,9 @@ returns-in_err-reached-clause-caused g c = fault_is _ _ _ c.from_residual.ensure
 pub returns-clause-cut : goal.returns-clause-cut
 returns-clause-cut g c =
     subst (λ more. IfErr c.write.result (StopsShort g.O.Outs.told c.args.files.now (λ these. added these more) (g.O.Outs.slots c.args.outs.now) (g.O.Outs.slots c.write.new.outs)))
-    (c.first.ensures ∙ first_gathered c.args.deal.now.delim (length c.args.deal.now.gathered) c.args.deal.now.next c.in_ok-reached.reached c.args.piece.now c.gather.new.self.gathered c.in_ok-reached.ensures.gathered c.in_ok-reached.ensures.reached) c.write.ensures.cut
+    (c.first.ensures ∙ first_gathered c.args.deal.now.delim (length c.args.deal.now.gathered) c.args.deal.now.next c.args.piece.now c.in_ok-reached.ensures.gathered c.in_ok-reached.ensures.reached) c.write.ensures.cut
 
 pub returns-clause-became : goal.returns-clause-became
 returns-clause-became g c = on_ok_weaker c.write.result
-    (became_dealt c.args.deal.now.delim g.O.Outs.told c.args.files.now c.write.new.self (length c.args.deal.now.gathered) c.args.deal.now.next c.args.piece.now _ _ _
-    (c.first.ensures ∙ first_gathered c.args.deal.now.delim (length c.args.deal.now.gathered) c.args.deal.now.next c.in_ok-reached.reached c.args.piece.now c.gather.new.self.gathered c.in_ok-reached.ensures.gathered c.in_ok-reached.ensures.reached)) c.write.ensures.became
+    (became_dealt c.args.deal.now.delim g.O.Outs.told (length c.args.deal.now.gathered) c.args.deal.now.next c.args.piece.now _
+    (c.first.ensures ∙ first_gathered c.args.deal.now.delim (length c.args.deal.now.gathered) c.args.deal.now.next c.args.piece.now c.in_ok-reached.ensures.gathered c.in_ok-reached.ensures.reached)) c.write.ensures.became

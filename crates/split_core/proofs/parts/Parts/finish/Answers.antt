@@ -13,14 +13,14 @@ pub returns-in_default-clause-ends : goal.returns-in_default-clause-ends
 returns-in_default-clause-ends g c = finishes_none g.O.Outs.told c.args.self.now _ c.requires (sym (ap (λ (parts : PartsState). parts.current) c.self.view_is) ∙ c.in_default.is)
 
 pub returns-in_err-write_held-clause-ends : goal.returns-in_err-write_held-clause-ends
-returns-in_err-write_held-clause-ends g c = result_is (Finishes _ _ _ _) _ _ c.from_residual.ensures.1 (held_breaks g.O.Outs.told c.args.self.now _ c.requires c.in-Some.slot _ c.in_err-write_held.field-0.0 (sym (ap (λ (parts : PartsState). parts.current) c.self.view_is) ∙ c.in-Some.is)
+returns-in_err-write_held-clause-ends g c = result_is (Finishes _ _ _ _) _ _ c.from_residual.ensures.1 (held_breaks g.O.Outs.told c.args.self.now _ c.requires (sym (ap (λ (parts : PartsState). parts.current) c.self.view_is) ∙ c.in-Some.is)
     (subst (λ held. WritesShort g.O.Outs.told c.in-Some.slot held (g.O.Outs.slots c.args.outs.now) (g.O.Outs.slots c.write_held.new.outs) c.in_err-write_held.field-0.0) (ap (λ (parts : PartsState). parts.waiting) c.self.view_is) c.in_err-write_held.ensures.err))
 
 pub close-requires : goal.close-requires
-close-requires g c = close_can g.O.Outs.told c.args.self.now _ c.requires c.in-Some.slot _ _ (sym (ap (λ (parts : PartsState). parts.current) c.self.view_is) ∙ c.in-Some.is) c.in_ok-write_held.ensures.ok
+close-requires g c = close_can g.O.Outs.told c.args.self.now _ c.requires _ (sym (ap (λ (parts : PartsState). parts.current) c.self.view_is) ∙ c.in-Some.is) c.in_ok-write_held.ensures.ok
 
 pub returns-clause-ends : goal.returns-clause-ends
-returns-clause-ends g c = close_ends g.O.Outs.told c.args.self.now _ c.requires c.in-Some.slot _ _ c.close.result (sym (ap (λ (parts : PartsState). parts.current) c.self.view_is) ∙ c.in-Some.is)
+returns-clause-ends g c = close_ends g.O.Outs.told c.args.self.now _ c.requires _ c.close.result (sym (ap (λ (parts : PartsState). parts.current) c.self.view_is) ∙ c.in-Some.is)
     (c.in_ok-write_held.ensures.ok ∙ ap (λ held. with_written c.in-Some.slot (told_of g.O.Outs.told held) (g.O.Outs.slots c.args.outs.now)) (ap (λ (parts : PartsState). parts.waiting) c.self.view_is)) c.close.ensures.ok c.close.ensures.err
 
 pub returns-in_default-clause-owns : goal.returns-in_default-clause-owns
@@ -31,4 +31,4 @@ returns-in_err-write_held-clause-owns g c = subst (λ (parts : PartsState). Keep
     (owned_same c.self.inside.current _ _ (short_size g.O.Outs.told c.in-Some.slot c.self.inside.waiting.held _ _ c.in_err-write_held.field-0.0 c.in_err-write_held.ensures.err))
 
 pub returns-clause-owns : goal.returns-clause-owns
-returns-clause-owns g c = end_owned c.args.self.now c.in-Some.slot _ _ _ c.close.result (sym (ap (λ (parts : PartsState). parts.current) c.self.view_is) ∙ c.in-Some.is) (written_size c.in-Some.slot _ _ _ c.in_ok-write_held.ensures.ok) c.close.ensures.ok c.close.ensures.err
+returns-clause-owns g c = end_owned c.args.self.now _ _ _ c.close.result (sym (ap (λ (parts : PartsState). parts.current) c.self.view_is) ∙ c.in-Some.is) (written_size c.in-Some.slot _ _ _ c.in_ok-write_held.ensures.ok) c.close.ensures.ok c.close.ensures.err

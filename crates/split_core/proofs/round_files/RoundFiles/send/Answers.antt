@@ -7,19 +7,19 @@ use Rattle.split_core.proofs.FileSteps.{sent, sent_within, sent_short, sent_caus
 use Rattle.split_core.proofs.round_files.RoundFiles.send.Goals as goal
 
 pub returns-in_err-reach-clause-cut : goal.returns-in_err-reach-clause-cut
-returns-in_err-reach-clause-cut g c = fault_is _ _ _ c.from_residual.ensures.1 (sent_unreached g.O.Outs.told c.args.self.now _ _ c.args.place c.args.bytes.now c.in_err-reach.field-0.0 c.in_err-reach.ensures.cut)
+returns-in_err-reach-clause-cut g c = fault_is _ _ _ c.from_residual.ensures.1 (sent_unreached g.O.Outs.told c.args.bytes.now c.in_err-reach.ensures.cut)
 
 pub returns-in_err-reach-clause-caused : goal.returns-in_err-reach-clause-caused
-returns-in_err-reach-clause-caused g c = fault_is _ _ _ c.from_residual.ensures.1 (of_files _ _ _ c.in_err-reach.ensures.caused)
+returns-in_err-reach-clause-caused g c = fault_is _ _ _ c.from_residual.ensures.1 (of_files c.in_err-reach.ensures.caused)
 
 pub returns-in_err-write_whole-clause-cut : goal.returns-in_err-write_whole-clause-cut
 returns-in_err-write_whole-clause-cut g c =
-    let slot_is : c.index.result.now ≡ output_at c.reach.new.self c.args.place = output_is c.reach.new.self c.self.inside.outputs.items c.args.place c.index.result.now (ap (λ (files : FilesState). files.outputs) c.self.view_is) (sent_within _ _ _ _ _ _ c.in_ok-reach.ensures.became) c.index.ensures in
-    fault_is _ _ _ (of_write _ _ _ c.from_residual-in_err-write_whole.ensures.1 c.in_err-write_whole.ensures.slot) (sent_short _ _ _ _ _ _ _ _ _ _ c.requires.near c.in_ok-reach.ensures.became slot_is c.in_err-write_whole.ensures.cut)
+    let slot_is : c.index.result.now ≡ output_at c.reach.new.self c.args.place = output_is c.reach.new.self c.args.place (ap (λ (files : FilesState). files.outputs) c.self.view_is) (sent_within _ _ _ c.in_ok-reach.ensures.became) c.index.ensures in
+    fault_is _ _ _ (of_write _ _ _ c.from_residual-in_err-write_whole.ensures.1 c.in_err-write_whole.ensures.slot) (sent_short _ _ c.requires.near c.in_ok-reach.ensures.became slot_is c.in_err-write_whole.ensures.cut)
 
 pub returns-in_err-write_whole-clause-caused : goal.returns-in_err-write_whole-clause-caused
 returns-in_err-write_whole-clause-caused g c =
-    let slot_is : c.index.result.now ≡ output_at c.reach.new.self c.args.place = output_is c.reach.new.self c.self.inside.outputs.items c.args.place c.index.result.now (ap (λ (files : FilesState). files.outputs) c.self.view_is) (sent_within _ _ _ _ _ _ c.in_ok-reach.ensures.became) c.index.ensures in
+    let slot_is : c.index.result.now ≡ output_at c.reach.new.self c.args.place = output_is c.reach.new.self c.args.place (ap (λ (files : FilesState). files.outputs) c.self.view_is) (sent_within _ _ _ c.in_ok-reach.ensures.became) c.index.ensures in
     fault_is _ _ _ (of_write _ _ _ c.from_residual-in_err-write_whole.ensures.1 c.in_err-write_whole.ensures.slot) (sent_caused _ _ _ _ _ _ _ _ _ _ c.in_ok-reach.ensures.became slot_is c.in_err-write_whole.ensures.cut)
 
 pub returns-in_err-write_whole-clause-owned : goal.returns-in_err-write_whole-clause-owned
@@ -27,8 +27,8 @@ returns-in_err-write_whole-clause-owned g c = sent_owned _ _ _ _ _ _ _ _ _ _ c.i
 
 pub returns-clause-became : goal.returns-clause-became
 returns-clause-became g c =
-    let slot_is : c.index.result.now ≡ output_at c.reach.new.self c.args.place = output_is c.reach.new.self c.self.inside.outputs.items c.args.place c.index.result.now (ap (λ (files : FilesState). files.outputs) c.self.view_is) (sent_within _ _ _ _ _ _ c.in_ok-reach.ensures.became) c.index.ensures in
+    let slot_is : c.index.result.now ≡ output_at c.reach.new.self c.args.place = output_is c.reach.new.self c.args.place (ap (λ (files : FilesState). files.outputs) c.self.view_is) (sent_within _ _ _ c.in_ok-reach.ensures.became) c.index.ensures in
     sent _ _ _ _ _ _ _ _ _ c.in_ok-reach.ensures.became slot_is c.in_ok-write_whole.ensures.whole
 
 pub returns-clause-owned : goal.returns-clause-owned
-returns-clause-owned g c = λ first owns. owned_same c.reach.new.self _ _ (written_size c.index.result.now _ _ _ c.in_ok-write_whole.ensures.whole) first (c.in_ok-reach.ensures.owned first owns)
+returns-clause-owned g c = λ first owns. owned_same (written_size c.index.result.now _ _ _ c.in_ok-write_whole.ensures.whole) first (c.in_ok-reach.ensures.owned first owns)

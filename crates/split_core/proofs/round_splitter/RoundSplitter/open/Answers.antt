@@ -13,13 +13,13 @@ pub returns-in_err-deal-clause-cut : goal.returns-in_err-deal-clause-cut
 returns-in_err-deal-clause-cut g c = fault_is _ _ _ c.from_residual.ensures.1 (λ before at. stopped_here g.O.Outs.told before nothing _ Memory _ _ at (nothing_begins_part _) refl tt)
 
 pub returns-in_err-open_first-clause-cut : goal.returns-in_err-open_first-clause-cut
-returns-in_err-open_first-clause-cut g c = fault_is _ _ _ c.from_residual-in_err-open_first.ensures.1 (opens_short c.args.delim g.O.Outs.told c.args.elide c.args.names c.args.count c.opened_at_start.result c.new-files.result (g.O.Outs.slots c.args.outs.now) (g.O.Outs.slots c.open_first.new.outs) c.in_err-open_first.field-0.0 c.new-files.ensures c.requires.fresh c.requires.enough (c.opened_at_start.ensures ∙ starts_with c.args.delim c.args.elide c.args.count) c.in_err-open_first.ensures.cut)
+returns-in_err-open_first-clause-cut g c = fault_is _ _ _ c.from_residual-in_err-open_first.ensures.1 (opens_short c.args.delim g.O.Outs.told c.args.elide c.args.names c.args.count c.new-files.ensures c.requires.fresh c.requires.enough (c.opened_at_start.ensures ∙ starts_with c.args.delim c.args.elide c.args.count) c.in_err-open_first.ensures.cut)
 
 pub returns-clause-outputs : goal.returns-clause-outputs
-returns-clause-outputs g c = opens_all c.args.delim g.O.Outs.told c.args.elide c.args.names c.args.count c.opened_at_start.result c.new-files.result c.open_first.new.self (g.O.Outs.slots c.args.outs.now) (g.O.Outs.slots c.open_first.new.outs) c.new-files.ensures c.requires.fresh c.requires.enough (c.opened_at_start.ensures ∙ starts_with c.args.delim c.args.elide c.args.count) c.in_ok-open_first.ensures.became
+returns-clause-outputs g c = opens_all c.args.delim g.O.Outs.told c.args.elide c.args.names c.args.count c.new-files.ensures c.requires.fresh c.requires.enough (c.opened_at_start.ensures ∙ starts_with c.args.delim c.args.elide c.args.count) c.in_ok-open_first.ensures.became
 
 pub returns-clause-owns : goal.returns-clause-owns
-returns-clause-owns g c = opens_own g.O.Outs.told c.args.names c.opened_at_start.result c.new-files.result c.open_first.new.self (g.O.Outs.slots c.args.outs.now) (g.O.Outs.slots c.open_first.new.outs) c.new-files.ensures c.in_ok-open_first.ensures.became
+returns-clause-owns g c = opens_own g.O.Outs.told c.args.names c.new-files.ensures c.in_ok-open_first.ensures.became
 
 pub returns-clause-does : goal.returns-clause-does
 returns-clause-does g c =

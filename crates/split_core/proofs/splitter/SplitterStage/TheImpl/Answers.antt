@@ -8,14 +8,14 @@ pass-tells g c =
     let told = g.O.Outs.told in
     let old = c.args.self.now in
     let new = c.new.self.now in record {
-      same = same_work told c.args.piece.now _ _ c.result old new c.ensures;
+      same = same_work told c.args.piece.now _ _ c.result c.ensures;
       size = omega arith;
-      holds = takes_in told c.args.piece.now _ _ c.result old new c.ensures;
-      outputs = puts_out told c.args.piece.now _ _ c.result old new c.ensures;
-      ready = still_ready told c.args.piece.now _ _ c.result old new c.ensures;
-      owns = still_owns told c.args.piece.now _ _ c.result old new c.ensures;
+      holds = takes_in told c.args.piece.now _ _ c.result c.ensures;
+      outputs = puts_out told c.args.piece.now _ _ c.result c.ensures;
+      ready = still_ready told c.args.piece.now _ _ c.result c.ensures;
+      owns = still_owns told c.args.piece.now _ _ c.result c.ensures;
       there = λ are. tt;
-      cut = cuts_off told c.args.piece.now _ _ c.result old new c.ensures;
+      cut = cuts_off told c.args.piece.now _ _ c.result c.ensures;
       met = met told c.args.piece.now _ _ c.result old new c.ensures;
     }
 
@@ -24,14 +24,14 @@ finish-tells g c =
     let told = g.O.Outs.told in
     let old = c.args.self.now in
     let new = c.new.self.now in record {
-      same = same_at_end told _ _ c.result old new c.ensures;
+      same = same_at_end told _ _ c.result c.ensures;
       size = omega arith;
-      outputs = ends told _ _ c.result old new c.ensures;
+      outputs = ends told _ _ c.result c.ensures;
       writable = on_ok c.result (λ output. absurd (only_files old output));
-      owns = owns_at_end told _ _ c.result old new c.ensures;
+      owns = owns_at_end told _ _ c.result c.ensures;
       there = λ are. tt;
-      cut = ends_short told _ _ c.result old new c.ensures;
-      met = end_met told _ _ c.result old new c.ensures;
+      cut = ends_short told _ _ c.result c.ensures;
+      met = end_met told _ _ c.result c.ensures;
     }
 
 pub waits-tells : goal.waits-tells
