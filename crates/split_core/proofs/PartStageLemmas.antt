@@ -1,5 +1,5 @@
 -- What the stage that cuts off one part after another owes.
-use Rattle.std.proofs.Common.{◌≡◌, ◌≤◌, ℕ, List, ◌++◌, length, map, Bool, true, false, not, cond, Some, None, Result, Ok, Err, OnOk, IfErr, refl, sym, ◌∙◌, ap, subst, arith}
+use Rattle.std.proofs.Common.{◌≡◌, ◌≤◌, ℕ, List, ◌++◌, length, map, Bool, true, false, not, cond, Some, None, Result, Ok, Err, refl, sym, ◌∙◌, ap, subst, arith}
 use Rattle.std.proofs.lemmas.Bool.{false≢true}
 use Rattle.std.proofs.lemmas.List.{length-map}
 use Rattle.ports_core.specs.Name.{Naming}
@@ -16,11 +16,12 @@ use Rattle.split_core.specs.declared.limit.Limit.{Limit}
 use Rattle.split_core.specs.Parts.{parts}
 use Rattle.split_core.specs.Split.{Share, share, are_named, from_start}
 use Rattle.split_core.specs.laws.ShareLaws.{settled_count}
-use Rattle.split_core.specs.PartsState.{PartsState, Stands, IsReady}
+use Rattle.split_core.specs.PartsState.{PartsState, Stands}
 use Rattle.split_core.specs.PartState.{work, parts_work}
 use Rattle.split_core.specs.Ways as ways
 use Rattle.split_core.specs.declared.splitter.Splitter.TheVariants as way
-use Rattle.split_core.specs.inner.Moves.{part_of, Passes, Stopped, Breaks, Finishes, wants_memory, breaks_write, breaks_open, lacks_names}
+use Rattle.split_core.specs.inner.Ways.{PassesBy, FinishesBy}
+use Rattle.split_core.specs.inner.Moves.{KeepsFile, part_of, Passes, Stopped, Breaks, Finishes, wants_memory, breaks_write, breaks_open, lacks_names}
 use Rattle.split_core.proofs.MoveLemmas.{met_files, part_drawn, owns_last}
 use Rattle.split_core.proofs.TakenLemmas.{are_named_drawn}
 
@@ -61,26 +62,6 @@ halted told names low high {before} {old} {new} {f} halts at =
 -- a piece
 
 module _ (told : Bool) (state next : PartsState) (piece : List ℕ) (old new : List Slot) where
-  pub same_work : (result : Result (Unit {0}) Fault) → Passes told state piece old new next result → work next ≡ work state
-  same_work (Ok done) passes = work_by state next passes.limit_same passes.names_same
-  same_work (Err f) passes = work_by state next passes.limit_same passes.names_same
-
-  pub takes_in : (result : Result (Unit {0}) Fault) → Passes told state piece old new next result → OnOk result (TakesIn ways.Holds piece (way.Parts state) (way.Parts next))
-  takes_in (Ok done) passes = passes.stands
-  takes_in (Err f) passes = tt
-
-  pub puts_out : (result : Result (Unit {0}) Fault) → Passes told state piece old new next result → OnOk result (PutsOut ways.Holds ways.Owns ways.work (way.Parts state) piece told old new)
-  puts_out (Ok done) passes = λ before x at. moved_out told state.names _ _ (passes.moves x at.holds (owns_last state.current (length before) old at.owns) before) at.outputs
-  puts_out (Err f) passes = tt
-
-  pub still_ready : (result : Result (Unit {0}) Fault) → Passes told state piece old new next result → OnOk result (IsReady next.current new)
-  still_ready (Ok done) passes = passes.ready
-  still_ready (Err f) passes = tt
-
-  pub still_owns : (result : Result (Unit {0}) Fault) → Passes told state piece old new next result → KeepsOwn ways.Owns (way.Parts state) (way.Parts next) old new
-  still_owns (Ok done) passes = passes.owned
-  still_owns (Err f) passes = passes.owned
-
   -- names ran out: the files that have a name are written, and nothing can change that
   settles : (f : Fault) → f ≡ Suffixes → Stopped told state piece old new next f → EndsWith ways.Holds ways.work (way.Parts state) piece f
   settles f is stop x stands =
@@ -100,31 +81,46 @@ module _ (told : Bool) (state next : PartsState) (piece : List ℕ) (old new : L
   cut_off (breaks_open slot rose) stop = cut_out (Open slot) refl stop
   cut_off lacks_names stop = judged_out stop
 
-  pub cuts_off : (result : Result (Unit {0}) Fault) → Passes told state piece old new next result → IfErr result (CutsOff ways.Holds ways.Owns ways.work (way.Parts state) piece told old new)
-  cuts_off (Ok done) passes = tt
-  cuts_off (Err f) passes = cut_off passes.breaks passes
-
-  pub met : (result : Result (Unit {0}) Fault) → Passes told state piece old new next result → IfErr result (IsMet (work state).means (work state).means.feeding (true ≡ true) (EndsWith ways.Holds ways.work (way.Parts state) piece) old new)
-  met (Ok done) passes = tt
-  met (Err f) passes = met_files (EndsWith ways.Holds ways.work (way.Parts state) piece) passes.breaks (λ is x stands. settles f is passes x stands)
+  pub passes_by : (result : Result (Unit {0}) Fault) → Passes told state piece old new next result
+      → PassesBy told piece old new result (way.Parts state) (way.Parts next)
+  passes_by (Ok done) passes = record {
+    same = work_by state next passes.limit_same passes.names_same;
+    holds = passes.stands;
+    outputs = λ before x at. moved_out told state.names _ _
+        (passes.moves x at.holds (owns_last state.current (length before) old at.owns) before) at.outputs;
+    ready = passes.ready;
+    owns = passes.owned;
+    cut = tt;
+    met = tt;
+  }
+  passes_by (Err f) passes = record {
+    same = work_by state next passes.limit_same passes.names_same;
+    holds = tt;
+    outputs = tt;
+    ready = tt;
+    owns = passes.owned;
+    cut = cut_off passes.breaks passes;
+    met = met_files (EndsWith ways.Holds ways.work (way.Parts state) piece) passes.breaks (λ is x stands. settles f is passes x stands);
+  }
 
 -- the end
 
-module _ (told : Bool) (state : PartsState) (old new : List Slot) where
-  pub ends : (result : Result (Unit {0}) Fault) → Finishes told state old new result → OnOk result (engine.Finishes ways.Holds ways.Owns ways.work (way.Parts state) told old new)
-  ends (Ok done) finishes = λ before x at. (goes_well at.holds, moved_out told state.names _ _ (finishes x at.holds (owns_last state.current (length before) old at.owns) before) at.outputs)
-  ends (Err f) finishes = tt
-
-  pub ends_short : (result : Result (Unit {0}) Fault) → Finishes told state old new result → IfErr result (EndsShort ways.Holds ways.Owns ways.work (way.Parts state) told old new)
-  ends_short (Ok done) finishes = tt
-  ends_short (Err f) finishes = λ before x at.
-      engine.cut (ap is_verdict finishes.0.1) (halted told state.names _ _ (finishes.1 x at.holds (owns_last state.current (length before) old at.owns) before) at.outputs)
-
-  pub end_met : (result : Result (Unit {0}) Fault) → Finishes told state old new result → IfErr result (IsMet (work state).means (work state).means.closing (Unit {0}) (EndsThere ways.Holds ways.work (way.Parts state)) old new)
-  end_met (Ok done) finishes = tt
-  end_met (Err f) finishes = subst (λ those. IsMet (work state).means (work state).means.closing (Unit {0}) (EndsThere ways.Holds ways.work (way.Parts state)) old new those) (sym finishes.0.1)
-      (λ none. absurd (let two : 2 ≤ finishes.0.0 = finishes.0.2 in omega (arith, none)), λ none. absurd (false≢true (sym none)), finishes.0.3)
-
-pub on_ok : {P : Type 0} (result : Result (Unit {0}) Fault) → P → OnOk result P
-on_ok (Ok done) is = is
-on_ok (Err f) is = tt
+pub finishes_by : (told : Bool) (state next : PartsState) (old new : List Slot) (result : Result (Unit {0}) Fault) → work next ≡ work state
+    → Finishes told state old new result → KeepsFile state.current old next.current new → FinishesBy told old new result (way.Parts state) (way.Parts next)
+finishes_by told state next old new (Ok done) same finishes owned = record {
+  same = same;
+  outputs = λ before x at.
+      (goes_well at.holds, moved_out told state.names _ _ (finishes x at.holds (owns_last state.current (length before) old at.owns) before) at.outputs);
+  owns = owned;
+  cut = tt;
+  met = tt;
+}
+finishes_by told state next old new (Err f) same finishes owned = record {
+  same = same;
+  outputs = tt;
+  owns = owned;
+  cut = λ before x at. engine.cut (ap is_verdict finishes.0.1)
+      (halted told state.names _ _ (finishes.1 x at.holds (owns_last state.current (length before) old at.owns) before) at.outputs);
+  met = subst (λ those. IsMet (work state).means (work state).means.closing (Unit {0}) (EndsThere ways.Holds ways.work (way.Parts state)) old new those) (sym finishes.0.1)
+      (λ none. absurd (let two : 2 ≤ finishes.0.0 = finishes.0.2 in omega (arith, none)), λ none. absurd (false≢true (sym none)), finishes.0.3);
+}

@@ -1,12 +1,11 @@
 -- Lemmas on dealing lines in turn, as a stage.
-use Rattle.std.proofs.Common.{◌≡◌, ℕ, ◌+◌, ◌%◌, ◌<◌, ◌≤◌, zero, suc, min, max, Bool, true, false, not, cond, List, [], ◌∷◌, ◌++◌, length, map, take, drop, Some, None, inl, inr, refl, sym, ◌∙◌, ap, subst, arith, Ok, Err, Result, OnOk, IfErr}
+use Rattle.std.proofs.Common.{◌≡◌, ℕ, ◌+◌, ◌%◌, ◌<◌, ◌≤◌, zero, suc, min, max, Bool, true, false, not, cond, List, [], ◌∷◌, ◌++◌, length, map, take, drop, Some, None, inl, inr, refl, sym, ◌∙◌, ap, subst, arith, Ok, Err, Result}
 use Rattle.std.proofs.Math.Nat.{mod-add-mod, mod-eq_of_lt, mod-mod, mod-le}
 use Rattle.std.proofs.Math.Path.{fun_ext}
 use Rattle.std.proofs.Math.Seq.{drop-length}
 use Rattle.std.specs.List.{filter, range_with_len}
 use Rattle.std.proofs.lemmas.Bool.{cases_lt, false≢true}
 use Rattle.std.proofs.lemmas.List.{append-nil, length-map}
-use Rattle.std.proofs.lemmas.Result.{IfErr-weaker, on_ok_weaker}
 use Rattle.std.proofs.lemmas.List.FromFn.{length-map-range_with_len, take-map-range_with_len}
 use Rattle.seg_core.specs.Line.{joined, lines_of, delimiters, line_count}
 use Rattle.seg_core.proofs.Delimiters.{delimiters-append}
@@ -15,7 +14,7 @@ use Rattle.ports_core.specs.Name.{Naming}
 use Rattle.ports_core.specs.Slot.{Slot}
 use Rattle.ports_core.specs.Part.{File, OutputsAt, StoppedBetween, nothing}
 use Rattle.ports_core.specs.Work.{Work}
-use Rattle.ports_core.specs.Engine.{TakesIn, PutsOut, CutsOff, Finishes, EndsShort, EndsWith, EndsThere, StandsAt, IsMet, is_verdict, cut}
+use Rattle.ports_core.specs.Engine.{TakesIn, PutsOut, CutsOff, EndsWith, EndsThere, StandsAt, IsMet, is_verdict, cut}
 use Rattle.ports_core.specs.declared.fault.Fault.{Fault}
 use Rattle.ports_core.specs.declared.fault.Fault.TheVariants as fault
 use Rattle.ports_core.specs.declared.slot.State.{State}
@@ -26,11 +25,11 @@ use Rattle.split_core.specs.Split.{Share, share, named, is_named, are_named, fro
 use Rattle.split_core.specs.inner.Dealt.{dealt_piece, dealt_first, reached_by}
 use Rattle.split_core.specs.FilesState.{FilesState}
 use Rattle.split_core.specs.RoundState.{RoundState}
-use Rattle.split_core.specs.Round.{round_plan, plan_of, round_work, work, opened_by, Holds, AreReady, OwnsFiles}
+use Rattle.split_core.specs.Round.{round_plan, plan_of, round_work, work, opened_by, Holds, OwnsFiles}
 use Rattle.split_core.specs.Ways as ways
 use Rattle.split_core.specs.declared.splitter.Splitter.TheVariants as way
-use Rattle.split_core.specs.inner.Ways.{Deals, Closes}
-use Rattle.split_core.specs.inner.Sharing.{added, filled, filed, open_part, closing_part, StandAt, Makes, Became, StopsShort, HaveClosed, ClosesShort, CannotClose, IsOfFiles}
+use Rattle.split_core.specs.inner.Ways.{Deals, Closes, PassesBy, FinishesBy}
+use Rattle.split_core.specs.inner.Sharing.{added, filled, filed, open_part, closing_part, StandAt, Makes, Became, StopsShort, IsOfFiles}
 use Rattle.split_core.specs.inner.DealLaws.{share_of}
 use Rattle.split_core.specs.laws.DealLaws.{dealt_append, dealt_none, dealt_files_are, share_none}
 use Rattle.split_core.proofs.DealLaws.{dealt_same, opened_by-most}
@@ -209,60 +208,55 @@ takes_in told {old} {new} {piece} deals x holds = record {
       ∙ sym (ap (λ (those : Bool). opened_by old.delim those new.count (x ++ piece)) deals.elide ∙ ap (λ n. opened_by old.delim old.elide n (x ++ piece)) deals.count) ∙ ap (λ d. opened_by d new.elide new.count (x ++ piece)) (sym deals.delim);
 }
 
--- by the result of dealing it out
-
-module _ (told : Bool) (old new : RoundState) (piece : List ℕ) (before after : List Slot) where
-  pub dealt_holds : (result : Result (Unit {0}) Fault) → Deals told old piece before after new result → OnOk result (TakesIn ways.Holds piece (way.Round old) (way.Round new))
-  dealt_holds (Ok u) deals = takes_in told deals
-  dealt_holds (Err why) deals = tt
-
-  pub dealt_outputs : (result : Result (Unit {0}) Fault) → Deals told old piece before after new result → OnOk result (PutsOut ways.Holds ways.Owns ways.work (way.Round old) piece told before after)
-  dealt_outputs (Ok u) deals = puts_out told old piece before after deals.became.outputs
-  dealt_outputs (Err why) deals = tt
-
-  pub dealt_ready : (result : Result (Unit {0}) Fault) → Deals told old piece before after new result → OnOk result (AreReady new.files after)
-  dealt_ready (Ok u) deals = deals.became.ready
-  dealt_ready (Err why) deals = tt
-
-  pub dealt_short : (result : Result (Unit {0}) Fault) → Deals told old piece before after new result → IfErr result (CutsOff ways.Holds ways.Owns ways.work (way.Round old) piece told before after)
-  dealt_short (Ok u) deals = tt
-  dealt_short (Err why) deals = cuts_off told old piece before after why deals.caused deals.cut
-
-  pub dealt_met : (result : Result (Unit {0}) Fault) → Deals told old piece before after new result → IfErr result (IsMet (work old).means (work old).means.feeding (true ≡ true) (EndsWith ways.Holds ways.work (way.Round old) piece) before after)
-  dealt_met (Ok u) deals = tt
-  dealt_met (Err why) deals = met_files (EndsWith ways.Holds ways.work (way.Round old) piece) deals.caused.0 (λ is. absurd (deals.caused.1 is))
+pub passes_by : (told : Bool) (old new : RoundState) (piece : List ℕ) (before after : List Slot) (result : Result (Unit {0}) Fault)
+    → Deals told old piece before after new result → PassesBy told piece before after result (way.Round old) (way.Round new)
+passes_by told old new piece before after (Ok u) deals = record {
+  same = same_work old new deals.delim deals.count deals.elide deals.names;
+  holds = takes_in told deals;
+  outputs = puts_out told old piece before after deals.became.outputs;
+  ready = deals.became.ready;
+  owns = deals.owned;
+  cut = tt;
+  met = tt;
+}
+passes_by told old new piece before after (Err why) deals = record {
+  same = same_work old new deals.delim deals.count deals.elide deals.names;
+  holds = tt;
+  outputs = tt;
+  ready = tt;
+  owns = deals.owned;
+  cut = cuts_off told old piece before after why deals.caused deals.cut;
+  met = met_files (EndsWith ways.Holds ways.work (way.Round old) piece) deals.caused.0 (λ is. absurd (deals.caused.1 is));
+}
 
 -- The end
 
 closed_part : {round : RoundState} {x : List ℕ} → Holds round x → closing_part round.files.names (length round.files.outputs) (files_of round.delim round.elide round.count x) ≡ (work round).whole x
 closed_part {round} {x} holds = ap (λ count. closing_part round.files.names count (files_of round.delim round.elide round.count x)) holds.opened ∙ sym (whole_is round.delim round.files.names round.elide round.count x holds.named)
 
-module _ (told : Bool) (round : RoundState) (old new : List Slot) where
-  finishes : HaveClosed told round.files (length round.files.outputs) old new → Finishes ways.Holds ways.Owns ways.work (way.Round round) told old new
-  finishes closed before x at =
-      (refl, subst (λ part. OutputsAt told before part new) (closed_part at.holds) (closed before (files_of round.delim round.elide round.count x) (stand_at told round at)))
-
-  ends_short : (why : Fault) → CannotClose old new why → ClosesShort told round.files (length round.files.outputs) old new why → EndsShort ways.Holds ways.Owns ways.work (way.Round round) told old new why
-  ends_short why is stops before x at =
-      cut (ap is_verdict is.1) (subst (λ high. StoppedBetween told before ((work round).settled x) high why new) (closed_part at.holds)
-      (subst (λ low. StoppedBetween told before low (closing_part round.files.names (length round.files.outputs) (files_of round.delim round.elide round.count x)) why new) (sym (settled_is round.delim round.files.names round.elide round.count x at.holds.named))
-      (stops before (files_of round.delim round.elide round.count x) (stand_at told round at))))
-
-  end_met : (why : Fault) → CannotClose old new why → IsMet (work round).means (work round).means.closing (Unit {0}) (EndsThere ways.Holds ways.work (way.Round round)) old new why
-  end_met why is = subst (λ those. IsMet (work round).means (work round).means.closing (Unit {0}) (EndsThere ways.Holds ways.work (way.Round round)) old new those) (sym is.1)
-      (λ none. absurd (let later : 2 ≤ is.0 = is.2 in omega (arith, none)), λ alone. absurd (false≢true (sym alone)), is.3)
-
-  -- by the result of closing the files
-
-  pub ended : {next : RoundState} {result : Result (Unit {0}) Fault} → Closes told round old new next result → OnOk result (Finishes ways.Holds ways.Owns ways.work (way.Round round) told old new)
-  ended {result} closes = on_ok_weaker result finishes closes.closed
-
-  pub ended_short : {next : RoundState} (result : Result (Unit {0}) Fault) → Closes told round old new next result → IfErr result (EndsShort ways.Holds ways.Owns ways.work (way.Round round) told old new)
-  ended_short (Ok u) closes = tt
-  ended_short (Err why) closes = ends_short why closes.caused closes.cut
-
-  pub ended_met : {next : RoundState} {result : Result (Unit {0}) Fault} → Closes told round old new next result → IfErr result (IsMet (work round).means (work round).means.closing (Unit {0}) (EndsThere ways.Holds ways.work (way.Round round)) old new)
-  ended_met {result} closes = IfErr-weaker result _ _ end_met closes.caused
+pub finishes_by : (told : Bool) (round next : RoundState) (old new : List Slot) (result : Result (Unit {0}) Fault)
+    → Closes told round old new next result → FinishesBy told old new result (way.Round round) (way.Round next)
+finishes_by told round next old new (Ok u) closes = record {
+  same = closes.same;
+  outputs = λ before x at. (
+    refl,
+    subst (λ part. OutputsAt told before part new) (closed_part at.holds)
+        (closes.closed before (files_of round.delim round.elide round.count x) (stand_at told round at)),
+  );
+  owns = closes.owned;
+  cut = tt;
+  met = tt;
+}
+finishes_by told round next old new (Err why) closes = record {
+  same = closes.same;
+  outputs = tt;
+  owns = closes.owned;
+  cut = λ before x at. cut (ap is_verdict closes.caused.1) (subst (λ high. StoppedBetween told before ((work round).settled x) high why new) (closed_part at.holds)
+      (subst (λ low. StoppedBetween told before low (closing_part round.files.names (length round.files.outputs) (files_of round.delim round.elide round.count x)) why new)
+      (sym (settled_is round.delim round.files.names round.elide round.count x at.holds.named)) (closes.cut before (files_of round.delim round.elide round.count x) (stand_at told round at))));
+  met = subst (λ those. IsMet (work round).means (work round).means.closing (Unit {0}) (EndsThere ways.Holds ways.work (way.Round round)) old new those) (sym closes.caused.1)
+      (λ none. absurd (let later : 2 ≤ closes.caused.0 = closes.caused.2 in omega (arith, none)), λ alone. absurd (false≢true (sym alone)), closes.caused.3);
+}
 
 -- The start
 
