@@ -20,7 +20,8 @@ use Rattle.split_core.specs.Split.{share, name_of, from_start, file_at, only_fil
 use Rattle.split_core.specs.FilesState.{FilesState}
 use Rattle.split_core.specs.Round.{AreReady, OwnsFiles, output_at}
 use Rattle.split_core.specs.laws.RoundLaws.{all_begin_themselves}
-use Rattle.split_core.specs.inner.Sharing.{AllBegin, added, filled, filed, closed_first, open_part, closing_part, StandAt, KeepsFiles, Became, IsDue, StopsAt, StopsShort, HaveClosed, ClosesShort, with_opened, FailsToFollow, CannotClose, could_not, unnamed, IsOfFiles}
+use Rattle.split_core.specs.inner.Sharing.{AllBegin, added, filled, filed, closed_first, open_part, closing_part, StandAt, KeepsFiles, Became, IsDue, StopsAt, StopsShort, HaveClosed, ClosesShort, with_opened, FailsToFollow, could_not, unnamed, IsOfFiles}
+use Rattle.split_core.specs.inner.Moves.{CannotClose}
 use Rattle.ports_core.specs.Engine.{is_verdict}
 use Rattle.ports_core.specs.inner.Slot.{KeepsBroken}
 use Rattle.split_core.specs.inner.Moves.{wants_memory, breaks_write, breaks_open}

@@ -4,7 +4,7 @@ use Rattle.std.proofs.Math.Nat.{mod-add-mod, mod-eq_of_lt, mod-mod, mod-le}
 use Rattle.std.proofs.Math.Path.{fun_ext}
 use Rattle.std.proofs.Math.Seq.{drop-length}
 use Rattle.std.specs.List.{filter, range_with_len}
-use Rattle.std.proofs.lemmas.Bool.{cases_lt, false≢true}
+use Rattle.std.proofs.lemmas.Bool.{cases_lt}
 use Rattle.std.proofs.lemmas.List.{append-nil, length-map}
 use Rattle.std.proofs.lemmas.List.FromFn.{length-map-range_with_len, take-map-range_with_len}
 use Rattle.seg_core.specs.Line.{joined, lines_of, delimiters, line_count}
@@ -14,7 +14,7 @@ use Rattle.ports_core.specs.Name.{Naming}
 use Rattle.ports_core.specs.Slot.{Slot}
 use Rattle.ports_core.specs.Part.{File, OutputsAt, StoppedBetween, nothing}
 use Rattle.ports_core.specs.Work.{Work}
-use Rattle.ports_core.specs.Engine.{TakesIn, PutsOut, CutsOff, EndsWith, EndsThere, StandsAt, IsMet, is_verdict, cut}
+use Rattle.ports_core.specs.Engine.{TakesIn, PutsOut, CutsOff, EndsWith, EndsThere, StandsAt, is_verdict, cut}
 use Rattle.ports_core.specs.declared.fault.Fault.{Fault}
 use Rattle.ports_core.specs.declared.fault.Fault.TheVariants as fault
 use Rattle.ports_core.specs.declared.slot.State.{State}
@@ -34,7 +34,7 @@ use Rattle.split_core.specs.inner.DealLaws.{share_of}
 use Rattle.split_core.specs.laws.DealLaws.{dealt_append, dealt_none, dealt_files_are, share_none}
 use Rattle.split_core.proofs.DealLaws.{dealt_same, opened_by-most}
 use Rattle.split_core.proofs.FilesLemmas.{closed_all, added_begin, added_none, open_begins}
-use Rattle.split_core.proofs.MoveLemmas.{met_files, named_before, unjudged}
+use Rattle.split_core.proofs.MoveLemmas.{met_closing, met_files, named_before, unjudged}
 use Rattle.split_core.proofs.PlaceLemmas.{all_dealt}
 
 -- Names
@@ -254,8 +254,7 @@ finishes_by told round next old new (Err why) closes = record {
   cut = λ before x at. cut (ap is_verdict closes.caused.1) (subst (λ high. StoppedBetween told before ((work round).settled x) high why new) (closed_part at.holds)
       (subst (λ low. StoppedBetween told before low (closing_part round.files.names (length round.files.outputs) (files_of round.delim round.elide round.count x)) why new)
       (sym (settled_is round.delim round.files.names round.elide round.count x at.holds.named)) (closes.cut before (files_of round.delim round.elide round.count x) (stand_at told round at))));
-  met = subst (λ those. IsMet (work round).means (work round).means.closing (Unit {0}) (EndsThere ways.Holds ways.work (way.Round round)) old new those) (sym closes.caused.1)
-      (λ none. absurd (let later : 2 ≤ closes.caused.0 = closes.caused.2 in omega (arith, none)), λ alone. absurd (false≢true (sym alone)), closes.caused.3);
+  met = met_closing (EndsThere ways.Holds ways.work (way.Round round)) old new closes.caused;
 }
 
 -- The start

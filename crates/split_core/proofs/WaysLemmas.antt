@@ -1,8 +1,7 @@
 -- What the engine of `split` owes, in each of its two ways to cut.
-use Rattle.std.proofs.Common.{◌≡◌, ℕ, List, length, true, false, Result, Ok, Err, OnOk, refl, sym}
+use Rattle.std.proofs.Common.{◌≡◌, ℕ, List, length, true, false, refl, sym}
 use Rattle.std.proofs.lemmas.Bool.{false≢true}
 use Rattle.ports_core.specs.Guard.{GuardState, HoldsIn}
-use Rattle.ports_core.specs.declared.fault.Fault.{Fault}
 use Rattle.split_core.specs.declared.splitter.Splitter.{Splitter}
 use Rattle.split_core.specs.declared.splitter.Splitter.TheVariants.{Parts, Round}
 use Rattle.split_core.specs.Ways.{Holds, work}
@@ -27,7 +26,3 @@ held_is (Round round) x holds = dealing.none_waits holds
 pub only_files : (way : Splitter) → (work way).means.output ≡ true → ⊥
 only_files (Parts parts) is = false≢true is
 only_files (Round round) is = false≢true is
-
-pub on_ok : {P : Type 0} (result : Result (Unit {0}) Fault) → P → OnOk result P
-on_ok (Ok done) is = is
-on_ok (Err f) is = tt

@@ -2,7 +2,8 @@ ghost use Rattle.std.specs.Prelude.{◌≡◌, ◌+◌, ◌≤◌, ◌<◌, ◌+
 ghost use Rattle.ports_core.specs.Name.{has_next, next_name};
 ghost use Rattle.ports_core.specs.Slot.{changed_at, opened};
 ghost use Rattle.split_core.specs.Round.{AreReady};
-ghost use Rattle.split_core.specs.inner.Sharing.{Became, CannotClose, ClosesShort, FailsToFollow, HaveClosed, IsOfFiles, KeepsFiles, StopsAt, StopsShort, added, filled, with_opened};
+ghost use Rattle.split_core.specs.inner.Sharing.{Became, ClosesShort, FailsToFollow, HaveClosed, IsOfFiles, KeepsFiles, StopsAt, StopsShort, added, filled, with_opened};
+ghost use Rattle.split_core.specs.inner.Moves.{CannotClose};
 ghost use Rattle.split_core.specs.Sharing.{CannotOpen};
 ghost use Rattle.split_core.specs.Split.{are_named, from_start, is_named};
 

@@ -1,10 +1,10 @@
 -- What private calls say: how files in order get more bytes, and how more of them are opened.
-use Rattle.std.specs.Prelude.{◌≡◌, ℕ, ◌+◌, ◌<◌, ◌≤◌, zero, suc, max, Bool, List, [], ◌∷◌, ◌++◌, length, map, take, drop}
+use Rattle.std.specs.Prelude.{◌≡◌, ℕ, ◌+◌, ◌<◌, zero, suc, max, Bool, List, [], ◌∷◌, ◌++◌, length, map, take, drop}
 use Rattle.ports_core.specs.Name.{Naming, next_name, with_one_drawn}
-use Rattle.ports_core.specs.Slot.{Slot, Rose, FailsToOpen}
+use Rattle.ports_core.specs.Slot.{Slot, FailsToOpen}
 use Rattle.ports_core.specs.Part.{File, Part, OutputsAt, IsBeginning, Marks, IsAt, StoppedBetween}
 use Rattle.ports_core.specs.declared.fault.Fault.{Fault}
-use Rattle.ports_core.specs.declared.fault.Fault.TheVariants.{Memory, Write, Suffixes}
+use Rattle.ports_core.specs.declared.fault.Fault.TheVariants.{Memory, Suffixes}
 use Rattle.ports_core.specs.declared.slot.State.TheVariants as state
 use Rattle.split_core.specs.Split.{Share, share, name_of, from_start, file_at, only_files}
 use Rattle.ports_core.specs.inner.Slot.{KeepsBroken}
@@ -125,10 +125,6 @@ pub data FailsToFollow (files : FilesState) (old : List Slot) (next : FilesState
   could_not : (fault : Fault) → FailsToOpen old (next_name files.names) new fault
       → next ≡ record files { names = with_one_drawn files.names } → FailsToFollow files old next new fault
   unnamed : new ≡ old → next ≡ files → FailsToFollow files old next new Memory
-
--- a file could not be closed
-abbrev pub CannotClose : List Slot → List Slot → Fault → Type 0
-CannotClose old new fault = (slot : ℕ) × (fault ≡ Write slot) × (2 ≤ slot) × Rose slot old new
 
 -- the faults of files that have names
 abbrev pub IsOfFiles : List Slot → List Slot → Fault → Type 0

@@ -12,7 +12,8 @@ use Rattle.split_core.specs.Round as dealing
 use Rattle.split_core.specs.RoundState.{RoundState}
 use Rattle.split_core.specs.Split.{from_start}
 use Rattle.split_core.specs.inner.Dealt.{dealt_first, reached_by}
-use Rattle.split_core.specs.inner.Sharing.{added, Became, StopsShort, HaveClosed, ClosesShort, CannotClose, IsOfFiles, KeepsFiles}
+use Rattle.split_core.specs.inner.Sharing.{added, Became, StopsShort, HaveClosed, ClosesShort, IsOfFiles, KeepsFiles}
+use Rattle.split_core.specs.inner.Moves.{CannotClose}
 
 -- what each file has once it got what it gets of a piece
 abbrev pub dealt_more : RoundState → List ℕ → List (List ℕ) → List (List ℕ)

@@ -240,11 +240,12 @@ files_whole names limit x y short =
     ap (λ those. named names 0 (map (share Closed) those)) (parts_on limit x y) ∙ ap (named names 0) (map-append (share Closed) (cut_up limit x).full _)
     ∙ named_short names 0 (map (share Closed) (cut_up limit x).full) _ (place_nameless names limit x short)
 
+pub shares_fewer : (low high : List Share) → SharesBegin low high → length low ≤ length high
+shares_fewer [] high begins = omega arith
+shares_fewer (share ∷ low) [] begins = absurd begins
+shares_fewer (share ∷ low) (whole ∷ high) begins = let few : length low ≤ length high = shares_fewer low high begins.2 in omega arith
+
 -- a text that goes on has no fewer parts
 pub parts_grow : (limit : Limit) (x y : List ℕ) → length (parts limit x) ≤ length (parts limit (x ++ y))
 parts_grow limit x y = subst (λ n. n ≤ length (parts limit (x ++ y))) (settled_count limit x)
-    (subst (λ n. length (settled_parts limit x) ≤ n) (settled_count limit (x ++ y)) (shares_fewer _ _ (settled_grow limit x y))) where
-      shares_fewer : (low high : List Share) → SharesBegin low high → length low ≤ length high
-      shares_fewer [] high begins = omega arith
-      shares_fewer (share ∷ low) [] begins = absurd begins
-      shares_fewer (share ∷ low) (whole ∷ high) begins = let few : length low ≤ length high = shares_fewer low high begins.2 in omega arith
+    (subst (λ n. length (settled_parts limit x) ≤ n) (settled_count limit (x ++ y)) (shares_fewer _ _ (settled_grow limit x y)))

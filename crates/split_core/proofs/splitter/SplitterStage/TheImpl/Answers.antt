@@ -1,5 +1,6 @@
 use Rattle.std.proofs.Common.{◌∙◌, arith}
-use Rattle.split_core.proofs.WaysLemmas.{held_is, on_ok, only_files}
+use Rattle.split_core.proofs.WaysLemmas.{held_is, only_files}
+use Rattle.split_core.proofs.MoveLemmas.{on_ok}
 use Rattle.split_core.proofs.splitter.SplitterStage.TheImpl.Goals as goal
 
 pub pass-tells : goal.pass-tells
