@@ -1,17 +1,18 @@
 -- One file is opened, written or closed.
-use Rattle.std.proofs.Common.{◌≡◌, ◌≢◌, ℕ, ◌+◌, ◌<◌, ◌≤◌, zero, suc, max, Bool, List, [], ◌∷◌, ◌++◌, length, map, take, drop, get_or, ◌⊎◌, inl, inr, refl, sym, ◌∙◌, ap, subst, arith, length-append, Ok, Err, Result, OnOk, IfErr}
-use Rattle.std.proofs.Math.Seq.{get_or-append_seam}
+use Rattle.std.proofs.Common.{◌≡◌, ◌≢◌, ℕ, ◌+◌, ◌<◌, ◌≤◌, zero, suc, Bool, List, [], ◌∷◌, ◌++◌, length, map, take, drop, replicate, get_or, ◌⊎◌, inl, inr, refl, sym, ◌∙◌, ap, subst, arith, length-append, IsTrue, Ok, Err, Result, OnOk, IfErr}
+use Rattle.std.proofs.Math.Seq.{get_or-append_seam, take-length}
 use Rattle.std.proofs.lemmas.Bool.{cases_lt, false≢true}
-use Rattle.std.proofs.lemmas.List.{map-append, length-map, length-take-le, get_or_append_left}
+use Rattle.std.proofs.lemmas.List.{map-append, length-map, length-replicate, length-take, get_or-replicate, get_or_append_left, take-append-drop, take-take}
 use Rattle.ports_core.specs.Name.{Naming, next_name, with_one_drawn}
 use Rattle.ports_core.specs.Slot.{Slot, slot_at, changed_at, opened, adds, breaks, closes, is_writable, is_closable, with_written, with_broken, told_of, broke, numberless, Rose}
-use Rattle.ports_core.specs.Write.{BrokeAfter}
+use Rattle.ports_core.specs.inner.Write as short
+use Rattle.ports_core.specs.inner.Write.{WritesShort}
 use Rattle.ports_core.specs.Part.{OutputsAt, Begins, Marks, IsAt}
 use Rattle.ports_core.specs.declared.slot.Mode.TheVariants.{Fresh}
 use Rattle.ports_core.specs.declared.slot.State.TheVariants.{Open}
 use Rattle.ports_core.specs.declared.fault.Fault.{Fault}
 use Rattle.ports_core.specs.declared.fault.Fault.TheVariants as fault
-use Rattle.ports_core.proofs.PartLemmas.{sound_at}
+use Rattle.ports_core.proofs.PartLemmas.{nothing_begins, sound_at}
 use Rattle.ports_core.proofs.SlotLemmas.{length-changed_at}
 use Rattle.ports_core.proofs.WriteLemmas.{writable-written}
 use Rattle.ports_core.proofs.FileLemmas.{file_more, file_changes, write_makes, close_makes, gets, ended}
@@ -19,14 +20,13 @@ use Rattle.ports_core.proofs.SlotSteps.{keeps_again, keeps_close, keeps_open, ke
 use Rattle.split_core.specs.Split.{share, name_of, from_start, file_at, only_files}
 use Rattle.split_core.specs.FilesState.{FilesState}
 use Rattle.split_core.specs.Round.{AreReady, OwnsFiles, output_at}
-use Rattle.split_core.specs.laws.RoundLaws.{all_begin_themselves}
-use Rattle.split_core.specs.inner.Sharing.{AllBegin, added, filled, filed, closed_first, open_part, closing_part, StandAt, KeepsFiles, Became, IsDue, StopsAt, StopsShort, HaveClosed, ClosesShort, with_opened, FailsToFollow, could_not, unnamed, IsOfFiles}
+use Rattle.split_core.specs.inner.Sharing.{added, only_at, filed, closed_first, open_part, closing_part, StandAt, KeepsFiles, Adds, IsDue, HaveClosed, ClosesShort, with_opened, FailsToFollow, could_not, unnamed, IsOfFiles}
 use Rattle.split_core.specs.inner.Moves.{CannotClose}
 use Rattle.ports_core.specs.Engine.{is_verdict}
 use Rattle.ports_core.specs.inner.Slot.{KeepsBroken}
 use Rattle.split_core.specs.inner.Moves.{wants_memory, breaks_write, breaks_open}
 use Rattle.split_core.specs.Sharing.{CannotOpen}
-use Rattle.split_core.proofs.FilesLemmas.{filled_begin, filled_next, filled_same, length-filled, filed_more, open_length, length-filed, filed_gets, filed_ends, changed_begin, cut_begin, parts_begin, closed_shares, became_then, halts_then, stops_in_order, caused_later, added_next, added_begin, added_fewer, filled_again, filled_further, length-added, added_before, added_past, take_changed, drop_changed, take_filled, take_further, drop_filled, drop_past_filled, take_filed, drop_filed}
+use Rattle.split_core.proofs.FilesLemmas.{added_none, filed_more, filed_gets, filed_ends, parts_begin, closed_shares, length-added, take_begin, length-only, only_begin, only_before, only_again, idle_before, idle_at, new_at, added_next, adds_then, adds_wider, take_filed, drop_filed}
 use Rattle.ports_core.proofs.CounterLemmas.{same_default}
 
 -- Opening
@@ -81,52 +81,24 @@ owned_unopened drawn (could_not why fails made) first owns = rw made (record {
 })
 owned_unopened {next} {old} drawn (unnamed same made) first owns = subst (λ slots. OwnsFiles next first slots) (sym same) (subst (λ those. OwnsFiles those first old) (sym made) owns)
 
-opens : (told : Bool) (files : FilesState) (before : List Slot) (these : List (List ℕ)) (old new : List Slot) → files.names.drawn ≡ length files.outputs → length these ≡ length files.outputs
-    → new ≡ old ++ opened (next_name files.names) Fresh ∷ [] → OutputsAt told before (open_part files.names these) old → OutputsAt told before (open_part files.names (filled (suc (length files.outputs)) these)) new
-opens told files before these old new drawn count is at =
+opens : (told : Bool) (files : FilesState) (before : List Slot) (these : List (List ℕ)) (old new : List Slot) (place : ℕ) → files.names.drawn ≡ place → length these ≡ place
+    → new ≡ old ++ opened (next_name files.names) Fresh ∷ [] → OutputsAt told before (open_part files.names these) old
+    → OutputsAt told before (open_part files.names (added these (only_at place []))) new
+opens told files before these old new place drawn count is at =
     subst (λ those. OutputsAt told before (only_files those) new) (sym files_are)
-    (file_more told before (open_part files.names these) old new (name_of names (length files.outputs)) Fresh at (is ∙ ap (λ place. old ++ opened (name_of names place) Fresh ∷ []) drawn)) where
+    (file_more told before (open_part files.names these) old new (name_of names place) Fresh at (is ∙ ap (λ place. old ++ opened (name_of names place) Fresh ∷ []) drawn)) where
       names : Naming
       names = from_start files.names
 
-      place_is : 0 + length (map (share Open) these) ≡ length files.outputs
+      place_is : 0 + length (map (share Open) these) ≡ place
       place_is = let long : length (map (share Open) these) ≡ length these = length-map these (share Open) in omega arith
 
-      files_are : filed (from_start files.names) 0 (map (share Open) (filled (suc (length files.outputs)) these)) ≡ filed (from_start files.names) 0 (map (share Open) these) ++ file_at (from_start files.names) (length files.outputs) (share Open []) ∷ []
+      files_are : filed names 0 (map (share Open) (added these (only_at place []))) ≡ filed names 0 (map (share Open) these) ++ file_at names place (share Open []) ∷ []
       files_are =
-          ap (λ those. filed (from_start files.names) 0 (map (share Open) those)) (filled_next (length files.outputs) these count)
-          ∙ ap (λ shares. filed (from_start files.names) 0 shares) (map-append (share Open) these ([] ∷ []))
-          ∙ filed_more (from_start files.names) 0 (map (share Open) these) (share Open [])
-          ∙ ap (λ place. filed (from_start files.names) 0 (map (share Open) these) ++ file_at (from_start files.names) place (share Open []) ∷ []) place_is
-
-pub became_opened : (told : Bool) {files next : FilesState} {old new : List Slot} {place : ℕ} → AreReady files old → next ≡ with_opened (length old) files → new ≡ old ++ opened (next_name files.names) Fresh ∷ [] → place ≡ length files.outputs
-    → Became told files (filled (place + 1)) (place + 1) old next new
-became_opened told {files} {next} {old} {new} {place} ready made is here = record {
-  ready = ready_opened (next_name files.names) ready made is;
-  opened = count ∙ omega arith;
-  names = ap (λ (those : FilesState). from_start those.names) made;
-  lengths = λ these long. length-filled (place + 1) these ∙ (let more : length next.outputs ≡ length files.outputs + 1 = count in omega arith);
-  outputs = λ before these at. subst (λ n. OutputsAt told before (open_part files.names (filled n these)) new) further (opens told files before these old new ready.drawn at.count is at.outputs);
-  owned = owned_opened (next_name files.names) ready.drawn made is;
-  sound = keeps_open (opened (next_name files.names) Fresh) old new is;
-} where
-  count : length next.outputs ≡ length files.outputs + 1
-  count = ap (λ (those : FilesState). length those.outputs) made ∙ length-append files.outputs (length old ∷ [])
-
-  further : suc (length files.outputs) ≡ place + 1
-  further = omega arith
-
--- the file is open already
-pub became_same : (told : Bool) {files : FilesState} {old : List Slot} {place : ℕ} → AreReady files old → place < length files.outputs → Became told files (filled (place + 1)) (place + 1) old files old
-became_same told {files} {old} {place} ready within = record {
-  ready = ready;
-  opened = omega arith;
-  names = refl;
-  lengths = λ these long. length-filled (place + 1) these ∙ omega arith;
-  outputs = λ before these at. (let long : length these ≡ length files.outputs = at.count in subst (λ those. OutputsAt told before (open_part files.names those) old) (sym (filled_same (place + 1) these (omega arith))) at.outputs);
-  owned = λ first owns. owns;
-  sound = keeps_same old old refl;
-}
+          ap (λ those. filed names 0 (map (share Open) those)) (new_at place these count)
+          ∙ ap (λ shares. filed names 0 shares) (map-append (share Open) these ([] ∷ []))
+          ∙ filed_more names 0 (map (share Open) these) (share Open [])
+          ∙ ap (λ place. filed names 0 (map (share Open) these) ++ file_at names place (share Open []) ∷ []) place_is
 
 marks_failed : (IsName : List ℕ → Type 0) {files next : FilesState} {old new : List Slot} {why : Fault} → IsName (next_name files.names) → FailsToFollow files old next new why → Marks IsName why old new
 marks_failed IsName {files} named (could_not _ (broke slot kept is kept_is made) drew) = (is, (next_name files.names, kept, named, kept_is, made))
@@ -154,22 +126,56 @@ pub cannot_later : (old mid new : List Slot) {why : Fault} → KeepsBroken old m
 cannot_later old mid new stay (inl none) = inl none
 cannot_later old mid new stay (inr (slot, is, rose)) = inr (slot, is, rose_later slot old mid new stay rose)
 
-pub stops_unopened : (told : Bool) {files next : FilesState} {old new : List Slot} {place : ℕ} → files.names.drawn ≡ length files.outputs → place ≡ length files.outputs
-    → (why : Fault) → FailsToFollow files old next new why → StopsAt told files (filled (place + 1)) place old new why
-stops_unopened told {files} {old} {place} drawn here why fails before these at =
-    let long : length these ≡ length files.outputs = at.count in
-    let more = length-filled (place + 1) these in
-    record {
-      part = these;
-      above = all_begin_themselves these;
-      below = filled_begin (place + 1) these;
-      done = sym (take_filled place (place + 1) these (omega arith));
-      untouched = refl;
-      reached = old;
-      outputs = at.outputs;
-      marks = marks_failed (IsDue files.names these (filled (place + 1) these)) (ap (name_of (from_start files.names)) (drawn ∙ sym long), omega arith) fails;
-      from = from_next (length before) (here ∙ sym long) fails;
-    }
+-- the file is open already
+pub reached_before : (told : Bool) {files : FilesState} {old : List Slot} {place : ℕ} → AreReady files old → place < length files.outputs
+    → Adds told files (only_at place []) place place old files old (Ok tt)
+reached_before told {files} {old} {place} ready within = record {
+  names = refl;
+  owned = λ first owns. owns;
+  ready = ready;
+  opened = omega (arith, length-only place []);
+  sound = keeps_same old old refl;
+  caused = tt;
+  leaves = λ before these at. subst (λ those. OutputsAt told before (open_part files.names those) old) (sym (idle_at place these (omega (arith, within, at.count)))) at.outputs;
+}
+
+-- the next file was opened, or it couldn't be
+pub reached : (told : Bool) {files next : FilesState} {old new : List Slot} {place : ℕ} (result : Result (Unit {0}) Fault) → AreReady files old → place ≡ length files.outputs
+    → from_start next.names ≡ from_start files.names → OnOk result (next ≡ with_opened (length old) files) → OnOk result (new ≡ old ++ opened (next_name files.names) Fresh ∷ [])
+    → IfErr result (FailsToFollow files old next new) → Adds told files (only_at place []) place place old next new result
+reached told {files} {next} {old} {new} {place} (Ok done) ready here names made is fails = record {
+  names = names;
+  owned = owned_opened (next_name files.names) ready.drawn made is;
+  ready = ready_opened (next_name files.names) ready made is;
+  opened = ap (λ (those : FilesState). length those.outputs) made ∙ length-append files.outputs (length old ∷ []) ∙ omega (arith, length-only place [], here);
+  sound = keeps_open (opened (next_name files.names) Fresh) old new is;
+  caused = tt;
+  leaves = λ before these at. opens told files before these old new place (ready.drawn ∙ sym here) (at.count ∙ sym here) is at.outputs;
+}
+reached told {files} {old} {place} (Err why) ready here names made is fails = record {
+  names = names;
+  owned = owned_unopened ready.drawn fails;
+  ready = tt;
+  opened = tt;
+  sound = tt;
+  caused = of_files (fails_caused why fails);
+  leaves = λ before these at.
+      let long : length these ≡ place = at.count ∙ sym here in
+      let idle : added these (take place (only_at place [])) ≡ these = idle_before place [] these (omega arith) in record {
+        place = place;
+        after = omega arith;
+        within = omega arith;
+        some = take place (only_at place []);
+        few = omega (arith, length-take place (only_at place []));
+        begin = take_begin place (only_at place []);
+        done = take-take place place (only_at place []) (omega arith);
+        reached = old;
+        outputs = rw idle at.outputs;
+        marks = rw idle (marks_failed (IsDue files.names these (added these (only_at place [])))
+            (ap (name_of (from_start files.names)) (ready.drawn ∙ sym at.count), omega (arith, length-added these (only_at place []), length-only place [], long)) fails);
+        from = rw idle (from_next (length before) (sym long) fails);
+      };
+}
 
 -- Writing
 
@@ -185,44 +191,50 @@ ready_written {files} slot bytes {old} ready is = rw is (record {
 pub owned_same : {files : FilesState} {old new : List Slot} → length new ≡ length old → KeepsFiles files old files new
 owned_same size first owns = record { stand = owns.stand; last = λ drawn. owns.last drawn ∙ sym size }
 
-writes : (told : Bool) {files : FilesState} {before : List Slot} {these : List (List ℕ)} {old new : List Slot} (place : ℕ) (bytes : List ℕ) → place < length files.outputs → new ≡ with_written (output_at files place) (told_of told bytes) old → StandAt told files before these old
-    → OutputsAt told before (open_part files.names (changed_at place (λ had. had ++ bytes) these)) new
+writes : (told : Bool) {files : FilesState} {before : List Slot} {these : List (List ℕ)} {old new : List Slot} (place : ℕ) (bytes : List ℕ) → place < length files.outputs
+    → new ≡ with_written (output_at files place) (told_of told bytes) old → StandAt told files before these old
+    → OutputsAt told before (open_part files.names (added these (only_at place bytes))) new
 writes told {files} {before} {these} {old} {new} place bytes within is at =
-    subst (λ those. OutputsAt told before (only_files those) new) (filed_gets (from_start files.names) 0 place bytes these)
+    subst (λ those. OutputsAt told before (only_files those) new) (filed_gets (from_start files.names) 0 place bytes these (omega (arith, within, at.count)))
     (file_changes told (adds (told_of told bytes)) (gets bytes) (write_makes told bytes) before (open_part files.names these) old new place at.outputs
     (is ∙ ap (λ slot. with_written slot (told_of told bytes) old) (at.owns.stand place within)))
 
-pub became_written : (told : Bool) {files : FilesState} {old new : List Slot} (place : ℕ) (bytes : List ℕ) → AreReady files old → place < length files.outputs → new ≡ with_written (output_at files place) (told_of told bytes) old
-    → Became told files (changed_at place (λ had. had ++ bytes)) (place + 1) old files new
-became_written told {files} {old} {new} place bytes ready within is = record {
-  ready = ready_written (output_at files place) (told_of told bytes) ready is;
-  opened = omega arith;
+-- bytes were written to a file that is open, or it broke among them
+pub written : (told : Bool) {files : FilesState} {old new : List Slot} (place : ℕ) (bytes : List ℕ) (result : Result (Unit {0}) Fault) → AreReady files old → place < length files.outputs
+    → OnOk result (new ≡ with_written (output_at files place) (told_of told bytes) old) → IfErr result (WritesShort told (output_at files place) bytes old new)
+    → Adds told files (only_at place bytes) place place old files new result
+written told {files} {old} {new} place bytes (Ok done) ready within is short = record {
   names = refl;
-  lengths = λ these long. length-changed_at place _ these ∙ long;
-  outputs = λ before these at. writes told place bytes within is at;
   owned = owned_same (ap length is ∙ length-changed_at (output_at files place) _ old);
+  ready = ready_written (output_at files place) (told_of told bytes) ready is;
+  opened = omega (arith, length-only place bytes);
   sound = keeps_write (output_at files place) (told_of told bytes) old new is;
+  caused = tt;
+  leaves = λ before these at. writes told place bytes within is at;
 }
-
-pub stops_written : (told : Bool) {files : FilesState} {old new : List Slot} {place : ℕ} {bytes : List ℕ} {n : ℕ} → AreReady files old → place < length files.outputs → BrokeAfter told old new (output_at files place) bytes n
-    → StopsAt told files (changed_at place (λ had. had ++ bytes)) place old new (fault.Write (output_at files place))
-stops_written told {files} {old} {place} {bytes} {n} ready within cut before these at = record {
-  part = changed_at place (λ had. had ++ take n bytes) these;
-  above = changed_begin place (take n bytes) these;
-  below = cut_begin place n bytes these;
-  done = take_changed place (λ had. had ++ take n bytes) these ∙ sym (take_changed place (λ had. had ++ bytes) these);
-  untouched = drop_changed place (λ had. had ++ take n bytes) these;
-  reached = with_written (output_at files place) (told_of told (take n bytes)) old;
-  outputs = writes told place (take n bytes) within refl at;
-  marks = ((let same : length (with_written (output_at files place) (told_of told (take n bytes)) old) ≡ length old = length-changed_at (output_at files place) _ old in let inside = output_within place ready within in omega arith), cut.slots);
-  from = inr (at.owns.stand place within);
-}
-
-pub rose_written : (told : Bool) {files : FilesState} {old new : List Slot} (place : ℕ) {bytes : List ℕ} {n : ℕ} → AreReady files old → place < length files.outputs → BrokeAfter told old new (output_at files place) bytes n
-    → IsOfFiles old new (fault.Write (output_at files place))
-rose_written told {files} {old} {new} place {bytes} {n} ready within cut =
-    let can = ready.closable place within in
-    (breaks_write (output_at files place) can.0 (write_rose told (output_at files place) bytes n old new can.1 cut), λ named. false≢true (ap is_verdict named))
+written told {files} {old} {new} place bytes (Err _) ready within is (short.broke n cut) = record {
+  names = refl;
+  owned = owned_same (ap length cut.slots ∙ length-changed_at slot breaks _ ∙ length-changed_at slot (adds (told_of told (take n bytes))) old);
+  ready = tt;
+  opened = tt;
+  sound = tt;
+  caused = (breaks_write slot (ready.closable place within).0 (write_rose told slot bytes n old new (ready.closable place within).1 cut), λ named. false≢true (ap is_verdict named));
+  leaves = λ before these at. record {
+    place = place;
+    after = omega arith;
+    within = omega arith;
+    some = only_at place (take n bytes);
+    few = omega (arith, length-only place (take n bytes));
+    begin = only_begin place (take n bytes) bytes (drop n bytes, sym (take-append-drop n bytes));
+    done = only_before place place (take n bytes) bytes (omega arith);
+    reached = with_written slot (told_of told (take n bytes)) old;
+    outputs = writes told place (take n bytes) within refl at;
+    marks = ((let same = length-changed_at slot (adds (told_of told (take n bytes))) old in let inside = output_within place ready within in omega arith), cut.slots);
+    from = inr (at.owns.stand place within);
+  };
+} where
+  slot : ℕ
+  slot = output_at files place
 
 -- Closing
 
@@ -297,88 +309,93 @@ rose_closing told {files} {place} {old} {now} ready within so_far is = (
       ∙ broken_there (output_at files place) _ (let inside = output_within place ready within in let same : length now ≡ length old = so_far.size in let kept = length-changed_at (output_at files place) closes now in omega arith),
 )
 
--- what reaching a file owes, by the result of opening it
+-- there was no room for any of it
+pub no_room : (told : Bool) (files : FilesState) (more : List (List ℕ)) {slots : List Slot} → Adds told files more 0 (length more) slots files slots (Err fault.Memory)
+no_room told files more {slots} = record {
+  names = refl;
+  owned = λ first owns. owns;
+  ready = tt;
+  opened = tt;
+  sound = tt;
+  caused = no_memory;
+  leaves = λ before these at. record {
+    place = 0;
+    after = omega arith;
+    within = omega arith;
+    some = [];
+    few = omega arith;
+    begin = tt;
+    done = refl;
+    reached = slots;
+    outputs = subst (λ those. OutputsAt told before (open_part files.names those) slots) (sym (added_none these)) at.outputs;
+    marks = refl;
+    from = tt;
+  };
+}
 
-pub reached : (told : Bool) (files next : FilesState) (old new : List Slot) (place : ℕ) (result : Result (Unit {0}) Fault) → AreReady files old → place ≡ length files.outputs → OnOk result (next ≡ with_opened (length old) files)
-    → OnOk result (new ≡ old ++ opened (next_name files.names) Fresh ∷ []) → OnOk result (Became told files (filled (place + 1)) (place + 1) old next new)
-reached told files next old new place (Ok u) ready here made is = became_opened told ready made is here
-reached told files next old new place (Err why) ready here made is = tt
-
-pub reached_owned : {files next : FilesState} {old new : List Slot} (result : Result (Unit {0}) Fault) → AreReady files old → OnOk result (next ≡ with_opened (length old) files) → OnOk result (new ≡ old ++ opened (next_name files.names) Fresh ∷ [])
-    → IfErr result (FailsToFollow files old next new) → KeepsFiles files old next new
-reached_owned {files} (Ok u) ready made is fails = owned_opened (next_name files.names) ready.drawn made is
-reached_owned (Err why) ready made is fails = owned_unopened ready.drawn fails
-
--- what reaching a file and writing to it owes
+-- a file was reached, and then written to
 
 -- there is such a file once it was reached
-pub sent_within : (told : Bool) {files : FilesState} (between : FilesState) {old mid : List Slot} (place : ℕ) → Became told files (filled (place + 1)) (place + 1) old between mid → place < length between.outputs
-sent_within told {files} between place before = let count : length between.outputs ≡ max (length files.outputs) (place + 1) = before.opened in omega arith
+pub sent_within : {told : Bool} {files between : FilesState} {old mid : List Slot} {place low high : ℕ} → Adds told files (only_at place []) low high old between mid (Ok tt) → place < length between.outputs
+sent_within {files} {between} {place} adds = omega (arith, adds.opened, length-only place [])
 
-pub sent : (told : Bool) (files between : FilesState) (old mid new : List Slot) (place slot : ℕ) (bytes : List ℕ) → Became told files (filled (place + 1)) (place + 1) old between mid → slot ≡ output_at between place
-    → new ≡ with_written slot (told_of told bytes) mid → Became told files (λ these. changed_at place (λ had. had ++ bytes) (filled (place + 1) these)) (place + 1) old between new
-sent told files between old mid new place slot bytes before slot_is is =
-    became_then told {files = files} {first = filled (place + 1)} {second = changed_at place (λ had. had ++ bytes)} (place + 1) {two = place + 1} {count = place + 1} {old = old} {mid = mid} {new = new} between {next = between} before
-    (became_written told {files = between} {old = mid} {new = new} place bytes before.ready (sent_within told {files = files} between {old = old} {mid = mid} place before) (is ∙ ap (λ at. with_written at (told_of told bytes) mid) slot_is)) (λ these. refl) (omega arith)
+pub sent_writable : {told : Bool} {files between : FilesState} {old mid : List Slot} (place : ℕ) {low high slot : ℕ} → Adds told files (only_at place []) low high old between mid (Ok tt)
+    → slot ≡ output_at between place → IsTrue (is_writable mid slot)
+sent_writable {mid} place adds slot_is = subst (λ at. IsTrue (is_writable mid at)) (sym slot_is) (adds.ready.closable place (sent_within adds)).1
 
-pub sent_short : (told : Bool) {files : FilesState} (between : FilesState) {old mid new : List Slot} {place slot : ℕ} {bytes : List ℕ} {n : ℕ} → place ≤ length files.outputs → Became told files (filled (place + 1)) (place + 1) old between mid → slot ≡ output_at between place
-    → BrokeAfter told mid new slot bytes n → StopsAt told files (λ these. changed_at place (λ had. had ++ bytes) (filled (place + 1) these)) place old new (fault.Write slot)
-sent_short told {files} between {old} {mid} {new} {place} {bytes} {n} near before slot_is cut =
-    subst (λ at. StopsAt told files (λ these. changed_at place (λ had. had ++ bytes) (filled (place + 1) these)) place old new (fault.Write at)) (sym slot_is)
-    (halts_then told _ (place + 1) between before
-    (stops_written told before.ready (sent_within told between place before) (subst (λ at. BrokeAfter told mid new at bytes n) slot_is cut)) (λ these. filled_begin (place + 1) these) (λ these. all_begin_themselves _)
-    (λ these. (let further : suc place ≡ place + 1 = omega arith in subst (λ n. drop n (filled (place + 1) these) ≡ drop n these) (sym further) (drop_filled (place + 1) these)))
-    (λ these long. refl))
-
-pub sent_caused : (told : Bool) (files between : FilesState) (old mid new : List Slot) (place slot : ℕ) (bytes : List ℕ) (n : ℕ) → Became told files (filled (place + 1)) (place + 1) old between mid → slot ≡ output_at between place
-    → BrokeAfter told mid new slot bytes n → IsOfFiles old new (fault.Write slot)
-sent_caused told files between old mid new place slot bytes n before slot_is cut =
-    caused_later old mid new (fault.Write slot) before.sound
-    (subst (λ at. IsOfFiles mid new (fault.Write at)) (sym slot_is) (rose_written told {files = between} {old = mid} {new = new} place {bytes = bytes} {n = n} before.ready (sent_within told {files = files} between {old = old} {mid = mid} place before) (subst (λ at. BrokeAfter told mid new at bytes n) slot_is cut)))
-
-pub sent_owned : (told : Bool) (files between : FilesState) (old mid new : List Slot) (place slot : ℕ) (bytes : List ℕ) (n : ℕ) → Became told files (filled (place + 1)) (place + 1) old between mid → BrokeAfter told mid new slot bytes n → KeepsFiles files old between new
-sent_owned told files between old mid new place slot bytes n before cut first owns =
-    owned_same {files = between} {old = mid} {new = new} (ap length cut.slots ∙ length-changed_at slot breaks _ ∙ length-changed_at slot (adds (told_of told (take n bytes))) mid) first (before.owned first owns)
+pub sent : {told : Bool} {files between : FilesState} {old mid new : List Slot} {place slot : ℕ} (bytes : List ℕ) (result : Result (Unit {0}) Fault)
+    → Adds told files (only_at place []) place place old between mid (Ok tt) → slot ≡ output_at between place → OnOk result (new ≡ with_written slot (told_of told bytes) mid)
+    → IfErr result (WritesShort told slot bytes mid new) → Adds told files (only_at place bytes) place place old between new result
+sent {told} {files} {between} {old} {mid} {new} {place} bytes result before slot_is ok err = subst (λ more. Adds told files more place place old between new result) (only_again place bytes)
+    (adds_then result place place before (written told place bytes result before.ready (sent_within before)
+    (subst (λ at. OnOk result (new ≡ with_written at (told_of told bytes) mid)) slot_is ok) (subst (λ at. IfErr result (WritesShort told at bytes mid new)) slot_is err))
+    (omega (arith, length-only place [])) (omega arith) (omega arith))
 
 -- a file that couldn't be reached stops the write to it as well
-pub sent_unreached : (told : Bool) {files : FilesState} {old new : List Slot} {place : ℕ} (bytes : List ℕ) {why : Fault} → StopsAt told files (filled (place + 1)) place old new why → StopsAt told files (λ these. changed_at place (λ had. had ++ bytes) (filled (place + 1) these)) place old new why
-sent_unreached told {place} bytes stops before these at =
-    Rattle.split_core.proofs.FilesLemmas.halted_wider told _ refl (stops before these at) (all_begin_themselves these) (changed_begin place bytes (filled (place + 1) these)) refl
-    (sym (take_changed place (λ had. had ++ bytes) (filled (place + 1) these)))
+pub sent_unreached : {told : Bool} {files next : FilesState} {old new : List Slot} {place : ℕ} (bytes : List ℕ) {why : Fault} → Adds told files (only_at place []) place place old next new (Err why)
+    → Adds told files (only_at place bytes) place place old next new (Err why)
+sent_unreached {place} bytes adds = adds_wider place adds (only_begin place [] bytes (nothing_begins bytes)) (omega arith) (λ n few. only_before n place [] bytes few)
 
 -- the loop over all files
 
-pub sent_next : (told : Bool) {files : FilesState} (between : FilesState) {next : FilesState} {old mid new : List Slot} {place : ℕ} {bytes : List ℕ} (more : List (List ℕ)) → Became told files (λ these. added these (take place more)) place old between mid → place < length more → bytes ≡ get_or more place bytes
-    → Became told between (λ these. changed_at place (λ had. had ++ bytes) (filled (place + 1) these)) (place + 1) mid next new → Became told files (λ these. added these (take (place + 1) more)) (place + 1) old next new
-sent_next told between {place} {bytes} more before within is after =
-    became_then told place between before after
-    (λ these. (let further : suc place ≡ place + 1 = omega arith in subst (λ n. changed_at place (λ had. had ++ bytes) (filled n (added these (take place more))) ≡ added these (take n more)) further (added_next place these more within is))) (omega arith)
+pub sent_next : {told : Bool} {files between next : FilesState} {old mid new : List Slot} {place : ℕ} {bytes : List ℕ} (more : List (List ℕ)) (result : Result (Unit {0}) Fault)
+    → Adds told files (take place more) 0 place old between mid (Ok tt) → place < length more → bytes ≡ get_or more place bytes
+    → Adds told between (only_at place bytes) place place mid next new result → Adds told files (take (place + 1) more) 0 (place + 1) old next new result
+sent_next {told} {files} {next} {old} {new} {place} more result before within is after =
+    let further : suc place ≡ place + 1 = omega arith in
+    subst (λ those. Adds told files those 0 (place + 1) old next new result) (added_next place more within is ∙ ap (λ n. take n more) further)
+    (adds_then result 0 (place + 1) before after (omega (arith, length-take place more)) (omega arith) (omega arith))
 
-pub sent_stops : (told : Bool) {files : FilesState} (between : FilesState) {old mid new : List Slot} {place : ℕ} {bytes : List ℕ} (more : List (List ℕ)) {why : Fault} → Became told files (λ these. added these (take place more)) place old between mid → place < length more → bytes ≡ get_or more place bytes
-    → StopsAt told between (λ these. changed_at place (λ had. had ++ bytes) (filled (place + 1) these)) place mid new why → StopsShort told files (λ these. added these more) old new why
-sent_stops told between {place} {bytes} more before within is stops =
-    stops_in_order told (halts_then told (λ these. added these more) place between before stops (λ these. added_begin these (take place more))
-    (λ these. (let further : suc place ≡ place + 1 = omega arith in
-    subst (λ low. AllBegin low (added these more)) (sym (subst (λ n. changed_at place (λ had. had ++ bytes) (filled n (added these (take place more))) ≡ added these (take n more)) further (added_next place these more within is))) (added_fewer (place + 1) these more)))
-    (λ these. added_past place these more within) (λ these long. take_changed place (λ had. had ++ bytes) (filled (place + 1) (added these (take place more)))
-    ∙ take_filled place (place + 1) (added these (take place more)) (let all = length-added these (take place more) in let some : length (take place more) ≡ place = length-take-le place more (omega arith) in omega arith)
-    ∙ added_before place these more))
+pub sent_stops : {told : Bool} {files between next : FilesState} {old mid new : List Slot} {place : ℕ} {bytes : List ℕ} (more : List (List ℕ)) {why : Fault}
+    → Adds told files (take place more) 0 place old between mid (Ok tt) → place < length more → bytes ≡ get_or more place bytes
+    → Adds told between (only_at place bytes) place place mid next new (Err why) → Adds told files more 0 (length more) old next new (Err why)
+sent_stops {place} more {why} before within is after =
+    adds_wider (length more) (sent_next more (Err why) before within is after) (take_begin (place + 1) more) (omega (arith, within)) (λ n few. take-take n (place + 1) more few)
 
-pub opened_next : (told : Bool) {files : FilesState} (between : FilesState) {next : FilesState} {old mid new : List Slot} {place : ℕ} → Became told files (filled place) place old between mid → Became told between (filled (place + 1)) (place + 1) mid next new
-    → Became told files (filled (place + 1)) (place + 1) old next new
-opened_next told between {place} before after =
-    became_then told place between before after
-    (λ these. (let further : suc place ≡ place + 1 = omega arith in subst (λ n. filled n (filled place these) ≡ filled n these) further (filled_again place these))) (omega arith)
+-- all of them were reached
+pub sent_all : {told : Bool} {files next : FilesState} {old new : List Slot} (place : ℕ) (more : List (List ℕ)) → place ≡ length more → Adds told files (take place more) 0 place old next new (Ok tt)
+    → Adds told files more 0 (length more) old next new (Ok tt)
+sent_all {told} {files} {next} {old} {new} place more is adds = subst (λ those. Adds told files those 0 (length more) old next new (Ok tt)) (take-length more)
+    (subst (λ n. Adds told files (take n more) 0 n old next new (Ok tt)) is adds)
 
-pub opened_stops : (told : Bool) {files : FilesState} (between : FilesState) {old mid new : List Slot} {place count : ℕ} {why : Fault} → Became told files (filled place) place old between mid → place < count → StopsAt told between (filled (place + 1)) place mid new why
-    → StopsShort told files (filled count) old new why
-opened_stops told between {place} {count} before within stops =
-    stops_in_order told (halts_then told (filled count) place between before stops (λ these. filled_begin place these)
-    (λ these. subst (λ low. AllBegin low (filled count these)) (sym (again these)) (filled_further (place + 1) count these (omega arith)))
-    (λ these. drop_past_filled place these)
-    (λ these long. ap (take place) (again these) ∙ sym (take_further place (place + 1) these (omega arith)) ∙ take_further place count these (omega arith))) where
-      again : (these : List (List ℕ)) → filled (place + 1) (filled place these) ≡ filled (place + 1) these
-      again these = let further : suc place ≡ place + 1 = omega arith in subst (λ n. filled n (filled place these) ≡ filled n these) further (filled_again place these)
+-- files that are opened are sent nothing
+
+none_within : (count : ℕ) {place : ℕ} → place < count → place < length (replicate {A = List ℕ} count [])
+none_within count less = omega (arith, less, length-replicate {A = List ℕ} count [])
+
+pub opened_next : {told : Bool} {files between next : FilesState} {old mid new : List Slot} {place : ℕ} (count : ℕ) → Adds told files (take place (replicate count [])) 0 place old between mid (Ok tt)
+    → place < count → Adds told between (only_at place []) place place mid next new (Ok tt) → Adds told files (take (place + 1) (replicate count [])) 0 (place + 1) old next new (Ok tt)
+opened_next {place} count before less = sent_next (replicate count []) (Ok tt) before (none_within count less) (sym (get_or-replicate count place [] [] less))
+
+pub opened_stops : {told : Bool} {files between next : FilesState} {old mid new : List Slot} {place : ℕ} (count : ℕ) {why : Fault} → Adds told files (take place (replicate count [])) 0 place old between mid (Ok tt)
+    → place < count → Adds told between (only_at place []) place place mid next new (Err why) → Adds told files (replicate count []) 0 count old next new (Err why)
+opened_stops {told} {files} {next} {old} {new} {place} count {why} before less after = subst (λ n. Adds told files (replicate count []) 0 n old next new (Err why)) (length-replicate count [])
+    (sent_stops (replicate count []) before (none_within count less) (sym (get_or-replicate count place [] [] less)) after)
+
+pub opened_all : {told : Bool} {files next : FilesState} {old new : List Slot} (place count : ℕ) → place ≡ count → Adds told files (take place (replicate count [])) 0 place old next new (Ok tt)
+    → Adds told files (replicate count []) 0 count old next new (Ok tt)
+opened_all {told} {files} {next} {old} {new} place count is adds = subst (λ n. Adds told files (replicate count []) 0 n old next new (Ok tt)) (length-replicate count [])
+    (sent_all place (replicate count []) (is ∙ sym (length-replicate count [])) adds)
 
 -- closing, by the fault
 

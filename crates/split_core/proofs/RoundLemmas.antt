@@ -1,5 +1,5 @@
 -- Lemmas on dealing lines in turn, as a stage.
-use Rattle.std.proofs.Common.{◌≡◌, ℕ, ◌+◌, ◌%◌, ◌<◌, ◌≤◌, zero, suc, min, max, Bool, true, false, not, cond, List, [], ◌∷◌, ◌++◌, length, map, take, drop, Some, None, inl, inr, refl, sym, ◌∙◌, ap, subst, arith, Ok, Err, Result}
+use Rattle.std.proofs.Common.{◌≡◌, ℕ, ◌+◌, ◌%◌, ◌<◌, ◌≤◌, zero, suc, min, max, Bool, true, false, not, cond, List, [], ◌∷◌, ◌++◌, length, map, take, drop, replicate, Some, None, inl, inr, refl, sym, ◌∙◌, ap, subst, arith, Ok, Err, Result}
 use Rattle.std.proofs.Math.Nat.{mod-add-mod, mod-eq_of_lt, mod-mod, mod-le}
 use Rattle.std.proofs.Math.Path.{fun_ext}
 use Rattle.std.proofs.Math.Seq.{drop-length}
@@ -19,7 +19,7 @@ use Rattle.ports_core.specs.declared.fault.Fault.{Fault}
 use Rattle.ports_core.specs.declared.fault.Fault.TheVariants as fault
 use Rattle.ports_core.specs.declared.slot.State.{State}
 use Rattle.ports_core.specs.declared.slot.State.TheVariants.{Open, Closed}
-use Rattle.ports_core.proofs.PartLemmas.{stopped_here, outputs_count}
+use Rattle.ports_core.proofs.PartLemmas.{outputs_count}
 use Rattle.split_core.specs.Parts.{dealt, round_robin}
 use Rattle.split_core.specs.Split.{Share, share, named, is_named, are_named, from_start, file_at, only_files, dealt_files, settled_by, whole_by, is_short, is_some, split_means, split_work, bytes_in, waiting_after}
 use Rattle.split_core.specs.inner.Dealt.{dealt_piece, dealt_first, reached_by}
@@ -29,12 +29,12 @@ use Rattle.split_core.specs.Round.{round_plan, plan_of, round_work, work, opened
 use Rattle.split_core.specs.Ways as ways
 use Rattle.split_core.specs.declared.splitter.Splitter.TheVariants as way
 use Rattle.split_core.specs.inner.Ways.{Deals, Closes, PassesBy, FinishesBy}
-use Rattle.split_core.specs.inner.Sharing.{added, filled, filed, open_part, closing_part, StandAt, Makes, Became, StopsShort, IsOfFiles}
+use Rattle.split_core.specs.inner.Sharing.{added, filed, open_part, closing_part, StandAt, Adds, Leaves}
 use Rattle.split_core.specs.inner.DealLaws.{share_of}
 use Rattle.split_core.specs.laws.DealLaws.{dealt_append, dealt_none, dealt_files_are, share_none}
 use Rattle.split_core.proofs.DealLaws.{dealt_same, opened_by-most}
-use Rattle.split_core.proofs.FilesLemmas.{closed_all, added_begin, added_none, open_begins}
-use Rattle.split_core.proofs.MoveLemmas.{met_closing, met_files, named_before, unjudged}
+use Rattle.split_core.proofs.FilesLemmas.{closed_all, added_none, stops_in_order}
+use Rattle.split_core.proofs.MoveLemmas.{are_named_same, met_closing, met_files, named_before, unjudged}
 use Rattle.split_core.proofs.PlaceLemmas.{all_dealt}
 
 -- Names
@@ -47,10 +47,6 @@ named_at names (suc last) place are within = named_before names place last are (
 pub named_fewer : (names : Naming) (few count : ℕ) → are_named names count ≡ true → few ≤ count → are_named names few ≡ true
 named_fewer names zero count are within = refl
 named_fewer names (suc last) count are within = named_at names count last are (omega arith)
-
-pub named_same : (names others : Naming) (count : ℕ) → from_start others ≡ from_start names → are_named names count ≡ true → are_named others count ≡ true
-named_same names others zero same are = refl
-named_same names others (suc last) same are = ap (λ (those : Naming). is_named those last) same ∙ are
 
 all_filed : (names : Naming) (count place : ℕ) (shares : List Share) → are_named names count ≡ true → place + length shares ≤ count → named (from_start names) place shares ≡ filed (from_start names) place shares
 all_filed names count place [] are few = refl
@@ -154,16 +150,6 @@ first_gathered delim n start {reached} piece is reached_is =
     ap (take reached) is ∙ ap (λ count. take count (dealt_piece delim n start piece)) reached_is
     ∙ take-map-range_with_len (λ file. dealt n file start (lines_of delim piece)) 0 n (reached_by delim n start piece) (omega arith)
 
-pub no_room : (told : Bool) (files : FilesState) (more : List (List ℕ)) (slots : List Slot) → StopsShort told files (λ these. added these more) slots slots fault.Memory
-no_room told files more slots before these at =
-    stopped_here told before (open_part files.names these) (open_part files.names (added these more)) fault.Memory slots slots at.outputs (open_begins files.names these _ (added_begin these more)) refl tt
-
-pub became_dealt : (delim : ℕ) (told : Bool) {files next : FilesState} (n start : ℕ) (piece : List ℕ) (more : List (List ℕ)) {old new : List Slot} → more ≡ dealt_first delim n start piece → Became told files (λ these. added these more) (length more) old next new
-    → Became told files (λ these. added these (dealt_first delim n start piece)) (reached_by delim n start piece) old next new
-became_dealt delim told {files} {next} n start piece more {old} {new} is became =
-    subst (λ count. Became told files (λ these. added these (dealt_first delim n start piece)) count old next new) (length-map-range_with_len (λ file. dealt n file start (lines_of delim piece)) 0 (reached_by delim n start piece))
-    (subst (λ those. Became told files (λ these. added these those) (length those) old next new) is became)
-
 -- What a piece leaves
 
 pub same_work : (old new : RoundState) → new.delim ≡ old.delim → new.count ≡ old.count → new.elide ≡ old.elide → from_start new.files.names ≡ from_start old.files.names → work new ≡ work old
@@ -187,23 +173,26 @@ stand_at told round {before} {x} {now} at = record {
   outputs = subst (λ part. OutputsAt told before part now) (settled_is round.delim round.files.names round.elide round.count x at.holds.named) at.outputs;
 }
 
-puts_out : (told : Bool) (round : RoundState) (piece : List ℕ) (old new : List Slot) → Makes told round.files (λ these. added these (dealt_first round.delim round.count round.next piece)) old new → PutsOut ways.Holds ways.Owns ways.work (way.Round round) piece told old new
-puts_out told round piece old new makes before x at =
-    subst (λ part. OutputsAt told before part new) (made_is piece at.holds) (makes before (files_of round.delim round.elide round.count x) (stand_at told round at))
+puts_out : (told : Bool) (round : RoundState) (piece : List ℕ) {low high : ℕ} {next : FilesState} {old new : List Slot}
+    → Adds told round.files (dealt_first round.delim round.count round.next piece) low high old next new (Ok tt) → PutsOut ways.Holds ways.Owns ways.work (way.Round round) piece told old new
+puts_out told round piece {new} adds before x at =
+    subst (λ part. OutputsAt told before part new) (made_is piece at.holds) (adds.leaves before (files_of round.delim round.elide round.count x) (stand_at told round at))
 
-cuts_off : (told : Bool) (round : RoundState) (piece : List ℕ) (old new : List Slot) (why : Fault) → IsOfFiles old new why → StopsShort told round.files (λ these. added these (dealt_first round.delim round.count round.next piece)) old new why → CutsOff ways.Holds ways.Owns ways.work (way.Round round) piece told old new why
-cuts_off told round piece old new why is stops before x at =
-    cut (unjudged is.0 is.1) (subst (λ high. StoppedBetween told before ((work round).settled x) high why new) (made_is piece at.holds)
-    (subst (λ low. StoppedBetween told before low (open_part round.files.names (added (files_of round.delim round.elide round.count x) (dealt_first round.delim round.count round.next piece))) why new) (sym (settled_is round.delim round.files.names round.elide round.count x at.holds.named))
-    (stops before (files_of round.delim round.elide round.count x) (stand_at told round at))))
+cuts_off : (told : Bool) (round : RoundState) (piece : List ℕ) {low high : ℕ} {next : FilesState} {old new : List Slot} (why : Fault)
+    → Adds told round.files (dealt_first round.delim round.count round.next piece) low high old next new (Err why) → CutsOff ways.Holds ways.Owns ways.work (way.Round round) piece told old new why
+cuts_off told round piece {new} why adds before x at =
+    cut (unjudged adds.caused.0 adds.caused.1) (subst (λ high. StoppedBetween told before ((work round).settled x) high why new) (made_is piece at.holds)
+    (rw (settled_is round.delim round.files.names round.elide round.count x at.holds.named)
+    (stops_in_order told round.files.names (files_of round.delim round.elide round.count x) _ why (adds.leaves before (files_of round.delim round.elide round.count x) (stand_at told round at)))))
 
 takes_in : (told : Bool) {old new : RoundState} {piece : List ℕ} {before after : List Slot} → Deals told old piece before after new (Ok tt) → TakesIn ways.Holds piece (way.Round old) (way.Round new)
 takes_in told {old} {new} {piece} deals x holds = record {
   some = let some : 0 < old.count = holds.some in let count : new.count ≡ old.count = deals.count in omega arith;
-  named = named_same old.files.names new.files.names new.count deals.names (ap (are_named old.files.names) deals.count ∙ holds.named);
+  named = are_named_same old.files.names new.files.names new.count deals.adds.names ∙ ap (are_named old.files.names) deals.count ∙ holds.named;
   next = deals.next ∙ ap (λ place. (place + delimiters old.delim piece) % old.count) holds.next ∙ mod-add-mod (delimiters old.delim x) old.count (delimiters old.delim piece) ∙ ap (λ lines. lines % old.count) (sym (delimiters-append old.delim x piece))
       ∙ ap (λ n. delimiters old.delim (x ++ piece) % n) (sym deals.count) ∙ ap (λ d. delimiters d (x ++ piece) % new.count) (sym deals.delim);
-  opened = deals.became.opened ∙ ap (λ n. max n (reached_by old.delim old.count old.next piece)) holds.opened ∙ ap (λ place. max (opened_by old.delim old.elide old.count x) (reached_by old.delim old.count place piece)) holds.next
+  opened = deals.adds.opened ∙ ap (max (length old.files.outputs)) (length-map-range_with_len (λ file. dealt old.count file old.next (lines_of old.delim piece)) 0 (reached_by old.delim old.count old.next piece))
+      ∙ ap (λ n. max n (reached_by old.delim old.count old.next piece)) holds.opened ∙ ap (λ place. max (opened_by old.delim old.elide old.count x) (reached_by old.delim old.count place piece)) holds.next
       ∙ opened_after old.delim old.elide old.count x piece holds.some
       ∙ sym (ap (λ (those : Bool). opened_by old.delim those new.count (x ++ piece)) deals.elide ∙ ap (λ n. opened_by old.delim old.elide n (x ++ piece)) deals.count) ∙ ap (λ d. opened_by d new.elide new.count (x ++ piece)) (sym deals.delim);
 }
@@ -211,22 +200,22 @@ takes_in told {old} {new} {piece} deals x holds = record {
 pub passes_by : (told : Bool) (old new : RoundState) (piece : List ℕ) (before after : List Slot) (result : Result (Unit {0}) Fault)
     → Deals told old piece before after new result → PassesBy told piece before after result (way.Round old) (way.Round new)
 passes_by told old new piece before after (Ok u) deals = record {
-  same = same_work old new deals.delim deals.count deals.elide deals.names;
+  same = same_work old new deals.delim deals.count deals.elide deals.adds.names;
   holds = takes_in told deals;
-  outputs = puts_out told old piece before after deals.became.outputs;
-  ready = deals.became.ready;
-  owns = deals.owned;
+  outputs = puts_out told old piece deals.adds;
+  ready = deals.adds.ready;
+  owns = deals.adds.owned;
   cut = tt;
   met = tt;
 }
 passes_by told old new piece before after (Err why) deals = record {
-  same = same_work old new deals.delim deals.count deals.elide deals.names;
+  same = same_work old new deals.delim deals.count deals.elide deals.adds.names;
   holds = tt;
   outputs = tt;
   ready = tt;
-  owns = deals.owned;
-  cut = cuts_off told old piece before after why deals.caused deals.cut;
-  met = met_files (EndsWith ways.Holds ways.work (way.Round old) piece) deals.caused.0 (λ is. absurd (deals.caused.1 is));
+  owns = deals.adds.owned;
+  cut = cuts_off told old piece why deals.adds;
+  met = met_files (EndsWith ways.Holds ways.work (way.Round old) piece) deals.adds.caused.0 (λ is. absurd (deals.adds.caused.1 is));
 }
 
 -- The end
@@ -259,7 +248,7 @@ finishes_by told round next old new (Err why) closes = record {
 
 -- The start
 
-none_dealt : (delim n start count : ℕ) → map (share_of delim n []) (range_with_len start count) ≡ filled count []
+none_dealt : (delim n start count : ℕ) → map (share_of delim n []) (range_with_len start count) ≡ replicate count []
 none_dealt delim n start zero = refl
 none_dealt delim n start (suc count) = ap (λ rest. [] ∷ rest) (none_dealt delim n (start + 1) count)
 
@@ -268,9 +257,9 @@ pub starts_with : (delim : ℕ) (elide : Bool) (n : ℕ) → cond elide 0 n ≡ 
 starts_with delim true n = omega arith
 starts_with delim false n = refl
 
-at_start : (delim : ℕ) (names : Naming) (elide : Bool) (n : ℕ) {count : ℕ} → names.drawn ≡ 0 → are_named names n ≡ true → count ≡ opened_by delim elide n [] → open_part names (filled count []) ≡ settled_by (round_plan delim n elide names) []
+at_start : (delim : ℕ) (names : Naming) (elide : Bool) (n : ℕ) {count : ℕ} → names.drawn ≡ 0 → are_named names n ≡ true → count ≡ opened_by delim elide n [] → open_part names (replicate count []) ≡ settled_by (round_plan delim n elide names) []
 at_start delim names elide n fresh are is =
-    ap (λ k. open_part names (filled k [])) is ∙ ap (open_part names) (sym (none_dealt delim n 0 (opened_by delim elide n []))) ∙ sym (settled_is delim names elide n [] are)
+    ap (λ k. open_part names (replicate k [])) is ∙ ap (open_part names) (sym (none_dealt delim n 0 (opened_by delim elide n []))) ∙ sym (settled_is delim names elide n [] are)
     ∙ ap (λ drawn. settled_by (round_plan delim n elide (record names { drawn = drawn })) []) (sym fresh)
 
 -- no file is open yet, and the next will be the next output
@@ -287,20 +276,24 @@ none_stand told names {before} {slots} at = record {
   outputs = at;
 }
 
+module _ (told : Bool) (names : Naming) (count : ℕ) {files next : FilesState} {old new : List Slot} {result : Result (Unit {0}) Fault} (is : files ≡ no_files names)
+    (adds : Adds told files (replicate count []) 0 count old next new result) where
+  pub opens_own : OwnsFiles next (length old) new
+  opens_own = adds.owned (length old) (subst (λ (those : FilesState). OwnsFiles those (length old) old) (sym is) (none_owned names))
+
+  opens : (before : List Slot) → OutputsAt told before nothing old → Leaves told before names [] (replicate count []) 0 count new result
+  opens before at = (subst (λ (those : FilesState). Adds told those (replicate count []) 0 count old next new result) is adds).leaves before [] (none_stand told names at)
+
 pub opens_all : (delim : ℕ) (told elide : Bool) (names : Naming) (n : ℕ) {count : ℕ} {files next : FilesState} {old new : List Slot} → files ≡ no_files names → names.drawn ≡ 0 → are_named names n ≡ true → count ≡ opened_by delim elide n []
-    → Became told files (filled count) count old next new → (before : List Slot) → OutputsAt told before nothing old → OutputsAt told before (settled_by (round_plan delim n elide names) []) new
-opens_all delim told elide names n {count} {old} {new} is fresh are counted became before at =
-    subst (λ part. OutputsAt told before part new) (at_start delim names elide n fresh are counted)
-    ((subst (λ (those : FilesState). Makes told those (filled count) old new) is became.outputs) before [] (none_stand told names at))
+    → Adds told files (replicate count []) 0 count old next new (Ok tt) → (before : List Slot) → OutputsAt told before nothing old → OutputsAt told before (settled_by (round_plan delim n elide names) []) new
+opens_all delim told elide names n {count} {new} is fresh are counted adds before at =
+    subst (λ part. OutputsAt told before part new) (at_start delim names elide n fresh are counted) (opens told names count is adds before at)
 
-pub opens_short : (delim : ℕ) (told elide : Bool) (names : Naming) (n : ℕ) {count : ℕ} {files : FilesState} {old new : List Slot} {why : Fault} → files ≡ no_files names → names.drawn ≡ 0 → are_named names n ≡ true → count ≡ opened_by delim elide n []
-    → StopsShort told files (filled count) old new why → (before : List Slot) → OutputsAt told before nothing old → StoppedBetween told before nothing (settled_by (round_plan delim n elide names) []) why new
-opens_short delim told elide names n {count} {old} {new} {why} is fresh are counted stops before at =
+pub opens_short : (delim : ℕ) (told elide : Bool) (names : Naming) (n : ℕ) {count : ℕ} {files next : FilesState} {old new : List Slot} {why : Fault} → files ≡ no_files names → names.drawn ≡ 0 → are_named names n ≡ true → count ≡ opened_by delim elide n []
+    → Adds told files (replicate count []) 0 count old next new (Err why) → (before : List Slot) → OutputsAt told before nothing old → StoppedBetween told before nothing (settled_by (round_plan delim n elide names) []) why new
+opens_short delim told elide names n {count} {new} {why} is fresh are counted adds before at =
     subst (λ high. StoppedBetween told before nothing high why new) (at_start delim names elide n fresh are counted)
-    ((subst (λ (those : FilesState). StopsShort told those (filled count) old new why) is stops) before [] (none_stand told names at))
-
-pub opens_own : (told : Bool) (names : Naming) {count : ℕ} {files next : FilesState} {old new : List Slot} → files ≡ no_files names → Became told files (filled count) count old next new → OwnsFiles next (length old) new
-opens_own told names {old} is became = became.owned (length old) (subst (λ (those : FilesState). OwnsFiles those (length old) old) (sym is) (none_owned names))
+    (stops_in_order told names [] (replicate count []) why (opens told names count is adds before at))
 
 -- where all files have names, the work is what was asked for
 pub does_all : (delim : ℕ) (names others : Naming) (elide : Bool) (n : ℕ) → names.drawn ≡ 0 → are_named names n ≡ true → from_start others ≡ from_start names → round_work (round_plan delim n elide (from_start others)) ≡ split_work (round_plan delim n elide names)

@@ -10,14 +10,9 @@ use Rattle.ports_core.specs.Engine.{TakesIn, PutsOut, CutsOff, EndsShort, EndsWi
 use Rattle.ports_core.specs.Engine as engine
 use Rattle.split_core.specs.Round as dealing
 use Rattle.split_core.specs.RoundState.{RoundState}
-use Rattle.split_core.specs.Split.{from_start}
-use Rattle.split_core.specs.inner.Dealt.{dealt_first, reached_by}
-use Rattle.split_core.specs.inner.Sharing.{added, Became, StopsShort, HaveClosed, ClosesShort, IsOfFiles, KeepsFiles}
+use Rattle.split_core.specs.inner.Dealt.{dealt_first}
+use Rattle.split_core.specs.inner.Sharing.{Adds, HaveClosed, ClosesShort, KeepsFiles}
 use Rattle.split_core.specs.inner.Moves.{CannotClose}
-
--- what each file has once it got what it gets of a piece
-abbrev pub dealt_more : RoundState → List ℕ → List (List ℕ) → List (List ℕ)
-dealt_more round piece these = added these (dealt_first round.delim round.count round.next piece)
 
 -- the lines of a piece were dealt to the files, or a fault came before all of them had what they get
 pub record Deals (told : Bool) (old : RoundState) (piece : List ℕ) (before after : List Slot) (new : RoundState)
@@ -25,13 +20,9 @@ pub record Deals (told : Bool) (old : RoundState) (piece : List ℕ) (before aft
   pub delim : new.delim ≡ old.delim
   pub count : new.count ≡ old.count
   pub elide : new.elide ≡ old.elide
-  pub names : from_start new.files.names ≡ from_start old.files.names
   pub next : OnOk result (new.next ≡ (old.next + delimiters old.delim piece) % old.count)
-  pub became : OnOk result (Became told old.files (dealt_more old piece)
-      (reached_by old.delim old.count old.next piece) before new.files after)
-  pub cut : IfErr result (StopsShort told old.files (dealt_more old piece) before after)
-  pub caused : IfErr result (IsOfFiles before after)
-  pub owned : KeepsFiles old.files before new.files after
+  pub adds : Adds told old.files (dealt_first old.delim old.count old.next piece) 0
+      (length (dealt_first old.delim old.count old.next piece)) before new.files after result
 
 -- all files were closed, or one of them broke
 pub record Closes (told : Bool) (old : RoundState) (before after : List Slot) (new : RoundState)
