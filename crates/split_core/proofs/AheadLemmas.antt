@@ -44,7 +44,7 @@ first_step {delim} false {byte} {x} here rest some =
     let later = rest (omega arith) in
     let more : suc (before_first delim x) ≡ 1 + before_first delim x = omega arith in
     subst (λ at. IsFirstAt delim (byte ∷ x) at) more (record {
-      within = let inside : before_first delim x < length x = later.within in omega arith;
+      within = omega (arith, later.within);
       none = (eqb-false byte delim here, later.none);
       here = later.here;
     })
@@ -73,7 +73,7 @@ first_line {delim} {x} {at} first = record {
   whole = sym (take-append-drop (at + 1) x);
   first = ap (lines_of delim) (sym whole) ∙ lines_of-complete delim (take at x) (drop (at + 1) x) first.none ∙ ap (λ line. line ∷ lines_of delim (drop (at + 1) x)) (sym line);
   counted = ap (delimiters delim) (sym whole) ∙ count;
-  shorter = let inside : at < length x = first.within in let short = length-drop (at + 1) x in omega arith;
+  shorter = omega (arith, first.within, length-drop (at + 1) x);
 } where
   line : take (at + 1) x ≡ take at x ++ delim ∷ []
   line = take_more x at 0 first.within ∙ ap (λ byte. take at x ++ byte ∷ []) first.here
@@ -94,7 +94,7 @@ all_passed {delim} {x} {ahead} sees none =
 pub sees_further : {delim : ℕ} {x : List ℕ} {ahead : Ahead} (passed : ℕ) {width mask : ℕ} → Sees delim x ahead → ahead.mask ≡ 0 → passed ≡ ahead.passed + ahead.width → width ≡ min 64 (length x - passed) → mask ≡ delimiter_mask delim (take 64 (drop passed x))
     → Sees delim x (record { passed = passed; width = width; mask = mask })
 sees_further {delim} {x} {ahead} passed sees none is wide marked = record {
-  within = let inside : ahead.passed + ahead.width ≤ length x = sees.within in omega arith;
+  within = omega (arith, sees.within);
   narrow = omega arith;
   none = subst (λ n. HasNone delim (take n x)) (sym is) (all_passed sees none);
   marked = marked ∙ ap (delimiter_mask delim) (sym (take_min 64 (drop passed x)) ∙ ap (λ n. take n (drop passed x)) (sym (wide ∙ ap (min 64) (sym (length-drop passed x)))));
@@ -107,31 +107,30 @@ none_seen {delim} {x} {ahead} sees none all = delimiters-none delim x (subst (Ha
 -- the first delimiter
 
 length-window : (k : ℕ) {n : ℕ} (x : List ℕ) → k + n ≤ length x → length (take n (drop k x)) ≡ n
-length-window k {n} x inside = length-take-le n (drop k x) (let rest = length-drop k x in omega arith)
+length-window k {n} x inside = length-take-le n (drop k x) (omega (arith, length-drop k x))
 
 -- the first delimiter of the window is the first of the text
 first_of_text : {delim : ℕ} {x : List ℕ} (k n : ℕ) {at : ℕ} → k + n ≤ length x → HasNone delim (take k x) → IsFirstAt delim (take n (drop k x)) at → IsFirstAt delim x (k + at)
 first_of_text {delim} {x} k n {at} inside none first = record {
-  within = let before : at < length (take n (drop k x)) = first.within in let wide = length-window k x inside in omega arith;
-  none = subst (HasNone delim) (ap (λ rest. take k x ++ rest) (take-take at n (drop k x) (let before : at < length (take n (drop k x)) = first.within in let wide = length-window k x inside in omega arith)) ∙ sym (take-add k at x))
+  within = omega (arith, first.within, length-window k x inside);
+  none = subst (HasNone delim) (ap (λ rest. take k x ++ rest) (take-take at n (drop k x) (omega (arith, first.within, length-window k x inside))) ∙ sym (take-add k at x))
       (none_append delim (take k x) (take at (take n (drop k x))) none first.none);
-  here = sym (get_or-take n (drop k x) at 0 (let before : at < length (take n (drop k x)) = first.within in let wide = length-window k x inside in omega arith)
-      ∙ get_or-drop k x at 0) ∙ first.here;
+  here = sym (get_or-take n (drop k x) at 0 (omega (arith, first.within, length-window k x inside)) ∙ get_or-drop k x at 0) ∙ first.here;
 }
 
 -- where the lowest bit is that of the first delimiter, the line ends there, and the rest of the mask is that of what follows
 pub first_seen : {delim : ℕ} {x : List ℕ} {ahead : Ahead} {at : ℕ} → Sees delim x ahead → at ≡ before_first delim (take ahead.width (drop ahead.passed x)) → 0 < ahead.mask → IsFirstAt delim x (ahead.passed + at) × (at < ahead.width)
 first_seen {delim} {x} {ahead} {at} sees is some = (
   first_of_text ahead.passed ahead.width sees.within sees.none first,
-  (let before : at < length (take ahead.width (drop ahead.passed x)) = first.within in let wide = length-window ahead.passed x sees.within in omega arith),
+  (omega (arith, first.within, length-window ahead.passed x sees.within)),
 ) where
   first : IsFirstAt delim (take ahead.width (drop ahead.passed x)) at
   first = subst (λ n. IsFirstAt delim (take ahead.width (drop ahead.passed x)) n) (sym is) (first_marked (take ahead.width (drop ahead.passed x)) (subst (λ n. 0 < n) sees.marked some))
 
 pub sees_rest : {delim : ℕ} {x : List ℕ} {ahead : Ahead} (at : ℕ) {mask : ℕ} → Sees delim x ahead → at < ahead.width → mask ≡ ahead.mask / 2 ^ at / 2 → Sees delim (drop (ahead.passed + at + 1) x) (record { passed = 0; width = ahead.width - (at + 1); mask = mask })
 sees_rest {delim} {x} {ahead} at sees inside is = record {
-  within = let all : ahead.passed + ahead.width ≤ length x = sees.within in let rest = length-drop (ahead.passed + at + 1) x in omega arith;
-  narrow = let narrow : ahead.width ≤ 64 = sees.narrow in omega arith;
+  within = omega (arith, sees.within, length-drop (ahead.passed + at + 1) x);
+  narrow = omega (arith, sees.narrow);
   none = tt;
   marked = is ∙ ap (λ m. m / 2 ^ at / 2) sees.marked ∙ mask_after delim at (take ahead.width (drop ahead.passed x)) ∙ ap (delimiter_mask delim) window;
 } where
@@ -142,8 +141,7 @@ sees_rest {delim} {x} {ahead} at sees inside is = record {
   place = omega arith
 
   window : drop (suc at) (take ahead.width (drop ahead.passed x)) ≡ take (ahead.width - (at + 1)) (drop (ahead.passed + at + 1) x)
-  window =
-      ap (λ n. drop (suc at) (take n (drop ahead.passed x))) (sym further) ∙ drop-take (suc at) (ahead.width - (at + 1)) (drop ahead.passed x)
+  window = ap (λ n. drop (suc at) (take n (drop ahead.passed x))) (sym further) ∙ drop-take (suc at) (ahead.width - (at + 1)) (drop ahead.passed x)
       ∙ ap (take (ahead.width - (at + 1))) (drop-drop (suc at) ahead.passed x ∙ ap (λ n. drop n x) place)
 
 -- other bytes after a text leave the mask as it is
@@ -156,7 +154,7 @@ mask_padded delim other (byte ∷ x) n differs = ap (λ rest. cond (eqb byte del
 lowest_bit : {delim : ℕ} {x : List ℕ} {ahead : Ahead} → Sees delim x ahead → 0 < ahead.mask → count_trailing_zeros 64 ahead.mask ≡ before_first delim (take ahead.width (drop ahead.passed x))
 lowest_bit {delim} {x} {ahead} sees some =
     ap (count_trailing_zeros 64) sees.marked ∙ trailing_mask_l (λ byte. eqb byte delim) 64 (take ahead.width (drop ahead.passed x))
-    (let narrow : ahead.width ≤ 64 = sees.narrow in let wide = length-window ahead.passed x sees.within in omega arith) (subst (λ n. 0 < n) sees.marked some)
+    (omega (arith, sees.narrow, length-window ahead.passed x sees.within)) (subst (λ n. 0 < n) sees.marked some)
 
 pub seen_at : {delim : ℕ} {x : List ℕ} {ahead : Ahead} → Sees delim x ahead → ahead.mask ≢ 0 → IsFirstAt delim x (ahead.passed + count_trailing_zeros 64 ahead.mask) × (count_trailing_zeros 64 ahead.mask < ahead.width)
 seen_at sees some = first_seen sees (lowest_bit sees (omega (arith, some))) (omega (arith, some))

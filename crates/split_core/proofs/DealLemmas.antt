@@ -69,22 +69,22 @@ complete_line : {delim n start : ℕ} {piece : List ℕ} {gathered now : List (L
     → Dealing delim n start piece now ((next + 1) % n) reached_now rest
 complete_line {delim} {n} {start} {piece} {gathered} {next} {reached} {reached_now} {left} line {rest} so_far cut more is reached_is = record {
   count = ap length is ∙ length-changed_at next _ gathered ∙ so_far.count;
-  within = let inside : next < n = so_far.within in omega arith;
+  within = omega (arith, so_far.within);
   shares = λ file inside. ap (λ those. get_or those file [] ++ dealt n file ((next + 1) % n) (lines_of delim rest)) is
       ∙ shares_next next ((next + 1) % n) gathered line (lines_of delim rest) file so_far.count so_far.within inside (dealt_same n file ((next + 1) % n) (next + 1) (lines_of delim rest) (mod-mod (next + 1) n))
       ∙ ap (λ lines. get_or gathered file [] ++ dealt n file next lines) (sym cut) ∙ so_far.shares file inside;
   ends = mod-add-mod (next + 1) n (delimiters delim rest) ∙ ap (λ place. place % n) sum ∙ so_far.ends;
   reaches = reaches;
-  few = let inside : next < n = so_far.within in let few : reached ≤ n = so_far.few in omega arith;
-  over = let small = mod-le (next + 1) n in omega arith;
+  few = omega (arith, so_far.within, so_far.few);
+  over = omega (arith, mod-le (next + 1) n);
 } where
   sum : next + 1 + delimiters delim rest ≡ next + delimiters delim left
   sum = omega arith
 
   reaches : max reached_now (min n ((next + 1) % n + line_count delim rest)) ≡ min n (start + line_count delim piece)
   reaches = elim (cases_eq (next + 1) n) [
-    | inl last ↦ (let none : (next + 1) % n ≡ 0 = ap (λ place. place % n) last ∙ mod_self n in let all = so_far.reaches in let one = counted delim left line rest cut in let few : reached ≤ n = so_far.few in omega arith)
-    | inr other ↦ (let inside : next < n = so_far.within in let same : (next + 1) % n ≡ next + 1 = mod-eq_of_lt (omega (arith, other)) in let all = so_far.reaches in let one = counted delim left line rest cut in let few : reached ≤ n = so_far.few in omega arith)
+    | inl last ↦ (omega (arith, ap (λ place. place % n) last ∙ mod_self n, so_far.reaches, counted delim left line rest cut, so_far.few))
+    | inr other ↦ (let inside : next < n = so_far.within in let same : (next + 1) % n ≡ next + 1 = mod-eq_of_lt (omega (arith, other)) in omega (arith, so_far.reaches, counted delim left line rest cut, so_far.few))
   ]
 
 -- the same, where the place is known by its number
@@ -115,8 +115,8 @@ open_line {delim} {n} {gathered} {next} {reached} line so_far none some is reach
   shares = λ file inside. ap (λ those. get_or those file [] ++ []) is ∙ shares_next next next gathered line [] file so_far.count so_far.within inside refl
       ∙ ap (λ lines. get_or gathered file [] ++ dealt n file next lines) (sym one_line) ∙ so_far.shares file inside;
   ends = ap (λ count. (next + count) % n) (sym none) ∙ so_far.ends;
-  reaches = let all = so_far.reaches in let one : line_count delim line ≡ 1 = ap length one_line in let few : reached ≤ n = so_far.few in let inside : next < n = so_far.within in omega arith;
-  few = let inside : next < n = so_far.within in let few : reached ≤ n = so_far.few in omega arith;
+  reaches = omega (arith, so_far.reaches, ap length one_line, so_far.few, so_far.within);
+  few = omega (arith, so_far.within, so_far.few);
   over = omega arith;
 } where
   one_line : lines_of delim line ≡ line ∷ []
@@ -139,14 +139,12 @@ ended : {delim n start : ℕ} {piece : List ℕ} {gathered : List (List ℕ)} {n
     → Gathers delim n start piece gathered next reached
 ended {delim} {n} {start} {piece} {gathered} {next} {reached} so_far = record {
   gathered_is = ext_get_or [] gathered (dealt_piece delim n start piece) (so_far.count ∙ sym (length-map-range_with_len (λ file. dealt n file start (lines_of delim piece)) 0 n))
-      (λ file inside. each file (let count : length gathered ≡ n = so_far.count in omega arith));
+      (λ file inside. each file (omega (arith, so_far.count)));
   next_is = let here : next + 0 ≡ next = omega arith in sym (ap (λ place. place % n) here ∙ mod-eq_of_lt so_far.within) ∙ so_far.ends;
-  reached_is = let over : next ≤ reached = so_far.over in let all = so_far.reaches in let few : reached ≤ n = so_far.few in
-      let inside : next < n = so_far.within in omega arith;
+  reached_is = omega (arith, so_far.over, so_far.reaches, so_far.few, so_far.within);
 } where
   each : (file : ℕ) → file < n → get_or gathered file [] ≡ get_or (dealt_piece delim n start piece) file []
-  each file inside =
-      sym (append-nil (get_or gathered file [])) ∙ so_far.shares file inside
+  each file inside = sym (append-nil (get_or gathered file [])) ∙ so_far.shares file inside
       ∙ sym (get_or-map-range_with_len (λ at. dealt n at start (lines_of delim piece)) 0 n file file [] inside (omega arith))
 
 pub ends_here : {delim n start : ℕ} {piece : List ℕ} {gathered : List (List ℕ)} {next reached : ℕ} {left : List ℕ} (line : List ℕ) → Dealing delim n start piece gathered next reached left → line ≡ left → eqb (length line) 0 ≡ true
@@ -177,4 +175,4 @@ chunk_taken room text at n chunk is within few enough =
     let long : length (take at room) ≡ at = length-take-le at room within in
     ap (take (at + n)) is ∙ ap (λ k. take (k + n) (take at room ++ (take chunk text ++ drop (at + chunk) room))) (sym long)
     ∙ take-append-add (take at room) (take chunk text ++ drop (at + chunk) room) n
-    ∙ ap (λ rest. take at room ++ rest) (take-append-le n (take chunk text) (drop (at + chunk) room) (let all = length-take-le chunk text enough in omega arith) ∙ take-take n chunk text few)
+    ∙ ap (λ rest. take at room ++ rest) (take-append-le n (take chunk text) (drop (at + chunk) room) (omega (arith, length-take-le chunk text enough)) ∙ take-take n chunk text few)

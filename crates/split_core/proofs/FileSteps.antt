@@ -45,10 +45,10 @@ output_within {files} {slots} place ready within = writable_within (output_at fi
 
 ready_opened : {files next : FilesState} {old new : List Slot} (name : List ℕ) → AreReady files old → next ≡ with_opened (length old) files → new ≡ old ++ opened name Fresh ∷ [] → AreReady next new
 ready_opened {files} {old} name ready made is = rw (made, is) (record {
-  streams = let more = length-append old (opened name Fresh ∷ []) in let some : 2 ≤ length old = ready.streams in omega arith;
+  streams = omega (arith, length-append old (opened name Fresh ∷ []), ready.streams);
   drawn = ap (λ n. n + 1) ready.drawn ∙ sym (length-append files.outputs (length old ∷ []));
-  apart = λ place other less within. apart place other less (cases_lt other (length files.outputs)) (let more = length-append files.outputs (length old ∷ []) in omega (arith, within));
-  closable = λ place within. closable place (cases_lt place (length files.outputs)) (let more = length-append files.outputs (length old ∷ []) in omega (arith, within));
+  apart = λ place other less within. apart place other less (cases_lt other (length files.outputs)) (omega (arith, length-append files.outputs (length old ∷ []), within));
+  closable = λ place within. closable place (cases_lt place (length files.outputs)) (omega (arith, length-append files.outputs (length old ∷ []), within));
 }) where
   outputs : List ℕ
   outputs = files.outputs ++ length old ∷ []
@@ -66,8 +66,8 @@ ready_opened {files} {old} name ready made is = rw (made, is) (record {
 
 owned_opened : {files next : FilesState} {old new : List Slot} (name : List ℕ) → files.names.drawn ≡ length files.outputs → next ≡ with_opened (length old) files → new ≡ old ++ opened name Fresh ∷ [] → KeepsFiles files old next new
 owned_opened {files} {old} name drawn made is first owns = rw (made, is) (record {
-  stand = λ place within. stand place (cases_lt place (length files.outputs)) (let more = length-append files.outputs (length old ∷ []) in omega (arith, within));
-  last = λ same. (let more = length-append files.outputs (length old ∷ []) in let slots = length-append old (opened name Fresh ∷ []) in let all = owns.last drawn in omega arith);
+  stand = λ place within. stand place (cases_lt place (length files.outputs)) (omega (arith, length-append files.outputs (length old ∷ []), within));
+  last = λ same. (omega (arith, length-append files.outputs (length old ∷ []), length-append old (opened name Fresh ∷ []), owns.last drawn));
 }) where
   stand : (place : ℕ) → (place < length files.outputs) ⊎ (length files.outputs ≤ place) → place < length files.outputs + 1 → get_or (files.outputs ++ length old ∷ []) place 0 ≡ first + place
   stand place (inl before) within = output_before files.outputs (length old) place before ∙ owns.stand place before
@@ -84,18 +84,16 @@ owned_unopened {next} {old} drawn (unnamed same made) first owns = subst (λ slo
 opens : (told : Bool) (files : FilesState) (before : List Slot) (these : List (List ℕ)) (old new : List Slot) (place : ℕ) → files.names.drawn ≡ place → length these ≡ place
     → new ≡ old ++ opened (next_name files.names) Fresh ∷ [] → OutputsAt told before (open_part files.names these) old
     → OutputsAt told before (open_part files.names (added these (only_at place []))) new
-opens told files before these old new place drawn count is at =
-    subst (λ those. OutputsAt told before (only_files those) new) (sym files_are)
+opens told files before these old new place drawn count is at = subst (λ those. OutputsAt told before (only_files those) new) (sym files_are)
     (file_more told before (open_part files.names these) old new (name_of names place) Fresh at (is ∙ ap (λ place. old ++ opened (name_of names place) Fresh ∷ []) drawn)) where
       names : Naming
       names = from_start files.names
 
       place_is : 0 + length (map (share Open) these) ≡ place
-      place_is = let long : length (map (share Open) these) ≡ length these = length-map these (share Open) in omega arith
+      place_is = omega (arith, length-map these (share Open))
 
       files_are : filed names 0 (map (share Open) (added these (only_at place []))) ≡ filed names 0 (map (share Open) these) ++ file_at names place (share Open []) ∷ []
-      files_are =
-          ap (λ those. filed names 0 (map (share Open) those)) (new_at place these count)
+      files_are = ap (λ those. filed names 0 (map (share Open) those)) (new_at place these count)
           ∙ ap (λ shares. filed names 0 shares) (map-append (share Open) these ([] ∷ []))
           ∙ filed_more names 0 (map (share Open) these) (share Open [])
           ∙ ap (λ place. filed names 0 (map (share Open) these) ++ file_at names place (share Open []) ∷ []) place_is
@@ -229,7 +227,7 @@ written told {files} {old} {new} place bytes (Err _) ready within is (short.brok
     done = only_before place place (take n bytes) bytes (omega arith);
     reached = with_written slot (told_of told (take n bytes)) old;
     outputs = writes told place (take n bytes) within refl at;
-    marks = ((let same = length-changed_at slot (adds (told_of told (take n bytes))) old in let inside = output_within place ready within in omega arith), cut.slots);
+    marks = ((omega (arith, length-changed_at slot (adds (told_of told (take n bytes))) old, output_within place ready within)), cut.slots);
     from = inr (at.owns.stand place within);
   };
 } where
@@ -297,7 +295,7 @@ stops_closing told {files} {place} {old} {now} ready within so_far is before the
   };
   reached = changed_at (output_at files place) closes now;
   outputs = closes_next told so_far within refl at;
-  marks = ((let same : length (changed_at (output_at files place) closes now) ≡ length now = length-changed_at (output_at files place) closes now in let all : length now ≡ length old = so_far.size in let inside = output_within place ready within in omega arith), is);
+  marks = ((omega (arith, length-changed_at (output_at files place) closes now, so_far.size, output_within place ready within)), is);
   from = inr (at.owns.stand place within);
 }
 
@@ -306,7 +304,7 @@ pub rose_closing : (told : Bool) {files : FilesState} {place : ℕ} {old now new
 rose_closing told {files} {place} {old} {now} ready within so_far is = (
   so_far.sound (output_at files place) (sound_at (output_at files place) now (so_far.left place (omega arith) within).1),
   ap (λ slots. (slot_at slots (output_at files place)).is_broken) is
-      ∙ broken_there (output_at files place) _ (let inside = output_within place ready within in let same : length now ≡ length old = so_far.size in let kept = length-changed_at (output_at files place) closes now in omega arith),
+      ∙ broken_there (output_at files place) _ (omega (arith, output_within place ready within, so_far.size, length-changed_at (output_at files place) closes now)),
 )
 
 -- there was no room for any of it

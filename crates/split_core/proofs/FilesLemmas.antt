@@ -83,7 +83,7 @@ added_less (bytes ∷ these) (one ∷ some) (next ∷ more) begin =
 pub length-added : (these more : List (List ℕ)) → length (added these more) ≡ max (length these) (length more)
 length-added [] more = omega arith
 length-added (bytes ∷ these) [] = omega arith
-length-added (bytes ∷ these) (next ∷ more) = let rest = length-added these more in omega arith
+length-added (bytes ∷ these) (next ∷ more) = omega (arith, length-added these more)
 
 pub added_again : (these first second : List (List ℕ)) → added (added these first) second ≡ added these (added first second)
 added_again [] first second = refl
@@ -201,7 +201,7 @@ renamed told {before} {now} names others these same at = subst (λ those. Output
 pub length_begin : (these those : List (List ℕ)) → AllBegin these those → length these ≤ length those
 length_begin [] those begin = omega arith
 length_begin (bytes ∷ these) [] begin = absurd begin
-length_begin (bytes ∷ these) (whole ∷ those) begin = let rest = length_begin these those begin.1 in omega arith
+length_begin (bytes ∷ these) (whole ∷ those) begin = omega (arith, length_begin these those begin.1)
 
 pub take_filed : (n : ℕ) (names : Naming) (place : ℕ) (shares : List Share) → take n (filed names place shares) ≡ filed names place (take n shares)
 take_filed (suc n) names place (one ∷ shares) = ap (λ rest. file_at names place one ∷ rest) (take_filed n names (place + 1) shares)
@@ -233,7 +233,7 @@ next_filed names from (suc n) (first ∷ shares) within =
 
 next_due : (names : Naming) (part those : List (List ℕ)) (name : List ℕ) → IsDue names part those name → IsNext (open_part names part) (open_part names those) name
 next_due names part those name due =
-    let found = next_filed (from_start names) 0 (length part) (map (share Open) those) (let count = length-map those (share Open) in let less : length part < length those = due.1 in omega arith) in
+    let found = next_filed (from_start names) 0 (length part) (map (share Open) those) (omega (arith, length-map those (share Open), due.1)) in
     record {
       front = found.0;
       file = file_at (from_start names) (0 + length part) found.1;
@@ -273,7 +273,7 @@ adds_then {told} {files} {between} {next} {first} {second} {low} {high} {old} {m
   names = after.names ∙ before.names;
   owned = λ from owns. after.owned from (before.owned from owns);
   ready = after.ready;
-  opened = on_ok_weaker result (λ opened. opened ∙ (let here : length between.outputs ≡ max (length files.outputs) (length first) = before.opened in omega (arith, length-added first second))) after.opened;
+  opened = on_ok_weaker result (λ opened. opened ∙ (omega (arith, before.opened, length-added first second))) after.opened;
   sound = on_ok_weaker result (keeps_again old mid new before.sound) after.sound;
   caused = IfErr-weaker result _ _ (λ why caused. (breaks_later before.sound caused.0, caused.1)) after.caused;
   leaves = λ start these at. further result start these (after.leaves start (added these first) (stand_then before at));

@@ -37,8 +37,7 @@ named_before names place more is less = by (is_named names place) refl where
 -- the files of shares that all have names, and then the files of those after them
 pub named_on : (names : Naming) (place : ℕ) (front rest : List Share) → is_named names (place + length front) ≡ true → named names place (front ++ rest) ≡ named names place front ++ named names (place + length front) rest
 named_on names place [] rest is = ap (λ n. named names n rest) (sym (add-zero place))
-named_on names place (one ∷ front) rest is =
-    ap (λ has. cond has (file_at names place one ∷ named names (place + 1) (front ++ rest)) []) here
+named_on names place (one ∷ front) rest is = ap (λ has. cond has (file_at names place one ∷ named names (place + 1) (front ++ rest)) []) here
     ∙ ap (λ files. file_at names place one ∷ files) (named_on names (place + 1) front rest (subst (λ n. is_named names n ≡ true) (one_on place (length front)) is))
     ∙ ap (λ n. file_at names place one ∷ (named names (place + 1) front ++ named names n rest)) (sym (one_on place (length front)))
     ∙ ap (λ has. cond has (file_at names place one ∷ named names (place + 1) front) [] ++ named names (place + suc (length front)) rest) (sym here) where
@@ -47,8 +46,7 @@ named_on names place (one ∷ front) rest is =
 
 pub named_at : (names : Naming) (front rest : List Share) (one : Share) → is_named names (length front) ≡ true
     → named names 0 (front ++ one ∷ rest) ≡ named names 0 front ++ file_at names (length front) one ∷ named names (length front + 1) rest
-named_at names front rest one is =
-    named_on names 0 front (one ∷ rest) (subst (λ n. is_named names n ≡ true) (sym (zero-add (length front))) is)
+named_at names front rest one is = named_on names 0 front (one ∷ rest) (subst (λ n. is_named names n ≡ true) (sym (zero-add (length front))) is)
     ∙ ap (λ n. named names 0 front ++ named names n (one ∷ rest)) (zero-add (length front))
     ∙ ap (λ has. named names 0 front ++ cond has (file_at names (length front) one ∷ named names (length front + 1) rest) []) is
 
@@ -84,8 +82,7 @@ shut_files names place (one ∷ shares) shut = shut_by (is_named names place) (f
 
 named_count : (names : Naming) (place : ℕ) (shares : List Share) → is_named names (place + length shares) ≡ true → length (named names place shares) ≡ length shares
 named_count names place [] is = refl
-named_count names place (one ∷ shares) is =
-    ap (λ has. length (cond has (file_at names place one ∷ named names (place + 1) shares) [])) here
+named_count names place (one ∷ shares) is = ap (λ has. length (cond has (file_at names place one ∷ named names (place + 1) shares) [])) here
     ∙ ap suc (named_count names (place + 1) shares (subst (λ n. is_named names n ≡ true) (one_on place (length shares)) is)) where
       here : is_named names place ≡ true
       here = named_before names place (place + suc (length shares)) is (omega arith)
@@ -99,9 +96,7 @@ last_turn names shares one is shut = subst (λ files. InTurn files (length share
 -- the last slot is that of the last file
 pub last_from : (told : Bool) (names : Naming) (shares : List Share) (one : Share) {before old : List Slot} {slot : ℕ} → is_named names (length shares) ≡ true → suc slot ≡ length old → OutputsAt told before (part_of names (shares ++ one ∷ [])) old → slot ≡ length before + length shares
 last_from told names shares one {before} {old} is last at =
-    let count : length old ≡ length before + length (named names 0 (shares ++ one ∷ [])) = outputs_count told before (part_of names (shares ++ one ∷ [])) old at in
-    let files : length (named names 0 (shares ++ one ∷ [])) ≡ length (named names 0 shares) + 1 = ap length (named_at names shares [] one is) ∙ length-append (named names 0 shares) (file_at names (length shares) one ∷ []) in
-    let all : length (named names 0 shares) ≡ length shares = all_named names shares is in omega arith
+    omega (arith, outputs_count told before (part_of names (shares ++ one ∷ [])) old at, ap length (named_at names shares [] one is) ∙ length-append (named names 0 shares) (file_at names (length shares) one ∷ []), all_named names shares is)
 
 -- which faults come
 
@@ -151,12 +146,12 @@ stays_last current next old new keeps last = owns_last next 0 new (keeps 0 (owne
 
 -- there are as many outputs as before
 pub owned_same : (current : Option ℕ) (old new : List Slot) → length new ≡ length old → KeepsFile current old current new
-owned_same None old new same first owns = let above : first ≤ length old = owns in omega (arith, same)
+owned_same None old new same first owns = omega (arith, owns, same)
 owned_same (Some slot) old new same first owns = (owns.0, owns.1 ∙ sym same)
 
 -- the file ended
 pub owned_ended : (slot : ℕ) (old new : List Slot) → length new ≡ length old → KeepsFile (Some slot) old None new
-owned_ended slot old new same first owns = let above : first ≤ slot = owns.0 in let last : suc slot ≡ length old = owns.1 in omega (arith, same)
+owned_ended slot old new same first owns = omega (arith, owns.0, owns.1, same)
 
 -- the file was opened
 pub owned_opened : {slot : ℕ} (one : Slot) (old : List Slot) {new : List Slot} → slot ≡ length old → new ≡ old ++ one ∷ [] → KeepsFile None old (Some slot) new
@@ -167,9 +162,7 @@ owned_opened one old {new} at is first owns =
 -- the file could not be opened
 pub owned_unopened : (names : Naming) (old new : List Slot) (fault : Fault) → OpensNone names old new fault → KeepsFile None old None new
 owned_unopened names old new Memory none first owns = owned_same None old new (ap length none.1) first owns
-owned_unopened names old new (Open slot) none first owns =
-    let above : first ≤ length old = owns in
-    let size : length new ≡ length old + 1 = ap length none.2.2 ∙ length-append old (unopened none.2.0 ∷ []) in omega arith
+owned_unopened names old new (Open slot) none first owns = omega (arith, owns, ap length none.2.2 ∙ length-append old (unopened none.2.0 ∷ []))
 owned_unopened names old new Suffixes none first owns = owned_same None old new (ap length none.1) first owns
 owned_unopened names old new fault none first owns = absurd none
 

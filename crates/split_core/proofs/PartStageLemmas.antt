@@ -24,8 +24,7 @@ use Rattle.split_core.proofs.MoveLemmas.{are_named_same, met_closing, met_files,
 
 have_names : (state : PartsState) (x : List ℕ) {have : Bool} → are_named (from_start state.names) (length (settled_parts state.limit x)) ≡ have
     → are_named (from_start state.names) (length (map (share Closed) (parts state.limit x))) ≡ have
-have_names state x is =
-    ap (are_named (from_start state.names)) (length-map (parts state.limit x) (share Closed) ∙ sym (settled_count state.limit x)) ∙ is
+have_names state x is = ap (are_named (from_start state.names)) (length-map (parts state.limit x) (share Closed) ∙ sym (settled_count state.limit x)) ∙ is
 
 all_have : {state : PartsState} {x : List ℕ} → Stands state x → are_named (from_start state.names) (length (map (share Closed) (parts state.limit x))) ≡ true
 all_have {state} {x} stands = have_names state x (are_named_same state.names (from_start state.names) _ refl ∙ stands.enough)

@@ -91,7 +91,7 @@ shuts_some told parts next {slot} {old} {new} result ready is next_is ok err = r
     names = refl;
     owned = subst (λ current. KeepsFile current old None new) (sym is) (owned_ended slot old new (size result ok err));
     sound = on_ok_weaker result (slot_steps.keeps_close slot old new) ok;
-    ready = on_ok result (let inside = slot_steps.writable_within slot old can.1 in let same = size result ok err in omega (arith, can.0));
+    ready = on_ok result (omega (arith, slot_steps.writable_within slot old can.1, size result ok err, can.0));
     breaks = IfErr-weaker result _ _ (λ f why. subst (Breaks old new) (sym why.0) (breaks_write slot can.0 (rose why.1))) err;
   };
   caused = IfErr-weaker result _ _ (λ f why. (slot, why.0, can.0, rose why.1)) err;

@@ -61,7 +61,7 @@ lines_of-dealt delim n file place lines each = ap (lines_of delim) (dealt_are n 
 
 within_one : (n : ℕ) {rest left : ℕ} → rest < n → left < n → (rest + left) % n ≡ rest → left ≡ 0
 within_one n {rest} {left} low few same = elim (cases_lt (rest + left) n) [
-  | inl before ↦ let here : (rest + left) % n ≡ rest + left = mod-eq_of_lt before in omega (arith, same, here)
+  | inl before ↦ omega (arith, mod-eq_of_lt before, same)
   | inr past ↦
       let back : (rest + left) % n ≡ (rest + left - n) % n = (let split : rest + left ≡ rest + left - n + n = omega (arith, past) in ap (λ place. place % n) split ∙ add-mod_right (rest + left - n) n) in
       let here : (rest + left - n) % n ≡ rest + left - n = mod-eq_of_lt (omega arith) in omega (arith, same, back, here, past)
@@ -136,8 +136,7 @@ none_of_none start (suc count) = none_of_none (start + 1) count
 
 all_from : (n place : ℕ) (lines : List (List ℕ)) → 0 < n → length (joined (map (λ file. dealt n file place lines) (range_with_len 0 n))) ≡ length (joined lines)
 all_from n place [] some = none_of_none 0 n
-all_from n place (line ∷ lines) some =
-    one_gets (λ file. dealt n file (place + 1) lines) line (place % n) 0 n (omega arith) (let below : place % n < n = mod-lt place some in omega arith)
+all_from n place (line ∷ lines) some = one_gets (λ file. dealt n file (place + 1) lines) line (place % n) 0 n (omega arith) (omega (arith, mod-lt place some))
     ∙ ap (λ rest. length line + rest) (all_from n (place + 1) lines some) ∙ sym (length-append line (joined lines))
 
 -- all bytes are dealt
@@ -153,5 +152,5 @@ first_files delim n x = dealt_files_are delim true n x ∙ elim (cases_lt (line_
   | inr many ↦
       let here : min n (line_count delim x) ≡ n = omega (arith, many) in
       ap (λ count. map (share_of delim n x) (range_with_len 0 count)) here
-      ∙ sym (take_all (line_count delim x) (round_robin delim n x) (let count : length (round_robin delim n x) ≡ n = length-map-range_with_len (share_of delim n x) 0 n in omega (arith, many)))
+      ∙ sym (take_all (line_count delim x) (round_robin delim n x) (omega (arith, length-map-range_with_len (share_of delim n x) 0 n, many)))
 ]

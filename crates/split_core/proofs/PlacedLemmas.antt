@@ -65,14 +65,14 @@ pub record Filled (place : ℕ) (outputs : List (List ℕ)) (at : Spot) : Type 0
 filled_first : {place : ℕ} (offset : ℕ) {bytes : List ℕ} {outputs : List (List ℕ)} → offset < length bytes → Filled place (bytes ∷ outputs) (spot (place + 0) offset)
 filled_first {place} offset {bytes} {outputs} less = record {
   i = offset;
-  within = (let long = length-append bytes (joined outputs) in omega (arith, less, long));
+  within = (omega (arith, length-append bytes (joined outputs), less));
   goes = subst (GoesTo (spot (place + 0) offset)) (sym (spot_in place offset bytes outputs less)) (inl (ap (λ k. spot k offset) (let e : place + 0 ≡ place = omega arith in e)));
 }
 
 filled_later : {place : ℕ} (k offset : ℕ) {bytes : List ℕ} {outputs : List (List ℕ)} → Filled (place + 1) outputs (spot (place + 1 + k) offset) → Filled place (bytes ∷ outputs) (spot (place + suc k) offset)
 filled_later {place} k offset {bytes} {outputs} filled = record {
   i = length bytes + filled.i;
-  within = (let less = filled.within in let long = length-append bytes (joined outputs) in omega (arith, less, long));
+  within = (omega (arith, filled.within, length-append bytes (joined outputs)));
   goes = subst (λ those. GoesTo (spot those offset) (spots_from place (bytes ∷ outputs) (length bytes + filled.i))) (let e : place + 1 + k ≡ place + suc k = omega arith in e)
       (subst (GoesTo (spot (place + 1 + k) offset))
       (ap (spots_from (place + 1) outputs) (let e : filled.i ≡ length bytes + filled.i - length bytes = omega arith in e) ∙ sym (spot_past place (length bytes + filled.i) bytes outputs (omega arith))) filled.goes);
@@ -92,9 +92,7 @@ later_spot place i bytes outputs at past goes = subst (GoesTo at) (spot_past pla
 -- a byte of the first output goes to none of the others
 not_both : (place i j : ℕ) (bytes : List ℕ) (outputs : List (List ℕ)) (at : Spot) → i < length bytes → length bytes ≤ j → GoesTo at (spots_from place (bytes ∷ outputs) i) → GoesTo at (spots_from place (bytes ∷ outputs) j) → ⊥
 not_both place i j bytes outputs at less past goes also =
-    let here : at.place ≡ place = ap (λ those. those.place) (first_spot place i bytes outputs less goes) in
-    let there = (spots_stand (place + 1) outputs [] (j - length bytes) (later_spot place j bytes outputs at past also)).from in
-    omega (arith, here, there)
+    omega (arith, ap (λ those. those.place) (first_spot place i bytes outputs less goes), (spots_stand (place + 1) outputs [] (j - length bytes) (later_spot place j bytes outputs at past also)).from)
 
 pub spots_apart : (place : ℕ) (outputs : List (List ℕ)) {i j : ℕ} (at : Spot) → GoesTo at (spots_from place outputs i) → GoesTo at (spots_from place outputs j) → i ≡ j
 spots_apart place [] at goes also = absurd goes
@@ -105,7 +103,7 @@ spots_apart place (bytes ∷ outputs) {i} {j} at goes also = elim (cases_lt i (l
   ]
   | inr later ↦ elim (cases_lt j (length bytes)) [
     | inl within ↦ absurd (not_both place j i bytes outputs at within later also goes)
-    | inr past ↦ (let same = spots_apart (place + 1) outputs at (later_spot place i bytes outputs at later goes) (later_spot place j bytes outputs at past also) in omega (arith, later, past, same))
+    | inr past ↦ (omega (arith, spots_apart (place + 1) outputs at (later_spot place i bytes outputs at later goes) (later_spot place j bytes outputs at past also), later, past))
   ]
 ]
 
@@ -147,7 +145,7 @@ parts_filled limit names x zero offset less = absurd (omega (arith, less))
 parts_filled limit names x (suc place) offset less =
     let filled = spots_filled 1 (files_of limit names x) place offset less in let whole = files_together limit names in (
       filled.i,
-      (let within = filled.within in let long : length x ≡ length (joined (files_of limit names x)) + length whole.0 = ap length whole.1 ∙ length-append (joined (files_of limit names x)) whole.0 in omega (arith, within, long)),
+      (omega (arith, filled.within, ap length whole.1 ∙ length-append (joined (files_of limit names x)) whole.0)),
       subst (λ those. GoesTo (spot those offset) (spots_from 1 (files_of limit names x) filled.i)) (let e : 1 + place ≡ suc place = omega arith in e) filled.goes,
     )
 

@@ -64,18 +64,16 @@ length-files_of delim elide n x = length-map-range_with_len (share_of delim n x)
 
 filed_are : (delim : ℕ) (state : State) (names : Naming) (elide : Bool) (n : ℕ) (x : List ℕ) → are_named names n ≡ true
     → named (from_start names) 0 (map (share state) (dealt_files delim elide n x)) ≡ filed (from_start names) 0 (map (share state) (files_of delim elide n x))
-filed_are delim state names elide n x are =
-    ap (λ those. named (from_start names) 0 (map (share state) those)) (dealt_files_are delim elide n x)
+filed_are delim state names elide n x are = ap (λ those. named (from_start names) 0 (map (share state) those)) (dealt_files_are delim elide n x)
     ∙ all_filed names n 0 (map (share state) (files_of delim elide n x)) are
-    (let long = length-map (files_of delim elide n x) (share state) in let count = length-files_of delim elide n x in let most = opened_by-most delim elide n x in omega arith)
+    (omega (arith, length-map (files_of delim elide n x) (share state), length-files_of delim elide n x, opened_by-most delim elide n x))
 
 -- what must be written is what the files that are open have
 pub settled_is : (delim : ℕ) (names : Naming) (elide : Bool) (n : ℕ) (x : List ℕ) → are_named names n ≡ true → settled_by (round_plan delim n elide (from_start names)) x ≡ open_part names (files_of delim elide n x)
 settled_is delim names elide n x are = ap only_files (filed_are delim Open names elide n x are)
 
 pub whole_is : (delim : ℕ) (names : Naming) (elide : Bool) (n : ℕ) (x : List ℕ) → are_named names n ≡ true → whole_by (round_plan delim n elide (from_start names)) x ≡ closing_part names (opened_by delim elide n x) (files_of delim elide n x)
-whole_is delim names elide n x are =
-    ap only_files (filed_are delim Closed names elide n x are)
+whole_is delim names elide n x are = ap only_files (filed_are delim Closed names elide n x are)
     ∙ ap (λ shares. only_files (filed (from_start names) 0 shares)) (sym (closed_all (files_of delim elide n x)))
     ∙ ap (λ count. closing_part names count (files_of delim elide n x)) (length-files_of delim elide n x)
 
@@ -113,18 +111,14 @@ none_yet delim false n x file past within = absurd (omega arith)
 
 lines_after : (delim n : ℕ) (x y : List ℕ) → 0 < n → max (min n (line_count delim x)) (min n (delimiters delim x % n + line_count delim y)) ≡ min n (line_count delim (x ++ y))
 lines_after delim n x [] some =
-    let none : line_count delim [] ≡ 0 = refl in
-    let same : line_count delim (x ++ []) ≡ line_count delim x = ap (line_count delim) (append-nil x) in
-    let near = (line_count_near delim x).0 in
-    let small = mod-le (delimiters delim x) n in
-    omega arith
+    let none : line_count delim [] ≡ 0 = refl in omega (arith, ap (line_count delim) (append-nil x), (line_count_near delim x).0, mod-le (delimiters delim x) n)
 lines_after delim n x (byte ∷ y) some =
     let more = line_count-front delim x (byte ∷ y) (omega arith) in
     let near = (line_count_near delim x).1 in
     let low = (line_count_near delim x).0 in
     let one = line_count-some delim (byte ∷ y) (omega arith) in
     elim (cases_lt (delimiters delim x) n) [
-      | inl before ↦ (let same : delimiters delim x % n ≡ delimiters delim x = mod-eq_of_lt before in omega arith)
+      | inl before ↦ (omega (arith, mod-eq_of_lt before))
       | inr past ↦ omega arith
     ]
 
@@ -137,7 +131,7 @@ pub files_after : (delim : ℕ) (elide : Bool) (n : ℕ) (x y : List ℕ) → 0 
 files_after delim elide n x y some =
     added_maps (share_of delim n x) (λ file. dealt n file (delimiters delim x % n) (lines_of delim y)) (share_of delim n (x ++ y)) 0 (opened_by delim elide n x) (reached_by delim n (delimiters delim x % n) y)
     (λ file past within. none_yet delim elide n x file (omega arith) (omega arith))
-    (λ file past within. dealt_none n file (delimiters delim x % n) (lines_of delim y) (let most = opened_by-most delim elide n x in omega arith) (let most = opened_by-most delim elide n x in omega arith))
+    (λ file past within. dealt_none n file (delimiters delim x % n) (lines_of delim y) (omega (arith, opened_by-most delim elide n x)) (omega (arith, opened_by-most delim elide n x)))
     (λ file. ap (λ more. share_of delim n x file ++ more) (dealt_same n file (delimiters delim x % n) (delimiters delim x) (lines_of delim y) (mod-mod (delimiters delim x) n) ∙ ap (λ place. dealt n file place (lines_of delim y)) from_zero) ∙ sym (dealt_append delim n file 0 x y))
     ∙ ap (λ count. map (share_of delim n (x ++ y)) (range_with_len 0 count)) (opened_after delim elide n x y some) where
       from_zero : delimiters delim x ≡ 0 + delimiters delim x
@@ -146,8 +140,7 @@ files_after delim elide n x y some =
 -- The gathered piece
 
 pub first_gathered : (delim n start : ℕ) {reached : ℕ} (piece : List ℕ) {gathered : List (List ℕ)} → gathered ≡ dealt_piece delim n start piece → reached ≡ reached_by delim n start piece → take reached gathered ≡ dealt_first delim n start piece
-first_gathered delim n start {reached} piece is reached_is =
-    ap (take reached) is ∙ ap (λ count. take count (dealt_piece delim n start piece)) reached_is
+first_gathered delim n start {reached} piece is reached_is = ap (take reached) is ∙ ap (λ count. take count (dealt_piece delim n start piece)) reached_is
     ∙ take-map-range_with_len (λ file. dealt n file start (lines_of delim piece)) 0 n (reached_by delim n start piece) (omega arith)
 
 -- What a piece leaves
@@ -187,7 +180,7 @@ cuts_off told round piece {new} why adds before x at =
 
 takes_in : (told : Bool) {old new : RoundState} {piece : List ℕ} {before after : List Slot} → Deals told old piece before after new (Ok tt) → TakesIn ways.Holds piece (way.Round old) (way.Round new)
 takes_in told {old} {new} {piece} deals x holds = record {
-  some = let some : 0 < old.count = holds.some in let count : new.count ≡ old.count = deals.count in omega arith;
+  some = omega (arith, holds.some, deals.count);
   named = are_named_same old.files.names new.files.names new.count deals.adds.names ∙ ap (are_named old.files.names) deals.count ∙ holds.named;
   next = deals.next ∙ ap (λ place. (place + delimiters old.delim piece) % old.count) holds.next ∙ mod-add-mod (delimiters old.delim x) old.count (delimiters old.delim piece) ∙ ap (λ lines. lines % old.count) (sym (delimiters-append old.delim x piece))
       ∙ ap (λ n. delimiters old.delim (x ++ piece) % n) (sym deals.count) ∙ ap (λ d. delimiters d (x ++ piece) % new.count) (sym deals.delim);
@@ -272,7 +265,7 @@ none_owned names = record { stand = λ place within. absurd (omega (arith, withi
 none_stand : (told : Bool) (names : Naming) {before slots : List Slot} → OutputsAt told before nothing slots → StandAt told (no_files names) before [] slots
 none_stand told names {before} {slots} at = record {
   count = refl;
-  owns = subst (λ n. OwnsFiles (no_files names) n slots) (let all : length slots ≡ length before + 0 = outputs_count told before nothing slots at in omega arith) (none_owned names);
+  owns = subst (λ n. OwnsFiles (no_files names) n slots) (omega (arith, outputs_count told before nothing slots at)) (none_owned names);
   outputs = at;
 }
 

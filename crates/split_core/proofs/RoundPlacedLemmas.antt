@@ -52,8 +52,7 @@ follows delim n x i less =
 had_less : (delim n : ℕ) (x : List ℕ) (i : ℕ) → i < length x → had delim n (dealt_to delim n x i) x i < length (share_of delim n x (dealt_to delim n x i))
 had_less delim n x i less =
     let next = follows delim n x i less in
-    let long : length (share_of delim n x (dealt_to delim n x i)) ≡ had delim n (dealt_to delim n x i) x i + length (get_or x i 0 ∷ next.rest) = ap length next.is ∙ length-append (dealt n (dealt_to delim n x i) 0 (lines_of delim (take i x))) (get_or x i 0 ∷ next.rest) in
-    omega (arith, long)
+    omega (arith, ap length next.is ∙ length-append (dealt n (dealt_to delim n x i) 0 (lines_of delim (take i x))) (get_or x i 0 ∷ next.rest))
 
 had_byte : (delim n : ℕ) (x : List ℕ) (i : ℕ) → i < length x → get_or (share_of delim n x (dealt_to delim n x i)) (had delim n (dealt_to delim n x i) x i) 0 ≡ get_or x i 0
 had_byte delim n x i less =
@@ -67,10 +66,7 @@ had_grows delim n x i j less within same =
     let file : dealt_to delim n (take j x) i ≡ dealt_to delim n x i = ap (λ those. delimiters delim those % n) front in
     let grown : had delim n (dealt_to delim n (take j x) i) (take j x) i < length (share_of delim n (take j x) (dealt_to delim n (take j x) i))
     = had_less delim n (take j x) i (let all : length (take j x) ≡ j = length-take-le j x (omega (arith, within)) in omega (arith, less, all)) in
-    let low : had delim n (dealt_to delim n (take j x) i) (take j x) i ≡ had delim n (dealt_to delim n x i) x i
-    = ap (λ k. had delim n k (take j x) i) file ∙ ap (λ those. length (dealt n (dealt_to delim n x i) 0 (lines_of delim those))) front in
-    let high : length (share_of delim n (take j x) (dealt_to delim n (take j x) i)) ≡ had delim n (dealt_to delim n x j) x j = ap (λ k. length (share_of delim n (take j x) k)) (file ∙ same) in
-    omega (arith, grown, low, high)
+    omega (arith, ap (λ k. had delim n k (take j x) i) file ∙ ap (λ those. length (dealt n (dealt_to delim n x i) 0 (lines_of delim those))) front, ap (λ k. length (share_of delim n (take j x) k)) (file ∙ same), grown)
 
 -- for each place in a file a byte is found that goes there
 
@@ -91,7 +87,7 @@ found_now {n} {file} {place} is = record {
 found_after : {delim n file place byte k : ℕ} {x : List ℕ} {gets : Bool} → eqb (place % n) file ≡ gets → Found delim n file (cond (eqb byte delim) (place + 1) place) x k → Found delim n file place (byte ∷ x) (cond gets (suc k) k)
 found_after {delim} {n} {file} {place} {byte} {k} {x} {gets} is found = record {
   i = suc found.i;
-  within = (let less = found.within in omega (arith, less));
+  within = (omega (arith, found.within));
   goes = ap (λ those. those % n) (sym (next_place (eqb byte delim) place (delimiters delim (take found.i x)))) ∙ found.goes;
   at = ap length (dealt_first (eqb byte delim) n file place byte (lines_of delim (take found.i x)))
       ∙ ap (λ those. length (cond those (byte ∷ dealt n file (cond (eqb byte delim) (place + 1) place) (lines_of delim (take found.i x))) (dealt n file (cond (eqb byte delim) (place + 1) place) (lines_of delim (take found.i x))))) is
@@ -111,8 +107,7 @@ found_by k false is later less = found_after is (later k less)
 
 find : {delim n file : ℕ} (place : ℕ) (x : List ℕ) {k : ℕ} → k < length (dealt n file place (lines_of delim x)) → Found delim n file place x k
 find place [] less = absurd (omega (arith, less))
-find {delim} {n} {file} place (byte ∷ x) {k} less =
-    found_by k (eqb (place % n) file) refl (λ m within. find (cond (eqb byte delim) (place + 1) place) x within)
+find {delim} {n} {file} place (byte ∷ x) {k} less = found_by k (eqb (place % n) file) refl (λ m within. find (cond (eqb byte delim) (place + 1) place) x within)
     (subst (λ those. k < length those) (dealt_first (eqb byte delim) n file place byte (lines_of delim x)) less)
 
 -- The files
@@ -120,7 +115,7 @@ find {delim} {n} {file} place (byte ∷ x) {k} less =
 file_is : (delim : ℕ) (elide : Bool) (n : ℕ) (x : List ℕ) (file : ℕ) → file < n → get_or (dealt_files delim elide n x) file [] ≡ share_of delim n x file
 file_is delim elide n x file within = ap (λ files. get_or files file []) (dealt_files_are delim elide n x) ∙ elim (cases_lt file (opened_by delim elide n x)) [
   | inl less ↦ get_or-map-range_with_len (share_of delim n x) 0 (opened_by delim elide n x) file file [] less (zero-add file)
-  | inr past ↦ get_or_past (map (share_of delim n x) (range_with_len 0 (opened_by delim elide n x))) file [] (let count = length-map-range_with_len (share_of delim n x) 0 (opened_by delim elide n x) in omega (arith, past, count))
+  | inr past ↦ get_or_past (map (share_of delim n x) (range_with_len 0 (opened_by delim elide n x))) file [] (omega (arith, length-map-range_with_len (share_of delim n x) 0 (opened_by delim elide n x), past))
       ∙ sym (none_yet delim elide n x file past within)
 ]
 
@@ -144,16 +139,14 @@ has_name_there : (names : Naming) (place : ℕ) (those : List (List ℕ)) (k off
 has_name_there names place [] k offset less = absurd (omega (arith, less))
 has_name_there names place (one ∷ those) zero offset less =
     subst (λ m. is_named names m ≡ true) (let e : place ≡ place + 0 = omega arith in e) (first_has names place one (named_bytes names (place + 1) those) offset (is_named names place) refl less)
-has_name_there names place (one ∷ those) (suc k) offset less =
-    subst (λ m. is_named names m ≡ true) (let e : place + 1 + k ≡ place + suc k = omega arith in e)
+has_name_there names place (one ∷ those) (suc k) offset less = subst (λ m. is_named names m ≡ true) (let e : place + 1 + k ≡ place + suc k = omega arith in e)
     (has_name_there names (place + 1) those k offset (has_by names place one (named_bytes names (place + 1) those) k offset (is_named names place) refl less))
 
 within_n : (delim : ℕ) (elide : Bool) (n : ℕ) (x : List ℕ) (file offset : ℕ) → offset < length (get_or (dealt_files delim elide n x) file []) → file < n
 within_n delim elide n x file offset less = elim (cases_lt file n) [
   | inl within ↦ within
   | inr past ↦ (let none : get_or (dealt_files delim elide n x) file [] ≡ [] = get_or_past (dealt_files delim elide n x) file []
-      (let count : length (dealt_files delim elide n x) ≡ opened_by delim elide n x = ap length (dealt_files_are delim elide n x) ∙ length-map-range_with_len (share_of delim n x) 0 (opened_by delim elide n x) in
-      let most = opened_by-most delim elide n x in omega (arith, past, count, most)) in
+      (omega (arith, ap length (dealt_files_are delim elide n x) ∙ length-map-range_with_len (share_of delim n x) 0 (opened_by delim elide n x), opened_by-most delim elide n x, past)) in
       let size : length (get_or (dealt_files delim elide n x) file []) ≡ 0 = ap length none in absurd (omega (arith, less, size)))
 ]
 
@@ -217,9 +210,8 @@ dealt_filled delim n elide names x (suc file) offset less =
 
 not_before : {delim n : ℕ} {names : Naming} {x : List ℕ} {i j : ℕ} {at : Spot} → Goes delim n names x i at → Goes delim n names x j at → i < j → ⊥
 not_before {delim} {n} {x} {i} {j} one two less =
-    let same : dealt_to delim n x i ≡ dealt_to delim n x j = (let e : dealt_to delim n x i + 1 ≡ dealt_to delim n x j + 1 = ap (λ those. those.place) (sym one.is ∙ two.is) in omega (arith, e)) in
-    let level : had delim n (dealt_to delim n x i) x i ≡ had delim n (dealt_to delim n x j) x j = ap (λ those. those.offset) (sym one.is ∙ two.is) in
-    let grows = had_grows delim n x i j less two.within same in omega (arith, level, grows)
+    let same : dealt_to delim n x i ≡ dealt_to delim n x j = (omega (arith, ap (λ those. those.place) (sym one.is ∙ two.is))) in
+    omega (arith, ap (λ those. those.offset) (sym one.is ∙ two.is), had_grows delim n x i j less two.within same)
 
 dealt_apart : (delim n : ℕ) (names : Naming) (x : List ℕ) {i j : ℕ} (at : Spot) → GoesTo at (dealt_spots delim n names x i) → GoesTo at (dealt_spots delim n names x j) → i ≡ j
 dealt_apart delim n names x {i} {j} at goes also =

@@ -127,8 +127,7 @@ bytes_are_runs n x some = bytes_cut n some (cuts_up)
 
 -- the lines of the part at a place
 pub part_lines : (delim n i : ℕ) (x : List ℕ) → 0 < n → lines_of delim (get_or (parts (Lines n delim) x) i []) ≡ take n (drop (i * n) (lines_of delim x))
-part_lines delim n i x some =
-    ap (λ those. lines_of delim (get_or those i [])) (lines_are_runs delim n x some)
+part_lines delim n i x some = ap (λ those. lines_of delim (get_or those i [])) (lines_are_runs delim n x some)
     ∙ ap (lines_of delim) (get_or-map joined (runs_of n (lines_of delim x)) i [] ∙ ap joined (run_at n i (lines_of delim x) some ∙ ap (take n) (sym (lines_of-after_lines delim (i * n) x))))
     ∙ lines_of-first_lines delim n (after_lines delim (i * n) x) ∙ ap (take n) (lines_of-after_lines delim (i * n) x)
 
@@ -195,8 +194,7 @@ joined_parts limit x =
 
 waits_few : (limit : Limit) (rest : List ℕ) → 0 < most limit → is_full limit rest ≡ false → length (waiting_rest limit rest) < most limit
 waits_few (LineBytes n delim) rest some short =
-    let few : length rest < n = short_some (LineBytes n delim) rest short some in
-    let both : length (whole_lines delim rest) + length (open_line delim rest) ≡ length rest = sym (length-append (whole_lines delim rest) (open_line delim rest)) ∙ ap length (whole_then_open delim) in omega arith
+    omega (arith, short_some (LineBytes n delim) rest short some, length-append (whole_lines delim rest) (open_line delim rest), ap length (whole_then_open delim {x = rest}))
 waits_few limit rest some short = some
 
 -- what waits is shorter than a part

@@ -44,5 +44,4 @@ shut_more (share ∷ shares) one shut is = (shut.0, shut_more shares one shut.1 
 pub begun_grows : (front others : List Share) (now : State) (begun more : List ℕ) → IsBeginning begun more
     → SharesBegin (front ++ map (share Open) (unless_empty begun)) (front ++ share now more ∷ others)
 begun_grows front others now [] more begins = shares_after front [] (share now more ∷ others) tt
-begun_grows front others now (byte ∷ begun) more begins =
-    shares_after front (share Open (byte ∷ begun) ∷ []) (share now more ∷ others) (inl refl, begins, tt)
+begun_grows front others now (byte ∷ begun) more begins = shares_after front (share Open (byte ∷ begun) ∷ []) (share now more ∷ others) (inl refl, begins, tt)

@@ -186,8 +186,7 @@ extend_stopped : {told : Bool} {parts next : PartsState} (piece : List ℕ) {fir
 extend_stopped {parts} piece {first} below extends = record {
   keeps = extends.keeps;
   stands = tt;
-  goes = λ x stands. goes_wider (extends.goes (full_of parts x) (begun_of parts x) (begun_so stands))
-      (rw (all_of first stands) (below x stands));
+  goes = λ x stands. goes_wider (extends.goes (full_of parts x) (begun_of parts x) (begun_so stands)) (rw (all_of first stands) (below x stands));
 }
 
 pub goes_stopped : {told : Bool} {parts next : PartsState} (piece : List ℕ) (bytes : ℕ) {left : ℕ} {has_line : Bool} {old new : List Slot} {f : Fault}

@@ -95,9 +95,7 @@ turned_alone {told} {parts} bytes {old} {new} left shuts no_bytes none_wait left
 
 pub left_next : {limit : Limit} (other : Limit) {waiting held : List ℕ} (bytes : List ℕ) {most_is size : ℕ} → most_is ≡ most other → other ≡ limit → size ≡ length held → held ≡ waiting → most_is - (size + length bytes) ≡ most limit - length (waiting ++ bytes)
 left_next {limit} other {waiting} bytes {most_is} {size} is same counted holds =
-    let full : most_is ≡ most limit = is ∙ ap most same in
-    let some : size ≡ length waiting = counted ∙ ap length holds in
-    let both : length (waiting ++ bytes) ≡ length waiting + length bytes = length-append waiting bytes in omega arith
+    omega (arith, is ∙ ap most same, counted ∙ ap length holds, length-append waiting bytes)
 
 pub fits_next : {limit : Limit} (other : Limit) {waiting held : List ℕ} (bytes : List ℕ) {most_is size old_left : ℕ} {has_line : Bool} {window : ByteWindowState} → most_is ≡ most other → other ≡ limit → size ≡ length held → held ≡ waiting → length waiting + length bytes < most limit
     → window.held ≡ waiting → Fits other old_left has_line window → Fits other (most_is - (size + length bytes)) false window

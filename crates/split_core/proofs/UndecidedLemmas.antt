@@ -73,12 +73,11 @@ spots_stay place i (file ∷ low) (whole ∷ high) begins last less = elim (case
       → (i - length file.bytes < length (joined (map (λ (file : File). file.bytes) low)) → spots_from (place + 1) (map (λ (file : File). file.bytes) high) (i - length file.bytes) ≡ spots_from (place + 1) (map (λ (file : File). file.bytes) low) (i - length file.bytes))
       → (file.state ≡ Open) ⊎ (file ≡ whole) → spots_from place (map (λ (file : File). file.bytes) (whole ∷ high)) i ≡ spots_from place (map (λ (file : File). file.bytes) (file ∷ low)) i
   after past later (inl opened) = absurd
-      (let none : length (file.bytes ++ joined (map (λ (file : File). file.bytes) low)) ≡ length (file.bytes ++ []) = ap (λ those. length (file.bytes ++ joined (map (λ (file : File). file.bytes) those))) (last.0 opened) in
-      let all = length-append file.bytes [] in omega (arith, less, past, none, all))
+      (omega (arith, ap (λ those. length (file.bytes ++ joined (map (λ (file : File). file.bytes) those))) (last.0 opened), length-append file.bytes [], less, past))
   after past later (inr same) =
       let is : length whole.bytes ≡ length file.bytes = ap (λ (those : File). length those.bytes) (sym same) in
       spot_past place i whole.bytes _ (omega (arith, past, is)) ∙ ap (λ n. spots_from (place + 1) (map (λ (file : File). file.bytes) high) (i - n)) is
-      ∙ later (let all = length-append file.bytes (joined (map (λ (file : File). file.bytes) low)) in omega (arith, less, past, all))
+      ∙ later (omega (arith, length-append file.bytes (joined (map (λ (file : File). file.bytes) low)), less, past))
       ∙ sym (spot_past place i file.bytes _ past)
 
 abbrev parts_spots : Limit → Naming → List ℕ → ℕ → List Spot
@@ -105,8 +104,7 @@ after_front front rest is = sym is ∙ ap (λ those. front ++ those) (sym (ap (d
 
 none_wait : (limit : Limit) (names : Naming) (x : List ℕ) (i : ℕ) → are_named names (length (parts limit x)) ≡ true → waiting_rest limit (cut_up limit x).rest ≡ [] → length (settled_in limit names x) ≤ i → i < length x → ⊥
 none_wait limit names x i are none past within =
-    let all : length (settled_in limit names x) ≡ length x = ap length (sym (append-nil (settled_in limit names x)) ∙ ap (λ those. settled_in limit names x ++ those) (sym none) ∙ came_in limit names are) in
-    omega (arith, past, within, all)
+    omega (arith, ap length (sym (append-nil (settled_in limit names x)) ∙ ap (λ those. settled_in limit names x ++ those) (sym none) ∙ came_in limit names are), past, within)
 
 -- two continuations that put byte i to different spots
 pub record Differs (spots_of : List ℕ → ℕ → List Spot) (x : List ℕ) (i : ℕ) : Type 0 where
@@ -127,7 +125,7 @@ lines_here delim n names x are lines i past within =
     ap (λ all. parts_spots (LineBytes n delim) names all i) (append-nil x)
     ∙ ap (λ files. spots_from 1 files i) (whole_files (LineBytes n delim) names x ∙ each_named names (parts (LineBytes n delim) x) are ∙ ap (λ those. full ++ those) (one_of rest (delimiters_some delim rest lines)))
     ∙ spots_after 1 i full (rest ∷ []) past ∙ spot_in (1 + length full) (i - length (joined full)) rest []
-    (let long : length x ≡ length (joined full) + length rest = ap length (sym (cut_all (LineBytes n delim))) ∙ length-append (joined full) rest in omega (arith, past, within, long))
+    (omega (arith, ap length (sym (cut_all (LineBytes n delim))) ∙ length-append (joined full) rest, past, within))
 
 lines_there : (limit : Limit) (names : Naming) (x y : List ℕ) (next : List (List ℕ)) → are_named names (length (parts limit x)) ≡ true → parts limit (x ++ y) ≡ settled_list limit x ++ next
     → (i : ℕ) → length (joined (settled_list limit x)) ≤ i → (more : List (List ℕ)) × (parts_spots limit names (x ++ y) i ≡ spots_from (1 + length (settled_list limit x)) more (i - length (joined (settled_list limit x))))
@@ -181,7 +179,7 @@ dealt_bytes delim n elide x some = ap length (joined_files delim elide n x) ∙ 
 dealt_decided : (delim n : ℕ) (names : Naming) (x y : List ℕ) (i : ℕ) → i < length x → dealt_spots delim n names (x ++ y) i ≡ dealt_spots delim n names x i
 dealt_decided delim n names x y i less =
     ap (λ within. cond (within && is_named names (dealt_to delim n (x ++ y) i)) (spot (dealt_to delim n (x ++ y) i + 1) (length (dealt n (dealt_to delim n (x ++ y) i) 0 (lines_of delim (take i (x ++ y))))) ∷ []) [])
-    (lt-ltb i (length (x ++ y)) (let all = length-append x y in omega (arith, less, all)) ∙ sym (lt-ltb i (length x) less))
+    (lt-ltb i (length (x ++ y)) (omega (arith, length-append x y, less)) ∙ sym (lt-ltb i (length x) less))
     ∙ ap (λ front. cond (nat_lt i (length x) && is_named names (delimiters delim front % n)) (spot (delimiters delim front % n + 1) (length (dealt n (delimiters delim front % n) 0 (lines_of delim front))) ∷ []) []) (take-append-le i x y (omega (arith, less)))
 
 round_undecided : (delim n : ℕ) (elide : Bool) (names : Naming) {x : List ℕ} → 0 < n → are_named names (length (dealt_files delim elide n x)) ≡ true

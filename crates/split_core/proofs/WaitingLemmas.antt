@@ -20,8 +20,7 @@ shared shares = map (λ (file : Share). file.bytes) shares
 -- where all files have names, they have all bytes
 all_bytes : (names : Naming) (shares : List Share) → are_named names (length shares) ≡ true → bytes_of (named (from_start names) 0 shares) ≡ shared shares
 all_bytes names [] are = refl
-all_bytes names (one ∷ shares) are =
-    bytes_named (from_start names) 0 (one ∷ shares)
+all_bytes names (one ∷ shares) are = bytes_named (from_start names) 0 (one ∷ shares)
     ∙ each_named (from_start names) (shared (one ∷ shares)) (ap (is_named names) (length-map shares (λ (file : Share). file.bytes)) ∙ are)
 
 -- what follows a beginning
@@ -30,6 +29,5 @@ after front {rest} is = ap (drop (length front)) (sym is) ∙ drop-append_seam f
 
 -- what waits in a stage that cuts off parts
 pub parts_wait : {parts : PartsState} {x : List ℕ} → Stands parts x → length parts.waiting ≡ length ((part.work parts).waiting x)
-parts_wait {parts} {x} stands =
-    ap length (stands.waits ∙ sym (after (joined (shared (settled_parts parts.limit x))) (settled_all parts.limit x)))
+parts_wait {parts} {x} stands = ap length (stands.waits ∙ sym (after (joined (shared (settled_parts parts.limit x))) (settled_all parts.limit x)))
     ∙ ap (λ those. length (drop (length (joined those)) x)) (sym (all_bytes parts.names (settled_parts parts.limit x) stands.enough))

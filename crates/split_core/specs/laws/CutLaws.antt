@@ -42,8 +42,7 @@ measure-le-length limit x = omega arith
 pub full-append : (limit : Limit) (x y : List ℕ) → is_full limit x ≡ true → is_full limit (x ++ y) ≡ true
 full-append limit x y full =
     let is = full_some limit x full in
-    full_from limit (x ++ y) is.0 (let sum : measure limit (x ++ y) ≡ measure limit x + measure limit y = measure-append limit x y in
-    let enough : most limit ≤ measure limit x = is.1 in omega arith)
+    full_from limit (x ++ y) is.0 (omega (arith, measure-append limit x y, is.1))
 
 nothing_test : (most : ℕ) {measure : ℕ} → measure ≡ 0 → (nat_lt 0 most && nat_le most measure) ≡ false
 nothing_test most none = grind (arith, nat_tests, none)
@@ -81,9 +80,7 @@ whole_some delim x some = by (nat_lt 0 (delimiters delim x)) refl where
   by true is =
       let lines : delimiters delim (first_lines delim (delimiters delim x) x) ≡ delimiters delim x =
       delimiters-first_lines delim (delimiters delim x) x (omega arith) in
-      let few : delimiters delim (first_lines delim (delimiters delim x) x) ≤ length (first_lines delim (delimiters delim x) x) =
-      delimiters-le-length delim (first_lines delim (delimiters delim x) x) in
-      let has_one : 0 < delimiters delim x = ltb-true 0 (delimiters delim x) is in omega arith
+      omega (arith, delimiters-le-length delim (first_lines delim (delimiters delim x) x), ltb-true 0 (delimiters delim x) is)
   by false is = some
 
 length-take_few : (n : ℕ) (x : List ℕ) → length (take n x) ≤ length x
@@ -92,16 +89,12 @@ length-take_few n x = omega (arith, length-take n x)
 pub first_within : (limit : Limit) (x : List ℕ) → length (first_part limit x) ≤ length x
 first_within (Lines n delim) x = length-first_lines-le delim n x
 first_within (Bytes n) x = length-take_few n x
-first_within (LineBytes n delim) x =
-    let whole : length (whole_lines delim (take n x)) ≤ length (take n x) = whole_within delim (take n x) in
-    let few : length (take n x) ≤ length x = length-take_few n x in omega arith
+first_within (LineBytes n delim) x = omega (arith, whole_within delim (take n x), length-take_few n x)
 
 first_some_by : (limit : Limit) (x : List ℕ) → 0 < most limit → most limit ≤ measure limit x → 0 < length (first_part limit x)
-first_some_by (Lines n delim) x some enough =
-    let lines : delimiters delim (first_lines delim n x) ≡ n = delimiters-first_lines delim n x enough in
-    let few : delimiters delim (first_lines delim n x) ≤ length (first_lines delim n x) = delimiters-le-length delim (first_lines delim n x) in omega arith
-first_some_by (Bytes n) x some enough = let all : length (take n x) ≡ n = length-take-le n x enough in omega arith
-first_some_by (LineBytes n delim) x some enough = whole_some delim (take n x) (let all : length (take n x) ≡ n = length-take-le n x enough in omega arith)
+first_some_by (Lines n delim) x some enough = omega (arith, delimiters-first_lines delim n x enough, delimiters-le-length delim (first_lines delim n x))
+first_some_by (Bytes n) x some enough = omega (arith, length-take-le n x enough)
+first_some_by (LineBytes n delim) x some enough = whole_some delim (take n x) (omega (arith, length-take-le n x enough))
 
 pub first_some : (limit : Limit) (x : List ℕ) → is_full limit x ≡ true → 0 < length (first_part limit x)
 first_some limit x full = let is = full_some limit x full in first_some_by limit x is.0 is.1
@@ -115,14 +108,11 @@ pub first-append : (limit : Limit) (x y : List ℕ) → is_full limit x ≡ true
 first-append limit x y full = first-append_by limit x y (full_some limit x full).1
 
 pub after-append : (limit : Limit) (x y : List ℕ) → is_full limit x ≡ true → after_first limit (x ++ y) ≡ after_first limit x ++ y
-after-append limit x y full =
-    ap (λ (first : List ℕ). drop (length first) (x ++ y)) (first-append limit x y full)
+after-append limit x y full = ap (λ (first : List ℕ). drop (length first) (x ++ y)) (first-append limit x y full)
     ∙ drop-append-le (length (first_part limit x)) x y (first_within limit x)
 
 after_less : (limit : Limit) (x : List ℕ) (bound : ℕ) → is_full limit x ≡ true → length x ≤ suc bound → length (after_first limit x) ≤ bound
-after_less limit x bound full within =
-    let some : 0 < length (first_part limit x) = first_some limit x full in
-    let left : length (after_first limit x) ≡ length x - length (first_part limit x) = length-drop (length (first_part limit x)) x in omega arith
+after_less limit x bound full within = omega (arith, first_some limit x full, length-drop (length (first_part limit x)) x)
 
 cuts_within : {limit : Limit} (bound : ℕ) {x : List ℕ} → length x ≤ bound → Cuts limit x (cut_within bound limit x).full (cut_within bound limit x).rest
 cuts_within {limit} zero {x} within = stops x (nothing_short limit x (omega arith))

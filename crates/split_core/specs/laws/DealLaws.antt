@@ -124,8 +124,7 @@ filter_first : (f : ℕ → List ℕ) (start n end : ℕ) → ((file : ℕ) → 
     → ((file : ℕ) → file < start + n → end ≤ file → f file ≡ [])
     → filter is_some (map f (range_with_len start n)) ≡ map f (range_with_len start (min n (end - start)))
 filter_first f start zero end some none = let no_more : 0 ≡ min 0 (end - start) = omega arith in ap (λ k. map f (range_with_len start k)) no_more
-filter_first f start (suc n) end some none =
-    filter_next f start n end (λ before. some start (omega arith) before) (λ past. none start (omega arith) past)
+filter_first f start (suc n) end some none = filter_next f start n end (λ before. some start (omega arith) before) (λ past. none start (omega arith) past)
     (filter_first f (start + 1) n end (λ file within before. some file (omega arith) before) (λ file within past. none file (omega arith) past))
 
 -- the files that have a line are the first ones
@@ -140,5 +139,5 @@ dealt_files_are delim false n x = refl
 -- a text that goes on opens no fewer files
 
 pub opened_by-grows : (delim : ℕ) (elide : Bool) (n : ℕ) (x y : List ℕ) → opened_by delim elide n x ≤ opened_by delim elide n (x ++ y)
-opened_by-grows delim true n x y = let more = line_count-grows delim x y in omega arith
+opened_by-grows delim true n x y = omega (arith, line_count-grows delim x y)
 opened_by-grows delim false n x y = omega arith

@@ -83,22 +83,19 @@ first_lines_begin delim k n x less = (
 
 whole_begins_by : (delim : ℕ) (x y : List ℕ) (k m : ℕ) → delimiters delim x ≡ k → delimiters delim (x ++ y) ≡ m
     → IsBeginning (whole_lines delim x) (whole_lines delim (x ++ y))
-whole_begins_by delim x y (suc k) (suc m) here all =
-    subst (λ low. IsBeginning low (whole_lines delim (x ++ y))) (sym (whole_of_lines delim x (omega arith)
+whole_begins_by delim x y (suc k) (suc m) here all = subst (λ low. IsBeginning low (whole_lines delim (x ++ y))) (sym (whole_of_lines delim x (omega arith)
     ∙ sym (first_lines-full delim (delimiters delim x) x y (omega arith)))) (subst (λ high. IsBeginning (first_lines delim (delimiters delim x) (x ++ y)) high)
     (sym (whole_of_lines delim (x ++ y) (omega arith))) (first_lines_begin delim (delimiters delim x) (delimiters delim (x ++ y)) (x ++ y)
-    (let sum : delimiters delim (x ++ y) ≡ delimiters delim x + delimiters delim y = delimiters-append delim x y in omega arith)))
-whole_begins_by delim x y zero (suc m) here all =
-    subst (λ low. IsBeginning low (whole_lines delim (x ++ y))) (sym (whole_of_none delim x here)) (
-      _,
-      whole_of_lines delim (x ++ y) (omega arith) ∙ first_lines-append delim (delimiters delim (x ++ y)) x y
-          ∙ ap (λ front. front ++ first_lines delim (delimiters delim (x ++ y) - delimiters delim x) y)
-          (first_lines-short delim (delimiters delim (x ++ y)) x (omega arith)),
-    )
+    (omega (arith, delimiters-append delim x y))))
+whole_begins_by delim x y zero (suc m) here all = subst (λ low. IsBeginning low (whole_lines delim (x ++ y))) (sym (whole_of_none delim x here)) (
+  _,
+  whole_of_lines delim (x ++ y) (omega arith) ∙ first_lines-append delim (delimiters delim (x ++ y)) x y
+      ∙ ap (λ front. front ++ first_lines delim (delimiters delim (x ++ y) - delimiters delim x) y)
+      (first_lines-short delim (delimiters delim (x ++ y)) x (omega arith)),
+)
 whole_begins_by delim x y zero zero here all =
     subst (λ low. IsBeginning low (whole_lines delim (x ++ y))) (sym (whole_of_none delim x here)) (y, whole_of_none delim (x ++ y) all)
-whole_begins_by delim x y (suc k) zero here all =
-    absurd (let sum : delimiters delim (x ++ y) ≡ delimiters delim x + delimiters delim y = delimiters-append delim x y in omega arith)
+whole_begins_by delim x y (suc k) zero here all = absurd (omega (arith, delimiters-append delim x y))
 
 pub whole_begins : (delim : ℕ) (x y : List ℕ) → IsBeginning (whole_lines delim x) (whole_lines delim (x ++ y))
 whole_begins delim x y = whole_begins_by delim x y (delimiters delim x) (delimiters delim (x ++ y)) refl refl
@@ -132,8 +129,7 @@ settled_in_whole limit x = (_, sym (settled_then_waiting limit x))
 
 pub settled_on : (limit : Limit) (x y : List ℕ) → settled_parts limit (x ++ y) ≡ map (share Closed) (cut_up limit x).full
     ++ settled_parts limit ((cut_up limit x).rest ++ y)
-settled_on limit x y =
-    ap (λ cut. map (share Closed) cut.full ++ map (share Open) (unless_empty (settled_rest limit cut.rest))) (cut_on limit x y)
+settled_on limit x y = ap (λ cut. map (share Closed) cut.full ++ map (share Open) (unless_empty (settled_rest limit cut.rest))) (cut_on limit x y)
     ∙ ap (λ front. front ++ map (share Open) (unless_empty (settled_rest limit (cut_up limit ((cut_up limit x).rest ++ y)).rest)))
     (map-append (share Closed) (cut_up limit x).full (cut_up limit ((cut_up limit x).rest ++ y)).full)
     ∙ append_assoc (map (share Closed) (cut_up limit x).full) _ _
@@ -155,16 +151,14 @@ opens_more state (byte ∷ low) (first ∷ high) begins = (inl refl, begins, tt)
 
 rest_begins_by : (limit : Limit) (rest y : List ℕ) (full : Bool) → is_full limit (rest ++ y) ≡ full
     → is_full limit rest ≡ false → SharesBegin (map (share Open) (unless_empty (settled_rest limit rest))) (settled_parts limit (rest ++ y))
-rest_begins_by limit rest y true full short =
-    subst (λ cut. SharesBegin (map (share Open) (unless_empty (settled_rest limit rest)))
+rest_begins_by limit rest y true full short = subst (λ cut. SharesBegin (map (share Open) (unless_empty (settled_rest limit rest)))
     (map (share Closed) cut.full ++ map (share Open) (unless_empty (settled_rest limit cut.rest)))) (sym (cut_first limit (rest ++ y) full))
     (in_first (settled_rest limit rest) _ (settled_in_full limit rest y (short_some limit rest short (full_some limit (rest ++ y) full).0))) where
       in_first : (low : List ℕ) (more : List Share) → IsBeginning low (first_part limit (rest ++ y))
           → SharesBegin (map (share Open) (unless_empty low)) (share Closed (first_part limit (rest ++ y)) ∷ more)
       in_first [] more begins = tt
       in_first (byte ∷ low) more begins = (inl refl, begins, tt)
-rest_begins_by limit rest y false full short =
-    subst (λ cut. SharesBegin (map (share Open) (unless_empty (settled_rest limit rest)))
+rest_begins_by limit rest y false full short = subst (λ cut. SharesBegin (map (share Open) (unless_empty (settled_rest limit rest)))
     (map (share Closed) cut.full ++ map (share Open) (unless_empty (settled_rest limit cut.rest)))) (sym (cut_none limit (rest ++ y) full))
     (opens_more Open (settled_rest limit rest) (settled_rest limit (rest ++ y)) (settled_in_rest limit rest y))
 
@@ -174,13 +168,11 @@ rest_begins limit rest y short = rest_begins_by limit rest y (is_full limit (res
 
 -- what is written stays
 pub settled_grow : (limit : Limit) (x y : List ℕ) → SharesBegin (settled_parts limit x) (settled_parts limit (x ++ y))
-settled_grow limit x y =
-    subst (SharesBegin (settled_parts limit x)) (sym (settled_on limit x y)) (shares_after (map (share Closed) (cut_up limit x).full) _ _
+settled_grow limit x y = subst (SharesBegin (settled_parts limit x)) (sym (settled_on limit x y)) (shares_after (map (share Closed) (cut_up limit x).full) _ _
     (rest_begins limit (cut_up limit x).rest y (rest_short limit x)))
 
 pub settled_end : (limit : Limit) (x : List ℕ) → SharesBegin (settled_parts limit x) (whole_parts limit x)
-settled_end limit x =
-    subst (SharesBegin (settled_parts limit x)) (sym (map-append (share Closed) (cut_up limit x).full (unless_empty (cut_up limit x).rest)))
+settled_end limit x = subst (SharesBegin (settled_parts limit x)) (sym (map-append (share Closed) (cut_up limit x).full (unless_empty (cut_up limit x).rest)))
     (shares_after (map (share Closed) (cut_up limit x).full) _ _ (opens_more Closed (settled_rest limit (cut_up limit x).rest) (cut_up limit x).rest
     (settled_in_whole limit (cut_up limit x).rest)))
 
@@ -194,15 +186,13 @@ unless_count (byte ∷ low) [] some back = absurd (let none : 0 < 0 = back (omeg
 unless_count (byte ∷ low) (first ∷ high) some back = refl
 
 pub settled_count : (limit : Limit) (x : List ℕ) → length (settled_parts limit x) ≡ length (parts limit x)
-settled_count limit x =
-    length-append (map (share Closed) (cut_up limit x).full) _
+settled_count limit x = length-append (map (share Closed) (cut_up limit x).full) _
     ∙ ap (λ n. n + length (map (share Open) (unless_empty (settled_rest limit (cut_up limit x).rest)))) (length-map (cut_up limit x).full (share Closed))
     ∙ ap (λ n. length (cut_up limit x).full + n) (length-map (unless_empty (settled_rest limit (cut_up limit x).rest)) (share Open)
     ∙ unless_count _ _ (settled_some limit (cut_up limit x).rest) few) ∙ sym (length-append (cut_up limit x).full (unless_empty (cut_up limit x).rest)) where
       few : 0 < length (settled_rest limit (cut_up limit x).rest) → 0 < length (cut_up limit x).rest
       few some = let begins = settled_in_whole limit (cut_up limit x).rest in
-          let size : length (cut_up limit x).rest ≡ length (settled_rest limit (cut_up limit x).rest) + length begins.0 = ap length begins.1
-          ∙ length-append (settled_rest limit (cut_up limit x).rest) begins.0 in omega (arith, some)
+          omega (arith, ap length begins.1 ∙ length-append (settled_rest limit (cut_up limit x).rest) begins.0, some)
 
 -- Once names ran out, nothing more is written.
 
@@ -218,15 +208,12 @@ are_named_more names (suc last) (suc more) none few = no_more names last more no
 parts_few : (limit : Limit) (x : List ℕ) → length (parts limit x) ≤ length (cut_up limit x).full + 1
 parts_few limit x = by (cut_up limit x).full (cut_up limit x).rest where
   by : (full : List (List ℕ)) (rest : List ℕ) → length (full ++ unless_empty rest) ≤ length full + 1
-  by full [] = let size : length (full ++ unless_empty []) ≡ length full + length (unless_empty []) = length-append full (unless_empty []) in omega arith
-  by full (byte ∷ rest) = let size : length (full ++ unless_empty (byte ∷ rest)) ≡ length full + length (unless_empty (byte ∷ rest)) =
-      length-append full (unless_empty (byte ∷ rest)) in omega arith
+  by full [] = omega (arith, length-append full (unless_empty []))
+  by full (byte ∷ rest) = omega (arith, length-append full (unless_empty (byte ∷ rest)))
 
 place_nameless : (names : Naming) (limit : Limit) (x : List ℕ) → are_named names (length (parts limit x)) ≡ false
     → is_named names (0 + length (map (share Closed) (cut_up limit x).full)) ≡ false
-place_nameless names limit x short = are_named_by names (length (parts limit x)) _ short (let size : length (map (share Closed) (cut_up limit x).full)
-    ≡ length (cut_up limit x).full = length-map (cut_up limit x).full (share Closed) in
-    let few : length (parts limit x) ≤ length (cut_up limit x).full + 1 = parts_few limit x in omega arith)
+place_nameless names limit x short = are_named_by names (length (parts limit x)) _ short (omega (arith, length-map (cut_up limit x).full (share Closed), parts_few limit x))
 
 -- the files are those of the full parts alone
 pub files_settled : (names : Naming) (limit : Limit) (x y : List ℕ) → are_named names (length (parts limit x)) ≡ false
@@ -243,7 +230,7 @@ files_whole names limit x y short =
 pub shares_fewer : (low high : List Share) → SharesBegin low high → length low ≤ length high
 shares_fewer [] high begins = omega arith
 shares_fewer (share ∷ low) [] begins = absurd begins
-shares_fewer (share ∷ low) (whole ∷ high) begins = let few : length low ≤ length high = shares_fewer low high begins.2 in omega arith
+shares_fewer (share ∷ low) (whole ∷ high) begins = omega (arith, shares_fewer low high begins.2)
 
 -- a text that goes on has no fewer parts
 pub parts_grow : (limit : Limit) (x y : List ℕ) → length (parts limit x) ≤ length (parts limit (x ++ y))
