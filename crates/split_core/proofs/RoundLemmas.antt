@@ -79,10 +79,7 @@ whole_is delim names elide n x are = ap only_files (filed_are delim Closed names
 
 pub never_short : (delim : ℕ) (names : Naming) (elide : Bool) (n : ℕ) (x : List ℕ) → are_named names n ≡ true → false ≡ is_short (round_plan delim n elide names) x
 never_short delim names elide n x are =
-    let long = length-map (dealt_files delim elide n x) (share Closed) in
-    let count : length (dealt_files delim elide n x) ≡ opened_by delim elide n x = ap length (dealt_files_are delim elide n x) ∙ length-files_of delim elide n x in
-    let most = opened_by-most delim elide n x in
-    sym (ap not (named_fewer names (length (map (share Closed) (dealt_files delim elide n x))) n are (omega arith)))
+    sym (ap not (named_fewer names (length (map (share Closed) (dealt_files delim elide n x))) n are (omega (arith, length-map (dealt_files delim elide n x) (share Closed), ap length (dealt_files_are delim elide n x) ∙ length-files_of delim elide n x, opened_by-most delim elide n x))))
 
 -- One more piece
 

@@ -103,10 +103,9 @@ lines_cut : (delim n : ℕ) {x : List ℕ} {full : List (List ℕ)} {rest : List
 lines_cut delim n {x} some (stops _ short) = last_lines delim n x (short_some (Lines n delim) x short some)
 lines_cut delim n {x} some (goes _ full _ is past) =
     let enough : n ≤ delimiters delim x = (full_some (Lines n delim) x is).1 in
-    let lines : delimiters delim x ≤ line_count delim x = (line_count_near delim x).0 in
     ap (λ those. first_lines delim n x ∷ those) (lines_cut delim n some past)
     ∙ ap (λ those. first_lines delim n x ∷ map joined (runs_of n those)) (lines_of-after delim n x enough)
-    ∙ sym (ap (map joined) (runs_next n (lines_of delim x) some (omega arith)))
+    ∙ sym (ap (map joined) (runs_next n (lines_of delim x) some (omega (arith, (line_count_near delim x).0))))
 
 pub lines_are_runs : (delim n : ℕ) (x : List ℕ) → 0 < n → parts (Lines n delim) x ≡ line_parts delim n x
 lines_are_runs delim n x some = lines_cut delim n some (cuts_up)

@@ -9,8 +9,7 @@ pub returns-in_err-reach : goal.returns-in_err-reach
 returns-in_err-reach g c = result_is (Adds _ _ _ _ _ _ _ _) _ _ c.from_residual.ensures.1 (sent_unreached c.args.bytes.now c.in_err-reach.ensures.adds)
 
 pub index-requires : goal.index-requires
-index-requires g c = let within = sent_within c.in_ok-reach.ensures.adds in
-    let count : length c.self.inside.outputs.items ≡ length c.reach.new.self.outputs = ap (λ (files : FilesState). length files.outputs) c.self.view_is in omega arith
+index-requires g c = omega (arith, sent_within c.in_ok-reach.ensures.adds, ap (λ (files : FilesState). length files.outputs) c.self.view_is)
 
 pub write_bytes-requires : goal.write_bytes-requires
 write_bytes-requires g c = record {
