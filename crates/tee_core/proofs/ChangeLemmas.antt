@@ -10,7 +10,7 @@ use Rattle.tee_core.specs.Outputs.{ChangesEach, newly_broken}
 pub open_within : (slots : List Slot) (place : ℕ) → is_open (slot_at slots place).state ≡ true → place < length slots
 open_within [] place opened = absurd (false≢true opened)
 open_within (slot ∷ slots) zero opened = omega arith
-open_within (slot ∷ slots) (suc place) opened = let within : place < length slots = open_within slots place opened in omega arith
+open_within (slot ∷ slots) (suc place) opened = omega (arith, open_within slots place opened)
 
 -- one output was changed
 
@@ -144,7 +144,7 @@ pub next_in_turn : {Change : Slot → Slot → Type 0} (first n broke more : ℕ
 next_in_turn first n broke more old now new stays so_far changes are one = record {
   turned = turned_both broke more stays (is_between first (first + n)) (λ place. cases_eq place (first + n))
       (λ place is other. omega (arith, is.1, other)) to from so_far.turned (record { changes = changes; broke_are = are });
-  few = let few : broke ≤ n = so_far.few in omega arith;
+  few = omega (arith, so_far.few);
 } where
   to : (place : ℕ) → ((first ≤ place) × (place < first + n)) ⊎ (place ≡ first + n) → (first ≤ place) × (place < first + (n + 1))
   to place (inl is) = (is.0, omega (arith, is.1))

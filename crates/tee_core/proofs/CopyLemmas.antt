@@ -67,8 +67,7 @@ said_older other (name ∷ names) less (all_marked before after was now befores 
 
 pub all_older : {call : ℕ} (end : ℕ) (names : List (List ℕ)) {befores afters : List (Option ℕ)} {known broken : List Bool} → end ≤ call → AllMark call befores afters known broken → said_before end names afters ≡ said_before end names befores
 all_older zero names past marked = refl
-all_older (suc end) names {befores} {afters} past marked =
-    ap (λ texts. texts ++ said_in end names afters) (all_older end names (omega arith) marked)
+all_older (suc end) names {befores} {afters} past marked = ap (λ texts. texts ++ said_in end names afters) (all_older end names (omega arith) marked)
     ∙ ap (λ texts. said_before end names befores ++ texts) (said_older end names (omega arith) marked)
 
 -- whether no output is left
@@ -104,7 +103,7 @@ still_there before after piece more is = ap (λ those. those ++ more ∷ []) is 
 
 -- a piece was fed in a call before those that follow
 pub call_before : {pieces : List (List ℕ)} (before after : List (List ℕ)) (piece : List ℕ) → pieces ≡ before ++ piece ∷ after → suc (length before) < suc (length pieces)
-call_before before after piece is = let size : length (before ++ piece ∷ after) ≡ length before + length (piece ∷ after) = length-append before (piece ∷ after) in omega (arith, ap length is, size)
+call_before before after piece is = omega (arith, length-append before (piece ∷ after), ap length is)
 
 abbrev pub OutputMore : Bool → List (List ℕ) → List ℕ → Option ℕ → Slot → Slot → Type 0
 OutputMore told pieces piece first old new = (after : Option ℕ) × OutputLeft told (pieces ++ piece ∷ []) after new × Marks (suc (length pieces)) first after old.is_broken new.is_broken

@@ -59,7 +59,7 @@ pub opens_more : {mode : Mode} {names : List (List ℕ)} {name : List ℕ} {left
 opens_more {names} {left} {old} {now} so_far number small one = record {
   whole = λ last opens. so_far.whole last (opens_next one opens);
   some = λ last opens. so_far.some last (some_next one opens);
-  counts = let before : length now + suc (length left) ≡ length old + length names = so_far.counts in omega (arith, length-one one);
+  counts = omega (arith, so_far.counts, length-one one);
   small = omega (arith, length-one one);
 }
 

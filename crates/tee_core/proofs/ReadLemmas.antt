@@ -18,7 +18,7 @@ use Rattle.tee_core.specs.inner.Steps.{Copies, CopiesRead, all_of}
 
 nothing_more : {x : List ℕ} (rest : List ℕ) → x ≡ x ++ rest → rest ≡ []
 nothing_more [] is = refl
-nothing_more {x} (byte ∷ rest) is = absurd (let size : length (x ++ byte ∷ rest) ≡ length x + length (byte ∷ rest) = length-append x (byte ∷ rest) in omega (arith, ap length is, size))
+nothing_more {x} (byte ∷ rest) is = absurd (omega (arith, length-append x (byte ∷ rest), ap length is))
 
 untold : (told : Bool) (source : Source) (rest : List ℕ) → told ≡ false → LeavesOf told source rest
 untold told source rest is = λ tells. absurd (false≢true (sym is ∙ tells))
@@ -102,4 +102,4 @@ pub vain_copied : {told_in : Bool} (told : Bool) {mode : Mode} {names : List (Li
     → source.is_broken ≡ false → IsRead content (LeavesOf told_in source) true (came ++ take n buffer) None → Copies told mode names (pieces ++ take n buffer ∷ []) [] slots known → CopiesRead told_in told mode names content source slots known None
 vain_copied told {came} buffer pieces {n} joined vain sized some within most counted is few sound read copies =
     reads_copied told (ap (λ bytes. bytes ++ take n buffer) joined ∙ joined_more pieces (take n buffer)) vain (more_sized pieces buffer sized some within most)
-    (let all = counted_more came buffer n counted within is in omega (arith, all, few)) (inr sound) read copies
+    (omega (arith, counted_more came buffer n counted within is, few)) (inr sound) read copies

@@ -58,8 +58,7 @@ says_after told texts text output error files now new so_far says =
     let said = says output so_far.0 files so_far.2 in (said.0, says_more told Tee texts text error so_far.0 said.0 so_far.1 said.1, said.2)
 
 pub says_too : (told : Bool) (texts : List (List ℕ)) (text : List ℕ) {count : ℕ} {old : List Slot} (now new : List Slot) → HasStreams old count → SaysTo told texts old now → SaysOn told Tee text now new → SaysTo told (texts ++ text ∷ []) old new
-says_too told texts text now new has so_far says =
-    subst (λ those. SaysTo told (texts ++ text ∷ []) those new) (sym has.are)
+says_too told texts text now new has so_far says = subst (λ those. SaysTo told (texts ++ text ∷ []) those new) (sym has.are)
     (says_after told texts text has.output has.error has.files now new (subst (λ those. SaysTo told texts those now) has.are so_far) says)
 
 broken_still : (told : Bool) (texts : List (List ℕ)) (output error : Slot) (files now : List Slot) (n : ℕ) → SaysTo told texts (output ∷ error ∷ files) now → (slot_at now (output_slot n)).is_broken ≡ get_or (broken_of (output ∷ error ∷ files)) n false
@@ -95,7 +94,7 @@ tells_next told {fault} {names} {before} {known} other {n} {count} {old} {now} {
       flags = ap (λ those. set those n broken) so_far.known_are ∙ ap (set (take n (broken_of old) ++ drop n before) n) here ∙ set_next n before (broken_of old) within (broken_are ∙ sym many)
 
       step : said_since fault (drop n names) (drop n before) (drop n (broken_of old)) ≡ (if not (get_or known n other) && broken then message_of Tee fault name ∷ [] else []) ++ said_since fault (drop (suc n) names) (drop (suc n) before) (drop (suc n) (broken_of old))
-      step = said_next fault names before (broken_of old) n (let e : length names ≡ count + 1 = names_many in omega (arith, within, many)) (many ∙ sym names_many) (broken_are ∙ sym names_many)
+      step = said_next fault names before (broken_of old) n (omega (arith, names_many, within, many)) (many ∙ sym names_many) (broken_are ∙ sym names_many)
           ∙ ap (λ (those : List ℕ). (if not (get_or before n false) && get_or (broken_of old) n false then message_of Tee fault those ∷ [] else []) ++ said_since fault (drop (suc n) names) (drop (suc n) before) (drop (suc n) (broken_of old))) (sym named)
           ∙ ap (λ (flag : Bool). (if not flag && get_or (broken_of old) n false then message_of Tee fault name ∷ [] else []) ++ said_since fault (drop (suc n) names) (drop (suc n) before) (drop (suc n) (broken_of old))) (sym was)
           ∙ ap (λ (flag : Bool). (if not (get_or known n other) && flag then message_of Tee fault name ∷ [] else []) ++ said_since fault (drop (suc n) names) (drop (suc n) before) (drop (suc n) (broken_of old))) (sym here)
