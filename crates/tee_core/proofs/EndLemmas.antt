@@ -14,9 +14,9 @@ use Rattle.ports_core.specs.declared.fault.Fault.TheVariants.{Memory}
 use Rattle.ports_core.specs.Inputs.{BreaksOnly, OfContent, empty}
 use Rattle.ports_core.specs.Streams.{standard_output, standard_error}
 use Rattle.ports_core.proofs.InputsLemmas.{of_content}
-use Rattle.tee_core.specs.Run.{EndsAs, copied, no_room, file_whole, file_unopened, file_cut, file_unclosed, FilesLeft, no_file, one_file, ComesIn, IsRead, to_end, to_break, to_limit, to_last_output, IsUnread, OutputLeft, output_whole, output_cut, all_copied, are_sound, broke_before, messages_of, none_left, output_names, said_before, said_in, status_of}
+use Rattle.tee_core.specs.Run.{EndsAs, copied, no_room, file_whole, file_unopened, file_cut, file_unclosed, FileLeft, FilesLeft, no_file, one_file, ComesIn, IsRead, to_end, to_break, to_limit, to_last_output, IsUnread, OutputLeft, output_whole, output_cut, all_copied, are_sound, broke_before, messages_of, none_left, output_names, said_before, said_in, status_of}
 use Rattle.std.specs.Prelude.{is_none}
-use Rattle.tee_core.specs.inner.Steps.{CopiesInput, any_of}
+use Rattle.tee_core.specs.inner.Steps.{EachFile, no_more, one_more, CopiesInput, any_of}
 
 -- the status
 
@@ -32,9 +32,13 @@ status_is broke fault failed failing is =
     ap (λ (flag : Bool). if flag then 1 else 0) (failing ∙ ap (λ flags. not (is_none fault) || any_of flags) is ∙ ap (λ (flag : Bool). not (is_none fault) || flag) (any_broken broke))
     ∙ one_fails (is_none fault) (are_sound broke)
 
+all_left : {told : Bool} {mode : Mode} {pieces names : List (List ℕ)} {broke : List (Option ℕ)} {files : List Slot} → EachFile (FileLeft told mode pieces) names broke files → FilesLeft told mode pieces names broke files
+all_left no_more = no_file
+all_left (one_more name names first broke file files one rest) = one_file name names first broke file files one (all_left rest)
+
 pub ends_copied : {told_in : Bool} (told : Bool) {mode : Mode} {names : List (List ℕ)} {content : Content} {source : Source} {new : List Slot} (failed : Bool) {status : ℕ} → status ≡ (if failed then 1 else 0) → CopiesInput told_in told mode names content source new failed → EndsAs told_in told mode names content source new status
 ends_copied {told_in} told {content} {source} failed is copies =
-    copied copies.pieces copies.fault copies.copied.first copies.copied.broke copies.copied.output copies.copied.error copies.copied.files (subst (λ (flag : Bool). ComesIn told_in content source flag copies.pieces copies.fault) (sym copies.copied.vain_is) copies.read) copies.copied.some_left copies.copied.output_left copies.copied.files_left copies.copied.said copies.copied.are
+    copied copies.pieces copies.fault copies.copied.first copies.copied.broke copies.copied.output copies.copied.error copies.copied.files (subst (λ (flag : Bool). ComesIn told_in content source flag copies.pieces copies.fault) (sym copies.copied.vain_is) copies.read) copies.copied.some_left copies.copied.output_left (all_left copies.copied.files_left) copies.copied.said copies.copied.are
     (is ∙ status_is (copies.copied.first ∷ copies.copied.broke) copies.fault failed copies.failed_is copies.copied.known_are)
 
 pub of_content_too : (told : Bool) (there : Content) (P Q : Content → Type 0) → ((content : Content) → P content → Q content) → OfContent told there P → OfContent told there Q

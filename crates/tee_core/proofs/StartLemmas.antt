@@ -9,22 +9,19 @@ use Rattle.ports_core.proofs.Runs.{adds-nil}
 use Rattle.ports_core.specs.Streams.{standard_output, standard_error}
 use Rattle.tee_core.specs.Opening.{OpensAs, is_opened, is_unopened, OpensEach, no_more, one_more, Opens}
 use Rattle.tee_core.specs.Run.{OutputLeft, output_whole, fault_in, output_names}
-use Rattle.tee_core.specs.inner.Steps.{Copies, FileHas, has_all, has_none, FilesHave, HasStreams, IsTeeOf, SaysTo, all_of, broken_of, said_since}
+use Rattle.tee_core.specs.inner.Steps.{Copies, FileHas, has_all, has_none, EachFile, HasStreams, IsTeeOf, SaysTo, all_of, broken_of, said_since}
 use Rattle.tee_core.specs.inner.Steps as steps
 use Rattle.tee_core.specs.TeeState.{TeeState}
-use Rattle.tee_core.proofs.CopyLemmas.{AllMark, Marks, all_marked, marked_none, marked_now, none_marked, none_now, said_marked}
+use Rattle.tee_core.proofs.CopyLemmas.{AllMark, Marked, all_marked, marked_none, marked_now, none_marked, none_now, said_marked}
 use Rattle.tee_core.proofs.OpeningLemmas.{length-since}
 
-abbrev FileStarts : Bool → Mode → List ℕ → Slot → Type 0
-FileStarts told mode name file = (first : Option ℕ) × FileHas told mode [] name first file × Marks 0 None first false file.is_broken
-
-file_starts : (told : Bool) {mode : Mode} {name : List ℕ} {file : Slot} → OpensAs mode name file → FileStarts told mode name file
+file_starts : (told : Bool) {mode : Mode} {name : List ℕ} {file : Slot} → OpensAs mode name file → Marked (FileHas told mode [] name) 0 None false file
 file_starts told {mode} {name} is_opened = (None, subst (FileHas told mode [] name None) (adds-nil told (opened name mode)) has_all, marked_none)
 file_starts told (is_unopened kept named) = (Some 0, has_none kept named, marked_now)
 
 abbrev FilesStart : Bool → Mode → List (List ℕ) → List Slot → Type 0
 FilesStart told mode names files =
-    (broke : List (Option ℕ)) × FilesHave told mode [] names broke files × AllMark 0 (replicate (length names) None) broke (replicate (length names) false) (map (λ (file : Slot). file.is_broken) files)
+    (broke : List (Option ℕ)) × EachFile (FileHas told mode []) names broke files × AllMark 0 (replicate (length names) None) broke (replicate (length names) false) (map (λ (file : Slot). file.is_broken) files)
 
 files_start : (told : Bool) {mode : Mode} {names : List (List ℕ)} {files : List Slot} → OpensEach mode names files → FilesStart told mode names files
 files_start told no_more = ([], steps.no_more, none_marked)
