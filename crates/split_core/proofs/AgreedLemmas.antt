@@ -34,13 +34,13 @@ abbrev pub named_bytes : Naming → ℕ → List (List ℕ) → List (List ℕ)
 named_bytes names place [] = []
 named_bytes names place (one ∷ those) = cond (is_named names place) (one ∷ named_bytes names (place + 1) those) []
 
-file_step : (is : Bool) (file : File) (files : List File) (those : List (List ℕ)) → map (λ (file : File). file.bytes) files ≡ those → map (λ (file : File). file.bytes) (cond is (file ∷ files) []) ≡ cond is (file.bytes ∷ those) []
-file_step true file files those are = ap (λ rest. file.bytes ∷ rest) are
-file_step false file files those are = refl
+file_step : (is : Bool) (file : File) (files : List File) {those : List (List ℕ)} → map (λ (file : File). file.bytes) files ≡ those → map (λ (file : File). file.bytes) (cond is (file ∷ files) []) ≡ cond is (file.bytes ∷ those) []
+file_step true file files are = ap (λ rest. file.bytes ∷ rest) are
+file_step false file files are = refl
 
 pub bytes_named : (names : Naming) (place : ℕ) (shares : List Share) → map (λ (file : File). file.bytes) (named names place shares) ≡ named_bytes names place (map (λ (file : Share). file.bytes) shares)
 bytes_named names place [] = refl
-bytes_named names place (one ∷ shares) = file_step (is_named names place) (file_at names place one) (named names (place + 1) shares) _ (bytes_named names (place + 1) shares)
+bytes_named names place (one ∷ shares) = file_step (is_named names place) (file_at names place one) (named names (place + 1) shares) (bytes_named names (place + 1) shares)
 
 more_step : (is : Bool) (one : List ℕ) (all front : List (List ℕ)) → (more : List (List ℕ)) × (all ≡ front ++ more) → (more : List (List ℕ)) × (cond is (one ∷ all) [] ≡ cond is (one ∷ front) [] ++ more)
 more_step true one all front (more, are) = (more, ap (λ rest. one ∷ rest) are)
@@ -90,8 +90,8 @@ pub record Decides (limit : Limit) (x : List ℕ) : Type 0 where
   pub are : parts limit (x ++ y) ≡ settled_list limit x ++ more
 
 -- the end is one, where nothing waits
-decides_now : (limit : Limit) (x : List ℕ) → settled_rest limit (cut_up limit x).rest ≡ (cut_up limit x).rest → Decides limit x
-decides_now limit x same = record {
+decides_now : {limit : Limit} {x : List ℕ} → settled_rest limit (cut_up limit x).rest ≡ (cut_up limit x).rest → Decides limit x
+decides_now {limit} {x} same = record {
   y = [];
   comes = none_comes;
   more = [];
@@ -110,7 +110,7 @@ filling delim n rest = replicate (n - length rest) (other delim)
 -- a part that is full without a further line ends with its last one
 line_ends : (delim n : ℕ) (rest : List ℕ) → 0 < n → length rest < n → 0 < delimiters delim rest → parts (LineBytes n delim) (rest ++ filling delim n rest) ≡ whole_lines delim rest ∷ parts (LineBytes n delim) (after_first (LineBytes n delim) (rest ++ filling delim n rest))
 line_ends delim n rest some short lines =
-    let size : length (rest ++ filling delim n rest) ≡ n = (let sum = length-append rest (filling delim n rest) in let all = length-replicate (n - length rest) (other delim) in omega (arith, sum, all, short)) in
+    let size : length (rest ++ filling delim n rest) ≡ n = (omega (arith, length-append rest (filling delim n rest), length-replicate (n - length rest) (other delim), short)) in
     ap (λ cut. cut.full ++ unless_empty cut.rest) (cut_first (LineBytes n delim) (rest ++ filling delim n rest) (full_from (LineBytes n delim) (rest ++ filling delim n rest) some (omega (arith, size))))
     ∙ ap (λ part. part ∷ parts (LineBytes n delim) (after_first (LineBytes n delim) (rest ++ filling delim n rest)))
     (ap (whole_lines delim) (take_all n (rest ++ filling delim n rest) (omega (arith, size))) ∙ lines_stay delim rest (filling delim n rest) lines (none_among delim (n - length rest)))
@@ -122,8 +122,8 @@ one_of (byte ∷ bytes) some = refl
 pub delimiters_some : (delim : ℕ) (x : List ℕ) → 0 < delimiters delim x → 0 < length x
 delimiters_some delim x some = omega (arith, some, delimiters-le-length delim x)
 
-pub decides_lines : (delim n : ℕ) (x : List ℕ) → 0 < n → 0 < delimiters delim (cut_up (LineBytes n delim) x).rest → Decides (LineBytes n delim) x
-decides_lines delim n x some lines =
+pub decides_lines : (delim n : ℕ) {x : List ℕ} → 0 < n → 0 < delimiters delim (cut_up (LineBytes n delim) x).rest → Decides (LineBytes n delim) x
+decides_lines delim n {x} some lines =
     let full = (cut_up (LineBytes n delim) x).full in let rest = (cut_up (LineBytes n delim) x).rest in
     let next = parts (LineBytes n delim) (after_first (LineBytes n delim) (rest ++ filling delim n rest)) in record {
       y = filling delim n rest;
@@ -135,27 +135,26 @@ decides_lines delim n x some lines =
           ∙ ap (λ those. (full ++ those) ++ next) (sym (one_of (whole_lines delim rest) (whole_some delim rest (delimiters_some delim rest lines))));
     }
 
-decides : (limit : Limit) → 0 < most limit → (x : List ℕ) → Decides limit x
-decides (Lines n delim) some x = decides_now (Lines n delim) x refl
-decides (Bytes n) some x = decides_now (Bytes n) x refl
-decides (LineBytes n delim) some x = elim (cases_lt 0 (delimiters delim (cut_up (LineBytes n delim) x).rest)) [
-  | inl lines ↦ decides_lines delim n x some lines
-  | inr none ↦ decides_now (LineBytes n delim) x (whole_of_none delim (cut_up (LineBytes n delim) x).rest (omega (arith, none)))
+decides : (limit : Limit) → 0 < most limit → {x : List ℕ} → Decides limit x
+decides (Lines n delim) some = decides_now refl
+decides (Bytes n) some = decides_now refl
+decides (LineBytes n delim) some {x} = elim (cases_lt 0 (delimiters delim (cut_up (LineBytes n delim) x).rest)) [
+  | inl lines ↦ decides_lines delim n some lines
+  | inr none ↦ decides_now (whole_of_none delim (cut_up (LineBytes n delim) x).rest (omega (arith, none)))
 ]
 
-parts_agreed_by : (limit : Limit) (names : Naming) (x : List ℕ) → Decides limit x → IsAgreed (parts_work limit names) x ((parts_work limit names).settled x)
-parts_agreed_by limit names x decides =
+parts_agreed_by : {limit : Limit} (names : Naming) {x : List ℕ} → Decides limit x → IsAgreed (parts_work limit names) x ((parts_work limit names).settled x)
+parts_agreed_by {limit} names {x} decides =
     let further = named_more names 0 (settled_list limit x) decides.more in
     agreed_by (parts_work limit names) x [] decides.y further.0 (common (parts_work limit names) (part_law.lawful limit names) x) none_comes decides.comes count
     (ap (λ files. [] ∷ files) (whole_files limit names (x ++ decides.y) ∙ ap (named_bytes names 0) decides.are ∙ further.1 ∙ ap (λ files. files ++ further.0) (sym (settled_files limit names x)))) where
       count : length (outputs_of ((parts_work limit names).whole (x ++ []))) ≡ length (outputs_of ((parts_work limit names).settled x))
-      count = ap suc
-          (ap length (whole_files limit names (x ++ []))
+      count = ap suc (ap length (whole_files limit names (x ++ []))
           ∙ count_named names 0 (parts limit (x ++ [])) (settled_list limit x) (ap (λ all. length (parts limit all)) (append-nil x) ∙ sym (list_count limit x))
           ∙ ap length (sym (settled_files limit names x)))
 
-pub parts_agreed : (limit : Limit) (names : Naming) → 0 < most limit → (x : List ℕ) → IsAgreed (parts_work limit names) x ((parts_work limit names).settled x)
-parts_agreed limit names some x = parts_agreed_by limit names x (decides limit some x)
+pub parts_agreed : (limit : Limit) (names : Naming) → 0 < most limit → {x : List ℕ} → IsAgreed (parts_work limit names) x ((parts_work limit names).settled x)
+parts_agreed limit names some = parts_agreed_by names (decides limit some)
 
 -- Lines that are dealt
 
@@ -165,8 +164,8 @@ dealt_settled delim n elide names x = bytes_named names 0 (map (share Open) (dea
 pub dealt_whole : (delim n : ℕ) (elide : Bool) (names : Naming) (x : List ℕ) → file_bytes (whole_by (round_plan delim n elide names) x) ≡ named_bytes names 0 (dealt_files delim elide n x)
 dealt_whole delim n elide names x = bytes_named names 0 (map (share Closed) (dealt_files delim elide n x)) ∙ ap (named_bytes names 0) (bytes_of_shares Closed (dealt_files delim elide n x))
 
-round_agreed : (delim n : ℕ) (elide : Bool) (names : Naming) (x : List ℕ) → IsAgreed (split_work (round_plan delim n elide names)) x (settled_by (round_plan delim n elide names) x)
-round_agreed delim n elide names x = agreed_now (split_work (round_plan delim n elide names)) x (common (round_work (round_plan delim n elide names)) (round_law.lawful delim n elide names) x)
+round_agreed : (delim n : ℕ) (elide : Bool) (names : Naming) {x : List ℕ} → IsAgreed (split_work (round_plan delim n elide names)) x (settled_by (round_plan delim n elide names) x)
+round_agreed delim n elide names {x} = agreed_now (split_work (round_plan delim n elide names)) x (common (round_work (round_plan delim n elide names)) (round_law.lawful delim n elide names) x)
     (ap (λ files. [] ∷ files) (dealt_whole delim n elide names x ∙ sym (dealt_settled delim n elide names x)))
 
 -- All ways to cut
@@ -174,11 +173,11 @@ round_agreed delim n elide names x = agreed_now (split_work (round_plan delim n 
 abbrev pub plan_by : ℕ → Cut → Bool → Naming → Plan
 plan_by delim cut elide names = record { delim = delim; cut = cut; elide = elide; names = names }
 
-agreed_at : (delim : ℕ) (cut : Cut) (elide : Bool) (names : Naming) → IsPositive cut → (x : List ℕ) → IsAgreed (split_work (plan_by delim cut elide names)) x ((split_work (plan_by delim cut elide names)).settled x)
-agreed_at delim (cut.Lines n) elide names some x = parts_agreed (Lines n delim) names some x
-agreed_at delim (cut.Bytes n) elide names some x = parts_agreed (Bytes n) names some x
-agreed_at delim (cut.LineBytes n) elide names some x = parts_agreed (LineBytes n delim) names some x
-agreed_at delim (cut.Round n) elide names some x = round_agreed delim n elide names x
+agreed_at : (delim : ℕ) (cut : Cut) (elide : Bool) (names : Naming) → IsPositive cut → {x : List ℕ} → IsAgreed (split_work (plan_by delim cut elide names)) x ((split_work (plan_by delim cut elide names)).settled x)
+agreed_at delim (cut.Lines n) elide names some = parts_agreed (Lines n delim) names some
+agreed_at delim (cut.Bytes n) elide names some = parts_agreed (Bytes n) names some
+agreed_at delim (cut.LineBytes n) elide names some = parts_agreed (LineBytes n delim) names some
+agreed_at delim (cut.Round n) elide names some = round_agreed delim n elide names
 
 pub split_agreed : (plan : Plan) → IsPositive plan.cut → (x : List ℕ) → IsAgreed (split_work plan) x ((split_work plan).settled x)
-split_agreed plan some x = agreed_at plan.delim plan.cut plan.elide plan.names some x
+split_agreed plan some x = agreed_at plan.delim plan.cut plan.elide plan.names some

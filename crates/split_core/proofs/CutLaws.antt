@@ -23,7 +23,7 @@ pub open_of_lines : (delim : ℕ) (x : List ℕ) → 0 < delimiters delim x → 
 open_of_lines delim x some = ap (λ has. cond has (after_lines delim (delimiters delim x) x) []) (has_lines (delimiters delim x) some)
 
 pub open_of_none : (delim : ℕ) (x : List ℕ) → delimiters delim x ≡ 0 → open_line delim x ≡ []
-open_of_none delim x none = ap (λ has. cond has (after_lines delim (delimiters delim x) x) []) (without_lines (delimiters delim x) none)
+open_of_none delim x none = ap (λ has. cond has (after_lines delim (delimiters delim x) x) []) (without_lines none)
 
 whole_is_take : (delim : ℕ) (x : List ℕ) → whole_lines delim x ≡ take (length (whole_lines delim x)) x
 whole_is_take delim x = by (nat_lt 0 (delimiters delim x)) where
@@ -47,18 +47,17 @@ first_is_take (LineBytes n delim) x = whole_is_take delim (take n x) ∙ take-ta
 pub first_then_after : (limit : Limit) (x : List ℕ) → first_part limit x ++ after_first limit x ≡ x
 first_then_after limit x = ap (λ front. front ++ after_first limit x) (first_is_take limit x) ∙ take-append-drop (length (first_part limit x)) x
 
-cuts_all : (limit : Limit) (x : List ℕ) (parts : List (List ℕ)) (rest : List ℕ) → Cuts limit x parts rest → joined parts ++ rest ≡ x
-cuts_all limit x _ _ (stops _ short) = refl
-cuts_all limit x _ rest (goes _ parts _ full after) =
-    append_assoc (first_part limit x) (joined parts) rest ∙ ap (λ those. first_part limit x ++ those) (cuts_all limit (after_first limit x) parts rest after) ∙ first_then_after limit x
+cuts_all : {limit : Limit} {x : List ℕ} {parts : List (List ℕ)} {rest : List ℕ} → Cuts limit x parts rest → joined parts ++ rest ≡ x
+cuts_all (stops _ short) = refl
+cuts_all {limit} {x} {rest} (goes _ parts _ full after) =
+    append_assoc (first_part limit x) (joined parts) rest ∙ ap (λ those. first_part limit x ++ those) (cuts_all after) ∙ first_then_after limit x
 
 -- nothing is lost
-pub cut_all : (limit : Limit) (x : List ℕ) → joined (cut_up limit x).full ++ (cut_up limit x).rest ≡ x
-cut_all limit x = cuts_all limit x _ _ (cuts_up limit x)
+pub cut_all : (limit : Limit) {x : List ℕ} → joined (cut_up limit x).full ++ (cut_up limit x).rest ≡ x
+cut_all limit = cuts_all (cuts_up)
 
-pub cut_two : (limit : Limit) (x first next : List ℕ) → is_full limit x ≡ true → first_part limit x ≡ first → x ≡ first ++ next → is_full limit next ≡ false → cut_up limit x ≡ cut_so (first ∷ []) next
-cut_two limit x first next full is both short =
+pub cut_two : (limit : Limit) {x first : List ℕ} (next : List ℕ) → is_full limit x ≡ true → first_part limit x ≡ first → x ≡ first ++ next → is_full limit next ≡ false → cut_up limit x ≡ cut_so (first ∷ []) next
+cut_two limit {x} {first} next full is both short =
     let after : after_first limit x ≡ next = ap (λ (front : List ℕ). drop (length front) x) is ∙ ap (drop (length first)) both ∙ drop-append_seam first next in
-    cut_once limit x (first ∷ []) next
-    (subst (λ front. Cuts limit x (front ∷ []) next) is
+    cut_once limit (subst (λ front. Cuts limit x (front ∷ []) next) is
     (goes x [] next full (subst (λ those. Cuts limit those [] next) (sym after) (stops next short))))

@@ -27,14 +27,14 @@ pub record Dealing (delim n start : ℕ) (piece : List ℕ) (gathered : List (Li
   pub few : reached ≤ n
   pub over : next ≤ reached
 
-none_first : (ends : Bool) (count : ℕ) → cond ends (count + 1) count ≡ 0 → (ends ≡ false) × (count ≡ 0)
-none_first true count none = absurd (omega (arith, none))
-none_first false count none = (refl, none)
+none_first : (ends : Bool) {count : ℕ} → cond ends (count + 1) count ≡ 0 → (ends ≡ false) × (count ≡ 0)
+none_first true none = absurd (omega (arith, none))
+none_first false none = (refl, none)
 
 pub has_none : (delim : ℕ) (x : List ℕ) → delimiters delim x ≡ 0 → HasNone delim x
 has_none delim [] none = tt
 has_none delim (byte ∷ x) none =
-    let first = none_first (eqb byte delim) (delimiters delim x) none in
+    let first = none_first (eqb byte delim) none in
     ((λ is. false≢true (sym first.0 ∙ eq-eqb byte delim is)), has_none delim x first.1)
 
 get_or-changed : (place : ℕ) (line : List ℕ) (xs : List (List ℕ)) (file : ℕ) → file < length xs → get_or (changed_at place (λ had. had ++ line) xs) file [] ≡ cond (eqb place file) (get_or xs file [] ++ line) (get_or xs file [])
@@ -52,9 +52,9 @@ came true had line rest = append_assoc had line rest
 came false had line rest = refl
 
 -- a line was gathered, and the place is that of what follows
-shares_next : (n next place : ℕ) (gathered : List (List ℕ)) (line : List ℕ) (lines : List (List ℕ)) (file : ℕ) → length gathered ≡ n → next < n → file < n → dealt n file place lines ≡ dealt n file (next + 1) lines
+shares_next : {n : ℕ} (next place : ℕ) (gathered : List (List ℕ)) (line : List ℕ) (lines : List (List ℕ)) (file : ℕ) → length gathered ≡ n → next < n → file < n → dealt n file place lines ≡ dealt n file (next + 1) lines
     → get_or (changed_at next (λ had. had ++ line) gathered) file [] ++ dealt n file place lines ≡ get_or gathered file [] ++ dealt n file next (line ∷ lines)
-shares_next n next place gathered line lines file count within inside same =
+shares_next {n} next place gathered line lines file count within inside same =
     ap (λ had. had ++ dealt n file place lines) (get_or-changed next line gathered file (omega arith))
     ∙ came (eqb next file) (get_or gathered file []) line (dealt n file place lines)
     ∙ ap (λ rest. get_or gathered file [] ++ cond (eqb next file) (line ++ rest) rest) same
@@ -64,71 +64,68 @@ counted : (delim : ℕ) (left line rest : List ℕ) → lines_of delim left ≡ 
 counted delim left line rest cut = ap length cut
 
 -- one line more was gathered
-complete_line : (delim n start : ℕ) (piece : List ℕ) (gathered now : List (List ℕ)) (next reached reached_now : ℕ) (left line rest : List ℕ) → Dealing delim n start piece gathered next reached left
+complete_line : {delim n start : ℕ} {piece : List ℕ} {gathered now : List (List ℕ)} {next reached reached_now : ℕ} {left : List ℕ} (line : List ℕ) {rest : List ℕ} → Dealing delim n start piece gathered next reached left
     → lines_of delim left ≡ line ∷ lines_of delim rest → delimiters delim left ≡ delimiters delim rest + 1 → now ≡ changed_at next (λ had. had ++ line) gathered → reached_now ≡ max reached (next + 1)
     → Dealing delim n start piece now ((next + 1) % n) reached_now rest
-complete_line delim n start piece gathered now next reached reached_now left line rest so_far cut more is reached_is = record {
+complete_line {delim} {n} {start} {piece} {gathered} {next} {reached} {reached_now} {left} line {rest} so_far cut more is reached_is = record {
   count = ap length is ∙ length-changed_at next _ gathered ∙ so_far.count;
-  within = let inside : next < n = so_far.within in omega arith;
+  within = omega (arith, so_far.within);
   shares = λ file inside. ap (λ those. get_or those file [] ++ dealt n file ((next + 1) % n) (lines_of delim rest)) is
-      ∙ shares_next n next ((next + 1) % n) gathered line (lines_of delim rest) file so_far.count so_far.within inside (dealt_same n file ((next + 1) % n) (next + 1) (lines_of delim rest) (mod-mod (next + 1) n))
+      ∙ shares_next next ((next + 1) % n) gathered line (lines_of delim rest) file so_far.count so_far.within inside (dealt_same n file ((next + 1) % n) (next + 1) (lines_of delim rest) (mod-mod (next + 1) n))
       ∙ ap (λ lines. get_or gathered file [] ++ dealt n file next lines) (sym cut) ∙ so_far.shares file inside;
   ends = mod-add-mod (next + 1) n (delimiters delim rest) ∙ ap (λ place. place % n) sum ∙ so_far.ends;
   reaches = reaches;
-  few = let inside : next < n = so_far.within in let few : reached ≤ n = so_far.few in omega arith;
-  over = let small = mod-le (next + 1) n in omega arith;
+  few = omega (arith, so_far.within, so_far.few);
+  over = omega (arith, mod-le (next + 1) n);
 } where
   sum : next + 1 + delimiters delim rest ≡ next + delimiters delim left
   sum = omega arith
 
   reaches : max reached_now (min n ((next + 1) % n + line_count delim rest)) ≡ min n (start + line_count delim piece)
   reaches = elim (cases_eq (next + 1) n) [
-    | inl last ↦ (let none : (next + 1) % n ≡ 0 = ap (λ place. place % n) last ∙ mod_self n in let all = so_far.reaches in let one = counted delim left line rest cut in let few : reached ≤ n = so_far.few in omega arith)
-    | inr other ↦ (let inside : next < n = so_far.within in let same : (next + 1) % n ≡ next + 1 = mod-eq_of_lt (omega (arith, other)) in let all = so_far.reaches in let one = counted delim left line rest cut in let few : reached ≤ n = so_far.few in omega arith)
+    | inl last ↦ (omega (arith, ap (λ place. place % n) last ∙ mod_self n, so_far.reaches, counted delim left line rest cut, so_far.few))
+    | inr other ↦ (let inside : next < n = so_far.within in let same : (next + 1) % n ≡ next + 1 = mod-eq_of_lt (omega (arith, other)) in omega (arith, so_far.reaches, counted delim left line rest cut, so_far.few))
   ]
 
 -- the same, where the place is known by its number
-pub line_more : (delim n start : ℕ) (piece : List ℕ) (gathered now : List (List ℕ)) (next reached reached_now size place : ℕ) (left line rest : List ℕ) → Dealing delim n start piece gathered next reached left
+pub line_more : {delim n start : ℕ} {piece : List ℕ} {gathered now : List (List ℕ)} {next reached reached_now size place : ℕ} {left : List ℕ} (line : List ℕ) {rest : List ℕ} → Dealing delim n start piece gathered next reached left
     → IsFirstLine delim left line rest → now ≡ changed_at next (λ had. had ++ line) gathered → reached_now ≡ max reached (next + 1) → size ≡ n → place ≡ (next + 1) % size
     → Dealing delim n start piece now place reached_now rest
-line_more delim n start piece gathered now next reached reached_now size place left line rest so_far cut is reached_is same goes =
-    rw (goes, same) (complete_line delim n start piece gathered now next reached reached_now left line rest so_far cut.first cut.counted is reached_is)
+line_more line so_far cut is reached_is same goes = rw (goes, same) (complete_line line so_far cut.first cut.counted is reached_is)
 
 -- the place after the last is the first again: then all files are reached
-pub line_goes_round : (delim n start : ℕ) (piece : List ℕ) (gathered now : List (List ℕ)) (next reached count : ℕ) (left line rest : List ℕ) → Dealing delim n start piece gathered next (max reached next) left
+pub line_goes_round : {delim n start : ℕ} {piece : List ℕ} {gathered now : List (List ℕ)} {next : ℕ} (reached : ℕ) {count : ℕ} {left : List ℕ} (line : List ℕ) {rest : List ℕ} → Dealing delim n start piece gathered next (max reached next) left
     → IsFirstLine delim left line rest → now ≡ changed_at next (λ had. had ++ line) gathered → count ≡ n → count ≤ next + 1 → Dealing delim n start piece now 0 (max count 0) rest
-line_goes_round delim n start piece gathered now next reached count left line rest so_far cut is same last =
+line_goes_round {n} {next} reached line so_far cut is same last =
     let few : max reached next ≤ n = so_far.few in
     let inside : next < n = so_far.within in
     let all : next + 1 ≡ n = omega (arith, inside, same, last) in
-    line_more delim n start piece gathered now next (max reached next) (max count 0) n 0 left line rest so_far cut is (omega (arith, few, all, same)) refl (sym (ap (λ k. k % n) all ∙ mod_self n))
+    line_more line so_far cut is (omega (arith, few, all, same)) refl (sym (ap (λ k. k % n) all ∙ mod_self n))
 
-pub line_goes_on : (delim n start : ℕ) (piece : List ℕ) (gathered now : List (List ℕ)) (next reached count : ℕ) (left line rest : List ℕ) → Dealing delim n start piece gathered next (max reached next) left
+pub line_goes_on : {delim n start : ℕ} {piece : List ℕ} {gathered now : List (List ℕ)} {next : ℕ} (reached : ℕ) {count : ℕ} {left : List ℕ} (line : List ℕ) {rest : List ℕ} → Dealing delim n start piece gathered next (max reached next) left
     → IsFirstLine delim left line rest → now ≡ changed_at next (λ had. had ++ line) gathered → count ≡ n → next + 1 < count → Dealing delim n start piece now (next + 1) (max reached (next + 1)) rest
-line_goes_on delim n start piece gathered now next reached count left line rest so_far cut is same more =
-    line_more delim n start piece gathered now next (max reached next) (max reached (next + 1)) n (next + 1) left line rest so_far cut is (omega arith) refl (sym (mod-eq_of_lt (omega (arith, same, more))))
+line_goes_on reached line so_far cut is same more = line_more line so_far cut is (omega arith) refl (sym (mod-eq_of_lt (omega (arith, same, more))))
 
 -- no complete line is left: there is nothing after the open line
-open_line : (delim n start : ℕ) (piece : List ℕ) (gathered now : List (List ℕ)) (next reached reached_now : ℕ) (line : List ℕ) → Dealing delim n start piece gathered next reached line
+open_line : {delim n start : ℕ} {piece : List ℕ} {gathered now : List (List ℕ)} {next reached reached_now : ℕ} (line : List ℕ) → Dealing delim n start piece gathered next reached line
     → delimiters delim line ≡ 0 → 0 < length line → now ≡ changed_at next (λ had. had ++ line) gathered → reached_now ≡ max reached (next + 1) → Dealing delim n start piece now next reached_now []
-open_line delim n start piece gathered now next reached reached_now line so_far none some is reached_is = record {
+open_line {delim} {n} {gathered} {next} {reached} line so_far none some is reached_is = record {
   count = ap length is ∙ length-changed_at next _ gathered ∙ so_far.count;
   within = so_far.within;
-  shares = λ file inside. ap (λ those. get_or those file [] ++ []) is
-      ∙ shares_next n next next gathered line [] file so_far.count so_far.within inside refl
+  shares = λ file inside. ap (λ those. get_or those file [] ++ []) is ∙ shares_next next next gathered line [] file so_far.count so_far.within inside refl
       ∙ ap (λ lines. get_or gathered file [] ++ dealt n file next lines) (sym one_line) ∙ so_far.shares file inside;
   ends = ap (λ count. (next + count) % n) (sym none) ∙ so_far.ends;
-  reaches = let all = so_far.reaches in let one : line_count delim line ≡ 1 = ap length one_line in let few : reached ≤ n = so_far.few in let inside : next < n = so_far.within in omega arith;
-  few = let inside : next < n = so_far.within in let few : reached ≤ n = so_far.few in omega arith;
+  reaches = omega (arith, so_far.reaches, ap length one_line, so_far.few, so_far.within);
+  few = omega (arith, so_far.within, so_far.few);
   over = omega arith;
 } where
   one_line : lines_of delim line ≡ line ∷ []
   one_line = lines_of-open delim line some (has_none delim line none)
 
 -- one member was put in its place
-pub appended : (gathered : List (List ℕ)) (place : ℕ) (had now line : List ℕ) {E : Type 0} (result : Result (Unit {0}) E) → place < length gathered → had ≡ get_or gathered place had → OnOk result (now ≡ had ++ line)
+pub appended : (gathered : List (List ℕ)) (place : ℕ) {had : List ℕ} (now line : List ℕ) {E : Type 0} (result : Result (Unit {0}) E) → place < length gathered → had ≡ get_or gathered place had → OnOk result (now ≡ had ++ line)
     → OnOk result (set gathered place now ≡ changed_at place (λ those. those ++ line) gathered)
-appended gathered place had now line result within at is =
+appended gathered place {had} now line result within at is =
     on_ok_weaker result (λ (same : now ≡ had ++ line). ap (set gathered place) same ∙ set-changed gathered place (λ those. those ++ line) had within at) is
 
 -- what `gather` owes where nothing is left
@@ -138,46 +135,44 @@ pub record Gathers (delim n start : ℕ) (piece : List ℕ) (gathered : List (Li
   pub reached_is : reached ≡ reached_by delim n start piece
 
 -- all is gathered
-ended : (delim n start : ℕ) (piece : List ℕ) (gathered : List (List ℕ)) (next reached : ℕ) → Dealing delim n start piece gathered next reached []
+ended : {delim n start : ℕ} {piece : List ℕ} {gathered : List (List ℕ)} {next reached : ℕ} → Dealing delim n start piece gathered next reached []
     → Gathers delim n start piece gathered next reached
-ended delim n start piece gathered next reached so_far = record {
+ended {delim} {n} {start} {piece} {gathered} {next} {reached} so_far = record {
   gathered_is = ext_get_or [] gathered (dealt_piece delim n start piece) (so_far.count ∙ sym (length-map-range_with_len (λ file. dealt n file start (lines_of delim piece)) 0 n))
-      (λ file inside. each file (let count : length gathered ≡ n = so_far.count in omega arith));
+      (λ file inside. each file (omega (arith, so_far.count)));
   next_is = let here : next + 0 ≡ next = omega arith in sym (ap (λ place. place % n) here ∙ mod-eq_of_lt so_far.within) ∙ so_far.ends;
-  reached_is = let over : next ≤ reached = so_far.over in let all = so_far.reaches in let few : reached ≤ n = so_far.few in
-      let inside : next < n = so_far.within in omega arith;
+  reached_is = omega (arith, so_far.over, so_far.reaches, so_far.few, so_far.within);
 } where
   each : (file : ℕ) → file < n → get_or gathered file [] ≡ get_or (dealt_piece delim n start piece) file []
-  each file inside =
-      sym (append-nil (get_or gathered file [])) ∙ so_far.shares file inside
+  each file inside = sym (append-nil (get_or gathered file [])) ∙ so_far.shares file inside
       ∙ sym (get_or-map-range_with_len (λ at. dealt n at start (lines_of delim piece)) 0 n file file [] inside (omega arith))
 
-pub ends_here : (delim n start : ℕ) (piece : List ℕ) (gathered : List (List ℕ)) (next reached : ℕ) (left line : List ℕ) → Dealing delim n start piece gathered next reached left → line ≡ left → eqb (length line) 0 ≡ true
+pub ends_here : {delim n start : ℕ} {piece : List ℕ} {gathered : List (List ℕ)} {next reached : ℕ} {left : List ℕ} (line : List ℕ) → Dealing delim n start piece gathered next reached left → line ≡ left → eqb (length line) 0 ≡ true
     → Gathers delim n start piece gathered next reached
-ends_here delim n start piece gathered next reached left line so_far same none =
-    ended delim n start piece gathered next reached (subst (λ those. Dealing delim n start piece gathered next reached those) (no_length left (ap length (sym same) ∙ eqb-true (length line) 0 none)) so_far)
+ends_here {delim} {n} {start} {piece} {gathered} {next} {reached} {left} line so_far same none =
+    ended (subst (λ those. Dealing delim n start piece gathered next reached those) (no_length left (ap length (sym same) ∙ eqb-true (length line) 0 none)) so_far)
 
-pub ends_open : (delim n start : ℕ) (piece : List ℕ) (gathered now : List (List ℕ)) (next reached reached_now : ℕ) (left line : List ℕ) → Dealing delim n start piece gathered next reached left → line ≡ left → delimiters delim left ≡ 0
+pub ends_open : {delim n start : ℕ} {piece : List ℕ} {gathered now : List (List ℕ)} {next reached reached_now : ℕ} {left : List ℕ} (line : List ℕ) → Dealing delim n start piece gathered next reached left → line ≡ left → delimiters delim left ≡ 0
     → eqb (length line) 0 ≡ false → now ≡ changed_at next (λ had. had ++ line) gathered → reached_now ≡ max reached (next + 1) → Gathers delim n start piece now next reached_now
-ends_open delim n start piece gathered now next reached reached_now left line so_far same none some is reached_is =
+ends_open {delim} {n} {start} {piece} {gathered} {next} {reached} line so_far same none some is reached_is =
     let more : length line ≢ 0 = eqb-false (length line) 0 some in
-    ended delim n start piece now next reached_now
-    (open_line delim n start piece gathered now next reached reached_now line (subst (λ those. Dealing delim n start piece gathered next reached those) (sym same) so_far) (ap (delimiters delim) same ∙ none) (omega (arith, more)) is reached_is)
+    ended
+    (open_line line (subst (λ those. Dealing delim n start piece gathered next reached those) (sym same) so_far) (ap (delimiters delim) same ∙ none) (omega (arith, more)) is reached_is)
 
 -- a line that is the first of what was left stands at its beginning
-pub first_taken : (delim : ℕ) (left x line rest : List ℕ) → IsFirstLine delim x line rest → left ≡ x → take (length line) left ≡ line
-first_taken delim left x line rest cut same = ap (take (length line)) (same ∙ cut.whole) ∙ take_at line rest (length line) refl
+pub first_taken : {delim : ℕ} {left x : List ℕ} (line : List ℕ) {rest : List ℕ} → IsFirstLine delim x line rest → left ≡ x → take (length line) left ≡ line
+first_taken line {rest} cut same = ap (take (length line)) (same ∙ cut.whole) ∙ take_at line rest (length line) refl
 
-pub no_longer : (delim : ℕ) (left x line rest : List ℕ) → IsFirstLine delim x line rest → left ≡ x → length line ≤ length left
-no_longer delim left x line rest cut same = omega (arith, simp length-append at (ap length (same ∙ cut.whole)))
+pub no_longer : {delim : ℕ} {left x : List ℕ} (line : List ℕ) {rest : List ℕ} → IsFirstLine delim x line rest → left ≡ x → length line ≤ length left
+no_longer line cut same = omega (arith, simp length-append at (ap length (same ∙ cut.whole)))
 
-pub by_delimiter : (one other : ℕ) (x line rest : List ℕ) → one ≡ other → IsFirstLine one x line rest → IsFirstLine other x line rest
-by_delimiter one other x line rest same first = subst (λ delim. IsFirstLine delim x line rest) same first
+pub by_delimiter : (one other : ℕ) {x : List ℕ} (line : List ℕ) {rest : List ℕ} → one ≡ other → IsFirstLine one x line rest → IsFirstLine other x line rest
+by_delimiter one other {x} line {rest} same first = subst (λ delim. IsFirstLine delim x line rest) same first
 
 -- of a chunk that was copied the first bytes count
-pub chunk_taken : (room new text : List ℕ) (at n chunk : ℕ) → new ≡ take at room ++ (take chunk text ++ drop (at + chunk) room) → at ≤ length room → n ≤ chunk → chunk ≤ length text → take (at + n) new ≡ take at room ++ take n text
-chunk_taken room new text at n chunk is within few enough =
+pub chunk_taken : (room : List ℕ) {new : List ℕ} (text : List ℕ) (at n chunk : ℕ) → new ≡ take at room ++ (take chunk text ++ drop (at + chunk) room) → at ≤ length room → n ≤ chunk → chunk ≤ length text → take (at + n) new ≡ take at room ++ take n text
+chunk_taken room text at n chunk is within few enough =
     let long : length (take at room) ≡ at = length-take-le at room within in
     ap (take (at + n)) is ∙ ap (λ k. take (k + n) (take at room ++ (take chunk text ++ drop (at + chunk) room))) (sym long)
     ∙ take-append-add (take at room) (take chunk text ++ drop (at + chunk) room) n
-    ∙ ap (λ rest. take at room ++ rest) (take-append-le n (take chunk text) (drop (at + chunk) room) (let all = length-take-le chunk text enough in omega arith) ∙ take-take n chunk text few)
+    ∙ ap (λ rest. take at room ++ rest) (take-append-le n (take chunk text) (drop (at + chunk) room) (omega (arith, length-take-le chunk text enough)) ∙ take-take n chunk text few)

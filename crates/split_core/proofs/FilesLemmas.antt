@@ -1,13 +1,14 @@
 -- Lemmas on files that are opened, written and closed in order.
-use Rattle.std.proofs.Common.{◌≡◌, ℕ, ◌+◌, ◌<◌, ◌≤◌, zero, suc, max, Bool, List, [], ◌∷◌, ◌++◌, length, map, take, drop, get_or, inl, inr, refl, sym, ◌∙◌, ap, subst, add-one, arith}
+use Rattle.std.proofs.Common.{◌≡◌, ℕ, ◌+◌, ◌<◌, ◌≤◌, zero, suc, max, Bool, List, [], ◌∷◌, ◌++◌, length, map, take, drop, get_or, Result, Ok, Err, append_assoc, inl, inr, refl, sym, ◌∙◌, ap, subst, arith}
 use Rattle.std.proofs.Math.Seq.{drop-nil}
-use Rattle.std.proofs.lemmas.List.{drop-drop, drop-map, length-map, take-map}
+use Rattle.std.proofs.lemmas.List.{append-nil, drop_all, drop-map, length-map, take-map}
+use Rattle.std.proofs.lemmas.Result.{IfErr-weaker, on_ok_weaker}
 use Rattle.ports_core.specs.Name.{Naming}
 use Rattle.ports_core.specs.Slot.{Slot, changed_at}
-use Rattle.ports_core.specs.Part.{File, OutputsAt, FilesBegin, Begins, IsNext, IsAt}
+use Rattle.ports_core.specs.Part.{File, OutputsAt, StoppedBetween, IsBeginning, FilesBegin, Begins, IsNext, IsAt, Marks}
 use Rattle.ports_core.specs.declared.slot.State.TheVariants.{Open, Closed}
 use Rattle.ports_core.specs.declared.fault.Fault.{Fault}
-use Rattle.ports_core.proofs.PartLemmas.{begins_itself, begins_more, begins_trans, nothing_begins, take_begins_after, marks_by}
+use Rattle.ports_core.proofs.PartLemmas.{begins_itself, begins_more, begins_trans, nothing_begins, marks_by}
 use Rattle.ports_core.proofs.FileLemmas.{gets, ended}
 use Rattle.split_core.specs.Split.{Share, share, name_of, from_start, file_at, only_files}
 use Rattle.split_core.specs.FilesState.{FilesState}
@@ -16,10 +17,9 @@ use Rattle.split_core.specs.laws.RoundLaws.{all_begin_themselves}
 use Rattle.split_core.specs.inner.ShareLaws.{SharesBegin}
 use Rattle.split_core.specs.laws.ShareLaws.{kept_file}
 use Rattle.split_core.proofs.ShareLaws.{bytes_of_shares}
-use Rattle.ports_core.specs.inner.Slot.{KeepsBroken}
 use Rattle.ports_core.proofs.SlotSteps.{keeps_again, keeps_same}
 use Rattle.split_core.proofs.MoveLemmas.{breaks_later}
-use Rattle.split_core.specs.inner.Sharing.{AllBegin, added, filled, filed, open_part, closed_first, StandAt, Became, IsDue, HaltedAt, StopsAt, StopsShort, IsOfFiles}
+use Rattle.split_core.specs.inner.Sharing.{AllBegin, added, only_at, filed, open_part, closed_first, StandAt, Adds, Leaves, IsDue, HaltedAt}
 
 -- Beginnings
 
@@ -61,26 +61,7 @@ all_trans (bytes ∷ low) [] high first second = absurd first
 all_trans (bytes ∷ low) (mid ∷ middle) [] first second = absurd second
 all_trans (bytes ∷ low) (mid ∷ middle) (whole ∷ high) first second = (begins_trans _ _ _ first.0 second.0, all_trans low middle high first.1 second.1)
 
-pub changed_begin : (place : ℕ) (more : List ℕ) (these : List (List ℕ)) → AllBegin these (changed_at place (λ had. had ++ more) these)
-changed_begin place more [] = tt
-changed_begin zero more (bytes ∷ these) = (begins_more bytes more, all_begin_themselves these)
-changed_begin (suc place) more (bytes ∷ these) = (begins_itself bytes, changed_begin place more these)
-
-pub cut_begin : (place n : ℕ) (more : List ℕ) (these : List (List ℕ)) → AllBegin (changed_at place (λ had. had ++ take n more) these) (changed_at place (λ had. had ++ more) these)
-cut_begin place n more [] = tt
-cut_begin zero n more (bytes ∷ these) = (take_begins_after n bytes more, all_begin_themselves these)
-cut_begin (suc place) n more (bytes ∷ these) = (begins_itself bytes, cut_begin place n more these)
-
-pub filled_begin : (n : ℕ) (these : List (List ℕ)) → AllBegin these (filled n these)
-filled_begin zero these = all_begin_themselves these
-filled_begin (suc n) [] = tt
-filled_begin (suc n) (bytes ∷ these) = (begins_itself bytes, filled_begin n these)
-
-pub filled_further : (n m : ℕ) (these : List (List ℕ)) → n ≤ m → AllBegin (filled n these) (filled m these)
-filled_further zero m these few = filled_begin m these
-filled_further (suc n) zero these few = absurd (omega arith)
-filled_further (suc n) (suc m) [] few = (begins_itself [], filled_further n m [] (omega arith))
-filled_further (suc n) (suc m) (bytes ∷ these) few = (begins_itself bytes, filled_further n m these (omega arith))
+-- What is added
 
 pub added_none : (these : List (List ℕ)) → added these [] ≡ these
 added_none [] = refl
@@ -91,51 +72,92 @@ added_begin [] more = tt
 added_begin (bytes ∷ these) [] = all_begin_themselves (bytes ∷ these)
 added_begin (bytes ∷ these) (next ∷ more) = (begins_more bytes next, added_begin these more)
 
-take_begin : (n : ℕ) (more : List (List ℕ)) → AllBegin (take n more) more
-take_begin (suc n) (next ∷ more) = (begins_itself next, take_begin n more)
-take_begin n more = tt
-
--- where fewer of the new bytes are added, files begin those that get all
-pub added_fewer : (n : ℕ) (these more : List (List ℕ)) → AllBegin (added these (take n more)) (added these more)
-added_fewer n [] more = take_begin n more
-added_fewer zero (bytes ∷ these) more = added_begin (bytes ∷ these) more
-added_fewer (suc n) (bytes ∷ these) [] = all_begin_themselves (bytes ∷ these)
-added_fewer (suc n) (bytes ∷ these) (next ∷ more) = (begins_itself (bytes ++ next), added_fewer n these more)
-
--- Lists
-
-pub filled_same : (n : ℕ) (these : List (List ℕ)) → n ≤ length these → filled n these ≡ these
-filled_same zero these few = refl
-filled_same (suc n) [] few = absurd (omega arith)
-filled_same (suc n) (bytes ∷ these) few = ap (λ rest. bytes ∷ rest) (filled_same n these (omega arith))
-
-pub filled_next : (n : ℕ) (these : List (List ℕ)) → length these ≡ n → filled (suc n) these ≡ these ++ [] ∷ []
-filled_next zero [] is = refl
-filled_next (suc n) (bytes ∷ these) is = ap (λ rest. bytes ∷ rest) (filled_next n these (omega (arith, is)))
-filled_next n these is = absurd (omega (arith, is))
-
-pub filled_again : (n : ℕ) (these : List (List ℕ)) → filled (suc n) (filled n these) ≡ filled (suc n) these
-filled_again zero these = refl
-filled_again (suc n) [] = ap (λ rest. [] ∷ rest) (filled_again n [])
-filled_again (suc n) (bytes ∷ these) = ap (λ rest. bytes ∷ rest) (filled_again n these)
-
-pub length-filled : (n : ℕ) (these : List (List ℕ)) → length (filled n these) ≡ max (length these) n
-length-filled zero these = omega arith
-length-filled (suc n) [] = let rest = length-filled n [] in omega arith
-length-filled (suc n) (bytes ∷ these) = let rest = length-filled n these in omega arith
+-- where less is added, files begin those that get more
+pub added_less : (these some more : List (List ℕ)) → AllBegin some more → AllBegin (added these some) (added these more)
+added_less [] some more begin = begin
+added_less (bytes ∷ these) [] more begin = added_begin (bytes ∷ these) more
+added_less (bytes ∷ these) (one ∷ some) [] begin = absurd begin
+added_less (bytes ∷ these) (one ∷ some) (next ∷ more) begin =
+    ((begin.0.0, ap (λ rest. bytes ++ rest) begin.0.1 ∙ sym (append_assoc bytes one begin.0.0)), added_less these some more begin.1)
 
 pub length-added : (these more : List (List ℕ)) → length (added these more) ≡ max (length these) (length more)
 length-added [] more = omega arith
 length-added (bytes ∷ these) [] = omega arith
-length-added (bytes ∷ these) (next ∷ more) = let rest = length-added these more in omega arith
+length-added (bytes ∷ these) (next ∷ more) = omega (arith, length-added these more)
+
+pub added_again : (these first second : List (List ℕ)) → added (added these first) second ≡ added these (added first second)
+added_again [] first second = refl
+added_again (bytes ∷ these) [] second = refl
+added_again (bytes ∷ these) (one ∷ first) [] = refl
+added_again (bytes ∷ these) (one ∷ first) (next ∷ second) =
+    ap (λ all. all ∷ added (added these first) second) (append_assoc bytes one next) ∙ ap (λ rest. (bytes ++ (one ++ next)) ∷ rest) (added_again these first second)
+
+take_added : (n : ℕ) (these more : List (List ℕ)) → take n (added these more) ≡ added (take n these) (take n more)
+take_added (suc n) [] more = refl
+take_added (suc n) (bytes ∷ these) [] = refl
+take_added (suc n) (bytes ∷ these) (next ∷ more) = ap (λ rest. (bytes ++ next) ∷ rest) (take_added n these more)
+take_added n these more = refl
+
+-- the first files have all, once the first of what is added are all
+pub added_before : (n : ℕ) (these some more : List (List ℕ)) → take n some ≡ take n more → take n (added these some) ≡ take n (added these more)
+added_before n these some more same = take_added n these some ∙ ap (added (take n these)) same ∙ sym (take_added n these more)
+
+-- and those past what is added have what they had
+pub added_past : (n : ℕ) (these some : List (List ℕ)) → length some ≤ n → drop n (added these some) ≡ drop n these
+added_past n [] some few = drop_all n some few ∙ sym (drop-nil n)
+added_past n (bytes ∷ these) [] few = refl
+added_past zero (bytes ∷ these) (one ∷ some) few = absurd (omega (arith, few))
+added_past (suc n) (bytes ∷ these) (one ∷ some) few = added_past n these some (omega (arith, few))
+
+pub take_begin : (n : ℕ) (more : List (List ℕ)) → AllBegin (take n more) more
+take_begin (suc n) (next ∷ more) = (begins_itself next, take_begin n more)
+take_begin n more = tt
+
+-- What is added to one file
+
+pub length-only : (place : ℕ) (bytes : List ℕ) → length (only_at place bytes) ≡ suc place
+length-only zero bytes = refl
+length-only (suc place) bytes = ap suc (length-only place bytes)
+
+pub only_begin : (place : ℕ) (low high : List ℕ) → IsBeginning low high → AllBegin (only_at place low) (only_at place high)
+only_begin zero low high begin = (begin, tt)
+only_begin (suc place) low high begin = (begins_itself [], only_begin place low high begin)
+
+pub only_before : (n place : ℕ) (one other : List ℕ) → n ≤ place → take n (only_at place one) ≡ take n (only_at place other)
+only_before (suc n) zero one other few = absurd (omega (arith, few))
+only_before (suc n) (suc place) one other few = ap (λ rest. [] ∷ rest) (only_before n place one other (omega (arith, few)))
+only_before n place one other few = refl
+
+pub only_again : (place : ℕ) (bytes : List ℕ) → added (only_at place []) (only_at place bytes) ≡ only_at place bytes
+only_again zero bytes = refl
+only_again (suc place) bytes = ap (λ rest. [] ∷ rest) (only_again place bytes)
+
+-- nothing changes where no bytes go to files that are open
+pub idle_before : (place : ℕ) (bytes : List ℕ) (these : List (List ℕ)) → place ≤ length these → added these (take place (only_at place bytes)) ≡ these
+idle_before (suc place) bytes [] few = absurd (omega (arith, few))
+idle_before (suc place) bytes (one ∷ these) few =
+    ap (λ all. all ∷ added these (take place (only_at place bytes))) (append-nil one) ∙ ap (λ rest. one ∷ rest) (idle_before place bytes these (omega (arith, few)))
+idle_before place bytes these few = added_none these
+
+pub idle_at : (place : ℕ) (these : List (List ℕ)) → place < length these → added these (only_at place []) ≡ these
+idle_at place [] within = absurd (omega (arith, within))
+idle_at zero (one ∷ these) within = ap (λ all. all ∷ added these []) (append-nil one) ∙ ap (λ rest. one ∷ rest) (added_none these)
+idle_at (suc place) (one ∷ these) within =
+    ap (λ all. all ∷ added these (only_at place [])) (append-nil one) ∙ ap (λ rest. one ∷ rest) (idle_at place these (omega (arith, within)))
+
+-- the next file has nothing yet
+pub new_at : (place : ℕ) (these : List (List ℕ)) → length these ≡ place → added these (only_at place []) ≡ these ++ [] ∷ []
+new_at zero [] is = refl
+new_at (suc place) (one ∷ these) is = ap (λ all. all ∷ added these (only_at place [])) (append-nil one) ∙ ap (λ rest. one ∷ rest) (new_at place these (omega (arith, is)))
+new_at place these is = absurd (omega (arith, is))
 
 -- one more of what is to be added
-pub added_next : (place : ℕ) (these more : List (List ℕ)) (next : List ℕ) → place < length more → next ≡ get_or more place next → changed_at place (λ had. had ++ next) (filled (suc place) (added these (take place more))) ≡ added these (take (suc place) more)
-added_next place these [] next within is = absurd (omega arith)
-added_next zero [] (first ∷ more) next within is = ap (λ one. one ∷ []) is
-added_next zero (bytes ∷ these) (first ∷ more) next within is = ap (λ one. (bytes ++ one) ∷ these) is ∙ ap (λ rest. (bytes ++ first) ∷ rest) (sym (added_none these))
-added_next (suc place) [] (first ∷ more) next within is = ap (λ rest. first ∷ rest) (added_next place [] more next (omega arith) is)
-added_next (suc place) (bytes ∷ these) (first ∷ more) next within is = ap (λ rest. (bytes ++ first) ∷ rest) (added_next place these more next (omega arith) is)
+pub added_next : (place : ℕ) (more : List (List ℕ)) {bytes : List ℕ} → place < length more → bytes ≡ get_or more place bytes
+    → added (take place more) (only_at place bytes) ≡ take (suc place) more
+added_next place [] within is = absurd (omega (arith, within))
+added_next zero (next ∷ more) within is = ap (λ one. one ∷ []) is
+added_next (suc place) (next ∷ more) {bytes} within is =
+    ap (λ all. all ∷ added (take place more) (only_at place bytes)) (append-nil next) ∙ ap (λ rest. next ∷ rest) (added_next place more (omega (arith, within)) is)
 
 -- Files
 
@@ -152,10 +174,13 @@ length-filed names place (one ∷ shares) = ap suc (length-filed names (place + 
 pub open_length : (names : Naming) (these : List (List ℕ)) → length (open_part names these).files ≡ length these
 open_length names these = length-filed (from_start names) 0 (map (share Open) these) ∙ length-map these (share Open)
 
-pub filed_gets : (names : Naming) (from place : ℕ) (bytes : List ℕ) (these : List (List ℕ)) → changed_at place (gets bytes) (filed names from (map (share Open) these)) ≡ filed names from (map (share Open) (changed_at place (λ had. had ++ bytes) these))
-filed_gets names from place bytes [] = refl
-filed_gets names from zero bytes (one ∷ these) = refl
-filed_gets names from (suc place) bytes (one ∷ these) = ap (λ rest. file_at names from (share Open one) ∷ rest) (filed_gets names (from + 1) place bytes these)
+pub filed_gets : (names : Naming) (from place : ℕ) (bytes : List ℕ) (these : List (List ℕ)) → place < length these
+    → changed_at place (gets bytes) (filed names from (map (share Open) these)) ≡ filed names from (map (share Open) (added these (only_at place bytes)))
+filed_gets names from place bytes [] within = absurd (omega (arith, within))
+filed_gets names from zero bytes (one ∷ these) within = ap (λ rest. file_at names from (share Open (one ++ bytes)) ∷ filed names (from + 1) (map (share Open) rest)) (sym (added_none these))
+filed_gets names from (suc place) bytes (one ∷ these) within =
+    ap (λ had. file_at names from (share Open had) ∷ changed_at place (gets bytes) (filed names (from + 1) (map (share Open) these))) (sym (append-nil one))
+    ∙ ap (λ rest. file_at names from (share Open (one ++ [])) ∷ rest) (filed_gets names (from + 1) place bytes these (omega (arith, within)))
 
 pub filed_ends : (names : Naming) (from place : ℕ) (these : List (List ℕ)) → changed_at place ended (filed names from (closed_first place these)) ≡ filed names from (closed_first (suc place) these)
 filed_ends names from zero [] = refl
@@ -168,70 +193,15 @@ closed_all [] = refl
 closed_all (bytes ∷ these) = ap (λ rest. share Closed bytes ∷ rest) (closed_all these)
 
 -- the files of the same names
-pub renamed : (told : Bool) (before now : List Slot) (names others : Naming) (these : List (List ℕ)) → from_start others ≡ from_start names → OutputsAt told before (open_part others these) now → OutputsAt told before (open_part names these) now
-renamed told before now names others these same at = subst (λ those. OutputsAt told before (only_files (filed those 0 (map (share Open) these))) now) same at
-
--- Outputs
-
-pub caused_later : (old mid new : List Slot) (why : Fault) → KeepsBroken old mid → IsOfFiles mid new why → IsOfFiles old new why
-caused_later old mid new why keeps caused = (breaks_later old mid new why keeps caused.0, caused.1)
+pub renamed : (told : Bool) {before now : List Slot} (names others : Naming) (these : List (List ℕ)) → from_start others ≡ from_start names → OutputsAt told before (open_part others these) now → OutputsAt told before (open_part names these) now
+renamed told {before} {now} names others these same at = subst (λ those. OutputsAt told before (only_files (filed those 0 (map (share Open) these))) now) same at
 
 -- Files in order
 
 pub length_begin : (these those : List (List ℕ)) → AllBegin these those → length these ≤ length those
 length_begin [] those begin = omega arith
 length_begin (bytes ∷ these) [] begin = absurd begin
-length_begin (bytes ∷ these) (whole ∷ those) begin = let rest = length_begin these those begin.1 in omega arith
-
--- the first files have all that is added to them, once this many got theirs
-pub added_before : (place : ℕ) (these more : List (List ℕ)) → take place (added these (take place more)) ≡ take place (added these more)
-added_before (suc place) [] (next ∷ more) = ap (λ rest. next ∷ rest) (added_before place [] more)
-added_before (suc place) (bytes ∷ these) (next ∷ more) = ap (λ rest. (bytes ++ next) ∷ rest) (added_before place these more)
-added_before place these more = refl
-
--- and the others have what they had
-pub added_after : (place : ℕ) (these more : List (List ℕ)) → place < length more → drop place (added these (take place more)) ≡ drop place these
-added_after place these [] within = absurd (omega arith)
-added_after zero [] (next ∷ more) within = refl
-added_after zero (bytes ∷ these) (next ∷ more) within = refl
-added_after (suc place) [] (next ∷ more) within = added_after place [] more (omega arith) ∙ drop-nil place
-added_after (suc place) (bytes ∷ these) (next ∷ more) within = added_after place these more (omega arith)
-
-drop_next : (place : ℕ) (these those : List (List ℕ)) → drop place these ≡ drop place those → drop (suc place) these ≡ drop (suc place) those
-drop_next place these those same = sym (drop_one place these) ∙ ap (drop 1) same ∙ drop_one place those where
-  drop_one : (n : ℕ) (xs : List (List ℕ)) → drop 1 (drop n xs) ≡ drop (suc n) xs
-  drop_one n xs = drop-drop 1 n xs ∙ ap (λ m. drop m xs) (add-one n)
-
-pub added_past : (place : ℕ) (these more : List (List ℕ)) → place < length more → drop (suc place) (added these (take place more)) ≡ drop (suc place) these
-added_past place these more within = drop_next place _ _ (added_after place these more within)
-
-pub take_changed : (place : ℕ) (change : List ℕ → List ℕ) (these : List (List ℕ)) → take place (changed_at place change these) ≡ take place these
-take_changed (suc place) change (bytes ∷ these) = ap (λ rest. bytes ∷ rest) (take_changed place change these)
-take_changed place change these = refl
-
-pub drop_changed : (place : ℕ) (change : List ℕ → List ℕ) (these : List (List ℕ)) → drop (suc place) (changed_at place change these) ≡ drop (suc place) these
-drop_changed place change [] = refl
-drop_changed zero change (bytes ∷ these) = refl
-drop_changed (suc place) change (bytes ∷ these) = drop_changed place change these
-
-pub take_filled : (place n : ℕ) (these : List (List ℕ)) → place ≤ length these → take place (filled n these) ≡ take place these
-take_filled (suc place) (suc n) [] few = absurd (omega arith)
-take_filled (suc place) (suc n) (bytes ∷ these) few = ap (λ rest. bytes ∷ rest) (take_filled place n these (omega arith))
-take_filled place n these few = refl
-
-pub take_further : (place n : ℕ) (these : List (List ℕ)) → place ≤ n → take place (filled place these) ≡ take place (filled n these)
-take_further zero n these few = refl
-take_further (suc place) zero these few = absurd (omega arith)
-take_further (suc place) (suc n) [] few = ap (λ rest. [] ∷ rest) (take_further place n [] (omega arith))
-take_further (suc place) (suc n) (bytes ∷ these) few = ap (λ rest. bytes ∷ rest) (take_further place n these (omega arith))
-
-pub drop_filled : (n : ℕ) (these : List (List ℕ)) → drop n (filled n these) ≡ drop n these
-drop_filled zero these = refl
-drop_filled (suc n) [] = drop_filled n [] ∙ drop-nil n
-drop_filled (suc n) (bytes ∷ these) = drop_filled n these
-
-pub drop_past_filled : (n : ℕ) (these : List (List ℕ)) → drop (suc n) (filled n these) ≡ drop (suc n) these
-drop_past_filled n these = drop_next n _ _ (drop_filled n these)
+length_begin (bytes ∷ these) (whole ∷ those) begin = omega (arith, length_begin these those begin.1)
 
 pub take_filed : (n : ℕ) (names : Naming) (place : ℕ) (shares : List Share) → take n (filed names place shares) ≡ filed names place (take n shares)
 take_filed (suc n) names place (one ∷ shares) = ap (λ rest. file_at names place one ∷ rest) (take_filed n names (place + 1) shares)
@@ -263,7 +233,7 @@ next_filed names from (suc n) (first ∷ shares) within =
 
 next_due : (names : Naming) (part those : List (List ℕ)) (name : List ℕ) → IsDue names part those name → IsNext (open_part names part) (open_part names those) name
 next_due names part those name due =
-    let found = next_filed (from_start names) 0 (length part) (map (share Open) those) (let count = length-map those (share Open) in let less : length part < length those = due.1 in omega arith) in
+    let found = next_filed (from_start names) 0 (length part) (map (share Open) those) (omega (arith, length-map those (share Open), due.1)) in
     record {
       front = found.0;
       file = file_at (from_start names) (0 + length part) found.1;
@@ -275,74 +245,98 @@ next_due names part those name due =
 
 -- Steps in a row
 
-pub nothing_made : (told : Bool) (files : FilesState) (makes : List (List ℕ) → List (List ℕ)) (slots : List Slot) → AreReady files slots → ((these : List (List ℕ)) → makes these ≡ these) → Became told files makes 0 slots files slots
-nothing_made told files makes slots ready same = record {
+pub adds_none : (told : Bool) {files : FilesState} {slots : List Slot} → AreReady files slots → Adds told files [] 0 0 slots files slots (Ok tt)
+adds_none told {files} {slots} ready = record {
+  names = refl;
+  owned = λ first owns. owns;
   ready = ready;
   opened = omega arith;
-  names = refl;
-  lengths = λ these is. ap length (same these) ∙ is;
-  outputs = λ before these at. subst (λ those. OutputsAt told before (open_part files.names those) slots) (sym (same these)) at.outputs;
-  owned = λ first owns. owns;
   sound = keeps_same slots slots refl;
+  caused = tt;
+  leaves = λ before these at. subst (λ those. OutputsAt told before (open_part files.names those) slots) (sym (added_none these)) at.outputs;
 }
 
 -- where the files stand after a step
-pub stand_then : (told : Bool) (files between : FilesState) (makes : List (List ℕ) → List (List ℕ)) (count : ℕ) (old mid before : List Slot) (these : List (List ℕ)) → Became told files makes count old between mid → StandAt told files before these old → StandAt told between before (makes these) mid
-stand_then told files between makes count old mid before these became at = record {
-  count = became.lengths these at.count;
-  owns = became.owned (length before) at.owns;
-  outputs = renamed told before mid between.names files.names (makes these) (sym became.names) (became.outputs before these at);
+stand_then : {told : Bool} {files between : FilesState} {more : List (List ℕ)} {low high : ℕ} {old mid before : List Slot} {these : List (List ℕ)}
+    → Adds told files more low high old between mid (Ok tt) → StandAt told files before these old → StandAt told between before (added these more) mid
+stand_then {told} {files} {between} {more} {before} {these} adds at = record {
+  count = length-added these more ∙ ap (λ n. max n (length more)) at.count ∙ sym adds.opened;
+  owns = adds.owned (length before) at.owns;
+  outputs = renamed told between.names files.names (added these more) (sym adds.names) (adds.leaves before these at);
 }
 
-pub became_then : (told : Bool) (files : FilesState) (first second both : List (List ℕ) → List (List ℕ)) (one two count : ℕ) (old mid new : List Slot) (between next : FilesState)
-    → Became told files first one old between mid → Became told between second two mid next new → ((these : List (List ℕ)) → second (first these) ≡ both these) → count ≡ max one two → Became told files both count old next new
-became_then told files first second both one two count old mid new between next before after same most = record {
-  ready = after.ready;
-  opened = let here : length between.outputs ≡ max (length files.outputs) one = before.opened in let there : length next.outputs ≡ max (length between.outputs) two = after.opened in omega arith;
+-- a later step
+pub adds_then : {told : Bool} {files between next : FilesState} {first second : List (List ℕ)} {here there low high : ℕ} {old mid new : List Slot} (result : Result (Unit {0}) Fault)
+    (lower most : ℕ) → Adds told files first here there old between mid (Ok tt) → Adds told between second low high mid next new result
+    → length first ≤ suc low → lower ≤ low → high ≤ most → Adds told files (added first second) lower most old next new result
+adds_then {told} {files} {between} {next} {first} {second} {low} {high} {old} {mid} {new} result lower most before after few less more = record {
   names = after.names ∙ before.names;
-  lengths = λ these is. ap length (sym (same these)) ∙ after.lengths (first these) (before.lengths these is);
-  outputs = λ start these at. subst (λ those. OutputsAt told start (open_part files.names those) new) (same these)
-      (renamed told start new files.names between.names (second (first these)) before.names (after.outputs start (first these) (stand_then told files between first one old mid start these before at)));
   owned = λ from owns. after.owned from (before.owned from owns);
-  sound = keeps_again old mid new before.sound after.sound;
+  ready = after.ready;
+  opened = on_ok_weaker result (λ opened. opened ∙ (omega (arith, before.opened, length-added first second))) after.opened;
+  sound = on_ok_weaker result (keeps_again old mid new before.sound) after.sound;
+  caused = IfErr-weaker result _ _ (λ why caused. (breaks_later before.sound caused.0, caused.1)) after.caused;
+  leaves = λ start these at. further result start these (after.leaves start (added these first) (stand_then before at));
+} where
+  further : (result : Result (Unit {0}) Fault) (start : List Slot) (these : List (List ℕ)) → Leaves told start between.names (added these first) second low high new result
+      → Leaves told start files.names these (added first second) lower most new result
+  further (Ok done) start these at = subst (λ those. OutputsAt told start (open_part files.names those) new) (added_again these first second) (renamed told files.names between.names _ before.names at)
+  further (Err why) start these stop = record {
+    place = stop.place;
+    after = omega (arith, stop.after, less);
+    within = omega (arith, stop.within, more);
+    some = added first stop.some;
+    few = omega (arith, length-added first stop.some, stop.few, stop.after, few);
+    begin = added_less first stop.some second stop.begin;
+    done = added_before stop.place first _ _ stop.done;
+    reached = stop.reached;
+    outputs = subst (λ those. OutputsAt told start (open_part files.names those) stop.reached) (added_again these first stop.some)
+        (renamed told files.names between.names _ before.names stop.outputs);
+    marks = rw (← added_again these first stop.some, ← added_again these first second) (subst (λ names. Marks (λ name. (name ≡ name_of names (length (added (added these first) stop.some)))
+        × (length (added (added these first) stop.some) < length (added (added these first) second))) why stop.reached new) before.names stop.marks);
+    from = rw (← added_again these first stop.some) stop.from;
+  }
+
+-- a fault on the way to more than was to be added
+pub adds_wider : {told : Bool} {files next : FilesState} {some more : List (List ℕ)} {low high : ℕ} (most : ℕ) {old new : List Slot} {why : Fault}
+    → Adds told files some low high old next new (Err why) → AllBegin some more → high ≤ most → ((n : ℕ) → n ≤ high → take n some ≡ take n more)
+    → Adds told files more low most old next new (Err why)
+adds_wider {files} {some} {more} {low} {high} most {why} adds begin less same = record {
+  names = adds.names;
+  owned = adds.owned;
+  ready = tt;
+  opened = tt;
+  sound = tt;
+  caused = adds.caused;
+  leaves = λ before these at. let stop = adds.leaves before these at in record {
+    place = stop.place;
+    after = stop.after;
+    within = omega (arith, stop.within, less);
+    some = stop.some;
+    few = stop.few;
+    begin = all_trans stop.some some more stop.begin begin;
+    done = stop.done ∙ same stop.place stop.within;
+    reached = stop.reached;
+    outputs = stop.outputs;
+    marks = marks_by _ _ why stop.reached _ (λ name due. (due.0, omega (arith, due.1, length_begin _ _ (added_less these some more begin)))) stop.marks;
+    from = stop.from;
+  };
 }
 
--- A fault of a later step, on the way from what was there at first to all that was to be. By then the files before its place
--- have all, and those after it have what they had.
-pub halted_wider : (told : Bool) (start now : List Slot) (names others : Naming) (these low high all : List (List ℕ)) (place : ℕ) (why : Fault) → from_start others ≡ from_start names → HaltedAt told start others low high place why now
-    → AllBegin these low → AllBegin high all → drop (suc place) low ≡ drop (suc place) these → take place high ≡ take place all → HaltedAt told start names these all place why now
-halted_wider told start now names others these low high all place why same stop above below past before = record {
-  part = stop.part;
-  above = all_trans these low stop.part above stop.above;
-  below = all_trans stop.part high all stop.below below;
-  done = stop.done ∙ before;
-  untouched = stop.untouched ∙ past;
+-- the files are in order where the fault stopped them
+pub stops_in_order : (told : Bool) {before : List Slot} (names : Naming) (these more : List (List ℕ)) {low high : ℕ} (why : Fault) {new : List Slot}
+    → HaltedAt told before names these more low high why new → StoppedBetween told before (open_part names these) (open_part names (added these more)) why new
+stops_in_order told {before} names these more why {new} stop = record {
+  part = open_part names (added these stop.some);
+  above = open_begins names these _ (added_begin these stop.some);
+  below = open_begins names _ _ (added_less these stop.some more stop.begin);
+  place = stop.place;
+  order = record {
+    done = take_open stop.place names _ _ (added_before stop.place these _ _ stop.done);
+    untouched = drop_open (suc stop.place) names _ these (added_past (suc stop.place) these stop.some stop.few);
+  };
   reached = stop.reached;
-  outputs = renamed told start stop.reached names others stop.part same stop.outputs;
-  marks = marks_by (IsDue others stop.part high) (IsDue names stop.part all) why stop.reached now
-      (λ name due. (due.0 ∙ ap (λ those. name_of those (length stop.part)) same, (let more = length_begin high all below in let less : length stop.part < length high = due.1 in omega arith))) stop.marks;
-  from = stop.from;
+  outputs = stop.outputs;
+  marks = marks_by (IsDue names (added these stop.some) (added these more)) _ why stop.reached new (next_due names _ _) stop.marks;
+  from = subst (IsAt why (length before) stop.place) (sym (open_length names (added these stop.some))) stop.from;
 }
-
-pub halts_then : (told : Bool) (files : FilesState) (first second all : List (List ℕ) → List (List ℕ)) (one place : ℕ) (old mid new : List Slot) (between : FilesState) (why : Fault) → Became told files first one old between mid → StopsAt told between second place mid new why
-    → ((these : List (List ℕ)) → AllBegin these (first these)) → ((these : List (List ℕ)) → AllBegin (second (first these)) (all these)) → ((these : List (List ℕ)) → drop (suc place) (first these) ≡ drop (suc place) these)
-    → ((these : List (List ℕ)) → length these ≡ length files.outputs → take place (second (first these)) ≡ take place (all these)) → StopsAt told files all place old new why
-halts_then told files first second all one place old mid new between why before stops low high past done start these at =
-    halted_wider told start new files.names between.names these (first these) (second (first these)) (all these) place why before.names
-    (stops start (first these) (stand_then told files between first one old mid start these before at)) (low these) (high these) (past these) (done these at.count)
-
--- so the files are in order where the fault stopped them
-pub stops_in_order : (told : Bool) (files : FilesState) (makes : List (List ℕ) → List (List ℕ)) (place : ℕ) (old new : List Slot) (why : Fault) → StopsAt told files makes place old new why → StopsShort told files makes old new why
-stops_in_order told files makes place old new why stops before these at =
-    let stop = stops before these at in
-    record {
-      part = open_part files.names stop.part;
-      above = open_begins files.names these stop.part stop.above;
-      below = open_begins files.names stop.part (makes these) stop.below;
-      place = place;
-      order = record { done = take_open place files.names stop.part (makes these) stop.done; untouched = drop_open (suc place) files.names stop.part these stop.untouched };
-      reached = stop.reached;
-      outputs = stop.outputs;
-      marks = marks_by (IsDue files.names stop.part (makes these)) (IsNext (open_part files.names stop.part) (open_part files.names (makes these))) why stop.reached new (next_due files.names stop.part (makes these)) stop.marks;
-      from = subst (IsAt why (length before) place) (sym (open_length files.names stop.part)) stop.from;
-    }

@@ -1,130 +1,99 @@
 -- What the stage that cuts off one part after another owes.
-use Rattle.std.proofs.Common.{◌≡◌, ◌≤◌, ℕ, List, ◌++◌, length, map, Bool, true, false, not, cond, Some, None, Result, Ok, Err, OnOk, IfErr, refl, sym, ◌∙◌, ap, subst, arith}
-use Rattle.std.proofs.lemmas.Bool.{false≢true}
+use Rattle.std.proofs.Common.{◌≡◌, ℕ, suc, List, ◌++◌, length, map, Bool, true, false, not, cond, Some, None, Result, Ok, Err, sym, ◌∙◌, ap, subst, refl}
+use Rattle.std.proofs.Math.Nat.{zero-add}
 use Rattle.std.proofs.lemmas.List.{length-map}
-use Rattle.ports_core.specs.Name.{Naming}
 use Rattle.ports_core.specs.Slot.{Slot}
-use Rattle.ports_core.specs.Part.{OutputsAt, StoppedBetween}
-use Rattle.ports_core.specs.inner.Part.{StoppedInTurn}
-use Rattle.ports_core.specs.Engine.{TakesIn, PutsOut, CutsOff, EndsShort, EndsWith, EndsThere, StandsAt, Ended, IsMet, KeepsOwn, is_verdict}
+use Rattle.ports_core.specs.Part.{OutputsAt}
+use Rattle.ports_core.specs.Engine.{CutsOff, EndsWith, EndsThere, is_verdict}
 use Rattle.ports_core.specs.Engine as engine
 use Rattle.ports_core.specs.declared.fault.Fault.{Fault}
-use Rattle.ports_core.specs.declared.fault.Fault.TheVariants.{Memory, Write, Open, Suffixes}
+use Rattle.ports_core.specs.declared.fault.Fault.TheVariants.{Suffixes}
 use Rattle.ports_core.specs.declared.slot.State.TheVariants.{Closed}
 use Rattle.ports_core.proofs.PartLemmas.{stopped_in_turn}
 use Rattle.split_core.specs.declared.limit.Limit.{Limit}
 use Rattle.split_core.specs.Parts.{parts}
-use Rattle.split_core.specs.Split.{Share, share, are_named, from_start}
-use Rattle.split_core.specs.laws.ShareLaws.{settled_count}
-use Rattle.split_core.specs.PartsState.{PartsState, Stands, IsReady}
+use Rattle.split_core.specs.Split.{share, are_named, from_start, is_named, only_files, settled_parts}
+use Rattle.split_core.specs.laws.ShareLaws.{are_named_more, settled_count}
+use Rattle.split_core.specs.PartsState.{PartsState, Stands}
 use Rattle.split_core.specs.PartState.{work, parts_work}
 use Rattle.split_core.specs.Ways as ways
 use Rattle.split_core.specs.declared.splitter.Splitter.TheVariants as way
-use Rattle.split_core.specs.inner.Moves.{part_of, Passes, Stopped, Breaks, Finishes, wants_memory, breaks_write, breaks_open, lacks_names}
-use Rattle.split_core.proofs.MoveLemmas.{met_files, part_drawn, owns_last}
-use Rattle.split_core.proofs.TakenLemmas.{are_named_drawn}
+use Rattle.split_core.specs.inner.Ways.{PassesBy, FinishesBy}
+use Rattle.split_core.specs.inner.Moves.{Breaks, Takes, Finishes, lacks_names}
+use Rattle.split_core.proofs.MoveLemmas.{are_named_same, met_closing, met_files, owns_last, same_files}
 
--- the same files, however many names were drawn
-same_part : (names : Naming) (shares : List Share) → part_of (from_start names) shares ≡ part_of names shares
-same_part names shares = part_drawn names (from_start names) shares refl
+have_names : (state : PartsState) (x : List ℕ) {have : Bool} → are_named (from_start state.names) (length (settled_parts state.limit x)) ≡ have
+    → are_named (from_start state.names) (length (map (share Closed) (parts state.limit x))) ≡ have
+have_names state x is = ap (are_named (from_start state.names)) (length-map (parts state.limit x) (share Closed) ∙ sym (settled_count state.limit x)) ∙ is
 
-have_names : (state : PartsState) (x : List ℕ) (have : Bool) → are_named state.names (length (parts state.limit x)) ≡ have → are_named (from_start state.names) (length (map (share Closed) (parts state.limit x))) ≡ have
-have_names state x have is =
-    ap (are_named (from_start state.names)) (length-map (parts state.limit x) (share Closed))
-    ∙ are_named_drawn state.names (from_start state.names) (length (parts state.limit x)) refl ∙ is
-
-all_have : (state : PartsState) (x : List ℕ) → Stands state x → are_named (from_start state.names) (length (map (share Closed) (parts state.limit x))) ≡ true
-all_have state x stands = have_names state x true (ap (are_named state.names) (sym (settled_count state.limit x)) ∙ stands.enough)
+all_have : {state : PartsState} {x : List ℕ} → Stands state x → are_named (from_start state.names) (length (map (share Closed) (parts state.limit x))) ≡ true
+all_have {state} {x} stands = have_names state x (are_named_same state.names (from_start state.names) _ refl ∙ stands.enough)
 
 -- as long as all parts have names, more can come
-pub never_done : (state : PartsState) (x : List ℕ) → Stands state x → false ≡ (work state).is_complete x
-never_done state x stands = sym (ap not (all_have state x stands))
+pub never_done : {state : PartsState} {x : List ℕ} → Stands state x → false ≡ (work state).is_complete x
+never_done stands = sym (ap not (all_have stands))
 
-goes_well : (state : PartsState) (x : List ℕ) → Stands state x → (work state).verdict x ≡ None
-goes_well state x stands = ap (λ (have : Bool). cond (not have) (Some Suffixes) None) (all_have state x stands)
-
-work_by : (state next : PartsState) → next.limit ≡ state.limit → next.names ≡ record state.names { drawn = next.names.drawn } → work next ≡ work state
-work_by state next limit names = ap (λ (those : Limit). parts_work those (from_start next.names)) limit ∙ ap (λ (those : Naming). parts_work state.limit (from_start those)) names
-
-moved_out : (told : Bool) (names : Naming) (low high : List Share) (before old new : List Slot) → (OutputsAt told before (part_of names low) old → OutputsAt told before (part_of names high) new)
-    → OutputsAt told before (part_of (from_start names) low) old → OutputsAt told before (part_of (from_start names) high) new
-moved_out told names low high before old new moves at =
-    subst (λ part. OutputsAt told before part new) (sym (same_part names high)) (moves (subst (λ part. OutputsAt told before part old) (same_part names low) at))
-
-halted : (told : Bool) (names : Naming) (low high : List Share) (before old new : List Slot) (f : Fault) → (OutputsAt told before (part_of names low) old → StoppedInTurn told before (part_of names low) (part_of names high) f new)
-    → OutputsAt told before (part_of (from_start names) low) old → StoppedBetween told before (part_of (from_start names) low) (part_of (from_start names) high) f new
-halted told names low high before old new f halts at =
-    subst (λ part. StoppedBetween told before (part_of (from_start names) low) part f new) (sym (same_part names high))
-    (subst (λ part. StoppedBetween told before part (part_of names high) f new) (sym (same_part names low))
-    (stopped_in_turn told before _ _ f new (halts (subst (λ part. OutputsAt told before part old) (same_part names low) at))))
+work_by : (state next : PartsState) → next.limit ≡ state.limit → from_start next.names ≡ from_start state.names → work next ≡ work state
+work_by state next limit names = ap (λ (those : Limit). parts_work those (from_start next.names)) limit ∙ ap (parts_work state.limit) names
 
 -- a piece
 
 module _ (told : Bool) (state next : PartsState) (piece : List ℕ) (old new : List Slot) where
-  pub same_work : (result : Result (Unit {0}) Fault) → Passes told state piece old new next result → work next ≡ work state
-  same_work (Ok done) passes = work_by state next passes.limit_same passes.names_same
-  same_work (Err f) passes = work_by state next passes.limit_same passes.names_same
-
-  pub takes_in : (result : Result (Unit {0}) Fault) → Passes told state piece old new next result → OnOk result (TakesIn ways.Holds piece (way.Parts state) (way.Parts next))
-  takes_in (Ok done) passes = passes.stands
-  takes_in (Err f) passes = tt
-
-  pub puts_out : (result : Result (Unit {0}) Fault) → Passes told state piece old new next result → OnOk result (PutsOut ways.Holds ways.Owns ways.work (way.Parts state) piece told old new)
-  puts_out (Ok done) passes = λ before x at. moved_out told state.names _ _ before old new (passes.moves x at.holds (owns_last state.current (length before) old at.owns) before) at.outputs
-  puts_out (Err f) passes = tt
-
-  pub still_ready : (result : Result (Unit {0}) Fault) → Passes told state piece old new next result → OnOk result (IsReady next.current new)
-  still_ready (Ok done) passes = passes.ready
-  still_ready (Err f) passes = tt
-
-  pub still_owns : (result : Result (Unit {0}) Fault) → Passes told state piece old new next result → KeepsOwn ways.Owns (way.Parts state) (way.Parts next) old new
-  still_owns (Ok done) passes = passes.owned
-  still_owns (Err f) passes = passes.owned
-
   -- names ran out: the files that have a name are written, and nothing can change that
-  settles : (f : Fault) → f ≡ Suffixes → Stopped told state piece old new next f → EndsWith ways.Holds ways.work (way.Parts state) piece f
+  settles : (f : Fault) → f ≡ Suffixes → Takes told state piece old new next (Err f) → EndsWith ways.Holds ways.work (way.Parts state) piece f
   settles f is stop x stands =
-      let none = have_names state (x ++ piece) false (stop.short is x stands).0 in
+      let ran = (stop.goes x stands).short is in
+      let none = have_names state (x ++ piece) (are_named_more (from_start state.names) (suc (length ran.those)) _ ran.none ran.fewer) in
       (ap not none, ap (λ (have : Bool). cond (not have) (Some Suffixes) None) none ∙ ap Some (sym is))
 
-  judged_out : Stopped told state piece old new next Suffixes → CutsOff ways.Holds ways.Owns ways.work (way.Parts state) piece told old new Suffixes
-  judged_out stop before x at =
-      engine.judged refl new (moved_out told state.names _ _ before old new ((stop.short refl x at.holds).1 (owns_last state.current (length before) old at.owns) before) at.outputs) refl
+  cut_off : {f : Fault} → Breaks old new f → Takes told state piece old new next (Err f) → CutsOff ways.Holds ways.Owns ways.work (way.Parts state) piece told old new f
+  cut_off lacks_names stop before x at =
+      let ran = (stop.goes x at.holds).short refl in
+      engine.judged refl new (subst (λ files. OutputsAt told before (only_files files) new)
+      (sym (same_files (from_start state.names) 0 ran.those _ ran.shut ran.begins (subst (λ n. is_named state.names n ≡ false) (sym (zero-add _)) ran.none)))
+      (ran.moves (owns_last state.current (length before) old at.owns) before at.outputs)) refl
+  cut_off {f} breaks stop before x at =
+      engine.cut refl (stopped_in_turn told before _ _ f new ((stop.goes x at.holds).moves (owns_last state.current (length before) old at.owns) before at.outputs))
 
-  cut_out : (f : Fault) → is_verdict f ≡ false → Stopped told state piece old new next f → CutsOff ways.Holds ways.Owns ways.work (way.Parts state) piece told old new f
-  cut_out f is stop before x at = engine.cut is (halted told state.names _ _ before old new f (stop.halts x at.holds (owns_last state.current (length before) old at.owns) before) at.outputs)
-
-  cut_off : (f : Fault) → Breaks old new f → Stopped told state piece old new next f → CutsOff ways.Holds ways.Owns ways.work (way.Parts state) piece told old new f
-  cut_off _ wants_memory stop = cut_out Memory refl stop
-  cut_off _ (breaks_write slot two rose) stop = cut_out (Write slot) refl stop
-  cut_off _ (breaks_open slot rose) stop = cut_out (Open slot) refl stop
-  cut_off _ lacks_names stop = judged_out stop
-
-  pub cuts_off : (result : Result (Unit {0}) Fault) → Passes told state piece old new next result → IfErr result (CutsOff ways.Holds ways.Owns ways.work (way.Parts state) piece told old new)
-  cuts_off (Ok done) passes = tt
-  cuts_off (Err f) passes = cut_off f passes.breaks passes
-
-  pub met : (result : Result (Unit {0}) Fault) → Passes told state piece old new next result → IfErr result (IsMet (work state).means (work state).means.feeding (true ≡ true) (EndsWith ways.Holds ways.work (way.Parts state) piece) old new)
-  met (Ok done) passes = tt
-  met (Err f) passes = met_files (EndsWith ways.Holds ways.work (way.Parts state) piece) old new f passes.breaks (λ is x stands. settles f is passes x stands)
+  pub passes_by : (result : Result (Unit {0}) Fault) → Takes told state piece old new next result → PassesBy told piece old new result (way.Parts state) (way.Parts next)
+  passes_by (Ok done) takes = record {
+    same = work_by state next takes.keeps.limit takes.keeps.names;
+    holds = takes.stands;
+    outputs = λ before x at. (takes.goes x at.holds).moves (owns_last state.current (length before) old at.owns) before at.outputs;
+    ready = takes.keeps.ready;
+    owns = takes.keeps.owned;
+    cut = tt;
+    met = tt;
+  }
+  passes_by (Err f) takes = record {
+    same = work_by state next takes.keeps.limit takes.keeps.names;
+    holds = tt;
+    outputs = tt;
+    ready = tt;
+    owns = takes.keeps.owned;
+    cut = cut_off takes.keeps.breaks takes;
+    met = met_files (EndsWith ways.Holds ways.work (way.Parts state) piece) takes.keeps.breaks (λ is x stands. settles f is takes x stands);
+  }
 
 -- the end
 
-module _ (told : Bool) (state : PartsState) (old new : List Slot) where
-  pub ends : (result : Result (Unit {0}) Fault) → Finishes told state old new result → OnOk result (engine.Finishes ways.Holds ways.Owns ways.work (way.Parts state) told old new)
-  ends (Ok done) finishes = λ before x at. (goes_well state x at.holds, moved_out told state.names _ _ before old new (finishes x at.holds (owns_last state.current (length before) old at.owns) before) at.outputs)
-  ends (Err f) finishes = tt
-
-  pub ends_short : (result : Result (Unit {0}) Fault) → Finishes told state old new result → IfErr result (EndsShort ways.Holds ways.Owns ways.work (way.Parts state) told old new)
-  ends_short (Ok done) finishes = tt
-  ends_short (Err f) finishes = λ before x at.
-      engine.cut (ap is_verdict finishes.0.1) (halted told state.names _ _ before old new f (finishes.1 x at.holds (owns_last state.current (length before) old at.owns) before) at.outputs)
-
-  pub end_met : (result : Result (Unit {0}) Fault) → Finishes told state old new result → IfErr result (IsMet (work state).means (work state).means.closing (Unit {0}) (EndsThere ways.Holds ways.work (way.Parts state)) old new)
-  end_met (Ok done) finishes = tt
-  end_met (Err f) finishes = subst (λ those. IsMet (work state).means (work state).means.closing (Unit {0}) (EndsThere ways.Holds ways.work (way.Parts state)) old new those) (sym finishes.0.1)
-      (λ none. absurd (let two : 2 ≤ finishes.0.0 = finishes.0.2 in omega (arith, none)), λ none. absurd (false≢true (sym none)), finishes.0.3)
-
-pub on_ok : {P : Type 0} (result : Result (Unit {0}) Fault) → P → OnOk result P
-on_ok (Ok done) is = is
-on_ok (Err f) is = tt
+pub finishes_by : (told : Bool) (state next : PartsState) (old new : List Slot) (result : Result (Unit {0}) Fault) → Finishes told state old new next result
+    → FinishesBy told old new result (way.Parts state) (way.Parts next)
+finishes_by told state next old new (Ok done) ends = record {
+  same = work_by state next ends.keeps.limit ends.keeps.names;
+  outputs = λ before x at. (
+    ap (λ (have : Bool). cond (not have) (Some Suffixes) None) (all_have at.holds),
+    (ends.goes x at.holds).moves (owns_last state.current (length before) old at.owns) before at.outputs,
+  );
+  owns = ends.keeps.owned;
+  cut = tt;
+  met = tt;
+}
+finishes_by told state next old new (Err f) ends = record {
+  same = work_by state next ends.keeps.limit ends.keeps.names;
+  outputs = tt;
+  owns = ends.keeps.owned;
+  cut = λ before x at. engine.cut (ap is_verdict ends.caused.1)
+      (stopped_in_turn told before _ _ f new ((ends.goes x at.holds).moves (owns_last state.current (length before) old at.owns) before at.outputs));
+  met = met_closing (EndsThere ways.Holds ways.work (way.Parts state)) old new ends.caused;
+}

@@ -1,48 +1,26 @@
 -- What each call on parts leaves: their files, and the part that was begun.
-use Rattle.std.proofs.Common.{◌≡◌, ℕ, ◌+◌, ◌≤◌, suc, List, [], ◌∷◌, ◌++◌, length, map, Bool, true, false, IsTrue, Some, None, Result, Ok, Err, OnOk, IfErr, inl, refl, sym, ◌∙◌, ap, subst, add-one, arith, append_assoc, length-append}
+use Rattle.std.proofs.Common.{◌≡◌, ℕ, ◌+◌, ◌<◌, ◌≤◌, suc, List, [], ◌∷◌, ◌++◌, length, map, Bool, true, false, IsTrue, Option, Some, None, Result, Ok, Err, OnOk, IfErr, refl, sym, ◌∙◌, ap, subst, add-one, arith, length-append}
 use Rattle.std.proofs.lemmas.List.{append-nil}
 use Rattle.std.proofs.lemmas.Bool.{false≢true}
-use Rattle.ports_core.specs.Name.{Naming, next_name, has_next, with_one_drawn}
-use Rattle.ports_core.specs.Slot.{Slot, changed_at, opened, closes, with_written, with_broken, told_of, is_writable, is_closable}
-use Rattle.ports_core.specs.inner.Slot.{KeepsBroken}
+use Rattle.std.proofs.lemmas.Result.{IfErr-weaker, on_ok_weaker}
+use Rattle.ports_core.specs.Name.{Naming, next_name, has_next}
+use Rattle.ports_core.specs.Slot.{Slot, changed_at, opened, closes, with_written, with_broken, told_of, is_closable}
 use Rattle.ports_core.specs.declared.slot.Mode.TheVariants.{Fresh}
 use Rattle.ports_core.specs.declared.slot.State.{State}
 use Rattle.ports_core.specs.declared.slot.State.TheVariants as state
 use Rattle.ports_core.specs.declared.fault.Fault.{Fault}
 use Rattle.ports_core.specs.declared.fault.Fault.TheVariants as fault
 use Rattle.ports_core.specs.inner.Write.{WritesShort}
+use Rattle.ports_core.proofs.SlotLemmas.{length-changed_at}
 use Rattle.split_core.specs.Parts.{unless_empty}
-use Rattle.split_core.specs.Split.{Share, share, is_some, is_named, are_named}
-use Rattle.split_core.specs.inner.ShareLaws.{SharesBegin}
-use Rattle.split_core.proofs.ShareLaws.{shares_themselves, shares_more, last_grows}
+use Rattle.split_core.specs.Split.{Share, share, is_some, is_named, are_named, from_start, name_of}
+use Rattle.split_core.specs.laws.DealLaws.{is_some_of}
 use Rattle.split_core.specs.PartsState.{PartsState, IsReady, is_given}
-use Rattle.split_core.specs.inner.PartsState.{IsAtEnd}
-use Rattle.split_core.specs.inner.Moves.{Moves, Halts, KeepsFile, OpensNone, Begun, begun_share, HasFile, there, made, HasNone, IsLast, Extended, Interrupted, EndsFile, closed, failed}
-use Rattle.split_core.proofs.HeldLemmas.{written_both}
+use Rattle.split_core.specs.inner.Moves.{Goes, Keeps, KeepsFile, Breaks, Begun, written, HasFile, there, made, HasNone, Extends, Shuts, breaks_write}
+use Rattle.split_core.proofs.MoveLemmas.{close_goes, goes_same, goes_then, keeps_then, on_ok, open_breaks, open_goes, open_stops, owned_ended, owned_opened, owned_same, owned_unopened, write_breaks, write_goes}
 use Rattle.ports_core.proofs.SlotSteps as slot_steps
-use Rattle.split_core.proofs.MoveLemmas as move
 
--- closing the file of the part that was begun
-
-pub ends_file : (parts next : PartsState) (slot : ℕ) (old new : List Slot) (result : Result (Unit {0}) Fault) → parts.current ≡ Some slot → next ≡ record parts { current = None } → OnOk result (new ≡ changed_at slot closes old)
-    → IfErr result (λ f. (f ≡ fault.Write slot) × (new ≡ with_broken slot (changed_at slot closes old))) → EndsFile parts old new next result
-ends_file parts next slot old new (Ok tt) is same ok err = closed slot is same ok
-ends_file parts next slot old new (Err f) is same ok err = subst (λ those. EndsFile parts old new next (Err those)) (sym err.0) (failed slot is same err.1)
-
--- the file of the part that was begun, once it is there
-
-pub record FileFacts (told : Bool) (parts : PartsState) (old mid : List Slot) (next : PartsState) (slot : ℕ) : Type 0 where
-  pub same : next ≡ record parts { names = next.names; current = Some slot }
-  pub names_same : next.names ≡ record parts.names { drawn = next.names.drawn }
-  pub last_part : (shares : List Share) (begun : List ℕ) → Begun parts shares begun → IsLast next shares
-  pub named : (shares : List Share) (begun : List ℕ) → Begun parts shares begun → is_named parts.names (length shares) ≡ true
-  pub grows : (shares : List Share) (begun : List ℕ) → Begun parts shares begun → SharesBegin (shares ++ begun_share begun) (shares ++ share state.Open begun ∷ [])
-  pub moves : (shares : List Share) (begun : List ℕ) → Begun parts shares begun → Moves told parts.names (shares ++ begun_share begun) (shares ++ share state.Open begun ∷ []) old mid
-  pub keeps : KeepsBroken old mid
-  pub last : IsAtEnd parts.current old → suc slot ≡ length mid
-  pub owned : KeepsFile parts.current old next.current mid
-  pub after : 2 ≤ slot
-  pub writable : IsTrue (is_writable mid slot)
+-- shares
 
 pub some_share : (now : State) (bytes : List ℕ) → is_some bytes ≡ true → map (share now) (unless_empty bytes) ≡ share now bytes ∷ []
 some_share now [] is = absurd (false≢true is)
@@ -55,130 +33,181 @@ none_begun (byte ∷ begun) is = absurd (false≢true (sym is))
 pub count_one : (shares : List Share) (one : Share) → length (shares ++ one ∷ []) ≡ suc (length shares)
 count_one shares one = length-append shares (one ∷ []) ∙ add-one (length shares)
 
-there_facts : (told : Bool) (parts : PartsState) (old : List Slot) (slot : ℕ) → parts.current ≡ Some slot → IsReady parts.current old → FileFacts told parts old old parts slot
-there_facts told parts old slot is ready =
-    let open_file : is_closable old slot = subst (λ current. IsReady current old) is ready in
-    record {
-      same = ap (λ current. record parts { current = current }) is;
-      names_same = refl;
-      last_part = λ shares begun has. record { drawn = has.drawn ∙ counted shares begun has; named = ap (are_named parts.names) (sym (counted shares begun has)) ∙ has.enough; shut = has.shut };
-      named = λ shares begun has. ap (are_named parts.names) (sym (counted shares begun has)) ∙ has.enough;
-      grows = λ shares begun has. subst (λ more. SharesBegin (shares ++ more) (shares ++ share state.Open begun ∷ [])) (sym (one_share begun has.given)) (shares_themselves _);
-      moves = λ shares begun has. subst (λ more. Moves told parts.names (shares ++ more) (shares ++ share state.Open begun ∷ []) old old) (sym (one_share begun has.given)) (move.moves_same told parts.names _ old old refl);
-      keeps = slot_steps.keeps_same old old refl;
-      last = λ at_end. subst (λ current. IsAtEnd current old) is at_end;
-      owned = move.owned_same parts.current old old refl;
-      after = open_file.0;
-      writable = open_file.1;
-    } where
-      one_share : (begun : List ℕ) → is_given parts.current ≡ is_some begun → begun_share begun ≡ share state.Open begun ∷ []
-      one_share begun given = some_share state.Open begun (sym given ∙ ap is_given is)
+-- a part of which some bytes are written
+pub written_some : (shares : List Share) (begun : List ℕ) → is_some begun ≡ true → written shares begun ≡ shares ++ share state.Open begun ∷ []
+written_some shares begun some = ap (λ more. shares ++ more) (some_share state.Open begun some)
 
-      counted : (shares : List Share) (begun : List ℕ) → Begun parts shares begun → length (shares ++ begun_share begun) ≡ suc (length shares)
-      counted shares begun has = ap (λ more. length (shares ++ more)) (one_share begun has.given) ∙ count_one shares (share state.Open begun)
+pub written_count : (shares : List Share) (begun : List ℕ) → is_some begun ≡ true → length (written shares begun) ≡ suc (length shares)
+written_count shares begun some = ap length (written_some shares begun some) ∙ count_one shares (share state.Open begun)
 
-made_facts : (told : Bool) (parts : PartsState) (old new : List Slot) (next : PartsState) (slot : ℕ) → parts.current ≡ None → IsReady parts.current old → slot ≡ length old → IsTrue (has_next parts.names)
-    → next ≡ record parts { names = with_one_drawn parts.names; current = Some slot } → new ≡ old ++ opened (next_name parts.names) Fresh ∷ [] → FileFacts told parts old new next slot
-made_facts told parts old new next slot none ready at has next_is made_it =
-    let streams : 2 ≤ length old = subst (λ current. IsReady current old) none ready in
-    record {
-      same = next_is ∙ ap (λ (those : Naming). record parts { names = those; current = Some slot }) (sym (ap (λ (those : PartsState). those.names) next_is));
-      names_same = ap (λ (those : PartsState). those.names) next_is ∙ ap (λ n. record parts.names { drawn = n }) (sym (ap (λ (those : PartsState). those.names.drawn) next_is));
-      last_part = λ shares begun had. record {
-        drawn = ap (λ (those : PartsState). those.names.drawn) next_is ∙ ap (λ n. n + 1) (drawn shares begun had) ∙ add-one (length shares);
-        named = ap (λ (those : PartsState). is_named those.names (length shares)) next_is ∙ named_here shares begun had;
-        shut = had.shut;
-      };
-      named = named_here;
-      grows = λ shares begun had. subst (λ those. SharesBegin (shares ++ begun_share those) (shares ++ share state.Open those ∷ [])) (sym (no_bytes begun had))
-          (subst (λ low. SharesBegin low (shares ++ share state.Open [] ∷ [])) (sym (append-nil shares)) (shares_more shares (share state.Open [] ∷ [])));
-      moves = λ shares begun had. subst (λ those. Moves told parts.names (shares ++ begun_share those) (shares ++ share state.Open those ∷ []) old new) (sym (no_bytes begun had))
-          (subst (λ low. Moves told parts.names low (shares ++ share state.Open [] ∷ []) old new) (sym (append-nil shares))
-          (move.open_moves told parts.names shares old new (named_here shares begun had) (drawn shares begun had) made_it));
-      keeps = slot_steps.keeps_open (opened (next_name parts.names) Fresh) old new made_it;
-      last = λ at_end. slot_steps.opened_last old new slot (next_name parts.names) Fresh at made_it;
-      owned = subst (λ current. KeepsFile current old next.current new) (sym none) (subst (λ current. KeepsFile None old current new) (sym (ap (λ (those : PartsState). those.current) next_is)) (move.owned_opened slot (opened (next_name parts.names) Fresh) old new at made_it));
-      after = omega (arith, at, streams);
-      writable = slot_steps.opened_writable old new slot (next_name parts.names) Fresh at made_it;
-    } where
-      no_bytes : (begun : List ℕ) {shares : List Share} → Begun parts shares begun → begun ≡ []
-      no_bytes begun had = none_begun begun (sym had.given ∙ ap is_given none)
+pub some_bytes : (front bytes : List ℕ) → 0 < length bytes → is_some (front ++ bytes) ≡ true
+some_bytes front bytes some = is_some_of (front ++ bytes) (omega (arith, some, length-append front bytes))
 
-      drawn : (shares : List Share) (begun : List ℕ) → Begun parts shares begun → parts.names.drawn ≡ length shares
-      drawn shares begun had = had.drawn ∙ ap (λ those. length (shares ++ begun_share those)) (no_bytes begun had) ∙ ap length (append-nil shares)
+-- its name is there
+pub begun_named : {names : Naming} {current : Option ℕ} {shares : List Share} {begun : List ℕ} → Begun names current shares begun → is_some begun ≡ true
+    → (names.drawn ≡ suc (length shares)) × (is_named names (length shares) ≡ true)
+begun_named {names} {shares} {begun} has some =
+    let count = written_count shares begun some in (has.drawn ∙ count, ap (are_named names) (sym count) ∙ has.enough)
 
-      named_here : (shares : List Share) (begun : List ℕ) → Begun parts shares begun → is_named parts.names (length shares) ≡ true
-      named_here shares begun had = ap (is_named parts.names) (sym (drawn shares begun had)) ∙ has
-
-pub file_facts : (told : Bool) (parts : PartsState) (old new : List Slot) (next : PartsState) (slot : ℕ) → IsReady parts.current old → HasFile parts old new next slot → FileFacts told parts old new next slot
-file_facts told parts old new next slot ready (there is next_is same) =
-    subst (λ those. FileFacts told parts old new those slot) (sym next_is) (subst (λ those. FileFacts told parts old those parts slot) (sym same) (there_facts told parts old slot is ready))
-file_facts told parts old new next slot ready (made none at has next_is made_it) = made_facts told parts old new next slot none ready at has next_is made_it
-
--- writing to the part that was begun
-
-pub extended : (told : Bool) (parts : PartsState) (bytes : List ℕ) (old mid wet new : List Slot) (found next : PartsState) (slot : ℕ) → FileFacts told parts old mid found slot → wet ≡ with_written slot (told_of told parts.waiting) mid → new ≡ with_written slot (told_of told bytes) wet
-    → next ≡ record found { waiting = [] } → Extended told parts bytes old new next slot
-extended told parts bytes old mid wet new found next slot facts one other is = record {
-  same = is ∙ ap (λ (those : PartsState). record those { waiting = [] }) facts.same ∙ ap (λ (names : Naming). record parts { names = names; waiting = []; current = Some slot }) (sym (ap (λ (those : PartsState). those.names) is));
-  names_same = ap (λ (those : PartsState). those.names) is ∙ facts.names_same ∙ ap (λ n. record parts.names { drawn = n }) (sym (ap (λ (those : PartsState). those.names.drawn) is));
-  drawn = λ shares begun has. subst (λ (names : Naming). IsLast (record next { names = names }) shares) (sym (ap (λ (those : PartsState). those.names) is))
-      (let there : IsLast found shares = facts.last_part shares begun has in record { drawn = there.drawn; named = there.named; shut = there.shut });
-  moves = λ shares begun has at_end. move.moves_again told parts.names _ (shares ++ share state.Open begun ∷ []) _ old mid new (facts.moves shares begun has)
-      (move.write_moves told parts.names shares begun (parts.waiting ++ bytes) mid new slot (facts.named shares begun has) (facts.last at_end) both);
-  keeps = slot_steps.keeps_again old mid new facts.keeps (slot_steps.keeps_write slot _ mid new both);
-  owned = move.owned_again parts.current found.current next.current old mid new facts.owned (subst (λ current. KeepsFile found.current mid current new) (sym (ap (λ (those : PartsState). those.current) is)) (move.owned_same found.current mid new (slot_steps.written_size slot _ mid new both)));
-  ready = (facts.after, slot_steps.written_writable mid new slot slot _ facts.writable both);
+-- writing to its file, whatever is left to wait
+pub write_keeps : (told : Bool) (parts : PartsState) (held : List ℕ) {slot : ℕ} (bytes : List ℕ) {old new : List Slot} (result : Result (Unit {0}) Fault)
+    → parts.current ≡ Some slot → is_closable old slot → OnOk result (new ≡ with_written slot (told_of told bytes) old)
+    → IfErr result (WritesShort told slot bytes old new) → Keeps parts old new (record parts { waiting = held }) result
+write_keeps told parts held {slot} bytes {old} {new} result is can ok err = record {
+  limit = refl;
+  names = refl;
+  owned = owned_same parts.current old new (size result ok err);
+  sound = on_ok_weaker result (slot_steps.keeps_write slot _ old new) ok;
+  ready = on_ok_weaker result (λ wrote. subst (λ current. IsReady current new) (sym is)
+      (can.0, slot_steps.written_writable old new slot slot _ can.1 wrote)) ok;
+  breaks = IfErr-weaker result _ _ (λ f short. write_breaks told can.0 can.1 short) err;
 } where
-  both : new ≡ with_written slot (told_of told (parts.waiting ++ bytes)) mid
-  both = written_both told slot parts.waiting bytes mid wet new one other
+  size : (result : Result (Unit {0}) Fault) → OnOk result (new ≡ with_written slot (told_of told bytes) old) → IfErr result (WritesShort told slot bytes old new)
+      → length new ≡ length old
+  size (Ok done) ok err = slot_steps.written_size slot _ old new ok
+  size (Err f) ok err = slot_steps.short_size told slot bytes old new f err
 
--- a fault of the write of what waits
+-- closing it
 
-pub held_short : (told : Bool) (parts : PartsState) (bytes : List ℕ) (old mid new : List Slot) (found next : PartsState) (slot : ℕ) (f : Fault) → FileFacts told parts old mid found slot → WritesShort told slot parts.waiting mid new f
-    → (held : List ℕ) → next ≡ record found { waiting = held } → Interrupted told parts bytes old new next f
-held_short told parts bytes old mid new found next slot f facts short held is = record {
-  limit_same = ap (λ (those : PartsState). those.limit) is ∙ ap (λ (those : PartsState). those.limit) facts.same;
-  names_same = ap (λ (those : PartsState). those.names) is ∙ facts.names_same ∙ ap (λ n. record parts.names { drawn = n }) (sym (ap (λ (those : PartsState). those.names.drawn) is));
-  halts = λ shares begun has at_end. move.halts_after told parts.names _ (shares ++ share state.Open begun ∷ []) _ old mid new f (facts.grows shares begun has) (facts.moves shares begun has)
-      (move.halts_wider told parts.names _ (shares ++ share state.Open (begun ++ parts.waiting) ∷ []) _ mid new f
-      (move.write_halts told parts.names shares begun parts.waiting mid new slot f has.shut (facts.named shares begun has) (facts.last at_end) short)
-      (last_grows shares [] (share state.Open (begun ++ parts.waiting)) (share state.Open (begun ++ (parts.waiting ++ bytes))) (inl refl) (bytes, sym (append_assoc begun parts.waiting bytes))));
-  breaks = move.breaks_later old mid new f facts.keeps (move.write_breaks told slot parts.waiting mid new f facts.after facts.writable short);
-  owned = move.owned_again parts.current found.current next.current old mid new facts.owned (subst (λ current. KeepsFile found.current mid current new) (sym (ap (λ (those : PartsState). those.current) is)) (move.owned_same found.current mid new (slot_steps.short_size told slot parts.waiting mid new f short)));
-  short = λ is_short. absurd (move.no_suffixes told slot parts.waiting mid new f short is_short);
+pub shuts_none : (told : Bool) (parts : PartsState) {slots : List Slot} → IsReady parts.current slots → parts.current ≡ None
+    → Shuts told parts slots slots parts (Ok tt)
+shuts_none told parts {slots} ready none = record {
+  same = same;
+  keeps = subst (λ those. Keeps parts slots slots those (Ok tt)) same
+      (record { limit = refl; names = refl; owned = λ first owns. owns; sound = slot_steps.keeps_same slots slots refl; ready = ready; breaks = tt });
+  caused = tt;
+  goes = λ shares begun has some. absurd (false≢true (sym (ap is_given none) ∙ has.given ∙ some));
+} where
+  same : parts ≡ record parts { current = None }
+  same = ap (λ current. record parts { current = current }) none
+
+pub shuts_some : (told : Bool) (parts next : PartsState) {slot : ℕ} {old new : List Slot} (result : Result (Unit {0}) Fault) → IsReady parts.current old
+    → parts.current ≡ Some slot → next ≡ record parts { current = None } → OnOk result (new ≡ changed_at slot closes old)
+    → IfErr result (λ f. (f ≡ fault.Write slot) × (new ≡ with_broken slot (changed_at slot closes old))) → Shuts told parts old new next result
+shuts_some told parts next {slot} {old} {new} result ready is next_is ok err = record {
+  same = next_is;
+  keeps = record {
+    limit = refl;
+    names = refl;
+    owned = subst (λ current. KeepsFile current old None new) (sym is) (owned_ended slot old new (size result ok err));
+    sound = on_ok_weaker result (slot_steps.keeps_close slot old new) ok;
+    ready = on_ok result (omega (arith, slot_steps.writable_within slot old can.1, size result ok err, can.0));
+    breaks = IfErr-weaker result _ _ (λ f why. subst (Breaks old new) (sym why.0) (breaks_write slot can.0 (rose why.1))) err;
+  };
+  caused = IfErr-weaker result _ _ (λ f why. (slot, why.0, can.0, rose why.1)) err;
+  goes = λ shares begun has some. rw (written_some shares begun some, append-nil (shares ++ share state.Closed begun ∷ []), is)
+      (close_goes told (from_start parts.names) shares begun old slot has.shut (begun_named has some).1 result ok err);
+} where
+  can : is_closable old slot
+  can = subst (λ current. IsReady current old) is ready
+
+  rose : new ≡ with_broken slot (changed_at slot closes old) → Rattle.ports_core.specs.Slot.Rose slot old new
+  rose broken = slot_steps.close_rose slot old new can.1 (slot_steps.writable_within slot old can.1) broken
+
+  size : (result : Result (Unit {0}) Fault) → OnOk result (new ≡ changed_at slot closes old)
+      → IfErr result (λ f. (f ≡ fault.Write slot) × (new ≡ with_broken slot (changed_at slot closes old))) → length new ≡ length old
+  size (Ok done) ok err = ap length ok ∙ length-changed_at slot closes old
+  size (Err f) ok err = slot_steps.broken_size slot old new err.1
+
+-- the file of the part that was begun, once it is there
+
+pub record Found (told : Bool) (parts : PartsState) (old mid : List Slot) (next : PartsState) (slot : ℕ) : Type 0 where
+  pub same : next ≡ record parts { names = next.names; current = Some slot }
+  pub keeps : Keeps parts old mid next (Ok tt)
+  pub can : is_closable mid slot
+  pub last : (shares : List Share) (begun : List ℕ) → Begun parts.names parts.current shares begun
+      → (next.names.drawn ≡ suc (length shares)) × (is_named parts.names (length shares) ≡ true)
+  pub goes : (shares : List Share) (begun : List ℕ) → Begun parts.names parts.current shares begun
+      → Goes told (from_start parts.names) parts.current (written shares begun) (shares ++ share state.Open begun ∷ []) old mid (Ok tt)
+
+found_there : (told : Bool) (parts : PartsState) (old : List Slot) (slot : ℕ) → parts.current ≡ Some slot → IsReady parts.current old
+    → Found told parts old old parts slot
+found_there told parts old slot is ready = record {
+  same = ap (λ current. record parts { current = current }) is;
+  keeps = record { limit = refl; names = refl; owned = λ first owns. owns; sound = slot_steps.keeps_same old old refl; ready = ready; breaks = tt };
+  can = subst (λ current. IsReady current old) is ready;
+  last = λ shares begun has. begun_named has (sym has.given ∙ ap is_given is);
+  goes = λ shares begun has. goes_same (written_some shares begun (sym has.given ∙ ap is_given is)) refl;
 }
 
--- and of the write of the bytes
+-- where no file is open, nothing of the part is written
+begun_yet : {names : Naming} {current : Option ℕ} {shares : List Share} {begun : List ℕ} → Begun names current shares begun → current ≡ None
+    → (begun ≡ []) × (names.drawn ≡ length shares)
+begun_yet {shares} {begun} has none =
+    let no_bytes = none_begun begun (sym has.given ∙ ap is_given none) in
+    (no_bytes, has.drawn ∙ ap (λ those. length (written shares those)) no_bytes ∙ ap length (append-nil shares))
 
-pub bytes_short : (told : Bool) (parts : PartsState) (bytes : List ℕ) (old mid wet new : List Slot) (found next : PartsState) (slot : ℕ) (f : Fault) → FileFacts told parts old mid found slot → wet ≡ with_written slot (told_of told parts.waiting) mid → WritesShort told slot bytes wet new f
-    → (held : List ℕ) → next ≡ record found { waiting = held } → Interrupted told parts bytes old new next f
-bytes_short told parts bytes old mid wet new found next slot f facts one short held is = record {
-  limit_same = ap (λ (those : PartsState). those.limit) is ∙ ap (λ (those : PartsState). those.limit) facts.same;
-  names_same = ap (λ (those : PartsState). those.names) is ∙ facts.names_same ∙ ap (λ n. record parts.names { drawn = n }) (sym (ap (λ (those : PartsState). those.names.drawn) is));
-  halts = λ shares begun has at_end. move.halts_after told parts.names _ (shares ++ share state.Open begun ∷ []) _ old mid new f (facts.grows shares begun has) (facts.moves shares begun has)
-      (move.halts_after told parts.names _ (shares ++ share state.Open (begun ++ parts.waiting) ∷ []) _ mid wet new f
-      (last_grows shares [] (share state.Open begun) (share state.Open (begun ++ parts.waiting)) (inl refl) (parts.waiting, refl))
-      (move.write_moves told parts.names shares begun parts.waiting mid wet slot (facts.named shares begun has) (facts.last at_end) one)
-      (subst (λ those. Halts told parts.names (shares ++ share state.Open (begun ++ parts.waiting) ∷ []) (shares ++ share state.Open those ∷ []) wet new f) (append_assoc begun parts.waiting bytes)
-      (move.write_halts told parts.names shares (begun ++ parts.waiting) bytes wet new slot f has.shut (facts.named shares begun has) (slot_steps.written_last mid wet slot _ (facts.last at_end) one) short)));
-  breaks = move.breaks_later old wet new f (slot_steps.keeps_again old mid wet facts.keeps (slot_steps.keeps_write slot _ mid wet one))
-      (move.write_breaks told slot bytes wet new f facts.after (slot_steps.written_writable mid wet slot slot _ facts.writable one) short);
-  owned = move.owned_again parts.current found.current next.current old mid new facts.owned (subst (λ current. KeepsFile found.current mid current new) (sym (ap (λ (those : PartsState). those.current) is)) (move.owned_same found.current mid new (slot_steps.short_size told slot bytes wet new f short ∙ slot_steps.written_size slot _ mid wet one)));
-  short = λ is_short. absurd (move.no_suffixes told slot bytes wet new f short is_short);
-}
+found_made : (told : Bool) (parts : PartsState) (old new : List Slot) (next : PartsState) (slot : ℕ) → parts.current ≡ None → IsReady parts.current old
+    → slot ≡ length old → IsTrue (has_next parts.names) → next ≡ record parts { names = Rattle.ports_core.specs.Name.with_one_drawn parts.names; current = Some slot }
+    → new ≡ old ++ opened (next_name parts.names) Fresh ∷ [] → Found told parts old new next slot
+found_made told parts old new next slot none ready at has next_is made_it = subst (λ those. Found told parts old new those slot) (sym next_is) (record {
+  same = refl;
+  keeps = record {
+    limit = refl;
+    names = refl;
+    owned = subst (λ current. KeepsFile current old (Some slot) new) (sym none) (owned_opened (opened (next_name parts.names) Fresh) old at made_it);
+    sound = slot_steps.keeps_open (opened (next_name parts.names) Fresh) old new made_it;
+    ready = can;
+    breaks = tt;
+  };
+  can = can;
+  last = λ shares begun had. (ap (λ n. n + 1) (begun_yet had none).1 ∙ add-one (length shares), named shares begun had);
+  goes = λ shares begun had. rw ((begun_yet had none).0, append-nil shares) (open_goes told (from_start parts.names) parts.current shares old new (named shares begun had)
+      (made_it ∙ ap (λ n. old ++ opened (name_of parts.names n) Fresh ∷ []) (begun_yet had none).1));
+}) where
+  named : (shares : List Share) (begun : List ℕ) → Begun parts.names parts.current shares begun → is_named parts.names (length shares) ≡ true
+  named shares begun had = ap (is_named parts.names) (sym (begun_yet had none).1) ∙ has
+
+  can : is_closable new slot
+  can = let streams : 2 ≤ length old = subst (λ current. IsReady current old) none ready in
+      (omega (arith, at, streams), slot_steps.opened_writable old new slot (next_name parts.names) Fresh at made_it)
+
+pub found : (told : Bool) (parts : PartsState) {old new : List Slot} {next : PartsState} {slot : ℕ} → IsReady parts.current old → HasFile parts old new next slot
+    → Found told parts old new next slot
+found told parts {old} {next} {slot} ready (there is next_is same) =
+    subst (λ those. Found told parts old those next slot) (sym same) (subst (λ those. Found told parts old old those slot) (sym next_is) (found_there told parts old slot is ready))
+found told parts ready (made none at has next_is made_it) = found_made told parts _ _ _ _ none ready at has next_is made_it
+
+-- what waits and more went to the part that was begun, or a fault came meanwhile
+pub extended : {told : Bool} {parts : PartsState} (bytes held : List ℕ) {old mid new : List Slot} {fresh next : PartsState} {slot : ℕ}
+    (result : Result (Unit {0}) Fault) → 0 < length bytes → Found told parts old mid fresh slot
+    → OnOk result (new ≡ with_written slot (told_of told (parts.waiting ++ bytes)) mid) → IfErr result (WritesShort told slot (parts.waiting ++ bytes) mid new)
+    → next ≡ record fresh { waiting = held } → OnOk result (held ≡ []) → Extends told parts bytes old new next result
+extended {told} {parts} bytes held {old} {mid} {new} {fresh} {next} {slot} result some facts ok err is none =
+    subst (λ those. Extends told parts bytes old new those result) (sym (is ∙ ap (λ (those : PartsState). record those { waiting = held }) facts.same)) (record {
+      same = on_ok_weaker result (ap (λ waits. record parts { names = fresh.names; waiting = waits; current = Some slot })) none;
+      keeps = keeps_then result (subst (λ those. Keeps parts old mid those (Ok tt)) facts.same facts.keeps)
+          (write_keeps told (record parts { names = fresh.names; current = Some slot }) held _ result refl facts.can ok err);
+      begun = on_ok result (λ shares begun has.
+          let count = written_count shares (begun ++ (parts.waiting ++ bytes)) (all begun) in record {
+            drawn = (facts.last shares begun has).0 ∙ sym count;
+            enough = ap (are_named fresh.names) count ∙ ap (λ (those : Naming). is_named those (length shares)) facts.keeps.names ∙ (facts.last shares begun has).1;
+            given = sym (all begun);
+            shut = has.shut;
+          });
+      goes = λ shares begun has. rw (written_some shares (begun ++ (parts.waiting ++ bytes)) (all begun))
+          (goes_then result (subst (λ (those : PartsState). KeepsFile parts.current old those.current mid) facts.same facts.keeps.owned) (facts.goes shares begun has)
+          (write_goes told (from_start parts.names) shares begun mid slot has.shut (facts.last shares begun has).1 (parts.waiting ++ bytes) result ok err));
+    }) where
+      all : (begun : List ℕ) → is_some (begun ++ (parts.waiting ++ bytes)) ≡ true
+      all begun = some_bytes begun (parts.waiting ++ bytes) (omega (arith, some, length-append parts.waiting bytes))
 
 -- no file could be opened
-
-pub no_file : (told : Bool) (parts : PartsState) (bytes : List ℕ) (old new : List Slot) (next : PartsState) (f : Fault) → HasNone parts old new next f → Interrupted told parts bytes old new next f
-no_file told parts bytes old new next f none = record {
-  limit_same = ap (λ (those : PartsState). those.limit) none.same;
-  names_same = none.names_same;
-  halts = λ shares begun has at_end. let no_bytes : begun ≡ [] = none_begun begun (sym has.given ∙ ap is_given none.none) in
-      subst (λ those. Halts told parts.names those (shares ++ share state.Open (begun ++ (parts.waiting ++ bytes)) ∷ []) old new f) (sym (ap (λ those. shares ++ begun_share those) no_bytes ∙ append-nil shares))
-      (move.open_halts told parts.names shares [] (share state.Open (begun ++ (parts.waiting ++ bytes))) old new f has.shut
-      (has.drawn ∙ ap (λ those. length (shares ++ begun_share those)) no_bytes ∙ ap length (append-nil shares)) none.opens);
-  breaks = move.open_breaks parts.names old new f none.opens;
-  owned = subst (λ current. KeepsFile current old next.current new) (sym none.none) (subst (λ current. KeepsFile None old current new) (sym (ap (λ (those : PartsState). those.current) none.same ∙ none.none)) (move.owned_unopened parts.names old new f none.opens));
-  short = λ is. let why : (has_next parts.names ≡ false) × (new ≡ old) = subst (OpensNone parts.names old new) is none.opens in (none.none, why.0, why.1);
+pub no_file : (told : Bool) (parts : PartsState) (bytes : List ℕ) {old new : List Slot} {next : PartsState} (f : Fault) → 0 < length bytes
+    → HasNone parts old new next f → Extends told parts bytes old new next (Err f)
+no_file told parts bytes {old} {new} {next} f some none = record {
+  same = tt;
+  keeps = record {
+    limit = ap (λ (those : PartsState). those.limit) none.same;
+    names = ap from_start none.names_same;
+    owned = subst (λ current. KeepsFile current old next.current new) (sym none.none)
+        (subst (λ current. KeepsFile None old current new) (sym (ap (λ (those : PartsState). those.current) none.same ∙ none.none))
+        (owned_unopened parts.names old new f none.opens));
+    sound = tt;
+    ready = tt;
+    breaks = open_breaks parts.names f none.opens;
+  };
+  begun = tt;
+  goes = λ shares begun has. rw ((begun_yet has none.none).0, append-nil shares, written_some shares (parts.waiting ++ bytes) (some_bytes parts.waiting bytes some))
+      (open_stops told parts.names parts.current shares [] (share state.Open (parts.waiting ++ bytes)) old new f has.shut (begun_yet has none.none).1 none.opens);
 }

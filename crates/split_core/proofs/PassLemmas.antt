@@ -1,204 +1,152 @@
 -- A piece that is taken in step by step, and the end of the input.
-use Rattle.std.proofs.Common.{◌≡◌, ℕ, ◌<◌, ◌≤◌, suc, List, [], ◌∷◌, ◌++◌, length, map, take, drop, Bool, true, false, IsTrue, Some, None, Result, Ok, Err, OnOk, IfErr, inl, refl, sym, ◌∙◌, ap, subst, arith, append_assoc}
+use Rattle.std.proofs.Common.{◌≡◌, ℕ, ◌<◌, ◌≤◌, List, [], ◌∷◌, ◌++◌, length, map, take, drop, Bool, true, Some, None, Result, Ok, Err, OnOk, IfErr, refl, sym, ◌∙◌, ap, subst, arith, append_assoc}
 use Rattle.std.proofs.lemmas.List.{append-nil, map-append, take-append-drop}
 use Rattle.std.proofs.lemmas.Bool.{false≢true}
-use Rattle.ports_core.specs.Slot.{Slot, changed_at, closes, with_written, with_broken, told_of, is_writable, is_closable, Rose}
+use Rattle.std.proofs.lemmas.Result.{IfErr-weaker, on_ok_weaker}
+use Rattle.ports_core.specs.Name.{Naming}
+use Rattle.ports_core.specs.Slot.{Slot, with_written, told_of, is_closable}
 use Rattle.ports_core.specs.declared.slot.State.TheVariants as file_state
 use Rattle.ports_core.specs.declared.fault.Fault.{Fault}
-use Rattle.ports_core.specs.declared.fault.Fault.TheVariants as fault
 use Rattle.ports_core.proofs.PartLemmas.{begins_itself}
-use Rattle.ports_core.proofs.SlotLemmas.{length-changed_at}
-use Rattle.ports_core.specs.inner.Write.{WritesShort}
-use Rattle.split_core.specs.declared.limit.Limit.{Limit}
-use Rattle.split_core.specs.Parts.{cut_up, parts, unless_empty, settled_rest}
+use Rattle.ports_core.specs.inner.Write.{WritesShort, broke}
+use Rattle.ports_core.proofs.SlotSteps.{keeps_same, rose_later, write_rose}
+use Rattle.split_core.specs.Parts.{cut_up, unless_empty}
 use Rattle.split_core.specs.laws.CutLaws.{settled_then_waiting, settled_some}
-use Rattle.split_core.specs.Split.{Share, share, is_some, is_named, are_named, settled_parts}
-use Rattle.split_core.proofs.ShareLaws.{shut_map, last_grows}
-use Rattle.split_core.specs.inner.ShareLaws.{SharesBegin, whole_parts}
-use Rattle.split_core.specs.laws.ShareLaws.{settled_grow}
+use Rattle.split_core.specs.Split.{share, is_some, are_named, from_start, settled_parts}
+use Rattle.split_core.proofs.ShareLaws.{begun_grows, shut_map}
+use Rattle.split_core.specs.inner.ShareLaws.{whole_parts}
 use Rattle.split_core.specs.PartsState.{PartsState, Stands, IsReady, is_given}
-use Rattle.split_core.specs.inner.PartsState.{IsAtEnd}
-use Rattle.split_core.specs.inner.Moves.{Moves, Halts, KeepsFile, begun_share, Took, Stopped, Finishes}
-use Rattle.ports_core.proofs.SlotSteps as slot_steps
-use Rattle.split_core.proofs.MoveLemmas as move
-use Rattle.split_core.proofs.PartsLemmas.{count_one, none_begun, some_share}
-use Rattle.split_core.proofs.TakenLemmas.{are_named_drawn, names_drawn}
+use Rattle.split_core.specs.inner.Moves.{Goes, Keeps, Begun, written, Takes, Shuts, CannotClose, Finishes}
+use Rattle.split_core.proofs.MoveLemmas.{goes_same, goes_then, goes_wider, keeps_then, write_goes}
+use Rattle.split_core.proofs.PartsLemmas.{begun_named, none_begun, some_share, write_keeps, written_count, written_some}
+use Rattle.split_core.proofs.TakenLemmas.{rest_of, full_of, begun_of, begun_so}
 
-pub took_none : (told : Bool) (parts : PartsState) (slots : List Slot) → IsReady parts.current slots → Took told parts [] slots slots parts
-took_none told parts slots ready = record {
-  limit_same = refl;
-  names_same = refl;
-  stands = λ x stands. subst (Stands parts) (sym (append-nil x)) stands;
-  moves = λ x stands at_end. subst (λ all. Moves told parts.names (settled_parts parts.limit x) (settled_parts parts.limit all) slots slots) (sym (append-nil x)) (move.moves_same told parts.names _ slots slots refl);
-  keeps = slot_steps.keeps_same slots slots refl;
-  owned = move.owned_same parts.current slots slots refl;
-  ready = ready;
+pub takes_none : (told : Bool) (parts : PartsState) {slots : List Slot} → IsReady parts.current slots → Takes told parts [] slots slots parts (Ok tt)
+takes_none told parts {slots} ready = record {
+  keeps = record { limit = refl; names = refl; owned = λ first owns. owns; sound = keeps_same slots slots refl; ready = ready; breaks = tt };
+  stands = λ x stands. rw append-nil stands;
+  goes = λ x stands. goes_same (ap (settled_parts parts.limit) (sym (append-nil x))) refl;
 }
 
--- what a later step does, by what was asked at first
-
-moves_from : (told : Bool) (state mid : PartsState) (x first more : List ℕ) (old new : List Slot) → mid.limit ≡ state.limit → mid.names ≡ record state.names { drawn = mid.names.drawn }
-    → Moves told mid.names (settled_parts mid.limit (x ++ first)) (settled_parts mid.limit ((x ++ first) ++ more)) old new → Moves told state.names (settled_parts state.limit (x ++ first)) (settled_parts state.limit (x ++ (first ++ more))) old new
-moves_from told state mid x first more old new limit names moves =
-    subst (λ all. Moves told state.names (settled_parts state.limit (x ++ first)) (settled_parts state.limit all) old new) (append_assoc x first more)
-    (move.moves_by told state.names mid.names _ _ old new names
-    (subst (λ (those : Limit). Moves told mid.names (settled_parts those (x ++ first)) (settled_parts those ((x ++ first) ++ more)) old new) limit moves))
-
-halts_from : (told : Bool) (state mid : PartsState) (x first more : List ℕ) (old new : List Slot) (f : Fault) → mid.limit ≡ state.limit → mid.names ≡ record state.names { drawn = mid.names.drawn }
-    → Halts told mid.names (settled_parts mid.limit (x ++ first)) (settled_parts mid.limit ((x ++ first) ++ more)) old new f → Halts told state.names (settled_parts state.limit (x ++ first)) (settled_parts state.limit (x ++ (first ++ more))) old new f
-halts_from told state mid x first more old new f limit names halts =
-    subst (λ all. Halts told state.names (settled_parts state.limit (x ++ first)) (settled_parts state.limit all) old new f) (append_assoc x first more)
-    (move.halts_by told state.names mid.names _ _ old new f names
-    (subst (λ (those : Limit). Halts told mid.names (settled_parts those (x ++ first)) (settled_parts those ((x ++ first) ++ more)) old new f) limit halts))
-
-pub took_again : (told : Bool) (state mid next : PartsState) (first more : List ℕ) (old wet new : List Slot) → Took told state first old wet mid → Took told mid more wet new next → Took told state (first ++ more) old new next
-took_again told state mid next first more old wet new one other = record {
-  limit_same = other.limit_same ∙ one.limit_same;
-  names_same = names_drawn state.names mid.names next.names one.names_same other.names_same;
-  stands = λ x stands. subst (Stands next) (append_assoc x first more) (other.stands (x ++ first) (one.stands x stands));
-  moves = λ x stands at_end. move.moves_again told state.names _ (settled_parts state.limit (x ++ first)) _ old wet new (one.moves x stands at_end)
-      (moves_from told state mid x first more wet new one.limit_same one.names_same (other.moves (x ++ first) (one.stands x stands) (move.stays_last state.current mid.current old wet one.owned at_end)));
-  keeps = slot_steps.keeps_again old wet new one.keeps other.keeps;
-  owned = move.owned_again state.current mid.current next.current old wet new one.owned other.owned;
-  ready = other.ready;
-}
-
-pub stopped_again : (told : Bool) (state mid next : PartsState) (first more : List ℕ) (old wet new : List Slot) (f : Fault) → Took told state first old wet mid → Stopped told mid more wet new next f → Stopped told state (first ++ more) old new next f
-stopped_again told state mid next first more old wet new f one other = record {
-  limit_same = other.limit_same ∙ one.limit_same;
-  names_same = names_drawn state.names mid.names next.names one.names_same other.names_same;
-  halts = λ x stands at_end. move.halts_after told state.names _ (settled_parts state.limit (x ++ first)) _ old wet new f (settled_grow state.limit x first) (one.moves x stands at_end)
-      (halts_from told state mid x first more wet new f one.limit_same one.names_same (other.halts (x ++ first) (one.stands x stands) (move.stays_last state.current mid.current old wet one.owned at_end)));
-  breaks = move.breaks_later old wet new f one.keeps other.breaks;
-  owned = move.owned_again state.current mid.current next.current old wet new one.owned other.owned;
-  short = λ is_short x stands.
-      let ran = other.short is_short (x ++ first) (one.stands x stands) in (
-        subst (λ all. are_named state.names (length (parts state.limit all)) ≡ false) (append_assoc x first more)
-            (sym (are_named_drawn state.names mid.names _ one.names_same) ∙ ap (λ (those : Limit). are_named mid.names (length (parts those ((x ++ first) ++ more)))) (sym one.limit_same) ∙ ran.0),
-        λ at_end. move.moves_again told state.names _ (settled_parts state.limit (x ++ first)) _ old wet new (one.moves x stands at_end)
-            (moves_from told state mid x first more wet new one.limit_same one.names_same (ran.1 (move.stays_last state.current mid.current old wet one.owned at_end))),
-      );
+takes_again : {told : Bool} {state mid next : PartsState} (first more : List ℕ) {old wet new : List Slot} (result : Result (Unit {0}) Fault)
+    → Takes told state first old wet mid (Ok tt) → Takes told mid more wet new next result → Takes told state (first ++ more) old new next result
+takes_again {told} {state} {mid} {next} first more {wet} {new} result one other = record {
+  keeps = keeps_then result one.keeps other.keeps;
+  stands = on_ok_weaker result (λ stays x stands. subst (Stands next) (append_assoc x first more) (stays (x ++ first) (one.stands x stands))) other.stands;
+  goes = λ x stands. goes_then result one.keeps.owned (one.goes x stands)
+      (subst (λ all. Goes told (from_start state.names) mid.current (settled_parts state.limit (x ++ first)) (settled_parts state.limit all) wet new result) (append_assoc x first more)
+      (subst (λ (names : Naming). Goes told names mid.current (settled_parts state.limit (x ++ first)) (settled_parts state.limit ((x ++ first) ++ more)) wet new result) one.keeps.names
+      (subst (λ limit. Goes told (from_start mid.names) mid.current (settled_parts limit (x ++ first)) (settled_parts limit ((x ++ first) ++ more)) wet new result) one.keeps.limit
+      (other.goes (x ++ first) (one.stands x stands)))));
 }
 
 -- the piece is what was taken of it and what is left
 
 abbrev pub Passed : Bool → PartsState → List ℕ → List ℕ → List Slot → List Slot → PartsState → Type 0
-Passed told state piece left old now next = (done : List ℕ) × (piece ≡ done ++ left) × Took told state done old now next
+Passed told state piece left old now next = (done : List ℕ) × (piece ≡ done ++ left) × Takes told state done old now next (Ok tt)
 
-pub passed_more : (told : Bool) (state mid next : PartsState) (piece left rest : List ℕ) (n : ℕ) (old wet new : List Slot) → Passed told state piece left old wet mid → (0 < n) × (n ≤ length left) × Took told mid (take n left) wet new next → rest ≡ drop n left → Passed told state piece rest old new next
-passed_more told state mid next piece left rest n old wet new (done, split, took) (some, within, step) is = (
+pub passed_more : {told : Bool} {state mid next : PartsState} {piece left rest : List ℕ} {n : ℕ} {old wet new : List Slot} → Passed told state piece left old wet mid
+    → (0 < n) × (n ≤ length left) × Takes told mid (take n left) wet new next (Ok tt) → rest ≡ drop n left → Passed told state piece rest old new next
+passed_more {left} {n} (done, split, took) (some, within, step) is = (
   done ++ take n left,
   split ∙ ap (λ those. done ++ those) (sym (take-append-drop n left)) ∙ sym (append_assoc done (take n left) (drop n left)) ∙ ap (λ those. (done ++ take n left) ++ those) (sym is),
-  took_again told state mid next done (take n left) old wet new took step,
+  takes_again done (take n left) (Ok tt) took step,
 )
 
-pub passed_stopped : (told : Bool) (state mid next : PartsState) (piece left : List ℕ) (old wet new : List Slot) (f : Fault) → Passed told state piece left old wet mid → Stopped told mid left wet new next f → Stopped told state piece old new next f
-passed_stopped told state mid next piece left old wet new f (done, split, took) stop = subst (λ those. Stopped told state those old new next f) (sym split) (stopped_again told state mid next done left old wet new f took stop)
+pub passed_stopped : {told : Bool} {state mid next : PartsState} {piece left : List ℕ} {old wet new : List Slot} {f : Fault} → Passed told state piece left old wet mid
+    → Takes told mid left wet new next (Err f) → Takes told state piece old new next (Err f)
+passed_stopped {left} {f} (done, split, took) stop = rw split (takes_again done left (Err f) took stop)
 
 -- the end of the input
 
-module _ (told : Bool) (state : PartsState) (old : List Slot) (ready : IsReady state.current old) where
-  abbrev full_shares : List ℕ → List Share
-  full_shares x = map (share file_state.Closed) (cut_up state.limit x).full
+whole_is : (state : PartsState) (x : List ℕ) → whole_parts state.limit x ≡ full_of state x ++ map (share file_state.Closed) (unless_empty (rest_of state x))
+whole_is state x = map-append (share file_state.Closed) (cut_up state.limit x).full (unless_empty (rest_of state x))
 
-  abbrev rest_bytes : List ℕ → List ℕ
-  rest_bytes x = (cut_up state.limit x).rest
+-- where no part was begun, nothing is left
+no_rest : {state : PartsState} {x : List ℕ} → Stands state x → state.current ≡ None → rest_of state x ≡ []
+no_rest {state} {x} stands none = by (rest_of state x) (settled_some state.limit (rest_of state x)) where
+  empty : length (begun_of state x) ≡ 0
+  empty = ap length (none_begun (begun_of state x) (sym stands.opened ∙ ap is_given none))
 
-  abbrev begun_bytes : List ℕ → List ℕ
-  begun_bytes x = settled_rest state.limit (rest_bytes x)
+  by : (rest : List ℕ) → (0 < length rest → 0 < length (begun_of state x)) → rest ≡ []
+  by [] some = refl
+  by (byte ∷ rest) some = absurd (omega (arith, empty, some (omega arith)))
 
-  whole_is : (x : List ℕ) → whole_parts state.limit x ≡ full_shares x ++ map (share file_state.Closed) (unless_empty (rest_bytes x))
-  whole_is x = map-append (share file_state.Closed) (cut_up state.limit x).full (unless_empty (rest_bytes x))
+pub finishes_none : (told : Bool) (state : PartsState) {old : List Slot} → IsReady state.current old → state.current ≡ None → Finishes told state old old state (Ok tt)
+finishes_none told state {old} ready none = record {
+  keeps = record { limit = refl; names = refl; owned = λ first owns. owns; sound = keeps_same old old refl; ready = ready; breaks = tt };
+  caused = tt;
+  goes = λ x stands. goes_same (ap (written (full_of state x)) (none_begun (begun_of state x) (sym stands.opened ∙ ap is_given none))
+      ∙ ap (λ those. full_of state x ++ map (share file_state.Closed) (unless_empty those)) (sym (no_rest stands none)) ∙ sym (whole_is state x)) refl;
+}
 
-  no_rest : (x : List ℕ) → Stands state x → state.current ≡ None → rest_bytes x ≡ []
-  no_rest x stands none = by (rest_bytes x) (settled_some state.limit (rest_bytes x)) where
-    empty : length (begun_bytes x) ≡ 0
-    empty = ap length (none_begun (begun_bytes x) (sym stands.opened ∙ ap is_given none))
+-- what waits is written, and then the part has all that is left
 
-    by : (rest : List ℕ) → (0 < length rest → 0 < length (begun_bytes x)) → rest ≡ []
-    by [] some = refl
-    by (byte ∷ rest) some = absurd (omega (arith, empty, some (omega arith)))
+module _ (told : Bool) (state : PartsState) (x : List ℕ) {slot : ℕ} (stands : Stands state x) (is : state.current ≡ Some slot) where
+  some : is_some (begun_of state x) ≡ true
+  some = sym stands.opened ∙ ap is_given is
 
-  pub finishes_none : state.current ≡ None → Finishes told state old old (Ok tt)
-  finishes_none none x stands at_end =
-      let rest = no_rest x stands none in
-      move.moves_same_by told state.names _ _ old old
-      (ap (λ those. full_shares x ++ begun_share those) (none_begun (begun_bytes x) (sym stands.opened ∙ ap is_given none)) ∙ ap (λ those. full_shares x ++ map (share file_state.Closed) (unless_empty those)) (sym rest) ∙ sym (whole_is x)) refl
+  rest_is : begun_of state x ++ state.waiting ≡ rest_of state x
+  rest_is = ap (λ waits. begun_of state x ++ waits) stands.waits ∙ settled_then_waiting state.limit (rest_of state x)
 
-  begun_some : (x : List ℕ) (slot : ℕ) → Stands state x → state.current ≡ Some slot → is_some (begun_bytes x) ≡ true
-  begun_some x slot stands is = sym stands.opened ∙ ap is_given is
+  some_rest : is_some (rest_of state x) ≡ true
+  some_rest = sym (ap is_some rest_is) ∙ longer (begun_of state x) some where
+    longer : (begun : List ℕ) → is_some begun ≡ true → is_some (begun ++ state.waiting) ≡ true
+    longer [] none = absurd (false≢true none)
+    longer (byte ∷ begun) is = refl
 
-  low_is : (x : List ℕ) (slot : ℕ) → Stands state x → state.current ≡ Some slot → settled_parts state.limit x ≡ full_shares x ++ share file_state.Open (begun_bytes x) ∷ []
-  low_is x slot stands is = ap (λ more. full_shares x ++ more) (some_share file_state.Open (begun_bytes x) (begun_some x slot stands is))
+  rest_begun : Begun state.names state.current (full_of state x) (rest_of state x)
+  rest_begun = let count = written_count (full_of state x) (rest_of state x) some_rest in let last = begun_named (begun_so stands) some in record {
+    drawn = last.0 ∙ sym count;
+    enough = ap (are_named state.names) count ∙ last.1;
+    given = stands.opened ∙ some ∙ sym some_rest;
+    shut = shut_map (cut_up state.limit x).full;
+  }
 
-  named_here : (x : List ℕ) (slot : ℕ) → Stands state x → state.current ≡ Some slot → is_named state.names (length (full_shares x)) ≡ true
-  named_here x slot stands is = sym (ap (are_named state.names) (ap length (low_is x slot stands is) ∙ count_one (full_shares x) (share file_state.Open (begun_bytes x)))) ∙ stands.enough
+  whole_shut : whole_parts state.limit x ≡ written (full_of state x ++ share file_state.Closed (rest_of state x) ∷ []) []
+  whole_shut = whole_is state x ∙ ap (λ more. full_of state x ++ more) (some_share file_state.Closed (rest_of state x) some_rest) ∙ sym (append-nil _)
 
-  rest_is : (x : List ℕ) → Stands state x → begun_bytes x ++ state.waiting ≡ rest_bytes x
-  rest_is x stands = ap (λ waits. begun_bytes x ++ waits) stands.waits ∙ settled_then_waiting state.limit (rest_bytes x)
+  rest_goes : {old wet : List Slot} (result : Result (Unit {0}) Fault) → OnOk result (wet ≡ with_written slot (told_of told state.waiting) old)
+      → IfErr result (WritesShort told slot state.waiting old wet)
+      → Goes told (from_start state.names) state.current (settled_parts state.limit x) (written (full_of state x) (rest_of state x)) old wet result
+  rest_goes {old} {wet} result ok err = rw (written_some (full_of state x) (begun_of state x) some, written_some (full_of state x) (rest_of state x) some_rest, is)
+      (subst (λ rest. Goes told (from_start state.names) (Some slot) (full_of state x ++ share file_state.Open (begun_of state x) ∷ [])
+      (full_of state x ++ share file_state.Open rest ∷ []) old wet result) rest_is
+      (write_goes told (from_start state.names) (full_of state x) (begun_of state x) old slot (shut_map (cut_up state.limit x).full)
+      (begun_named (begun_so stands) some).1 state.waiting result ok err))
 
-  high_is : (x : List ℕ) (slot : ℕ) → Stands state x → state.current ≡ Some slot → whole_parts state.limit x ≡ full_shares x ++ share file_state.Closed (rest_bytes x) ∷ []
-  high_is x slot stands is = whole_is x ∙ ap (λ more. full_shares x ++ more) (some_share file_state.Closed (rest_bytes x) (some_rest (begun_bytes x) state.waiting (rest_bytes x) (begun_some x slot stands is) (rest_is x stands))) where
-    some_rest : (begun waits rest : List ℕ) → is_some begun ≡ true → begun ++ waits ≡ rest → is_some rest ≡ true
-    some_rest [] waits rest some same = absurd (false≢true some)
-    some_rest (byte ∷ begun) waits rest some same = sym (ap is_some same)
+pub held_stops : {told : Bool} {state next : PartsState} {slot : ℕ} {old new : List Slot} {f : Fault} (held : List ℕ) → IsReady state.current old → state.current ≡ Some slot
+    → WritesShort told slot state.waiting old new f → next ≡ record state { waiting = held } → Finishes told state old new next (Err f)
+held_stops {told} {state} {slot} {old} {new} {f} held ready is short next_is = subst (λ those. Finishes told state old new those (Err f)) (sym next_is) (record {
+  keeps = write_keeps told state held state.waiting (Err f) is can tt short;
+  caused = caused short;
+  goes = λ x stands. goes_wider (rest_goes told state x stands is (Err f) tt short) (rw (whole_shut told state x stands is, append-nil)
+      (begun_grows (full_of state x) [] file_state.Closed (rest_of state x) (rest_of state x) (begins_itself _)));
+}) where
+  can : is_closable old slot
+  can = subst (λ current. IsReady current old) is ready
 
-  open_slot : (slot : ℕ) → state.current ≡ Some slot → is_closable old slot
-  open_slot slot is = subst (λ current. IsReady current old) is ready
+  caused : {f : Fault} → WritesShort told slot state.waiting old new f → CannotClose old new f
+  caused (broke n cut) = (slot, refl, can.0, write_rose told slot state.waiting n old new can.1 cut)
 
-  last_slot : (slot : ℕ) → state.current ≡ Some slot → IsAtEnd state.current old → suc slot ≡ length old
-  last_slot slot is at_end = subst (λ current. IsAtEnd current old) is at_end
+-- the file is still there to be closed
+pub held_ready : (told : Bool) (state : PartsState) {mid : PartsState} {slot : ℕ} (old : List Slot) {wet : List Slot} (held : List ℕ) → IsReady state.current old → state.current ≡ Some slot
+    → wet ≡ with_written slot (told_of told state.waiting) old → mid ≡ record state { waiting = held } → IsReady mid.current wet
+held_ready told state old {wet} held ready is wrote mid_is = subst (λ (those : PartsState). IsReady those.current wet) (sym mid_is)
+    (write_keeps told state held state.waiting (Ok tt) is (subst (λ current. IsReady current old) is ready) wrote tt).ready
 
-  moved : (x : List ℕ) (slot : ℕ) (wet : List Slot) → Stands state x → IsAtEnd state.current old → state.current ≡ Some slot → wet ≡ with_written slot (told_of told state.waiting) old → Moves told state.names (settled_parts state.limit x) (full_shares x ++ share file_state.Open (rest_bytes x) ∷ []) old wet
-  moved x slot wet stands at_end is wrote =
-      subst (λ low. Moves told state.names low (full_shares x ++ share file_state.Open (rest_bytes x) ∷ []) old wet) (sym (low_is x slot stands is))
-      (subst (λ rest. Moves told state.names (full_shares x ++ share file_state.Open (begun_bytes x) ∷ []) (full_shares x ++ share file_state.Open rest ∷ []) old wet) (rest_is x stands)
-      (move.write_moves told state.names (full_shares x) (begun_bytes x) state.waiting old wet slot (named_here x slot stands is) (last_slot slot is at_end) wrote))
+pub held_ends : {told : Bool} {state mid next : PartsState} {slot : ℕ} {old wet new : List Slot} (held : List ℕ) (result : Result (Unit {0}) Fault) → IsReady state.current old
+    → state.current ≡ Some slot → wet ≡ with_written slot (told_of told state.waiting) old → mid ≡ record state { waiting = held }
+    → Shuts told mid wet new next result → Finishes told state old new next result
+held_ends {told} {state} {next} {slot} {old} {wet} {new} held result ready is wrote mid_is shuts =
+    then (subst (λ those. Shuts told those wet new next result) mid_is shuts) where
+      kept : Keeps state old wet (record state { waiting = held }) (Ok tt)
+      kept = write_keeps told state held state.waiting (Ok tt) is (subst (λ current. IsReady current old) is ready) wrote tt
 
-  low_begins : (x : List ℕ) (slot : ℕ) → Stands state x → state.current ≡ Some slot → SharesBegin (settled_parts state.limit x) (full_shares x ++ share file_state.Open (rest_bytes x) ∷ [])
-  low_begins x slot stands is = subst (λ low. SharesBegin low (full_shares x ++ share file_state.Open (rest_bytes x) ∷ [])) (sym (low_is x slot stands is))
-      (last_grows (full_shares x) [] (share file_state.Open (begun_bytes x)) (share file_state.Open (rest_bytes x)) (inl refl) (state.waiting, sym (rest_is x stands)))
-
-  pub close_can : (slot : ℕ) (bytes : List ℕ) (wet : List Slot) → state.current ≡ Some slot → wet ≡ with_written slot bytes old → (2 ≤ slot) × IsTrue (is_writable wet slot)
-  close_can slot bytes wet is wrote = ((open_slot slot is).0, slot_steps.written_writable old wet slot slot bytes (open_slot slot is).1 wrote)
-
-  pub held_breaks : (slot : ℕ) (new : List Slot) (f : Fault) → state.current ≡ Some slot → WritesShort told slot state.waiting old new f → Finishes told state old new (Err f)
-  held_breaks slot new f is short = (
-    slot_of slot new f is short,
-    λ x stands at_end. move.halts_wider told state.names _ (full_shares x ++ share file_state.Open (rest_bytes x) ∷ []) _ old new f
-        (subst (λ low. Halts told state.names low (full_shares x ++ share file_state.Open (rest_bytes x) ∷ []) old new f) (sym (low_is x slot stands is))
-        (subst (λ rest. Halts told state.names (full_shares x ++ share file_state.Open (begun_bytes x) ∷ []) (full_shares x ++ share file_state.Open rest ∷ []) old new f) (rest_is x stands)
-        (move.write_halts told state.names (full_shares x) (begun_bytes x) state.waiting old new slot f (shut_map (cut_up state.limit x).full) (named_here x slot stands is) (last_slot slot is at_end) short)))
-        (subst (SharesBegin (full_shares x ++ share file_state.Open (rest_bytes x) ∷ [])) (sym (high_is x slot stands is))
-        (last_grows (full_shares x) [] (share file_state.Open (rest_bytes x)) (share file_state.Closed (rest_bytes x)) (inl refl) (begins_itself (rest_bytes x)))),
-  ) where
-    slot_of : (slot : ℕ) (new : List Slot) (f : Fault) → state.current ≡ Some slot → WritesShort told slot state.waiting old new f → (at : ℕ) × (f ≡ fault.Write at) × (2 ≤ at) × Rose at old new
-    slot_of slot new _ is (Rattle.ports_core.specs.inner.Write.broke n cut) = (slot, refl, (open_slot slot is).0, slot_steps.write_rose told slot state.waiting n old new (open_slot slot is).1 cut)
-
-  pub close_ends : (slot : ℕ) (wet new : List Slot) (result : Result (Unit {0}) Fault) → state.current ≡ Some slot → wet ≡ with_written slot (told_of told state.waiting) old → OnOk result (new ≡ changed_at slot closes wet)
-      → IfErr result (λ f. (f ≡ fault.Write slot) × (new ≡ with_broken slot (changed_at slot closes wet))) → Finishes told state old new result
-  close_ends slot wet new (Ok done) is wrote ok err = λ x stands at_end.
-      move.moves_again told state.names _ (full_shares x ++ share file_state.Open (rest_bytes x) ∷ []) _ old wet new (moved x slot wet stands at_end is wrote)
-      (subst (λ high. Moves told state.names (full_shares x ++ share file_state.Open (rest_bytes x) ∷ []) high wet new) (sym (high_is x slot stands is))
-      (move.close_moves told state.names (full_shares x) (rest_bytes x) wet new slot (named_here x slot stands is) (slot_steps.written_last old wet slot _ (last_slot slot is at_end) wrote) ok))
-  close_ends slot wet new (Err f) is wrote ok err = (
-    (
-      slot,
-      err.0,
-      (open_slot slot is).0,
-      slot_steps.rose_later slot old wet new (slot_steps.keeps_write slot _ old wet wrote)
-          (slot_steps.close_rose slot wet new (slot_steps.written_writable old wet slot slot _ (open_slot slot is).1 wrote) (slot_steps.writable_within slot wet (slot_steps.written_writable old wet slot slot _ (open_slot slot is).1 wrote)) err.1),
-    ),
-    λ x stands at_end. subst (λ those. Halts told state.names (settled_parts state.limit x) (whole_parts state.limit x) old new those) (sym err.0)
-        (move.halts_after told state.names _ (full_shares x ++ share file_state.Open (rest_bytes x) ∷ []) _ old wet new (fault.Write slot) (low_begins x slot stands is) (moved x slot wet stands at_end is wrote)
-        (subst (λ high. Halts told state.names (full_shares x ++ share file_state.Open (rest_bytes x) ∷ []) high wet new (fault.Write slot)) (sym (high_is x slot stands is))
-        (move.close_halts told state.names (full_shares x) [] (rest_bytes x) wet new slot (shut_map (cut_up state.limit x).full) (named_here x slot stands is) (slot_steps.written_last old wet slot _ (last_slot slot is at_end) wrote) err.1))),
-  )
-
--- the file of the part that was begun ended
-pub end_owned : (state : PartsState) (slot : ℕ) (old wet new : List Slot) (result : Result (Unit {0}) Fault) → state.current ≡ Some slot → length wet ≡ length old → OnOk result (new ≡ changed_at slot closes wet)
-    → IfErr result (λ f. (f ≡ fault.Write slot) × (new ≡ with_broken slot (changed_at slot closes wet))) → KeepsFile state.current old None new
-end_owned state slot old wet new result is size ok err = subst (λ current. KeepsFile current old None new) (sym is) (move.owned_ended slot old new (closed_size result ok err ∙ size)) where
-  closed_size : (result : Result (Unit {0}) Fault) → OnOk result (new ≡ changed_at slot closes wet) → IfErr result (λ f. (f ≡ fault.Write slot) × (new ≡ with_broken slot (changed_at slot closes wet))) → length new ≡ length wet
-  closed_size (Ok done) ok err = ap length ok ∙ length-changed_at slot closes wet
-  closed_size (Err f) ok err = slot_steps.broken_size slot wet new err.1
+      then : Shuts told (record state { waiting = held }) wet new next result → Finishes told state old new next result
+      then shuts = record {
+        keeps = keeps_then result kept (subst (λ those. Keeps (record state { waiting = held }) wet new those result) (sym shuts.same) shuts.keeps);
+        caused = IfErr-weaker result _ _ (λ f why. (why.0, why.1, why.2, rose_later why.0 old wet new kept.sound why.3)) shuts.caused;
+        goes = λ x stands. goes_then result kept.owned (rest_goes told state x stands is (Ok tt) wrote tt)
+            (rw (whole_shut told state x stands is) (shuts.goes (full_of state x) (rest_of state x) (rest_begun told state x stands is) (some_rest told state x stands is)));
+      }

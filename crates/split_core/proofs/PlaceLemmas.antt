@@ -17,13 +17,13 @@ abbrev pub lines_dealt : ℕ → ℕ → ℕ → List (List ℕ) → List (List 
 lines_dealt n file place [] = []
 lines_dealt n file place (line ∷ lines) = if place % n == file then line ∷ lines_dealt n file (place + 1) lines else lines_dealt n file (place + 1) lines
 
-joined_step : (gets : Bool) (line rest : List ℕ) (lines : List (List ℕ)) → rest ≡ joined lines → cond gets (line ++ rest) rest ≡ joined (cond gets (line ∷ lines) lines)
-joined_step true line rest lines is = ap (λ those. line ++ those) is
-joined_step false line rest lines is = is
+joined_step : (gets : Bool) (line : List ℕ) {rest : List ℕ} (lines : List (List ℕ)) → rest ≡ joined lines → cond gets (line ++ rest) rest ≡ joined (cond gets (line ∷ lines) lines)
+joined_step true line lines is = ap (λ those. line ++ those) is
+joined_step false line lines is = is
 
 dealt_are : (n file place : ℕ) (lines : List (List ℕ)) → dealt n file place lines ≡ joined (lines_dealt n file place lines)
 dealt_are n file place [] = refl
-dealt_are n file place (line ∷ lines) = joined_step (eqb (place % n) file) line _ _ (dealt_are n file (place + 1) lines)
+dealt_are n file place (line ∷ lines) = joined_step (eqb (place % n) file) line _ (dealt_are n file (place + 1) lines)
 
 -- what the file gets still consists of lines
 
@@ -59,41 +59,41 @@ lines_of-dealt delim n file place lines each = ap (lines_of delim) (dealt_are n 
 
 -- the places of a file's lines are n apart
 
-within_one : (n rest left : ℕ) → rest < n → left < n → (rest + left) % n ≡ rest → left ≡ 0
-within_one n rest left low few same = elim (cases_lt (rest + left) n) [
-  | inl before ↦ let here : (rest + left) % n ≡ rest + left = mod-eq_of_lt before in omega (arith, same, here)
+within_one : (n : ℕ) {rest left : ℕ} → rest < n → left < n → (rest + left) % n ≡ rest → left ≡ 0
+within_one n {rest} {left} low few same = elim (cases_lt (rest + left) n) [
+  | inl before ↦ omega (arith, mod-eq_of_lt before, same)
   | inr past ↦
       let back : (rest + left) % n ≡ (rest + left - n) % n = (let split : rest + left ≡ rest + left - n + n = omega (arith, past) in ap (λ place. place % n) split ∙ add-mod_right (rest + left - n) n) in
       let here : (rest + left - n) % n ≡ rest + left - n = mod-eq_of_lt (omega arith) in omega (arith, same, back, here, past)
 ]
 
-nothing_between : (n place left : ℕ) → left < n → (place + left) % n ≡ place % n → left ≡ 0
-nothing_between n place left few same = within_one n (place % n) left (mod-lt place (omega arith)) few (mod-add-mod place n left ∙ same)
+nothing_between : (n place : ℕ) {left : ℕ} → left < n → (place + left) % n ≡ place % n → left ≡ 0
+nothing_between n place {left} few same = within_one n (mod-lt place (omega arith)) few (mod-add-mod place n left ∙ same)
 
-nth_step : (n file place left k : ℕ) (line : List ℕ) (lines : List (List ℕ)) (gets : Bool) → left < n → (place + left) % n ≡ file → eqb (place % n) file ≡ gets
+nth_step : (n : ℕ) {file : ℕ} (place left k : ℕ) (line : List ℕ) (lines : List (List ℕ)) (gets : Bool) → left < n → (place + left) % n ≡ file → eqb (place % n) file ≡ gets
     → ((left k : ℕ) → left < n → (place + 1 + left) % n ≡ file → get_or (lines_dealt n file (place + 1) lines) k [] ≡ get_or lines (left + k * n) [])
     → get_or (cond gets (line ∷ lines_dealt n file (place + 1) lines) (lines_dealt n file (place + 1) lines)) k [] ≡ get_or (line ∷ lines) (left + k * n) []
-nth_step n file place left zero line lines true few at is next =
-    let none : left ≡ 0 = nothing_between n place left few (at ∙ sym (eqb-true (place % n) file is)) in
+nth_step n {file} place left zero line lines true few at is next =
+    let none : left ≡ 0 = nothing_between n place few (at ∙ sym (eqb-true (place % n) file is)) in
     let here : left + 0 * n ≡ 0 = omega (arith, none, zero-mul n) in
     ap (λ place. get_or (line ∷ lines) place []) (sym here)
-nth_step n file place left (suc k) line lines true few at is next =
-    let none : left ≡ 0 = nothing_between n place left few (at ∙ sym (eqb-true (place % n) file is)) in
+nth_step n {file} place left (suc k) line lines true few at is next =
+    let none : left ≡ 0 = nothing_between n place few (at ∙ sym (eqb-true (place % n) file is)) in
     let there : left + suc k * n ≡ suc (n - 1 + k * n) = omega (arith, none, suc-mul k n, few) in
     let around : place + 1 + (n - 1) ≡ place + n = omega arith in
     next (n - 1) k (omega arith) (ap (λ at. at % n) around ∙ add-mod_right place n ∙ eqb-true (place % n) file is)
     ∙ ap (λ place. get_or (line ∷ lines) place []) (sym there)
-nth_step n file place zero k line lines false few at is next = absurd (eqb-false (place % n) file is (ap (λ at. at % n) same ∙ at)) where
+nth_step n {file} place zero k line lines false few at is next = absurd (eqb-false (place % n) file is (ap (λ at. at % n) same ∙ at)) where
   same : place ≡ place + 0
   same = omega arith
-nth_step n file place (suc left) k line lines false few at is next =
+nth_step n place (suc left) k line lines false few at is next =
     let on : place + 1 + left ≡ place + suc left = omega arith in
     let there : suc left + k * n ≡ suc (left + k * n) = omega arith in
     next left k (omega arith) (ap (λ at. at % n) on ∙ at) ∙ ap (λ place. get_or (line ∷ lines) place []) (sym there)
 
-nth_dealt : (n file place : ℕ) (lines : List (List ℕ)) (left k : ℕ) → left < n → (place + left) % n ≡ file → get_or (lines_dealt n file place lines) k [] ≡ get_or lines (left + k * n) []
-nth_dealt n file place [] left k few at = refl
-nth_dealt n file place (line ∷ lines) left k few at = nth_step n file place left k line lines (eqb (place % n) file) few at refl (λ left k few at. nth_dealt n file (place + 1) lines left k few at)
+nth_dealt : (n : ℕ) {file : ℕ} (place : ℕ) (lines : List (List ℕ)) (left k : ℕ) → left < n → (place + left) % n ≡ file → get_or (lines_dealt n file place lines) k [] ≡ get_or lines (left + k * n) []
+nth_dealt n place [] left k few at = refl
+nth_dealt n {file} place (line ∷ lines) left k few at = nth_step n place left k line lines (eqb (place % n) file) few at refl (λ left k few at. nth_dealt n (place + 1) lines left k few at)
 
 -- line k of the file at a place is the line of the text at that place plus k times n
 pub line_at : (delim n file k : ℕ) (x : List ℕ) → file < n → get_or (lines_of delim (get_or (round_robin delim n x) file [])) k [] ≡ get_or (lines_of delim x) (file + k * n) []
@@ -101,7 +101,7 @@ line_at delim n file k x within =
     let here : 0 + file ≡ file = omega arith in
     ap (λ text. get_or (lines_of delim text) k []) (get_or-map-range_with_len (share_of delim n x) 0 n file file [] within here)
     ∙ ap (λ lines. get_or lines k []) (lines_of-dealt delim n file 0 (lines_of delim x) (AreLines-lines_of delim x))
-    ∙ nth_dealt n file 0 (lines_of delim x) file k within (ap (λ place. place % n) here ∙ mod-eq_of_lt within)
+    ∙ nth_dealt n 0 (lines_of delim x) file k within (ap (λ place. place % n) here ∙ mod-eq_of_lt within)
 
 -- each line goes to one file
 
@@ -136,8 +136,7 @@ none_of_none start (suc count) = none_of_none (start + 1) count
 
 all_from : (n place : ℕ) (lines : List (List ℕ)) → 0 < n → length (joined (map (λ file. dealt n file place lines) (range_with_len 0 n))) ≡ length (joined lines)
 all_from n place [] some = none_of_none 0 n
-all_from n place (line ∷ lines) some =
-    one_gets (λ file. dealt n file (place + 1) lines) line (place % n) 0 n (omega arith) (let below : place % n < n = mod-lt place some in omega arith)
+all_from n place (line ∷ lines) some = one_gets (λ file. dealt n file (place + 1) lines) line (place % n) 0 n (omega arith) (omega (arith, mod-lt place some))
     ∙ ap (λ rest. length line + rest) (all_from n (place + 1) lines some) ∙ sym (length-append line (joined lines))
 
 -- all bytes are dealt
@@ -153,5 +152,5 @@ first_files delim n x = dealt_files_are delim true n x ∙ elim (cases_lt (line_
   | inr many ↦
       let here : min n (line_count delim x) ≡ n = omega (arith, many) in
       ap (λ count. map (share_of delim n x) (range_with_len 0 count)) here
-      ∙ sym (take_all (line_count delim x) (round_robin delim n x) (let count : length (round_robin delim n x) ≡ n = length-map-range_with_len (share_of delim n x) 0 n in omega (arith, many)))
+      ∙ sym (take_all (line_count delim x) (round_robin delim n x) (omega (arith, length-map-range_with_len (share_of delim n x) 0 n, many)))
 ]

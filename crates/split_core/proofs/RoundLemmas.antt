@@ -1,12 +1,11 @@
 -- Lemmas on dealing lines in turn, as a stage.
-use Rattle.std.proofs.Common.{◌≡◌, ℕ, ◌+◌, ◌%◌, ◌<◌, ◌≤◌, zero, suc, min, max, Bool, true, false, not, cond, List, [], ◌∷◌, ◌++◌, length, map, take, drop, Some, None, inl, inr, refl, sym, ◌∙◌, ap, subst, arith, Ok, Err, Result, OnOk, IfErr}
+use Rattle.std.proofs.Common.{◌≡◌, ℕ, ◌+◌, ◌%◌, ◌<◌, ◌≤◌, zero, suc, min, max, Bool, true, false, not, cond, List, [], ◌∷◌, ◌++◌, length, map, take, drop, replicate, Some, None, inl, inr, refl, sym, ◌∙◌, ap, subst, arith, Ok, Err, Result}
 use Rattle.std.proofs.Math.Nat.{mod-add-mod, mod-eq_of_lt, mod-mod, mod-le}
 use Rattle.std.proofs.Math.Path.{fun_ext}
 use Rattle.std.proofs.Math.Seq.{drop-length}
 use Rattle.std.specs.List.{filter, range_with_len}
-use Rattle.std.proofs.lemmas.Bool.{cases_lt, false≢true}
+use Rattle.std.proofs.lemmas.Bool.{cases_lt}
 use Rattle.std.proofs.lemmas.List.{append-nil, length-map}
-use Rattle.std.proofs.lemmas.Result.{IfErr-weaker, on_ok_weaker}
 use Rattle.std.proofs.lemmas.List.FromFn.{length-map-range_with_len, take-map-range_with_len}
 use Rattle.seg_core.specs.Line.{joined, lines_of, delimiters, line_count}
 use Rattle.seg_core.proofs.Delimiters.{delimiters-append}
@@ -15,27 +14,27 @@ use Rattle.ports_core.specs.Name.{Naming}
 use Rattle.ports_core.specs.Slot.{Slot}
 use Rattle.ports_core.specs.Part.{File, OutputsAt, StoppedBetween, nothing}
 use Rattle.ports_core.specs.Work.{Work}
-use Rattle.ports_core.specs.Engine.{TakesIn, PutsOut, CutsOff, Finishes, EndsShort, EndsWith, EndsThere, StandsAt, IsMet, is_verdict, cut}
+use Rattle.ports_core.specs.Engine.{TakesIn, PutsOut, CutsOff, EndsWith, EndsThere, StandsAt, is_verdict, cut}
 use Rattle.ports_core.specs.declared.fault.Fault.{Fault}
 use Rattle.ports_core.specs.declared.fault.Fault.TheVariants as fault
 use Rattle.ports_core.specs.declared.slot.State.{State}
 use Rattle.ports_core.specs.declared.slot.State.TheVariants.{Open, Closed}
-use Rattle.ports_core.proofs.PartLemmas.{stopped_here, outputs_count}
+use Rattle.ports_core.proofs.PartLemmas.{outputs_count}
 use Rattle.split_core.specs.Parts.{dealt, round_robin}
 use Rattle.split_core.specs.Split.{Share, share, named, is_named, are_named, from_start, file_at, only_files, dealt_files, settled_by, whole_by, is_short, is_some, split_means, split_work, bytes_in, waiting_after}
 use Rattle.split_core.specs.inner.Dealt.{dealt_piece, dealt_first, reached_by}
 use Rattle.split_core.specs.FilesState.{FilesState}
 use Rattle.split_core.specs.RoundState.{RoundState}
-use Rattle.split_core.specs.Round.{round_plan, plan_of, round_work, work, opened_by, Holds, AreReady, OwnsFiles}
+use Rattle.split_core.specs.Round.{round_plan, plan_of, round_work, work, opened_by, Holds, OwnsFiles}
 use Rattle.split_core.specs.Ways as ways
 use Rattle.split_core.specs.declared.splitter.Splitter.TheVariants as way
-use Rattle.split_core.specs.inner.Ways.{Deals, Closes}
-use Rattle.split_core.specs.inner.Sharing.{added, filled, filed, open_part, closing_part, StandAt, Makes, Became, StopsShort, HaveClosed, ClosesShort, CannotClose, IsOfFiles}
+use Rattle.split_core.specs.inner.Ways.{Deals, Closes, PassesBy, FinishesBy}
+use Rattle.split_core.specs.inner.Sharing.{added, filed, open_part, closing_part, StandAt, Adds, Leaves}
 use Rattle.split_core.specs.inner.DealLaws.{share_of}
 use Rattle.split_core.specs.laws.DealLaws.{dealt_append, dealt_none, dealt_files_are, share_none}
 use Rattle.split_core.proofs.DealLaws.{dealt_same, opened_by-most}
-use Rattle.split_core.proofs.FilesLemmas.{closed_all, added_begin, added_none, open_begins}
-use Rattle.split_core.proofs.MoveLemmas.{met_files, named_before, unjudged}
+use Rattle.split_core.proofs.FilesLemmas.{closed_all, added_none, stops_in_order}
+use Rattle.split_core.proofs.MoveLemmas.{are_named_same, met_closing, met_files, named_before, unjudged}
 use Rattle.split_core.proofs.PlaceLemmas.{all_dealt}
 
 -- Names
@@ -48,10 +47,6 @@ named_at names (suc last) place are within = named_before names place last are (
 pub named_fewer : (names : Naming) (few count : ℕ) → are_named names count ≡ true → few ≤ count → are_named names few ≡ true
 named_fewer names zero count are within = refl
 named_fewer names (suc last) count are within = named_at names count last are (omega arith)
-
-pub named_same : (names others : Naming) (count : ℕ) → from_start others ≡ from_start names → are_named names count ≡ true → are_named others count ≡ true
-named_same names others zero same are = refl
-named_same names others (suc last) same are = ap (λ (those : Naming). is_named those last) same ∙ are
 
 all_filed : (names : Naming) (count place : ℕ) (shares : List Share) → are_named names count ≡ true → place + length shares ≤ count → named (from_start names) place shares ≡ filed (from_start names) place shares
 all_filed names count place [] are few = refl
@@ -69,27 +64,22 @@ length-files_of delim elide n x = length-map-range_with_len (share_of delim n x)
 
 filed_are : (delim : ℕ) (state : State) (names : Naming) (elide : Bool) (n : ℕ) (x : List ℕ) → are_named names n ≡ true
     → named (from_start names) 0 (map (share state) (dealt_files delim elide n x)) ≡ filed (from_start names) 0 (map (share state) (files_of delim elide n x))
-filed_are delim state names elide n x are =
-    ap (λ those. named (from_start names) 0 (map (share state) those)) (dealt_files_are delim elide n x)
+filed_are delim state names elide n x are = ap (λ those. named (from_start names) 0 (map (share state) those)) (dealt_files_are delim elide n x)
     ∙ all_filed names n 0 (map (share state) (files_of delim elide n x)) are
-    (let long = length-map (files_of delim elide n x) (share state) in let count = length-files_of delim elide n x in let most = opened_by-most delim elide n x in omega arith)
+    (omega (arith, length-map (files_of delim elide n x) (share state), length-files_of delim elide n x, opened_by-most delim elide n x))
 
 -- what must be written is what the files that are open have
 pub settled_is : (delim : ℕ) (names : Naming) (elide : Bool) (n : ℕ) (x : List ℕ) → are_named names n ≡ true → settled_by (round_plan delim n elide (from_start names)) x ≡ open_part names (files_of delim elide n x)
 settled_is delim names elide n x are = ap only_files (filed_are delim Open names elide n x are)
 
 pub whole_is : (delim : ℕ) (names : Naming) (elide : Bool) (n : ℕ) (x : List ℕ) → are_named names n ≡ true → whole_by (round_plan delim n elide (from_start names)) x ≡ closing_part names (opened_by delim elide n x) (files_of delim elide n x)
-whole_is delim names elide n x are =
-    ap only_files (filed_are delim Closed names elide n x are)
+whole_is delim names elide n x are = ap only_files (filed_are delim Closed names elide n x are)
     ∙ ap (λ shares. only_files (filed (from_start names) 0 shares)) (sym (closed_all (files_of delim elide n x)))
     ∙ ap (λ count. closing_part names count (files_of delim elide n x)) (length-files_of delim elide n x)
 
 pub never_short : (delim : ℕ) (names : Naming) (elide : Bool) (n : ℕ) (x : List ℕ) → are_named names n ≡ true → false ≡ is_short (round_plan delim n elide names) x
 never_short delim names elide n x are =
-    let long = length-map (dealt_files delim elide n x) (share Closed) in
-    let count : length (dealt_files delim elide n x) ≡ opened_by delim elide n x = ap length (dealt_files_are delim elide n x) ∙ length-files_of delim elide n x in
-    let most = opened_by-most delim elide n x in
-    sym (ap not (named_fewer names (length (map (share Closed) (dealt_files delim elide n x))) n are (omega arith)))
+    sym (ap not (named_fewer names (length (map (share Closed) (dealt_files delim elide n x))) n are (omega (arith, length-map (dealt_files delim elide n x) (share Closed), ap length (dealt_files_are delim elide n x) ∙ length-files_of delim elide n x, opened_by-most delim elide n x))))
 
 -- One more piece
 
@@ -118,18 +108,14 @@ none_yet delim false n x file past within = absurd (omega arith)
 
 lines_after : (delim n : ℕ) (x y : List ℕ) → 0 < n → max (min n (line_count delim x)) (min n (delimiters delim x % n + line_count delim y)) ≡ min n (line_count delim (x ++ y))
 lines_after delim n x [] some =
-    let none : line_count delim [] ≡ 0 = refl in
-    let same : line_count delim (x ++ []) ≡ line_count delim x = ap (line_count delim) (append-nil x) in
-    let near = (line_count_near delim x).0 in
-    let small = mod-le (delimiters delim x) n in
-    omega arith
+    let none : line_count delim [] ≡ 0 = refl in omega (arith, ap (line_count delim) (append-nil x), (line_count_near delim x).0, mod-le (delimiters delim x) n)
 lines_after delim n x (byte ∷ y) some =
     let more = line_count-front delim x (byte ∷ y) (omega arith) in
     let near = (line_count_near delim x).1 in
     let low = (line_count_near delim x).0 in
     let one = line_count-some delim (byte ∷ y) (omega arith) in
     elim (cases_lt (delimiters delim x) n) [
-      | inl before ↦ (let same : delimiters delim x % n ≡ delimiters delim x = mod-eq_of_lt before in omega arith)
+      | inl before ↦ (omega (arith, mod-eq_of_lt before))
       | inr past ↦ omega arith
     ]
 
@@ -142,7 +128,7 @@ pub files_after : (delim : ℕ) (elide : Bool) (n : ℕ) (x y : List ℕ) → 0 
 files_after delim elide n x y some =
     added_maps (share_of delim n x) (λ file. dealt n file (delimiters delim x % n) (lines_of delim y)) (share_of delim n (x ++ y)) 0 (opened_by delim elide n x) (reached_by delim n (delimiters delim x % n) y)
     (λ file past within. none_yet delim elide n x file (omega arith) (omega arith))
-    (λ file past within. dealt_none n file (delimiters delim x % n) (lines_of delim y) (let most = opened_by-most delim elide n x in omega arith) (let most = opened_by-most delim elide n x in omega arith))
+    (λ file past within. dealt_none n file (delimiters delim x % n) (lines_of delim y) (omega (arith, opened_by-most delim elide n x)) (omega (arith, opened_by-most delim elide n x)))
     (λ file. ap (λ more. share_of delim n x file ++ more) (dealt_same n file (delimiters delim x % n) (delimiters delim x) (lines_of delim y) (mod-mod (delimiters delim x) n) ∙ ap (λ place. dealt n file place (lines_of delim y)) from_zero) ∙ sym (dealt_append delim n file 0 x y))
     ∙ ap (λ count. map (share_of delim n (x ++ y)) (range_with_len 0 count)) (opened_after delim elide n x y some) where
       from_zero : delimiters delim x ≡ 0 + delimiters delim x
@@ -150,20 +136,9 @@ files_after delim elide n x y some =
 
 -- The gathered piece
 
-pub first_gathered : (delim n start reached : ℕ) (piece : List ℕ) (gathered : List (List ℕ)) → gathered ≡ dealt_piece delim n start piece → reached ≡ reached_by delim n start piece → take reached gathered ≡ dealt_first delim n start piece
-first_gathered delim n start reached piece gathered is reached_is =
-    ap (take reached) is ∙ ap (λ count. take count (dealt_piece delim n start piece)) reached_is
+pub first_gathered : (delim n start : ℕ) {reached : ℕ} (piece : List ℕ) {gathered : List (List ℕ)} → gathered ≡ dealt_piece delim n start piece → reached ≡ reached_by delim n start piece → take reached gathered ≡ dealt_first delim n start piece
+first_gathered delim n start {reached} piece is reached_is = ap (take reached) is ∙ ap (λ count. take count (dealt_piece delim n start piece)) reached_is
     ∙ take-map-range_with_len (λ file. dealt n file start (lines_of delim piece)) 0 n (reached_by delim n start piece) (omega arith)
-
-pub no_room : (told : Bool) (files : FilesState) (more : List (List ℕ)) (slots : List Slot) → StopsShort told files (λ these. added these more) slots slots fault.Memory
-no_room told files more slots before these at =
-    stopped_here told before (open_part files.names these) (open_part files.names (added these more)) fault.Memory slots slots at.outputs (open_begins files.names these _ (added_begin these more)) refl tt
-
-pub became_dealt : (delim : ℕ) (told : Bool) (files next : FilesState) (n start : ℕ) (piece : List ℕ) (more : List (List ℕ)) (old new : List Slot) → more ≡ dealt_first delim n start piece → Became told files (λ these. added these more) (length more) old next new
-    → Became told files (λ these. added these (dealt_first delim n start piece)) (reached_by delim n start piece) old next new
-became_dealt delim told files next n start piece more old new is became =
-    subst (λ count. Became told files (λ these. added these (dealt_first delim n start piece)) count old next new) (length-map-range_with_len (λ file. dealt n file start (lines_of delim piece)) 0 (reached_by delim n start piece))
-    (subst (λ those. Became told files (λ these. added these those) (length those) old next new) is became)
 
 -- What a piece leaves
 
@@ -174,101 +149,96 @@ same_work old new delim count elide names = ap round_work same where
       ∙ ap (λ those. round_plan old.delim old.count those (from_start new.files.names)) elide ∙ ap (λ those. round_plan old.delim old.count old.elide those) names
 
 -- what a piece makes of the files, where the stage can have been fed x
-made_is : (round : RoundState) (x piece : List ℕ) → Holds round x → open_part round.files.names (added (files_of round.delim round.elide round.count x) (dealt_first round.delim round.count round.next piece)) ≡ (work round).settled (x ++ piece)
-made_is round x piece holds =
+made_is : {round : RoundState} {x : List ℕ} (piece : List ℕ) → Holds round x → open_part round.files.names (added (files_of round.delim round.elide round.count x) (dealt_first round.delim round.count round.next piece)) ≡ (work round).settled (x ++ piece)
+made_is {round} {x} piece holds =
     ap (λ next. open_part round.files.names (added (files_of round.delim round.elide round.count x) (dealt_first round.delim round.count next piece))) holds.next
     ∙ ap (open_part round.files.names) (files_after round.delim round.elide round.count x piece holds.some)
     ∙ sym (settled_is round.delim round.files.names round.elide round.count (x ++ piece) holds.named)
 
 -- where the stage stands, its files do
-stand_at : (told : Bool) (round : RoundState) (before : List Slot) (x : List ℕ) (now : List Slot) → StandsAt ways.Holds ways.Owns (way.Round round) told before x ((work round).settled x) now → StandAt told round.files before (files_of round.delim round.elide round.count x) now
-stand_at told round before x now at = record {
+stand_at : (told : Bool) (round : RoundState) {before : List Slot} {x : List ℕ} {now : List Slot} → StandsAt ways.Holds ways.Owns (way.Round round) told before x ((work round).settled x) now → StandAt told round.files before (files_of round.delim round.elide round.count x) now
+stand_at told round {before} {x} {now} at = record {
   count = length-files_of round.delim round.elide round.count x ∙ sym at.holds.opened;
   owns = at.owns;
   outputs = subst (λ part. OutputsAt told before part now) (settled_is round.delim round.files.names round.elide round.count x at.holds.named) at.outputs;
 }
 
-puts_out : (told : Bool) (round : RoundState) (piece : List ℕ) (old new : List Slot) → Makes told round.files (λ these. added these (dealt_first round.delim round.count round.next piece)) old new → PutsOut ways.Holds ways.Owns ways.work (way.Round round) piece told old new
-puts_out told round piece old new makes before x at =
-    subst (λ part. OutputsAt told before part new) (made_is round x piece at.holds) (makes before (files_of round.delim round.elide round.count x) (stand_at told round before x old at))
+puts_out : (told : Bool) (round : RoundState) (piece : List ℕ) {low high : ℕ} {next : FilesState} {old new : List Slot}
+    → Adds told round.files (dealt_first round.delim round.count round.next piece) low high old next new (Ok tt) → PutsOut ways.Holds ways.Owns ways.work (way.Round round) piece told old new
+puts_out told round piece {new} adds before x at =
+    subst (λ part. OutputsAt told before part new) (made_is piece at.holds) (adds.leaves before (files_of round.delim round.elide round.count x) (stand_at told round at))
 
-cuts_off : (told : Bool) (round : RoundState) (piece : List ℕ) (old new : List Slot) (why : Fault) → IsOfFiles old new why → StopsShort told round.files (λ these. added these (dealt_first round.delim round.count round.next piece)) old new why → CutsOff ways.Holds ways.Owns ways.work (way.Round round) piece told old new why
-cuts_off told round piece old new why is stops before x at =
-    cut (unjudged old new why is.0 is.1)
-    (subst (λ high. StoppedBetween told before ((work round).settled x) high why new) (made_is round x piece at.holds)
-    (subst (λ low. StoppedBetween told before low (open_part round.files.names (added (files_of round.delim round.elide round.count x) (dealt_first round.delim round.count round.next piece))) why new) (sym (settled_is round.delim round.files.names round.elide round.count x at.holds.named))
-    (stops before (files_of round.delim round.elide round.count x) (stand_at told round before x old at))))
+cuts_off : (told : Bool) (round : RoundState) (piece : List ℕ) {low high : ℕ} {next : FilesState} {old new : List Slot} (why : Fault)
+    → Adds told round.files (dealt_first round.delim round.count round.next piece) low high old next new (Err why) → CutsOff ways.Holds ways.Owns ways.work (way.Round round) piece told old new why
+cuts_off told round piece {new} why adds before x at =
+    cut (unjudged adds.caused.0 adds.caused.1) (subst (λ high. StoppedBetween told before ((work round).settled x) high why new) (made_is piece at.holds)
+    (rw (settled_is round.delim round.files.names round.elide round.count x at.holds.named)
+    (stops_in_order told round.files.names (files_of round.delim round.elide round.count x) _ why (adds.leaves before (files_of round.delim round.elide round.count x) (stand_at told round at)))))
 
-takes_in : (told : Bool) (old new : RoundState) (piece : List ℕ) (before after : List Slot) → Deals told old piece before after new (Ok tt) → TakesIn ways.Holds piece (way.Round old) (way.Round new)
-takes_in told old new piece before after deals x holds = record {
-  some = let some : 0 < old.count = holds.some in let count : new.count ≡ old.count = deals.count in omega arith;
-  named = named_same old.files.names new.files.names new.count deals.names (ap (are_named old.files.names) deals.count ∙ holds.named);
+takes_in : (told : Bool) {old new : RoundState} {piece : List ℕ} {before after : List Slot} → Deals told old piece before after new (Ok tt) → TakesIn ways.Holds piece (way.Round old) (way.Round new)
+takes_in told {old} {new} {piece} deals x holds = record {
+  some = omega (arith, holds.some, deals.count);
+  named = are_named_same old.files.names new.files.names new.count deals.adds.names ∙ ap (are_named old.files.names) deals.count ∙ holds.named;
   next = deals.next ∙ ap (λ place. (place + delimiters old.delim piece) % old.count) holds.next ∙ mod-add-mod (delimiters old.delim x) old.count (delimiters old.delim piece) ∙ ap (λ lines. lines % old.count) (sym (delimiters-append old.delim x piece))
       ∙ ap (λ n. delimiters old.delim (x ++ piece) % n) (sym deals.count) ∙ ap (λ d. delimiters d (x ++ piece) % new.count) (sym deals.delim);
-  opened = deals.became.opened ∙ ap (λ n. max n (reached_by old.delim old.count old.next piece)) holds.opened ∙ ap (λ place. max (opened_by old.delim old.elide old.count x) (reached_by old.delim old.count place piece)) holds.next
+  opened = deals.adds.opened ∙ ap (max (length old.files.outputs)) (length-map-range_with_len (λ file. dealt old.count file old.next (lines_of old.delim piece)) 0 (reached_by old.delim old.count old.next piece))
+      ∙ ap (λ n. max n (reached_by old.delim old.count old.next piece)) holds.opened ∙ ap (λ place. max (opened_by old.delim old.elide old.count x) (reached_by old.delim old.count place piece)) holds.next
       ∙ opened_after old.delim old.elide old.count x piece holds.some
       ∙ sym (ap (λ (those : Bool). opened_by old.delim those new.count (x ++ piece)) deals.elide ∙ ap (λ n. opened_by old.delim old.elide n (x ++ piece)) deals.count) ∙ ap (λ d. opened_by d new.elide new.count (x ++ piece)) (sym deals.delim);
 }
 
--- by the result of dealing it out
-
-module _ (told : Bool) (old new : RoundState) (piece : List ℕ) (before after : List Slot) where
-  pub dealt_holds : (result : Result (Unit {0}) Fault) → Deals told old piece before after new result → OnOk result (TakesIn ways.Holds piece (way.Round old) (way.Round new))
-  dealt_holds (Ok u) deals = takes_in told old new piece before after deals
-  dealt_holds (Err why) deals = tt
-
-  pub dealt_outputs : (result : Result (Unit {0}) Fault) → Deals told old piece before after new result → OnOk result (PutsOut ways.Holds ways.Owns ways.work (way.Round old) piece told before after)
-  dealt_outputs (Ok u) deals = puts_out told old piece before after deals.became.outputs
-  dealt_outputs (Err why) deals = tt
-
-  pub dealt_ready : (result : Result (Unit {0}) Fault) → Deals told old piece before after new result → OnOk result (AreReady new.files after)
-  dealt_ready (Ok u) deals = deals.became.ready
-  dealt_ready (Err why) deals = tt
-
-  pub dealt_short : (result : Result (Unit {0}) Fault) → Deals told old piece before after new result → IfErr result (CutsOff ways.Holds ways.Owns ways.work (way.Round old) piece told before after)
-  dealt_short (Ok u) deals = tt
-  dealt_short (Err why) deals = cuts_off told old piece before after why deals.caused deals.cut
-
-  pub dealt_met : (result : Result (Unit {0}) Fault) → Deals told old piece before after new result → IfErr result (IsMet (work old).means (work old).means.feeding (true ≡ true) (EndsWith ways.Holds ways.work (way.Round old) piece) before after)
-  dealt_met (Ok u) deals = tt
-  dealt_met (Err why) deals = met_files (EndsWith ways.Holds ways.work (way.Round old) piece) before after why deals.caused.0 (λ is. absurd (deals.caused.1 is))
+pub passes_by : (told : Bool) (old new : RoundState) (piece : List ℕ) (before after : List Slot) (result : Result (Unit {0}) Fault)
+    → Deals told old piece before after new result → PassesBy told piece before after result (way.Round old) (way.Round new)
+passes_by told old new piece before after (Ok u) deals = record {
+  same = same_work old new deals.delim deals.count deals.elide deals.adds.names;
+  holds = takes_in told deals;
+  outputs = puts_out told old piece deals.adds;
+  ready = deals.adds.ready;
+  owns = deals.adds.owned;
+  cut = tt;
+  met = tt;
+}
+passes_by told old new piece before after (Err why) deals = record {
+  same = same_work old new deals.delim deals.count deals.elide deals.adds.names;
+  holds = tt;
+  outputs = tt;
+  ready = tt;
+  owns = deals.adds.owned;
+  cut = cuts_off told old piece why deals.adds;
+  met = met_files (EndsWith ways.Holds ways.work (way.Round old) piece) deals.adds.caused.0 (λ is. absurd (deals.adds.caused.1 is));
+}
 
 -- The end
 
-closed_part : (round : RoundState) (x : List ℕ) → Holds round x → closing_part round.files.names (length round.files.outputs) (files_of round.delim round.elide round.count x) ≡ (work round).whole x
-closed_part round x holds = ap (λ count. closing_part round.files.names count (files_of round.delim round.elide round.count x)) holds.opened ∙ sym (whole_is round.delim round.files.names round.elide round.count x holds.named)
+closed_part : {round : RoundState} {x : List ℕ} → Holds round x → closing_part round.files.names (length round.files.outputs) (files_of round.delim round.elide round.count x) ≡ (work round).whole x
+closed_part {round} {x} holds = ap (λ count. closing_part round.files.names count (files_of round.delim round.elide round.count x)) holds.opened ∙ sym (whole_is round.delim round.files.names round.elide round.count x holds.named)
 
-module _ (told : Bool) (round : RoundState) (old new : List Slot) where
-  finishes : HaveClosed told round.files (length round.files.outputs) old new → Finishes ways.Holds ways.Owns ways.work (way.Round round) told old new
-  finishes closed before x at =
-      (refl, subst (λ part. OutputsAt told before part new) (closed_part round x at.holds) (closed before (files_of round.delim round.elide round.count x) (stand_at told round before x old at)))
-
-  ends_short : (why : Fault) → CannotClose old new why → ClosesShort told round.files (length round.files.outputs) old new why → EndsShort ways.Holds ways.Owns ways.work (way.Round round) told old new why
-  ends_short why is stops before x at =
-      cut (ap is_verdict is.1)
-      (subst (λ high. StoppedBetween told before ((work round).settled x) high why new) (closed_part round x at.holds)
-      (subst (λ low. StoppedBetween told before low (closing_part round.files.names (length round.files.outputs) (files_of round.delim round.elide round.count x)) why new) (sym (settled_is round.delim round.files.names round.elide round.count x at.holds.named))
-      (stops before (files_of round.delim round.elide round.count x) (stand_at told round before x old at))))
-
-  end_met : (why : Fault) → CannotClose old new why → IsMet (work round).means (work round).means.closing (Unit {0}) (EndsThere ways.Holds ways.work (way.Round round)) old new why
-  end_met why is = subst (λ those. IsMet (work round).means (work round).means.closing (Unit {0}) (EndsThere ways.Holds ways.work (way.Round round)) old new those) (sym is.1)
-      (λ none. absurd (let later : 2 ≤ is.0 = is.2 in omega (arith, none)), λ alone. absurd (false≢true (sym alone)), is.3)
-
-  -- by the result of closing the files
-
-  pub ended : (next : RoundState) (result : Result (Unit {0}) Fault) → Closes told round old new next result → OnOk result (Finishes ways.Holds ways.Owns ways.work (way.Round round) told old new)
-  ended next result closes = on_ok_weaker result finishes closes.closed
-
-  pub ended_short : (next : RoundState) (result : Result (Unit {0}) Fault) → Closes told round old new next result → IfErr result (EndsShort ways.Holds ways.Owns ways.work (way.Round round) told old new)
-  ended_short next (Ok u) closes = tt
-  ended_short next (Err why) closes = ends_short why closes.caused closes.cut
-
-  pub ended_met : (next : RoundState) (result : Result (Unit {0}) Fault) → Closes told round old new next result → IfErr result (IsMet (work round).means (work round).means.closing (Unit {0}) (EndsThere ways.Holds ways.work (way.Round round)) old new)
-  ended_met next result closes = IfErr-weaker result _ _ end_met closes.caused
+pub finishes_by : (told : Bool) (round next : RoundState) (old new : List Slot) (result : Result (Unit {0}) Fault)
+    → Closes told round old new next result → FinishesBy told old new result (way.Round round) (way.Round next)
+finishes_by told round next old new (Ok u) closes = record {
+  same = closes.same;
+  outputs = λ before x at. (
+    refl,
+    subst (λ part. OutputsAt told before part new) (closed_part at.holds)
+        (closes.closed before (files_of round.delim round.elide round.count x) (stand_at told round at)),
+  );
+  owns = closes.owned;
+  cut = tt;
+  met = tt;
+}
+finishes_by told round next old new (Err why) closes = record {
+  same = closes.same;
+  outputs = tt;
+  owns = closes.owned;
+  cut = λ before x at. cut (ap is_verdict closes.caused.1) (subst (λ high. StoppedBetween told before ((work round).settled x) high why new) (closed_part at.holds)
+      (subst (λ low. StoppedBetween told before low (closing_part round.files.names (length round.files.outputs) (files_of round.delim round.elide round.count x)) why new)
+      (sym (settled_is round.delim round.files.names round.elide round.count x at.holds.named)) (closes.cut before (files_of round.delim round.elide round.count x) (stand_at told round at))));
+  met = met_closing (EndsThere ways.Holds ways.work (way.Round round)) old new closes.caused;
+}
 
 -- The start
 
-none_dealt : (delim n start count : ℕ) → map (share_of delim n []) (range_with_len start count) ≡ filled count []
+none_dealt : (delim n start count : ℕ) → map (share_of delim n []) (range_with_len start count) ≡ replicate count []
 none_dealt delim n start zero = refl
 none_dealt delim n start (suc count) = ap (λ rest. [] ∷ rest) (none_dealt delim n (start + 1) count)
 
@@ -277,45 +247,48 @@ pub starts_with : (delim : ℕ) (elide : Bool) (n : ℕ) → cond elide 0 n ≡ 
 starts_with delim true n = omega arith
 starts_with delim false n = refl
 
-at_start : (delim : ℕ) (names : Naming) (elide : Bool) (n count : ℕ) → names.drawn ≡ 0 → are_named names n ≡ true → count ≡ opened_by delim elide n [] → open_part names (filled count []) ≡ settled_by (round_plan delim n elide names) []
-at_start delim names elide n count fresh are is =
-    ap (λ k. open_part names (filled k [])) is ∙ ap (open_part names) (sym (none_dealt delim n 0 (opened_by delim elide n []))) ∙ sym (settled_is delim names elide n [] are)
+at_start : (delim : ℕ) (names : Naming) (elide : Bool) (n : ℕ) {count : ℕ} → names.drawn ≡ 0 → are_named names n ≡ true → count ≡ opened_by delim elide n [] → open_part names (replicate count []) ≡ settled_by (round_plan delim n elide names) []
+at_start delim names elide n fresh are is =
+    ap (λ k. open_part names (replicate k [])) is ∙ ap (open_part names) (sym (none_dealt delim n 0 (opened_by delim elide n []))) ∙ sym (settled_is delim names elide n [] are)
     ∙ ap (λ drawn. settled_by (round_plan delim n elide (record names { drawn = drawn })) []) (sym fresh)
 
 -- no file is open yet, and the next will be the next output
 abbrev pub no_files : Naming → FilesState
 no_files names = record { names = names; outputs = [] }
 
-none_owned : (names : Naming) (slots : List Slot) → OwnsFiles (no_files names) (length slots) slots
-none_owned names slots = record { stand = λ place within. absurd (omega (arith, within)); last = λ same. omega arith }
+none_owned : (names : Naming) {slots : List Slot} → OwnsFiles (no_files names) (length slots) slots
+none_owned names = record { stand = λ place within. absurd (omega (arith, within)); last = λ same. omega arith }
 
-none_stand : (told : Bool) (names : Naming) (before slots : List Slot) → OutputsAt told before nothing slots → StandAt told (no_files names) before [] slots
-none_stand told names before slots at = record {
+none_stand : (told : Bool) (names : Naming) {before slots : List Slot} → OutputsAt told before nothing slots → StandAt told (no_files names) before [] slots
+none_stand told names {before} {slots} at = record {
   count = refl;
-  owns = subst (λ n. OwnsFiles (no_files names) n slots) (let all : length slots ≡ length before + 0 = outputs_count told before nothing slots at in omega arith) (none_owned names slots);
+  owns = subst (λ n. OwnsFiles (no_files names) n slots) (omega (arith, outputs_count told before nothing slots at)) (none_owned names);
   outputs = at;
 }
 
-pub opens_all : (delim : ℕ) (told elide : Bool) (names : Naming) (n count : ℕ) (files next : FilesState) (old new : List Slot) → files ≡ no_files names → names.drawn ≡ 0 → are_named names n ≡ true → count ≡ opened_by delim elide n []
-    → Became told files (filled count) count old next new → (before : List Slot) → OutputsAt told before nothing old → OutputsAt told before (settled_by (round_plan delim n elide names) []) new
-opens_all delim told elide names n count files next old new is fresh are counted became before at =
-    subst (λ part. OutputsAt told before part new) (at_start delim names elide n count fresh are counted)
-    ((subst (λ (those : FilesState). Makes told those (filled count) old new) is became.outputs) before [] (none_stand told names before old at))
+module _ (told : Bool) (names : Naming) (count : ℕ) {files next : FilesState} {old new : List Slot} {result : Result (Unit {0}) Fault} (is : files ≡ no_files names)
+    (adds : Adds told files (replicate count []) 0 count old next new result) where
+  pub opens_own : OwnsFiles next (length old) new
+  opens_own = adds.owned (length old) (subst (λ (those : FilesState). OwnsFiles those (length old) old) (sym is) (none_owned names))
 
-pub opens_short : (delim : ℕ) (told elide : Bool) (names : Naming) (n count : ℕ) (files : FilesState) (old new : List Slot) (why : Fault) → files ≡ no_files names → names.drawn ≡ 0 → are_named names n ≡ true → count ≡ opened_by delim elide n []
-    → StopsShort told files (filled count) old new why → (before : List Slot) → OutputsAt told before nothing old → StoppedBetween told before nothing (settled_by (round_plan delim n elide names) []) why new
-opens_short delim told elide names n count files old new why is fresh are counted stops before at =
-    subst (λ high. StoppedBetween told before nothing high why new) (at_start delim names elide n count fresh are counted)
-    ((subst (λ (those : FilesState). StopsShort told those (filled count) old new why) is stops) before [] (none_stand told names before old at))
+  opens : (before : List Slot) → OutputsAt told before nothing old → Leaves told before names [] (replicate count []) 0 count new result
+  opens before at = (subst (λ (those : FilesState). Adds told those (replicate count []) 0 count old next new result) is adds).leaves before [] (none_stand told names at)
 
-pub opens_own : (told : Bool) (names : Naming) (count : ℕ) (files next : FilesState) (old new : List Slot) → files ≡ no_files names → Became told files (filled count) count old next new → OwnsFiles next (length old) new
-opens_own told names count files next old new is became = became.owned (length old) (subst (λ (those : FilesState). OwnsFiles those (length old) old) (sym is) (none_owned names old))
+pub opens_all : (delim : ℕ) (told elide : Bool) (names : Naming) (n : ℕ) {count : ℕ} {files next : FilesState} {old new : List Slot} → files ≡ no_files names → names.drawn ≡ 0 → are_named names n ≡ true → count ≡ opened_by delim elide n []
+    → Adds told files (replicate count []) 0 count old next new (Ok tt) → (before : List Slot) → OutputsAt told before nothing old → OutputsAt told before (settled_by (round_plan delim n elide names) []) new
+opens_all delim told elide names n {count} {new} is fresh are counted adds before at =
+    subst (λ part. OutputsAt told before part new) (at_start delim names elide n fresh are counted) (opens told names count is adds before at)
+
+pub opens_short : (delim : ℕ) (told elide : Bool) (names : Naming) (n : ℕ) {count : ℕ} {files next : FilesState} {old new : List Slot} {why : Fault} → files ≡ no_files names → names.drawn ≡ 0 → are_named names n ≡ true → count ≡ opened_by delim elide n []
+    → Adds told files (replicate count []) 0 count old next new (Err why) → (before : List Slot) → OutputsAt told before nothing old → StoppedBetween told before nothing (settled_by (round_plan delim n elide names) []) why new
+opens_short delim told elide names n {count} {new} {why} is fresh are counted adds before at =
+    subst (λ high. StoppedBetween told before nothing high why new) (at_start delim names elide n fresh are counted)
+    (stops_in_order told names [] (replicate count []) why (opens told names count is adds before at))
 
 -- where all files have names, the work is what was asked for
 pub does_all : (delim : ℕ) (names others : Naming) (elide : Bool) (n : ℕ) → names.drawn ≡ 0 → are_named names n ≡ true → from_start others ≡ from_start names → round_work (round_plan delim n elide (from_start others)) ≡ split_work (round_plan delim n elide names)
 does_all delim names others elide n fresh are same =
-    ap (λ those. round_work (round_plan delim n elide those)) (same ∙ ap (λ drawn. record names { drawn = drawn }) (sym fresh))
-    ∙ ap work_by never where
+    ap (λ those. round_work (round_plan delim n elide those)) (same ∙ ap (λ drawn. record names { drawn = drawn }) (sym fresh)) ∙ ap work_by never where
       never : ◌≡◌ {A = List ℕ → Bool} (λ x. false) (is_short (round_plan delim n elide names))
       never = fun_ext (λ x. never_short delim names elide n x are)
 
@@ -346,8 +319,8 @@ bytes_filed : (names : Naming) (place : ℕ) (these : List (List ℕ)) → map (
 bytes_filed names place [] = refl
 bytes_filed names place (bytes ∷ these) = ap (λ rest. bytes ∷ rest) (bytes_filed names (place + 1) these)
 
-pub none_waits : (round : RoundState) (x : List ℕ) → Holds round x → 0 ≡ length ((work round).waiting x)
-none_waits round x holds = sym (ap length (ap (λ count. drop count x) all ∙ drop-length x)) where
+pub none_waits : {round : RoundState} {x : List ℕ} → Holds round x → 0 ≡ length ((work round).waiting x)
+none_waits {round} {x} holds = sym (ap length (ap (λ count. drop count x) all ∙ drop-length x)) where
   files : List (List ℕ)
   files = files_of round.delim round.elide round.count x
 

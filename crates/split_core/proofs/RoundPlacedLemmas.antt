@@ -43,8 +43,7 @@ follows delim n x i less =
     let place = 0 + delimiters delim (take i x) in
     let after = dealt n file (cond (eqb byte delim) (place + 1) place) (lines_of delim (drop (suc i) x)) in record {
       rest = after;
-      is = ap (λ those. dealt n file 0 (lines_of delim those)) (sym (take-append-drop i x))
-          ∙ dealt_append delim n file 0 (take i x) (drop i x)
+      is = ap (λ those. dealt n file 0 (lines_of delim those)) (sym (take-append-drop i x)) ∙ dealt_append delim n file 0 (take i x) (drop i x)
           ∙ ap (λ those. dealt n file 0 (lines_of delim (take i x)) ++ dealt n file place (lines_of delim those)) (drop-cons x i 0 less)
           ∙ ap (λ those. dealt n file 0 (lines_of delim (take i x)) ++ those) (dealt_first (eqb byte delim) n file place byte (lines_of delim (drop (suc i) x)))
           ∙ ap (λ is. dealt n file 0 (lines_of delim (take i x)) ++ cond is (byte ∷ after) after) (eq-eqb (place % n) file (ap (λ k. k % n) (let e : 0 + delimiters delim (take i x) ≡ delimiters delim (take i x) = omega arith in e)));
@@ -53,8 +52,7 @@ follows delim n x i less =
 had_less : (delim n : ℕ) (x : List ℕ) (i : ℕ) → i < length x → had delim n (dealt_to delim n x i) x i < length (share_of delim n x (dealt_to delim n x i))
 had_less delim n x i less =
     let next = follows delim n x i less in
-    let long : length (share_of delim n x (dealt_to delim n x i)) ≡ had delim n (dealt_to delim n x i) x i + length (get_or x i 0 ∷ next.rest) = ap length next.is ∙ length-append (dealt n (dealt_to delim n x i) 0 (lines_of delim (take i x))) (get_or x i 0 ∷ next.rest) in
-    omega (arith, long)
+    omega (arith, ap length next.is ∙ length-append (dealt n (dealt_to delim n x i) 0 (lines_of delim (take i x))) (get_or x i 0 ∷ next.rest))
 
 had_byte : (delim n : ℕ) (x : List ℕ) (i : ℕ) → i < length x → get_or (share_of delim n x (dealt_to delim n x i)) (had delim n (dealt_to delim n x i) x i) 0 ≡ get_or x i 0
 had_byte delim n x i less =
@@ -68,10 +66,7 @@ had_grows delim n x i j less within same =
     let file : dealt_to delim n (take j x) i ≡ dealt_to delim n x i = ap (λ those. delimiters delim those % n) front in
     let grown : had delim n (dealt_to delim n (take j x) i) (take j x) i < length (share_of delim n (take j x) (dealt_to delim n (take j x) i))
     = had_less delim n (take j x) i (let all : length (take j x) ≡ j = length-take-le j x (omega (arith, within)) in omega (arith, less, all)) in
-    let low : had delim n (dealt_to delim n (take j x) i) (take j x) i ≡ had delim n (dealt_to delim n x i) x i
-    = ap (λ k. had delim n k (take j x) i) file ∙ ap (λ those. length (dealt n (dealt_to delim n x i) 0 (lines_of delim those))) front in
-    let high : length (share_of delim n (take j x) (dealt_to delim n (take j x) i)) ≡ had delim n (dealt_to delim n x j) x j = ap (λ k. length (share_of delim n (take j x) k)) (file ∙ same) in
-    omega (arith, grown, low, high)
+    omega (arith, ap (λ k. had delim n k (take j x) i) file ∙ ap (λ those. length (dealt n (dealt_to delim n x i) 0 (lines_of delim those))) front, ap (λ k. length (share_of delim n (take j x) k)) (file ∙ same), grown)
 
 -- for each place in a file a byte is found that goes there
 
@@ -81,18 +76,18 @@ pub record Found (delim n file place : ℕ) (x : List ℕ) (k : ℕ) : Type 0 wh
   pub goes : (place + delimiters delim (take i x)) % n ≡ file
   pub at : length (dealt n file place (lines_of delim (take i x))) ≡ k
 
-found_now : (delim n file place byte : ℕ) (x : List ℕ) → eqb (place % n) file ≡ true → Found delim n file place (byte ∷ x) 0
-found_now delim n file place byte x is = record {
+found_now : {delim n file place byte : ℕ} {x : List ℕ} → eqb (place % n) file ≡ true → Found delim n file place (byte ∷ x) 0
+found_now {n} {file} {place} is = record {
   i = 0;
   within = omega arith;
   goes = ap (λ k. k % n) (let e : place + 0 ≡ place = omega arith in e) ∙ eqb-true (place % n) file is;
   at = refl;
 }
 
-found_after : (delim n file place byte k : ℕ) (x : List ℕ) (gets : Bool) → eqb (place % n) file ≡ gets → Found delim n file (cond (eqb byte delim) (place + 1) place) x k → Found delim n file place (byte ∷ x) (cond gets (suc k) k)
-found_after delim n file place byte k x gets is found = record {
+found_after : {delim n file place byte k : ℕ} {x : List ℕ} {gets : Bool} → eqb (place % n) file ≡ gets → Found delim n file (cond (eqb byte delim) (place + 1) place) x k → Found delim n file place (byte ∷ x) (cond gets (suc k) k)
+found_after {delim} {n} {file} {place} {byte} {k} {x} {gets} is found = record {
   i = suc found.i;
-  within = (let less = found.within in omega (arith, less));
+  within = (omega (arith, found.within));
   goes = ap (λ those. those % n) (sym (next_place (eqb byte delim) place (delimiters delim (take found.i x)))) ∙ found.goes;
   at = ap length (dealt_first (eqb byte delim) n file place byte (lines_of delim (take found.i x)))
       ∙ ap (λ those. length (cond those (byte ∷ dealt n file (cond (eqb byte delim) (place + 1) place) (lines_of delim (take found.i x))) (dealt n file (cond (eqb byte delim) (place + 1) place) (lines_of delim (take found.i x))))) is
@@ -102,18 +97,17 @@ found_after delim n file place byte k x gets is found = record {
   counted true = ap suc found.at
   counted false = found.at
 
-found_by : (delim n file place byte k : ℕ) (x : List ℕ) (gets : Bool) → eqb (place % n) file ≡ gets
+found_by : {delim n file place byte : ℕ} (k : ℕ) {x : List ℕ} (gets : Bool) → eqb (place % n) file ≡ gets
     → ((k : ℕ) → k < length (dealt n file (cond (eqb byte delim) (place + 1) place) (lines_of delim x)) → Found delim n file (cond (eqb byte delim) (place + 1) place) x k)
     → k < length (cond gets (byte ∷ dealt n file (cond (eqb byte delim) (place + 1) place) (lines_of delim x)) (dealt n file (cond (eqb byte delim) (place + 1) place) (lines_of delim x)))
     → Found delim n file place (byte ∷ x) k
-found_by delim n file place byte zero x true is later less = found_now delim n file place byte x is
-found_by delim n file place byte (suc k) x true is later less = found_after delim n file place byte k x true is (later k (omega (arith, less)))
-found_by delim n file place byte k x false is later less = found_after delim n file place byte k x false is (later k less)
+found_by zero true is later less = found_now is
+found_by (suc k) true is later less = found_after is (later k (omega (arith, less)))
+found_by k false is later less = found_after is (later k less)
 
-find : (delim n file place : ℕ) (x : List ℕ) (k : ℕ) → k < length (dealt n file place (lines_of delim x)) → Found delim n file place x k
-find delim n file place [] k less = absurd (omega (arith, less))
-find delim n file place (byte ∷ x) k less =
-    found_by delim n file place byte k x (eqb (place % n) file) refl (λ m within. find delim n file (cond (eqb byte delim) (place + 1) place) x m within)
+find : {delim n file : ℕ} (place : ℕ) (x : List ℕ) {k : ℕ} → k < length (dealt n file place (lines_of delim x)) → Found delim n file place x k
+find place [] less = absurd (omega (arith, less))
+find {delim} {n} {file} place (byte ∷ x) {k} less = found_by k (eqb (place % n) file) refl (λ m within. find (cond (eqb byte delim) (place + 1) place) x within)
     (subst (λ those. k < length those) (dealt_first (eqb byte delim) n file place byte (lines_of delim x)) less)
 
 -- The files
@@ -121,7 +115,7 @@ find delim n file place (byte ∷ x) k less =
 file_is : (delim : ℕ) (elide : Bool) (n : ℕ) (x : List ℕ) (file : ℕ) → file < n → get_or (dealt_files delim elide n x) file [] ≡ share_of delim n x file
 file_is delim elide n x file within = ap (λ files. get_or files file []) (dealt_files_are delim elide n x) ∙ elim (cases_lt file (opened_by delim elide n x)) [
   | inl less ↦ get_or-map-range_with_len (share_of delim n x) 0 (opened_by delim elide n x) file file [] less (zero-add file)
-  | inr past ↦ get_or_past (map (share_of delim n x) (range_with_len 0 (opened_by delim elide n x))) file [] (let count = length-map-range_with_len (share_of delim n x) 0 (opened_by delim elide n x) in omega (arith, past, count))
+  | inr past ↦ get_or_past (map (share_of delim n x) (range_with_len 0 (opened_by delim elide n x))) file [] (omega (arith, length-map-range_with_len (share_of delim n x) 0 (opened_by delim elide n x), past))
       ∙ sym (none_yet delim elide n x file past within)
 ]
 
@@ -145,17 +139,14 @@ has_name_there : (names : Naming) (place : ℕ) (those : List (List ℕ)) (k off
 has_name_there names place [] k offset less = absurd (omega (arith, less))
 has_name_there names place (one ∷ those) zero offset less =
     subst (λ m. is_named names m ≡ true) (let e : place ≡ place + 0 = omega arith in e) (first_has names place one (named_bytes names (place + 1) those) offset (is_named names place) refl less)
-has_name_there names place (one ∷ those) (suc k) offset less =
-    subst (λ m. is_named names m ≡ true) (let e : place + 1 + k ≡ place + suc k = omega arith in e)
+has_name_there names place (one ∷ those) (suc k) offset less = subst (λ m. is_named names m ≡ true) (let e : place + 1 + k ≡ place + suc k = omega arith in e)
     (has_name_there names (place + 1) those k offset (has_by names place one (named_bytes names (place + 1) those) k offset (is_named names place) refl less))
 
 within_n : (delim : ℕ) (elide : Bool) (n : ℕ) (x : List ℕ) (file offset : ℕ) → offset < length (get_or (dealt_files delim elide n x) file []) → file < n
 within_n delim elide n x file offset less = elim (cases_lt file n) [
   | inl within ↦ within
-  | inr past ↦
-      (let none : get_or (dealt_files delim elide n x) file [] ≡ [] = get_or_past (dealt_files delim elide n x) file []
-      (let count : length (dealt_files delim elide n x) ≡ opened_by delim elide n x = ap length (dealt_files_are delim elide n x) ∙ length-map-range_with_len (share_of delim n x) 0 (opened_by delim elide n x) in
-      let most = opened_by-most delim elide n x in omega (arith, past, count, most)) in
+  | inr past ↦ (let none : get_or (dealt_files delim elide n x) file [] ≡ [] = get_or_past (dealt_files delim elide n x) file []
+      (omega (arith, ap length (dealt_files_are delim elide n x) ∙ length-map-range_with_len (share_of delim n x) 0 (opened_by delim elide n x), opened_by-most delim elide n x, past)) in
       let size : length (get_or (dealt_files delim elide n x) file []) ≡ 0 = ap length none in absurd (omega (arith, less, size)))
 ]
 
@@ -166,13 +157,13 @@ pub record Goes (delim n : ℕ) (names : Naming) (x : List ℕ) (i : ℕ) (at : 
   pub named : is_named names (dealt_to delim n x i) ≡ true
   pub is : at ≡ spot (dealt_to delim n x i + 1) (had delim n (dealt_to delim n x i) x i)
 
-goes_by : (delim n : ℕ) (names : Naming) (x : List ℕ) (i : ℕ) (at : Spot) (less has : Bool) → nat_lt i (length x) ≡ less → is_named names (dealt_to delim n x i) ≡ has
+goes_by : {delim n : ℕ} {names : Naming} {x : List ℕ} {i : ℕ} {at : Spot} (less has : Bool) → nat_lt i (length x) ≡ less → is_named names (dealt_to delim n x i) ≡ has
     → GoesTo at (cond (less && has) (spot (dealt_to delim n x i + 1) (had delim n (dealt_to delim n x i) x i) ∷ []) []) → Goes delim n names x i at
-goes_by delim n names x i at true true less has goes = record { within = ltb-true i (length x) less; named = has; is = only_spot at _ goes }
-goes_by delim n names x i at less has within named goes = absurd goes
+goes_by {x} {i} true true less has goes = record { within = ltb-true i (length x) less; named = has; is = only_spot _ goes }
+goes_by less has within named goes = absurd goes
 
-dealt_goes : (delim n : ℕ) (names : Naming) (x : List ℕ) (i : ℕ) (at : Spot) → GoesTo at (dealt_spots delim n names x i) → Goes delim n names x i at
-dealt_goes delim n names x i at goes = goes_by delim n names x i at (nat_lt i (length x)) (is_named names (dealt_to delim n x i)) refl refl goes
+dealt_goes : {delim n : ℕ} (names : Naming) {x : List ℕ} {i : ℕ} {at : Spot} → GoesTo at (dealt_spots delim n names x i) → Goes delim n names x i at
+dealt_goes {delim} {n} names {x} {i} goes = goes_by (nat_lt i (length x)) (is_named names (dealt_to delim n x i)) refl refl goes
 
 abbrev files_of : ℕ → ℕ → Bool → Naming → List ℕ → List (List ℕ)
 files_of delim n elide names x = file_bytes (whole_by (round_plan delim n elide names) x)
@@ -189,13 +180,13 @@ StandsThere outputs at byte = (at.offset < length (get_or outputs at.place [])) 
 
 dealt_stands : (delim n : ℕ) (elide : Bool) (names : Naming) → 0 < n → (x : List ℕ) (i : ℕ) (at : Spot) → GoesTo at (dealt_spots delim n names x i) → StandsThere ([] ∷ files_of delim n elide names x) at (get_or x i 0)
 dealt_stands delim n elide names some x i at goes =
-    let one = dealt_goes delim n names x i at goes in
+    let one = dealt_goes names goes in
     let there = file_there delim n elide names x (dealt_to delim n x i) (mod-lt (delimiters delim (take i x)) some) one.named in
     subst (λ those. StandsThere ([] ∷ files_of delim n elide names x) those (get_or x i 0)) (sym one.is)
     (subst (λ those. had delim n (dealt_to delim n x i) x i < length those) (sym there) (had_less delim n x i one.within), ap (λ those. get_or those (had delim n (dealt_to delim n x i) x i) 0) there ∙ had_byte delim n x i one.within)
 
-goes_there : (delim n : ℕ) (names : Naming) (x : List ℕ) (i file offset : ℕ) → i < length x → dealt_to delim n x i ≡ file → had delim n file x i ≡ offset → is_named names file ≡ true → GoesTo (spot (suc file) offset) (dealt_spots delim n names x i)
-goes_there delim n names x i file offset less to at named =
+goes_there : (delim n : ℕ) (names : Naming) (x : List ℕ) (i : ℕ) {file offset : ℕ} → i < length x → dealt_to delim n x i ≡ file → had delim n file x i ≡ offset → is_named names file ≡ true → GoesTo (spot (suc file) offset) (dealt_spots delim n names x i)
+goes_there delim n names x i {file} {offset} less to at named =
     let has : is_named names (dealt_to delim n x i) ≡ true = ap (is_named names) to ∙ named in
     subst (GoesTo (spot (suc file) offset))
     (sym (ap (λ within. cond (within && is_named names (dealt_to delim n x i)) (spot (dealt_to delim n x i + 1) (had delim n (dealt_to delim n x i) x i) ∷ []) []) (lt-ltb i (length x) less)
@@ -209,27 +200,26 @@ dealt_filled delim n elide names x (suc file) offset less =
     let named_it = has_name_there names 0 (dealt_files delim elide n x) file offset in_files in
     let in_dealt : offset < length (get_or (dealt_files delim elide n x) file []) = subst (λ those. offset < length those) (named_at names 0 (dealt_files delim elide n x) file named_it) in_files in
     let within = within_n delim elide n x file offset in_dealt in
-    let found = find delim n file 0 x offset (subst (λ those. offset < length those) (file_is delim elide n x file within) in_dealt) in (
+    let found = find 0 x (subst (λ those. offset < length those) (file_is delim elide n x file within) in_dealt) in (
       found.i,
       found.within,
-      goes_there delim n names x found.i file offset found.within
+      goes_there delim n names x found.i found.within
           (ap (λ k. k % n) (let e : delimiters delim (take found.i x) ≡ 0 + delimiters delim (take found.i x) = omega arith in e) ∙ found.goes) found.at
           (subst (λ m. is_named names m ≡ true) (let e : 0 + file ≡ file = omega arith in e) named_it),
     )
 
-not_before : (delim n : ℕ) (names : Naming) (x : List ℕ) (i j : ℕ) (at : Spot) → Goes delim n names x i at → Goes delim n names x j at → i < j → ⊥
-not_before delim n names x i j at one two less =
-    let same : dealt_to delim n x i ≡ dealt_to delim n x j = (let e : dealt_to delim n x i + 1 ≡ dealt_to delim n x j + 1 = ap (λ those. those.place) (sym one.is ∙ two.is) in omega (arith, e)) in
-    let level : had delim n (dealt_to delim n x i) x i ≡ had delim n (dealt_to delim n x j) x j = ap (λ those. those.offset) (sym one.is ∙ two.is) in
-    let grows = had_grows delim n x i j less two.within same in omega (arith, level, grows)
+not_before : {delim n : ℕ} {names : Naming} {x : List ℕ} {i j : ℕ} {at : Spot} → Goes delim n names x i at → Goes delim n names x j at → i < j → ⊥
+not_before {delim} {n} {x} {i} {j} one two less =
+    let same : dealt_to delim n x i ≡ dealt_to delim n x j = (omega (arith, ap (λ those. those.place) (sym one.is ∙ two.is))) in
+    omega (arith, ap (λ those. those.offset) (sym one.is ∙ two.is), had_grows delim n x i j less two.within same)
 
-dealt_apart : (delim n : ℕ) (names : Naming) (x : List ℕ) (i j : ℕ) (at : Spot) → GoesTo at (dealt_spots delim n names x i) → GoesTo at (dealt_spots delim n names x j) → i ≡ j
-dealt_apart delim n names x i j at goes also =
-    let one = dealt_goes delim n names x i at goes in let two = dealt_goes delim n names x j at also in
+dealt_apart : (delim n : ℕ) (names : Naming) (x : List ℕ) {i j : ℕ} (at : Spot) → GoesTo at (dealt_spots delim n names x i) → GoesTo at (dealt_spots delim n names x j) → i ≡ j
+dealt_apart delim n names x {i} {j} at goes also =
+    let one = dealt_goes names goes in let two = dealt_goes names also in
     elim (cases_lt i j) [
-      | inl less ↦ absurd (not_before delim n names x i j at one two less)
+      | inl less ↦ absurd (not_before one two less)
       | inr past ↦ elim (cases_lt j i) [
-        | inl less ↦ absurd (not_before delim n names x j i at two one less)
+        | inl less ↦ absurd (not_before two one less)
         | inr further ↦ (let e : i ≡ j = omega (arith, past, further) in e)
       ]
     ]
@@ -238,7 +228,7 @@ pub round_placed : (delim n : ℕ) (elide : Bool) (names : Naming) → 0 < n →
 round_placed delim n elide names some = record {
   stands = λ x i at less goes. dealt_stands delim n elide names some x i at goes;
   filled = λ x at less. dealt_filled delim n elide names x at.place at.offset less;
-  apart = λ x i j at goes also. dealt_apart delim n names x i j at goes also;
+  apart = λ x i j at goes also. dealt_apart delim n names x at goes also;
 }
 
 -- All ways to cut

@@ -13,7 +13,7 @@ use Rattle.seg_core.proofs.LinesOf.{joined-lines_of}
 use Rattle.ports_core.specs.declared.slot.State.TheVariants.{Open, Closed}
 use Rattle.split_core.specs.declared.limit.Limit.{Limit}
 use Rattle.split_core.specs.declared.limit.Limit.TheVariants.{Lines, Bytes, LineBytes}
-use Rattle.split_core.specs.Parts.{whole_lines, open_line, most, is_full, after_first, cut_up, unless_empty, parts, settled_rest, waiting_rest}
+use Rattle.split_core.specs.Parts.{whole_lines, open_line, most, is_full, cut_up, unless_empty, parts, settled_rest, waiting_rest}
 use Rattle.split_core.specs.Sections.{runs_within, runs_of, line_parts, byte_parts, AreLineByteParts, none, one, more}
 use Rattle.split_core.specs.Split.{Share, share, settled_parts}
 use Rattle.split_core.proofs.ShareLaws.{bytes_of_shares}
@@ -73,10 +73,9 @@ AreFewest runs n all = (all ≤ runs * n) × (runs * n < all + n)
 no_run : (n : ℕ) → 0 < n → AreFewest 0 n 0
 no_run n some = let none : 0 * n ≡ 0 = zero-mul n in (omega arith, omega arith)
 
-one_more : (runs n left all : ℕ) → left ≡ all - n → 0 < all → AreFewest runs n left → AreFewest (suc runs) n all
-one_more zero n left all is some (low, high) =
-    let none : 0 * n ≡ 0 = zero-mul n in let first : 1 * n ≡ 0 * n + n = suc-mul 0 n in (omega arith, omega arith)
-one_more (suc runs) n left all is some (low, high) =
+one_more : (runs n : ℕ) {left : ℕ} (all : ℕ) → left ≡ all - n → 0 < all → AreFewest runs n left → AreFewest (suc runs) n all
+one_more zero n all is some (low, high) = let none : 0 * n ≡ 0 = zero-mul n in let first : 1 * n ≡ 0 * n + n = suc-mul 0 n in (omega arith, omega arith)
+one_more (suc runs) n all is some (low, high) =
     let here : suc runs * n ≡ runs * n + n = suc-mul runs n in
     let next : suc (suc runs) * n ≡ suc runs * n + n = suc-mul (suc runs) n in (omega arith, omega arith)
 
@@ -84,8 +83,7 @@ count_within : {X : Type 0} (bound n : ℕ) (xs : List X) → 0 < n → length x
 count_within zero n (x ∷ xs) some few = absurd (omega arith)
 count_within (suc bound) n (x ∷ xs) some few =
     let left : length (drop n (x ∷ xs)) ≡ suc (length xs) - n = length-drop n (x ∷ xs) in
-    one_more (length (runs_within bound n (drop n (x ∷ xs)))) n (length (drop n (x ∷ xs))) (suc (length xs)) left (omega arith)
-    (count_within bound n (drop n (x ∷ xs)) some (omega arith))
+    one_more (length (runs_within bound n (drop n (x ∷ xs)))) n (suc (length xs)) left (omega arith) (count_within bound n (drop n (x ∷ xs)) some (omega arith))
 count_within bound n xs some few = no_run n some
 
 -- there are as few runs as can hold all members
@@ -101,37 +99,34 @@ last_lines delim n (byte ∷ x) short =
     sym (ap (map joined) (runs_last n (lines_of delim (byte ∷ x)) (line_count-some delim (byte ∷ x) (omega arith)) (omega arith))
     ∙ ap (λ text. text ∷ []) (joined-lines_of delim (byte ∷ x)))
 
-lines_cut : (delim n : ℕ) (x : List ℕ) (full : List (List ℕ)) (rest : List ℕ) → 0 < n → Cuts (Lines n delim) x full rest → full ++ unless_empty rest ≡ line_parts delim n x
-lines_cut delim n x _ _ some (stops _ short) = last_lines delim n x (short_some (Lines n delim) x short some)
-lines_cut delim n x _ rest some (goes _ full _ is past) =
+lines_cut : (delim n : ℕ) {x : List ℕ} {full : List (List ℕ)} {rest : List ℕ} → 0 < n → Cuts (Lines n delim) x full rest → full ++ unless_empty rest ≡ line_parts delim n x
+lines_cut delim n {x} some (stops _ short) = last_lines delim n x (short_some (Lines n delim) x short some)
+lines_cut delim n {x} some (goes _ full _ is past) =
     let enough : n ≤ delimiters delim x = (full_some (Lines n delim) x is).1 in
-    let lines : delimiters delim x ≤ line_count delim x = (line_count_near delim x).0 in
-    ap (λ those. first_lines delim n x ∷ those) (lines_cut delim n (after_first (Lines n delim) x) full rest some past)
+    ap (λ those. first_lines delim n x ∷ those) (lines_cut delim n some past)
     ∙ ap (λ those. first_lines delim n x ∷ map joined (runs_of n those)) (lines_of-after delim n x enough)
-    ∙ sym (ap (map joined) (runs_next n (lines_of delim x) some (omega arith)))
+    ∙ sym (ap (map joined) (runs_next n (lines_of delim x) some (omega (arith, (line_count_near delim x).0))))
 
 pub lines_are_runs : (delim n : ℕ) (x : List ℕ) → 0 < n → parts (Lines n delim) x ≡ line_parts delim n x
-lines_are_runs delim n x some = lines_cut delim n x _ _ some (cuts_up (Lines n delim) x)
+lines_are_runs delim n x some = lines_cut delim n some (cuts_up)
 
 last_bytes : (n : ℕ) (x : List ℕ) → length x < n → unless_empty x ≡ byte_parts n x
 last_bytes n [] short = refl
 last_bytes n (byte ∷ x) short = sym (runs_last n (byte ∷ x) (omega arith) (omega arith))
 
-bytes_cut : (n : ℕ) (x : List ℕ) (full : List (List ℕ)) (rest : List ℕ) → 0 < n → Cuts (Bytes n) x full rest → full ++ unless_empty rest ≡ byte_parts n x
-bytes_cut n x _ _ some (stops _ short) = last_bytes n x (short_some (Bytes n) x short some)
-bytes_cut n x _ rest some (goes _ full _ is past) =
+bytes_cut : (n : ℕ) {x : List ℕ} {full : List (List ℕ)} {rest : List ℕ} → 0 < n → Cuts (Bytes n) x full rest → full ++ unless_empty rest ≡ byte_parts n x
+bytes_cut n {x} some (stops _ short) = last_bytes n x (short_some (Bytes n) x short some)
+bytes_cut n {x} some (goes _ full _ is past) =
     let enough : n ≤ length x = (full_some (Bytes n) x is).1 in
-    ap (λ those. take n x ∷ those) (bytes_cut n (after_first (Bytes n) x) full rest some past)
-    ∙ ap (λ k. take n x ∷ runs_of n (drop k x)) (length-take-le n x enough)
+    ap (λ those. take n x ∷ those) (bytes_cut n some past) ∙ ap (λ k. take n x ∷ runs_of n (drop k x)) (length-take-le n x enough)
     ∙ sym (runs_next n x some (omega arith))
 
 pub bytes_are_runs : (n : ℕ) (x : List ℕ) → 0 < n → parts (Bytes n) x ≡ byte_parts n x
-bytes_are_runs n x some = bytes_cut n x _ _ some (cuts_up (Bytes n) x)
+bytes_are_runs n x some = bytes_cut n some (cuts_up)
 
 -- the lines of the part at a place
 pub part_lines : (delim n i : ℕ) (x : List ℕ) → 0 < n → lines_of delim (get_or (parts (Lines n delim) x) i []) ≡ take n (drop (i * n) (lines_of delim x))
-part_lines delim n i x some =
-    ap (λ those. lines_of delim (get_or those i [])) (lines_are_runs delim n x some)
+part_lines delim n i x some = ap (λ those. lines_of delim (get_or those i [])) (lines_are_runs delim n x some)
     ∙ ap (lines_of delim) (get_or-map joined (runs_of n (lines_of delim x)) i [] ∙ ap joined (run_at n i (lines_of delim x) some ∙ ap (take n) (sym (lines_of-after_lines delim (i * n) x))))
     ∙ lines_of-first_lines delim n (after_lines delim (i * n) x) ∙ ap (take n) (lines_of-after_lines delim (i * n) x)
 
@@ -147,35 +142,35 @@ bytes_count n x some = subst (λ count. AreFewest count n (length x)) (sym (ap l
 
 -- Parts of whole lines within n bytes
 
-last_line_bytes : (delim n : ℕ) (x : List ℕ) → length x < n → AreLineByteParts delim n x (unless_empty x)
-last_line_bytes delim n [] short = none
-last_line_bytes delim n (byte ∷ x) short = one (byte ∷ x) (omega arith) short
+last_line_bytes : {delim n : ℕ} (x : List ℕ) → length x < n → AreLineByteParts delim n x (unless_empty x)
+last_line_bytes [] short = none
+last_line_bytes (byte ∷ x) short = one (byte ∷ x) (omega arith) short
 
-line_bytes_cut : (delim n : ℕ) (x : List ℕ) (full : List (List ℕ)) (rest : List ℕ) → 0 < n → Cuts (LineBytes n delim) x full rest → AreLineByteParts delim n x (full ++ unless_empty rest)
-line_bytes_cut delim n x _ _ some (stops _ short) = last_line_bytes delim n x (short_some (LineBytes n delim) x short some)
-line_bytes_cut delim n x _ rest some (goes _ full _ is past) =
-    more x (full ++ unless_empty rest) (full_some (LineBytes n delim) x is).1 (line_bytes_cut delim n (after_first (LineBytes n delim) x) full rest some past)
+line_bytes_cut : {delim n : ℕ} {x : List ℕ} {full : List (List ℕ)} {rest : List ℕ} → 0 < n → Cuts (LineBytes n delim) x full rest → AreLineByteParts delim n x (full ++ unless_empty rest)
+line_bytes_cut {delim} {n} {x} some (stops _ short) = last_line_bytes x (short_some (LineBytes n delim) x short some)
+line_bytes_cut {delim} {n} {x} {rest} some (goes _ full _ is past) =
+    more x (full ++ unless_empty rest) (full_some (LineBytes n delim) x is).1 (line_bytes_cut some past)
 
 pub line_bytes_are_parts : (delim n : ℕ) (x : List ℕ) → 0 < n → AreLineByteParts delim n x (parts (LineBytes n delim) x)
-line_bytes_are_parts delim n x some = line_bytes_cut delim n x _ _ some (cuts_up (LineBytes n delim) x)
+line_bytes_are_parts delim n x some = line_bytes_cut some (cuts_up)
 
 -- no other parts are those
-pub line_bytes_once : (delim n : ℕ) (x : List ℕ) (these those : List (List ℕ)) → 0 < n → AreLineByteParts delim n x these → AreLineByteParts delim n x those → these ≡ those
-line_bytes_once delim n _ _ _ some none none = refl
-line_bytes_once delim n _ _ _ some none (one _ has short) = absurd (omega (arith, has))
-line_bytes_once delim n _ _ _ some none (more _ _ enough past) = absurd (omega (arith, some, enough))
-line_bytes_once delim n _ _ _ some (one _ has short) none = absurd (omega (arith, has))
-line_bytes_once delim n _ _ _ some (one x has short) (one _ _ _) = refl
-line_bytes_once delim n _ _ _ some (one x has short) (more _ _ enough past) = absurd (omega (arith, short, enough))
-line_bytes_once delim n _ _ _ some (more _ _ enough past) none = absurd (omega (arith, some, enough))
-line_bytes_once delim n _ _ _ some (more x _ enough past) (one _ has short) = absurd (omega (arith, short, enough))
-line_bytes_once delim n _ _ _ some (more x these enough past) (more _ those _ other) =
-    ap (λ rest. whole_lines delim (take n x) ∷ rest) (line_bytes_once delim n (drop (length (whole_lines delim (take n x))) x) these those some past other)
+pub line_bytes_once : {delim n : ℕ} {x : List ℕ} {these those : List (List ℕ)} → 0 < n → AreLineByteParts delim n x these → AreLineByteParts delim n x those → these ≡ those
+line_bytes_once some none none = refl
+line_bytes_once some none (one _ has short) = absurd (omega (arith, has))
+line_bytes_once some none (more _ _ enough past) = absurd (omega (arith, some, enough))
+line_bytes_once some (one _ has short) none = absurd (omega (arith, has))
+line_bytes_once some (one x has short) (one _ _ _) = refl
+line_bytes_once some (one x has short) (more _ _ enough past) = absurd (omega (arith, short, enough))
+line_bytes_once some (more _ _ enough past) none = absurd (omega (arith, some, enough))
+line_bytes_once some (more x _ enough past) (one _ has short) = absurd (omega (arith, short, enough))
+line_bytes_once {delim} {n} some (more x these enough past) (more _ those _ other) =
+    ap (λ rest. whole_lines delim (take n x) ∷ rest) (line_bytes_once some past other)
 
 line_bytes_first : (delim n : ℕ) (x : List ℕ) → 0 < n → n ≤ length x → (0 < length (whole_lines delim (take n x))) × (length (whole_lines delim (take n x)) ≤ n)
 line_bytes_first delim n x some enough =
     let all : length (take n x) ≡ n = length-take-le n x enough in
-    let both : length (whole_lines delim (take n x)) + length (open_line delim (take n x)) ≡ length (take n x) = sym (length-append (whole_lines delim (take n x)) (open_line delim (take n x))) ∙ ap length (whole_then_open delim (take n x)) in
+    let both : length (whole_lines delim (take n x)) + length (open_line delim (take n x)) ≡ length (take n x) = sym (length-append (whole_lines delim (take n x)) (open_line delim (take n x))) ∙ ap length (whole_then_open delim) in
     (whole_some delim (take n x) (omega arith), omega arith)
 
 -- none is empty, and none has more than n bytes
@@ -194,12 +189,11 @@ joined_one (byte ∷ rest) = append-nil (byte ∷ rest)
 
 pub joined_parts : (limit : Limit) (x : List ℕ) → joined (parts limit x) ≡ x
 joined_parts limit x =
-    joined-append (cut_up limit x).full (unless_empty (cut_up limit x).rest) ∙ ap (λ rest. joined (cut_up limit x).full ++ rest) (joined_one (cut_up limit x).rest) ∙ cut_all limit x
+    joined-append (cut_up limit x).full (unless_empty (cut_up limit x).rest) ∙ ap (λ rest. joined (cut_up limit x).full ++ rest) (joined_one (cut_up limit x).rest) ∙ cut_all limit
 
 waits_few : (limit : Limit) (rest : List ℕ) → 0 < most limit → is_full limit rest ≡ false → length (waiting_rest limit rest) < most limit
 waits_few (LineBytes n delim) rest some short =
-    let few : length rest < n = short_some (LineBytes n delim) rest short some in
-    let both : length (whole_lines delim rest) + length (open_line delim rest) ≡ length rest = sym (length-append (whole_lines delim rest) (open_line delim rest)) ∙ ap length (whole_then_open delim rest) in omega arith
+    omega (arith, short_some (LineBytes n delim) rest short some, length-append (whole_lines delim rest) (open_line delim rest), ap length (whole_then_open delim {x = rest}))
 waits_few limit rest some short = some
 
 -- what waits is shorter than a part
@@ -221,7 +215,7 @@ pub list_all : (limit : Limit) (x : List ℕ) → joined (settled_list limit x) 
 list_all limit x =
     let full = (cut_up limit x).full in let rest = (cut_up limit x).rest in
     ap (λ bytes. bytes ++ waiting_rest limit rest) (joined-append full (unless_empty (settled_rest limit rest)) ∙ ap (λ bytes. joined full ++ bytes) (joined_one (settled_rest limit rest)))
-    ∙ append_assoc (joined full) (settled_rest limit rest) (waiting_rest limit rest) ∙ ap (λ bytes. joined full ++ bytes) (settled_then_waiting limit rest) ∙ cut_all limit x
+    ∙ append_assoc (joined full) (settled_rest limit rest) (waiting_rest limit rest) ∙ ap (λ bytes. joined full ++ bytes) (settled_then_waiting limit rest) ∙ cut_all limit
 
 -- what is written and what waits are together what came in
 pub settled_all : (limit : Limit) (x : List ℕ) → joined (map (λ (file : Share). file.bytes) (settled_parts limit x)) ++ waiting_rest limit (cut_up limit x).rest ≡ x

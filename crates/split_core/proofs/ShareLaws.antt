@@ -1,14 +1,11 @@
 -- Laws of what files get: what is written once more came in, and in the end.
-use Rattle.std.proofs.Common.{◌≡◌, ℕ, ◌<◌, List, [], ◌∷◌, ◌++◌, length, map, ◌⊎◌, inl, inr, refl, ap, arith}
-use Rattle.seg_core.specs.Line.{joined}
+use Rattle.std.proofs.Common.{◌≡◌, ℕ, List, [], ◌∷◌, ◌++◌, map, ◌⊎◌, inl, inr, refl, ap}
 use Rattle.ports_core.specs.Part.{IsBeginning}
 use Rattle.ports_core.specs.declared.slot.State.{State}
 use Rattle.ports_core.specs.declared.slot.State.TheVariants.{Open, Closed}
 use Rattle.ports_core.proofs.PartLemmas.{begins_itself, begins_trans, kept_trans}
-use Rattle.split_core.specs.declared.limit.Limit.{Limit}
-use Rattle.split_core.specs.Parts.{cut_up, unless_empty, parts}
+use Rattle.split_core.specs.Parts.{unless_empty}
 use Rattle.split_core.specs.Split.{Share, share}
-use Rattle.split_core.proofs.CutLaws.{cut_all}
 use Rattle.split_core.specs.inner.ShareLaws.{SharesBegin, AllShut}
 use Rattle.split_core.specs.laws.ShareLaws.{shares_after}
 
@@ -43,16 +40,8 @@ pub shut_more : (shares : List Share) (one : Share) → AllShut shares → one.s
 shut_more [] one shut is = (is, tt)
 shut_more (share ∷ shares) one shut is = (shut.0, shut_more shares one shut.1 is)
 
--- a text that isn't empty has a part
-
-some_by : (full : List (List ℕ)) (rest x : List ℕ) → joined full ++ rest ≡ x → 0 < length x → 0 < length (full ++ unless_empty rest)
-some_by [] [] x is some = absurd (omega (arith, some, ap length is))
-some_by full rest x is some = omega arith
-
-pub parts_some : (limit : Limit) (x : List ℕ) → 0 < length x → 0 < length (parts limit x)
-parts_some limit x some = some_by (cut_up limit x).full (cut_up limit x).rest x (cut_all limit x) some
-
 -- a part that was begun, or wasn't yet, begins the same part with more bytes
-pub begun_grows : (front : List Share) (begun more : List ℕ) → IsBeginning begun more → SharesBegin (front ++ map (share Open) (unless_empty begun)) (front ++ share Open more ∷ [])
-begun_grows front [] more begins = shares_after front [] (share Open more ∷ []) tt
-begun_grows front (byte ∷ begun) more begins = shares_after front (share Open (byte ∷ begun) ∷ []) (share Open more ∷ []) (inl refl, begins, tt)
+pub begun_grows : (front others : List Share) (now : State) (begun more : List ℕ) → IsBeginning begun more
+    → SharesBegin (front ++ map (share Open) (unless_empty begun)) (front ++ share now more ∷ others)
+begun_grows front others now [] more begins = shares_after front [] (share now more ∷ others) tt
+begun_grows front others now (byte ∷ begun) more begins = shares_after front (share Open (byte ∷ begun) ∷ []) (share now more ∷ others) (inl refl, begins, tt)

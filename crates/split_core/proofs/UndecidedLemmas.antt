@@ -38,8 +38,7 @@ spots_after : (place i : ℕ) (front back : List (List ℕ)) → length (joined 
 spots_after place i [] back past = ap (λ at. spots_from at back i) (sym (add-zero place)) ∙ ap (λ at. spots_from (place + 0) back at) (sym (sub-zero i))
 spots_after place i (bytes ∷ front) back past =
     let long = length-append bytes (joined front) in
-    spot_past place i bytes (front ++ back) (omega (arith, past, long))
-    ∙ spots_after (place + 1) (i - length bytes) front back (omega (arith, past, long))
+    spot_past place i bytes (front ++ back) (omega (arith, past, long)) ∙ spots_after (place + 1) (i - length bytes) front back (omega (arith, past, long))
     ∙ ap (λ at. spots_from at back (i - length bytes - length (joined front))) (sym (one_on place (length front)))
     ∙ ap (λ at. spots_from (place + suc (length front)) back at) (let e : i - length bytes - length (joined front) ≡ i - length (bytes ++ joined front) = omega (arith, long) in e)
 
@@ -74,12 +73,11 @@ spots_stay place i (file ∷ low) (whole ∷ high) begins last less = elim (case
       → (i - length file.bytes < length (joined (map (λ (file : File). file.bytes) low)) → spots_from (place + 1) (map (λ (file : File). file.bytes) high) (i - length file.bytes) ≡ spots_from (place + 1) (map (λ (file : File). file.bytes) low) (i - length file.bytes))
       → (file.state ≡ Open) ⊎ (file ≡ whole) → spots_from place (map (λ (file : File). file.bytes) (whole ∷ high)) i ≡ spots_from place (map (λ (file : File). file.bytes) (file ∷ low)) i
   after past later (inl opened) = absurd
-      (let none : length (file.bytes ++ joined (map (λ (file : File). file.bytes) low)) ≡ length (file.bytes ++ []) = ap (λ those. length (file.bytes ++ joined (map (λ (file : File). file.bytes) those))) (last.0 opened) in
-      let all = length-append file.bytes [] in omega (arith, less, past, none, all))
+      (omega (arith, ap (λ those. length (file.bytes ++ joined (map (λ (file : File). file.bytes) those))) (last.0 opened), length-append file.bytes [], less, past))
   after past later (inr same) =
       let is : length whole.bytes ≡ length file.bytes = ap (λ (those : File). length those.bytes) (sym same) in
       spot_past place i whole.bytes _ (omega (arith, past, is)) ∙ ap (λ n. spots_from (place + 1) (map (λ (file : File). file.bytes) high) (i - n)) is
-      ∙ later (let all = length-append file.bytes (joined (map (λ (file : File). file.bytes) low)) in omega (arith, less, past, all))
+      ∙ later (omega (arith, length-append file.bytes (joined (map (λ (file : File). file.bytes) low)), less, past))
       ∙ sym (spot_past place i file.bytes _ past)
 
 abbrev parts_spots : Limit → Naming → List ℕ → ℕ → List Spot
@@ -97,17 +95,16 @@ parts_decided limit names x i less y =
 settled_bytes_in : (limit : Limit) (names : Naming) (x : List ℕ) → are_named names (length (parts limit x)) ≡ true → settled_in limit names x ≡ joined (settled_list limit x)
 settled_bytes_in limit names x are = ap joined (settled_files limit names x ∙ each_named names (settled_list limit x) (ap (are_named names) (list_count limit x) ∙ are))
 
-came_in : (limit : Limit) (names : Naming) (x : List ℕ) → are_named names (length (parts limit x)) ≡ true → settled_in limit names x ++ waiting_rest limit (cut_up limit x).rest ≡ x
-came_in limit names x are = ap (λ bytes. bytes ++ waiting_rest limit (cut_up limit x).rest) (settled_bytes_in limit names x are) ∙ list_all limit x
+came_in : (limit : Limit) (names : Naming) {x : List ℕ} → are_named names (length (parts limit x)) ≡ true → settled_in limit names x ++ waiting_rest limit (cut_up limit x).rest ≡ x
+came_in limit names {x} are = ap (λ bytes. bytes ++ waiting_rest limit (cut_up limit x).rest) (settled_bytes_in limit names x are) ∙ list_all limit x
 
 -- what stands after a beginning
-after_front : (x front rest : List ℕ) → front ++ rest ≡ x → x ≡ front ++ drop (length front) x
-after_front x front rest is = sym is ∙ ap (λ those. front ++ those) (sym (ap (drop (length front)) (sym is) ∙ drop-append_seam front rest))
+after_front : {x : List ℕ} (front rest : List ℕ) → front ++ rest ≡ x → x ≡ front ++ drop (length front) x
+after_front front rest is = sym is ∙ ap (λ those. front ++ those) (sym (ap (drop (length front)) (sym is) ∙ drop-append_seam front rest))
 
 none_wait : (limit : Limit) (names : Naming) (x : List ℕ) (i : ℕ) → are_named names (length (parts limit x)) ≡ true → waiting_rest limit (cut_up limit x).rest ≡ [] → length (settled_in limit names x) ≤ i → i < length x → ⊥
 none_wait limit names x i are none past within =
-    let all : length (settled_in limit names x) ≡ length x = ap length (sym (append-nil (settled_in limit names x)) ∙ ap (λ those. settled_in limit names x ++ those) (sym none) ∙ came_in limit names x are) in
-    omega (arith, past, within, all)
+    omega (arith, ap length (sym (append-nil (settled_in limit names x)) ∙ ap (λ those. settled_in limit names x ++ those) (sym none) ∙ came_in limit names are), past, within)
 
 -- two continuations that put byte i to different spots
 pub record Differs (spots_of : List ℕ → ℕ → List Spot) (x : List ℕ) (i : ℕ) : Type 0 where
@@ -127,26 +124,24 @@ lines_here delim n names x are lines i past within =
     let full = (cut_up (LineBytes n delim) x).full in let rest = (cut_up (LineBytes n delim) x).rest in
     ap (λ all. parts_spots (LineBytes n delim) names all i) (append-nil x)
     ∙ ap (λ files. spots_from 1 files i) (whole_files (LineBytes n delim) names x ∙ each_named names (parts (LineBytes n delim) x) are ∙ ap (λ those. full ++ those) (one_of rest (delimiters_some delim rest lines)))
-    ∙ spots_after 1 i full (rest ∷ []) past
-    ∙ spot_in (1 + length full) (i - length (joined full)) rest []
-    (let long : length x ≡ length (joined full) + length rest = ap length (sym (cut_all (LineBytes n delim) x)) ∙ length-append (joined full) rest in omega (arith, past, within, long))
+    ∙ spots_after 1 i full (rest ∷ []) past ∙ spot_in (1 + length full) (i - length (joined full)) rest []
+    (omega (arith, ap length (sym (cut_all (LineBytes n delim))) ∙ length-append (joined full) rest, past, within))
 
 lines_there : (limit : Limit) (names : Naming) (x y : List ℕ) (next : List (List ℕ)) → are_named names (length (parts limit x)) ≡ true → parts limit (x ++ y) ≡ settled_list limit x ++ next
     → (i : ℕ) → length (joined (settled_list limit x)) ≤ i → (more : List (List ℕ)) × (parts_spots limit names (x ++ y) i ≡ spots_from (1 + length (settled_list limit x)) more (i - length (joined (settled_list limit x))))
 lines_there limit names x y next are is i past =
     let further = named_more names 0 (settled_list limit x) next in (
       further.0,
-      ap (λ files. spots_from 1 files i)
-          (whole_files limit names (x ++ y) ∙ ap (named_bytes names 0) is ∙ further.1
+      ap (λ files. spots_from 1 files i) (whole_files limit names (x ++ y) ∙ ap (named_bytes names 0) is ∙ further.1
           ∙ ap (λ files. files ++ further.0) (each_named names (settled_list limit x) (ap (are_named names) (list_count limit x) ∙ are)))
           ∙ spots_after 1 i (settled_list limit x) further.0 past,
     )
 
-lines_differ : (delim n : ℕ) (names : Naming) (x : List ℕ) → 0 < n → are_named names (length (parts (LineBytes n delim) x)) ≡ true → 0 < delimiters delim (cut_up (LineBytes n delim) x).rest
-    → (i : ℕ) → length (settled_in (LineBytes n delim) names x) ≤ i → i < length x → Differs (parts_spots (LineBytes n delim) names) x i
-lines_differ delim n names x some are lines i past within =
+lines_differ : (delim n : ℕ) (names : Naming) {x : List ℕ} → 0 < n → are_named names (length (parts (LineBytes n delim) x)) ≡ true → 0 < delimiters delim (cut_up (LineBytes n delim) x).rest
+    → {i : ℕ} → length (settled_in (LineBytes n delim) names x) ≤ i → i < length x → Differs (parts_spots (LineBytes n delim) names) x i
+lines_differ delim n names {x} some are lines {i} past within =
     let full = (cut_up (LineBytes n delim) x).full in let begun = whole_lines delim (cut_up (LineBytes n delim) x).rest in
-    let decides = decides_lines delim n x some lines in
+    let decides = decides_lines delim n some lines in
     let one : settled_list (LineBytes n delim) x ≡ full ++ begun ∷ [] = ap (λ those. full ++ those) (one_of begun (whole_some delim (cut_up (LineBytes n delim) x).rest (delimiters_some delim (cut_up (LineBytes n delim) x).rest lines))) in
     let count : length (settled_list (LineBytes n delim) x) ≡ length full + 1 = ap length one ∙ length-append full (begun ∷ []) in
     let bytes : length (joined (settled_list (LineBytes n delim) x)) ≡ length (joined full) + length (joined (begun ∷ [])) = ap (λ those. length (joined those)) one ∙ ap length (joined-append full (begun ∷ [])) ∙ length-append (joined full) (joined (begun ∷ [])) in
@@ -160,19 +155,19 @@ lines_differ delim n names x some are lines i past within =
       apart = λ same. none_before (1 + length (settled_list (LineBytes n delim) x)) (i - length (joined (settled_list (LineBytes n delim) x))) (1 + length full) (i - length (joined full)) there.0 (omega (arith, count)) (sym there.1 ∙ sym same ∙ here);
     }
 
-parts_differ : (limit : Limit) (names : Naming) (x : List ℕ) → 0 < most limit → are_named names (length (parts limit x)) ≡ true → (i : ℕ) → length (settled_in limit names x) ≤ i → i < length x → Differs (parts_spots limit names) x i
-parts_differ (Lines n delim) names x some are i past within = absurd (none_wait (Lines n delim) names x i are refl past within)
-parts_differ (Bytes n) names x some are i past within = absurd (none_wait (Bytes n) names x i are refl past within)
-parts_differ (LineBytes n delim) names x some are i past within = elim (cases_lt 0 (delimiters delim (cut_up (LineBytes n delim) x).rest)) [
-  | inl lines ↦ lines_differ delim n names x some are lines i past within
+parts_differ : (limit : Limit) (names : Naming) {x : List ℕ} → 0 < most limit → are_named names (length (parts limit x)) ≡ true → {i : ℕ} → length (settled_in limit names x) ≤ i → i < length x → Differs (parts_spots limit names) x i
+parts_differ (Lines n delim) names {x} some are {i} past within = absurd (none_wait (Lines n delim) names x i are refl past within)
+parts_differ (Bytes n) names {x} some are {i} past within = absurd (none_wait (Bytes n) names x i are refl past within)
+parts_differ (LineBytes n delim) names {x} some are {i} past within = elim (cases_lt 0 (delimiters delim (cut_up (LineBytes n delim) x).rest)) [
+  | inl lines ↦ lines_differ delim n names some are lines past within
   | inr none ↦ absurd (none_wait (LineBytes n delim) names x i are (open_of_none delim (cut_up (LineBytes n delim) x).rest (omega (arith, none))) past within)
 ]
 
-parts_undecided : (limit : Limit) (names : Naming) (x : List ℕ) → 0 < most limit → are_named names (length (parts limit x)) ≡ true → IsUndecided (parts_spots limit names) x ((parts_work limit names).waiting x)
-parts_undecided limit names x some are = record {
+parts_undecided : (limit : Limit) (names : Naming) {x : List ℕ} → 0 < most limit → are_named names (length (parts limit x)) ≡ true → IsUndecided (parts_spots limit names) x ((parts_work limit names).waiting x)
+parts_undecided limit names {x} some are = record {
   before = settled_in limit names x;
-  are_last = after_front x (settled_in limit names x) (waiting_rest limit (cut_up limit x).rest) (came_in limit names x are);
-  differ = λ i past within. (let two = parts_differ limit names x some are i past within in (two.y, two.z, two.y_comes, two.z_comes, two.apart));
+  are_last = after_front (settled_in limit names x) (waiting_rest limit (cut_up limit x).rest) (came_in limit names are);
+  differ = λ i past within. (let two = parts_differ limit names some are past within in (two.y, two.z, two.y_comes, two.z_comes, two.apart));
   decided = λ i less y z can also. parts_decided limit names x i less y ∙ sym (parts_decided limit names x i less z);
 }
 
@@ -184,12 +179,12 @@ dealt_bytes delim n elide x some = ap length (joined_files delim elide n x) ∙ 
 dealt_decided : (delim n : ℕ) (names : Naming) (x y : List ℕ) (i : ℕ) → i < length x → dealt_spots delim n names (x ++ y) i ≡ dealt_spots delim n names x i
 dealt_decided delim n names x y i less =
     ap (λ within. cond (within && is_named names (dealt_to delim n (x ++ y) i)) (spot (dealt_to delim n (x ++ y) i + 1) (length (dealt n (dealt_to delim n (x ++ y) i) 0 (lines_of delim (take i (x ++ y))))) ∷ []) [])
-    (lt-ltb i (length (x ++ y)) (let all = length-append x y in omega (arith, less, all)) ∙ sym (lt-ltb i (length x) less))
+    (lt-ltb i (length (x ++ y)) (omega (arith, length-append x y, less)) ∙ sym (lt-ltb i (length x) less))
     ∙ ap (λ front. cond (nat_lt i (length x) && is_named names (delimiters delim front % n)) (spot (delimiters delim front % n + 1) (length (dealt n (delimiters delim front % n) 0 (lines_of delim front))) ∷ []) []) (take-append-le i x y (omega (arith, less)))
 
-round_undecided : (delim n : ℕ) (elide : Bool) (names : Naming) (x : List ℕ) → 0 < n → are_named names (length (dealt_files delim elide n x)) ≡ true
+round_undecided : (delim n : ℕ) (elide : Bool) (names : Naming) {x : List ℕ} → 0 < n → are_named names (length (dealt_files delim elide n x)) ≡ true
     → IsUndecided (split_spots (round_plan delim n elide names)) x ((split_work (round_plan delim n elide names)).waiting x)
-round_undecided delim n elide names x some are =
+round_undecided delim n elide names {x} some are =
     let has : bytes_in (settled_by (round_plan delim n elide names) x) ≡ joined (dealt_files delim elide n x) = ap joined (dealt_settled delim n elide names x ∙ each_named names (dealt_files delim elide n x) are) in
     let size : length (bytes_in (settled_by (round_plan delim n elide names) x)) ≡ length x = ap length has ∙ dealt_bytes delim n elide x some in record {
       before = x;
@@ -203,12 +198,12 @@ round_undecided delim n elide names x some are =
 counted : (names : Naming) (those : List (List ℕ)) → not (are_named names (length (map (share Closed) those))) ≡ false → are_named names (length those) ≡ true
 counted names those is = ap (are_named names) (sym (length-map those (share Closed))) ∙ not-false _ is
 
-undecided_at : (delim : ℕ) (cut : Cut) (elide : Bool) (names : Naming) → IsPositive cut → (x : List ℕ) → is_short (plan_by delim cut elide names) x ≡ false
+undecided_at : (delim : ℕ) (cut : Cut) (elide : Bool) (names : Naming) → IsPositive cut → {x : List ℕ} → is_short (plan_by delim cut elide names) x ≡ false
     → IsUndecided (split_spots (plan_by delim cut elide names)) x ((split_work (plan_by delim cut elide names)).waiting x)
-undecided_at delim (cut.Lines n) elide names some x enough = parts_undecided (Lines n delim) names x some (counted names (parts (Lines n delim) x) enough)
-undecided_at delim (cut.Bytes n) elide names some x enough = parts_undecided (Bytes n) names x some (counted names (parts (Bytes n) x) enough)
-undecided_at delim (cut.LineBytes n) elide names some x enough = parts_undecided (LineBytes n delim) names x some (counted names (parts (LineBytes n delim) x) enough)
-undecided_at delim (cut.Round n) elide names some x enough = round_undecided delim n elide names x some (counted names (dealt_files delim elide n x) enough)
+undecided_at delim (cut.Lines n) elide names some {x} enough = parts_undecided (Lines n delim) names some (counted names (parts (Lines n delim) x) enough)
+undecided_at delim (cut.Bytes n) elide names some {x} enough = parts_undecided (Bytes n) names some (counted names (parts (Bytes n) x) enough)
+undecided_at delim (cut.LineBytes n) elide names some {x} enough = parts_undecided (LineBytes n delim) names some (counted names (parts (LineBytes n delim) x) enough)
+undecided_at delim (cut.Round n) elide names some {x} enough = round_undecided delim n elide names some (counted names (dealt_files delim elide n x) enough)
 
 pub split_undecided : (plan : Plan) → IsPositive plan.cut → (x : List ℕ) → is_short plan x ≡ false → IsUndecided (split_spots plan) x ((split_work plan).waiting x)
-split_undecided plan some x enough = undecided_at plan.delim plan.cut plan.elide plan.names some x enough
+split_undecided plan some x enough = undecided_at plan.delim plan.cut plan.elide plan.names some enough

@@ -5,7 +5,6 @@ use Rattle.std.proofs.lemmas.List.{length-map}
 use Rattle.seg_core.specs.Line.{joined}
 use Rattle.ports_core.specs.Name.{Naming}
 use Rattle.ports_core.specs.Part.{File}
-use Rattle.split_core.specs.Parts.{cut_up, waiting_rest}
 use Rattle.split_core.specs.Split.{Share, is_named, are_named, named, from_start, settled_parts}
 use Rattle.split_core.specs.PartsState.{PartsState, Stands}
 use Rattle.split_core.specs.PartState as part
@@ -21,16 +20,14 @@ shared shares = map (λ (file : Share). file.bytes) shares
 -- where all files have names, they have all bytes
 all_bytes : (names : Naming) (shares : List Share) → are_named names (length shares) ≡ true → bytes_of (named (from_start names) 0 shares) ≡ shared shares
 all_bytes names [] are = refl
-all_bytes names (one ∷ shares) are =
-    bytes_named (from_start names) 0 (one ∷ shares)
+all_bytes names (one ∷ shares) are = bytes_named (from_start names) 0 (one ∷ shares)
     ∙ each_named (from_start names) (shared (one ∷ shares)) (ap (is_named names) (length-map shares (λ (file : Share). file.bytes)) ∙ are)
 
 -- what follows a beginning
-after : (x front rest : List ℕ) → front ++ rest ≡ x → drop (length front) x ≡ rest
-after x front rest is = ap (drop (length front)) (sym is) ∙ drop-append_seam front rest
+after : {x : List ℕ} (front : List ℕ) {rest : List ℕ} → front ++ rest ≡ x → drop (length front) x ≡ rest
+after front {rest} is = ap (drop (length front)) (sym is) ∙ drop-append_seam front rest
 
 -- what waits in a stage that cuts off parts
-pub parts_wait : (parts : PartsState) (x : List ℕ) → Stands parts x → length parts.waiting ≡ length ((part.work parts).waiting x)
-parts_wait parts x stands =
-    ap length (stands.waits ∙ sym (after x (joined (shared (settled_parts parts.limit x))) (waiting_rest parts.limit (cut_up parts.limit x).rest) (settled_all parts.limit x)))
+pub parts_wait : {parts : PartsState} {x : List ℕ} → Stands parts x → length parts.waiting ≡ length ((part.work parts).waiting x)
+parts_wait {parts} {x} stands = ap length (stands.waits ∙ sym (after (joined (shared (settled_parts parts.limit x))) (settled_all parts.limit x)))
     ∙ ap (λ those. length (drop (length (joined those)) x)) (sym (all_bytes parts.names (settled_parts parts.limit x) stands.enough))

@@ -2,14 +2,14 @@
 //! take memory for names, and for the bytes that wait: fewer than a part has, and only under a limit of bytes for whole
 //! lines.
 ghost use Rattle.std.specs.Prelude.{◌≡◌, ◌+◌, ◌-◌, ◌++◌, ◌<◌, ◌≤◌, List, ℕ, [], Some, None, false, length, IfOk, IfErr, OnOk};
-ghost use Rattle.split_core.specs.inner.Moves.{EndsFile, Extends, FindsFile, Finishes, KeepsFile, Passes, Steps, Turns};
+ghost use Rattle.split_core.specs.inner.Moves.{Extends, FindsFile, Finishes, Shuts, Steps, Takes, Turns};
 ghost use Rattle.split_core.specs.PartState.{parts_work, work};
 ghost use Rattle.split_core.specs.Parts.{most};
 ghost use Rattle.split_core.specs.PartsState.{IsReady, Stands};
 ghost use Rattle.split_core.specs.Split.{from_start};
 
 use crate::Limit;
-use crate::files::{open_next, write_bytes, write_held};
+use crate::files::{open_next, write_after, write_held};
 use crate::step::{Step, next_step};
 use ports_core::{Fault, Names, Outs};
 use seg_core::byte_window::ByteWindow;
@@ -89,21 +89,20 @@ impl Parts {
         Ok(slot)
     }
 
-    /// Writes what waits, and then these bytes, to the part that was begun, and returns its output.
-    fn extend<O: Outs>(&mut self, bytes: &[u8], outs: &mut O) -> Result<usize, Fault>
-        requires { IsReady self.old.current (O.slots outs.old) }
+    /// Writes what waits, and then these bytes, of which there are some, to the part that was begun.
+    fn extend<O: Outs>(&mut self, bytes: &[u8], outs: &mut O) -> Result<(), Fault>
+        requires ready { IsReady self.old.current (O.slots outs.old) }
+        requires some { 0 < length bytes.now }
         ensures { Extends O.told self.old bytes.now (O.slots outs.old) (O.slots outs.new) self.new result }
     {
         let slot = self.find_file(outs)?;
-        write_held(&mut self.waiting, slot, outs)?;
-        write_bytes(slot, bytes, outs)?;
-        Ok(slot)
+        write_after(&mut self.waiting, slot, bytes, outs)
     }
 
     /// Closes the file of the part that was begun, if it has one.
     fn end_file<O: Outs>(&mut self, outs: &mut O) -> Result<(), Fault>
         requires { IsReady self.old.current (O.slots outs.old) }
-        ensures { EndsFile self.old (O.slots outs.old) (O.slots outs.new) self.new result }
+        ensures { Shuts O.told self.old (O.slots outs.old) (O.slots outs.new) self.new result }
     {
         match self.current {
             None => Ok(()),
@@ -128,8 +127,7 @@ impl Parts {
         if bytes.is_empty() {
             return Ok(());
         }
-        self.extend(bytes, outs)?;
-        Ok(())
+        self.extend(bytes, outs)
     }
 
     /// Appends a piece to what waits, and returns how many bytes the piece has.
@@ -185,7 +183,7 @@ impl Parts {
     /// waits or for a name, `Suffixes` where no name is left for the next file.
     pub(crate) fn pass<O: Outs>(&mut self, piece: &[u8], outs: &mut O) -> Result<(), Fault>
         requires { IsReady self.old.current (O.slots outs.old) }
-        ensures { Passes O.told self.old piece.now (O.slots outs.old) (O.slots outs.new) self.new result }
+        ensures { Takes O.told self.old piece.now (O.slots outs.old) (O.slots outs.new) self.new result }
     {
         let mut left = piece;
         'stretches: while !left.is_empty() {
@@ -202,15 +200,12 @@ impl Parts {
     /// `Write` where its file broke.
     pub(crate) fn finish<O: Outs>(&mut self, outs: &mut O) -> Result<(), Fault>
         requires { IsReady self.old.current (O.slots outs.old) }
-        ensures same { work self.new ≡ work self.old }
-        ensures ends { Finishes O.told self.old (O.slots outs.old) (O.slots outs.new) result }
-        ensures owns { KeepsFile self.old.current (O.slots outs.old) self.new.current (O.slots outs.new) }
+        ensures { Finishes O.told self.old (O.slots outs.old) (O.slots outs.new) self.new result }
     {
         let Some(slot) = self.current else {
             return Ok(());
         };
         write_held(&mut self.waiting, slot, outs)?;
-        self.current = None;
-        outs.close(slot)
+        self.end_file(outs)
     }
 }

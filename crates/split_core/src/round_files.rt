@@ -1,13 +1,15 @@
-ghost use Rattle.std.specs.Prelude.{◌≡◌, ◌+◌, ◌≤◌, ◌<◌, ◌++◌, ◌∷◌, [], true, length, vec_len, vec_capacity, IsTrue, IfErr, OnOk};
+ghost use Rattle.std.specs.Prelude.{◌≡◌, ◌+◌, ◌≤◌, ◌<◌, ◌++◌, ◌∷◌, [], true, length, replicate, vec_len, vec_capacity, IsTrue, IfErr, OnOk};
 ghost use Rattle.ports_core.specs.Name.{has_next, next_name};
-ghost use Rattle.ports_core.specs.Slot.{changed_at, opened};
+ghost use Rattle.ports_core.specs.Slot.{opened};
 ghost use Rattle.split_core.specs.Round.{AreReady};
-ghost use Rattle.split_core.specs.inner.Sharing.{Became, CannotClose, ClosesShort, FailsToFollow, HaveClosed, IsOfFiles, KeepsFiles, StopsAt, StopsShort, added, filled, with_opened};
+ghost use Rattle.split_core.specs.inner.Sharing.{Adds, ClosesShort, FailsToFollow, HaveClosed, KeepsFiles, only_at, with_opened};
+ghost use Rattle.split_core.specs.inner.Moves.{CannotClose};
 ghost use Rattle.split_core.specs.Sharing.{CannotOpen};
 ghost use Rattle.split_core.specs.Split.{are_named, from_start, is_named};
 
+use crate::files::write_bytes;
 use crate::gathered::Gathered;
-use ports_core::{Fault, Mode, Names, Outs, write_whole};
+use ports_core::{Fault, Mode, Names, Outs};
 use std::alloc::Global;
 use std::marker::Model;
 
@@ -47,10 +49,8 @@ impl RoundFiles {
         requires ready { AreReady self.old (O.slots outs.old) }
         requires none { self.old.outputs ≡ [] }
         requires named { are_named self.old.names count ≡ true }
-        ensures became { OnOk result (Became O.told self.old (filled count) count (O.slots outs.old) self.new (O.slots outs.new)) }
-        ensures cut { IfErr result (StopsShort O.told self.old (filled count) (O.slots outs.old) (O.slots outs.new)) }
+        ensures adds { Adds O.told self.old (replicate count []) 0 count (O.slots outs.old) self.new (O.slots outs.new) result }
         ensures caused { IfErr result (CannotOpen (O.slots outs.old) (O.slots outs.new)) }
-        ensures names { from_start self.new.names ≡ from_start self.old.names }
     {
         for place in 0..count {
             self.reach(place, outs)?;
@@ -71,11 +71,7 @@ impl RoundFiles {
     ) -> Result<(), Fault>
         requires ready { AreReady self.old (O.slots outs.old) }
         requires named { are_named self.old.names (length gathered.now) ≡ true }
-        ensures became { OnOk result (Became O.told self.old (λ these. added these gathered.now) (length gathered.now) (O.slots outs.old) self.new (O.slots outs.new)) }
-        ensures cut { IfErr result (StopsShort O.told self.old (λ these. added these gathered.now) (O.slots outs.old) (O.slots outs.new)) }
-        ensures caused { IfErr result (IsOfFiles (O.slots outs.old) (O.slots outs.new)) }
-        ensures names { from_start self.new.names ≡ from_start self.old.names }
-        ensures owned { KeepsFiles self.old (O.slots outs.old) self.new (O.slots outs.new) }
+        ensures { Adds O.told self.old gathered.now 0 (length gathered.now) (O.slots outs.old) self.new (O.slots outs.new) result }
     {
         for place in 0..gathered.len() {
             self.send(place, gathered[place].bytes(), outs)?;
@@ -107,14 +103,10 @@ impl RoundFiles {
         requires ready { AreReady self.old (O.slots outs.old) }
         requires near { place ≤ length self.old.outputs }
         requires named { is_named self.old.names place ≡ true }
-        ensures became { OnOk result (Became O.told self.old (λ these. changed_at place (λ had. had ++ bytes.now) (filled (place + 1) these)) (place + 1) (O.slots outs.old) self.new (O.slots outs.new)) }
-        ensures cut { IfErr result (StopsAt O.told self.old (λ these. changed_at place (λ had. had ++ bytes.now) (filled (place + 1) these)) place (O.slots outs.old) (O.slots outs.new)) }
-        ensures caused { IfErr result (IsOfFiles (O.slots outs.old) (O.slots outs.new)) }
-        ensures names { from_start self.new.names ≡ from_start self.old.names }
-        ensures owned { KeepsFiles self.old (O.slots outs.old) self.new (O.slots outs.new) }
+        ensures { Adds O.told self.old (only_at place bytes.now) place place (O.slots outs.old) self.new (O.slots outs.new) result }
     {
         self.reach(place, outs)?;
-        Ok(write_whole(outs, self.outputs[place], bytes)?)
+        write_bytes(self.outputs[place], bytes, outs)
     }
 
     /// Opens the file at a place, if it isn't open. It must be the next one then.
@@ -122,11 +114,8 @@ impl RoundFiles {
         requires ready { AreReady self.old (O.slots outs.old) }
         requires near { place ≤ length self.old.outputs }
         requires named { is_named self.old.names place ≡ true }
-        ensures became { OnOk result (Became O.told self.old (filled (place + 1)) (place + 1) (O.slots outs.old) self.new (O.slots outs.new)) }
-        ensures cut { IfErr result (StopsAt O.told self.old (filled (place + 1)) place (O.slots outs.old) (O.slots outs.new)) }
+        ensures adds { Adds O.told self.old (only_at place []) place place (O.slots outs.old) self.new (O.slots outs.new) result }
         ensures caused { IfErr result (CannotOpen (O.slots outs.old) (O.slots outs.new)) }
-        ensures names { from_start self.new.names ≡ from_start self.old.names }
-        ensures owned { KeepsFiles self.old (O.slots outs.old) self.new (O.slots outs.new) }
     {
         if place < self.outputs.len() {
             return Ok(());

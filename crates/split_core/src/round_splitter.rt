@@ -2,10 +2,10 @@ ghost use Rattle.std.specs.Prelude.{◌≡◌, ℕ, ◌+◌, ◌%◌, ◌<◌, �
 ghost use Rattle.seg_core.specs.Line.{delimiters};
 ghost use Rattle.ports_core.specs.Slot.{Slot};
 ghost use Rattle.ports_core.specs.Part.{OutputsAt, StoppedBetween, nothing};
-ghost use Rattle.split_core.specs.inner.Dealt.{dealt_first, reached_by};
+ghost use Rattle.split_core.specs.inner.Dealt.{dealt_first};
 ghost use Rattle.split_core.specs.Round.{AreReady, Holds, Owns, Ready, round_plan, work};
 ghost use Rattle.split_core.specs.inner.Ways.{Closes, Deals};
-ghost use Rattle.split_core.specs.inner.Sharing.{Became, IsOfFiles, KeepsFiles, StopsShort, added};
+ghost use Rattle.split_core.specs.inner.Sharing.{Adds};
 ghost use Rattle.split_core.specs.Sharing.{CannotOpen};
 ghost use Rattle.split_core.specs.Split.{are_named, from_start, settled_by, split_work};
 
@@ -115,12 +115,8 @@ fn deal_out<O: Outs>(
     requires named { are_named files.old.names (length deal.old.gathered) ≡ true }
     ensures delim { deal.new.delim ≡ deal.old.delim }
     ensures count { length deal.new.gathered ≡ length deal.old.gathered }
-    ensures names { from_start files.new.names ≡ from_start files.old.names }
     ensures next { OnOk result (deal.new.next ≡ (deal.old.next + delimiters deal.old.delim piece.now) % length deal.old.gathered) }
-    ensures became { OnOk result (Became O.told files.old (λ these. added these (dealt_first deal.old.delim (length deal.old.gathered) deal.old.next piece.now)) (reached_by deal.old.delim (length deal.old.gathered) deal.old.next piece.now) (O.slots outs.old) files.new (O.slots outs.new)) }
-    ensures cut { IfErr result (StopsShort O.told files.old (λ these. added these (dealt_first deal.old.delim (length deal.old.gathered) deal.old.next piece.now)) (O.slots outs.old) (O.slots outs.new)) }
-    ensures caused { IfErr result (IsOfFiles (O.slots outs.old) (O.slots outs.new)) }
-    ensures owned { KeepsFiles files.old (O.slots outs.old) files.new (O.slots outs.new) }
+    ensures adds { Adds O.told files.old (dealt_first deal.old.delim (length deal.old.gathered) deal.old.next piece.now) 0 (length (dealt_first deal.old.delim (length deal.old.gathered) deal.old.next piece.now)) (O.slots outs.old) files.new (O.slots outs.new) result }
 {
     let reached = deal.gather(piece)?;
     files.write(deal.first(reached), outs)

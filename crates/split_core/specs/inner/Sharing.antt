@@ -1,10 +1,10 @@
 -- What private calls say: how files in order get more bytes, and how more of them are opened.
-use Rattle.std.specs.Prelude.{◌≡◌, ℕ, ◌+◌, ◌<◌, ◌≤◌, zero, suc, max, Bool, List, [], ◌∷◌, ◌++◌, length, map, take, drop}
+use Rattle.std.specs.Prelude.{◌≡◌, ℕ, ◌+◌, ◌<◌, ◌≤◌, zero, suc, max, Bool, List, [], ◌∷◌, ◌++◌, length, map, take, Result, Ok, Err, OnOk, IfErr}
 use Rattle.ports_core.specs.Name.{Naming, next_name, with_one_drawn}
-use Rattle.ports_core.specs.Slot.{Slot, Rose, FailsToOpen}
+use Rattle.ports_core.specs.Slot.{Slot, FailsToOpen}
 use Rattle.ports_core.specs.Part.{File, Part, OutputsAt, IsBeginning, Marks, IsAt, StoppedBetween}
 use Rattle.ports_core.specs.declared.fault.Fault.{Fault}
-use Rattle.ports_core.specs.declared.fault.Fault.TheVariants.{Memory, Write, Suffixes}
+use Rattle.ports_core.specs.declared.fault.Fault.TheVariants.{Memory, Suffixes}
 use Rattle.ports_core.specs.declared.slot.State.TheVariants as state
 use Rattle.split_core.specs.Split.{Share, share, name_of, from_start, file_at, only_files}
 use Rattle.ports_core.specs.inner.Slot.{KeepsBroken}
@@ -24,11 +24,10 @@ added [] more = more
 added (bytes ∷ these) [] = bytes ∷ these
 added (bytes ∷ these) (next ∷ more) = (bytes ++ next) ∷ added these more
 
--- at least n of them: those that are lacking are empty
-abbrev pub filled : ℕ → List (List ℕ) → List (List ℕ)
-filled zero these = these
-filled (suc n) [] = [] ∷ filled n []
-filled (suc n) (bytes ∷ these) = bytes ∷ filled n these
+-- these bytes for the file at a place, and none for those before it
+abbrev pub only_at : ℕ → List ℕ → List (List ℕ)
+only_at zero bytes = bytes ∷ []
+only_at (suc place) bytes = [] ∷ only_at place bytes
 
 -- files of these shares, named from a place on
 abbrev pub filed : Naming → ℕ → List Share → List File
@@ -59,50 +58,47 @@ pub record StandAt (told : Bool) (files : FilesState) (before : List Slot) (thes
 abbrev pub KeepsFiles : FilesState → List Slot → FilesState → List Slot → Type 0
 KeepsFiles files old next new = (first : ℕ) → OwnsFiles files first old → OwnsFiles next first new
 
--- where the files had these bytes, they have what is made of them
-abbrev pub Makes : Bool → FilesState → (List (List ℕ) → List (List ℕ)) → List Slot → List Slot → Type 0
-Makes told files makes old new = (before : List Slot) (these : List (List ℕ)) → StandAt told files before these old
-    → OutputsAt told before (open_part files.names (makes these)) new
-
--- the files became these: at least `count` are open, and they have what was made of them
-pub record Became (told : Bool) (files : FilesState) (makes : List (List ℕ) → List (List ℕ)) (count : ℕ)
-    (old : List Slot) (next : FilesState) (new : List Slot) : Type 0 where
-  pub ready : AreReady next new
-  pub opened : length next.outputs ≡ max (length files.outputs) count
-  pub names : from_start next.names ≡ from_start files.names
-  pub lengths : (these : List (List ℕ)) → length these ≡ length files.outputs
-      → length (makes these) ≡ length next.outputs
-  pub outputs : Makes told files makes old new
-  pub owned : KeepsFiles files old next new
-  pub sound : KeepsBroken old new
-
 -- after the files of one list, the next file of the other is due, and it has this name
 abbrev pub IsDue : Naming → List (List ℕ) → List (List ℕ) → List ℕ → Type 0
 IsDue names part those name = (name ≡ name_of (from_start names) (length part)) × (length part < length those)
 
--- A fault at the file at this place stopped them on the way from these bytes to those. The files before it have those
--- already, and the files after it still have these.
-pub record HaltedAt (told : Bool) (before : List Slot) (names : Naming) (these those : List (List ℕ)) (place : ℕ)
+-- A fault stopped the files at a place between `low` and `high`, on the way from these bytes to those with more added. The
+-- files before it have got theirs already, and the files after it have got nothing.
+pub record HaltedAt (told : Bool) (before : List Slot) (names : Naming) (these more : List (List ℕ)) (low high : ℕ)
     (fault : Fault) (now : List Slot) : Type 0 where
-  pub part : List (List ℕ)
-  pub above : AllBegin these part
-  pub below : AllBegin part those
-  pub done : take place part ≡ take place those
-  pub untouched : drop (suc place) part ≡ drop (suc place) these
+  pub place : ℕ
+  pub after : low ≤ place
+  pub within : place ≤ high
+  pub some : List (List ℕ)
+  pub few : length some ≤ suc place
+  pub begin : AllBegin some more
+  pub done : take place some ≡ take place more
   pub reached : List Slot
-  pub outputs : OutputsAt told before (open_part names part) reached
-  pub marks : Marks (IsDue names part those) fault reached now
-  pub from : IsAt fault (length before) place (length part)
+  pub outputs : OutputsAt told before (open_part names (added these some)) reached
+  pub marks : Marks (IsDue names (added these some) (added these more)) fault reached now
+  pub from : IsAt fault (length before) place (length (added these some))
 
-abbrev pub StopsAt : Bool → FilesState → (List (List ℕ) → List (List ℕ)) → ℕ → List Slot → List Slot → Fault → Type 0
-StopsAt told files makes place old new fault = (before : List Slot) (these : List (List ℕ))
-    → StandAt told files before these old → HaltedAt told before files.names these (makes these) place fault new
+-- they have got it all, or a fault stopped them
+abbrev pub Leaves : Bool → List Slot → Naming → List (List ℕ) → List (List ℕ) → ℕ → ℕ → List Slot
+    → Result (Unit {0}) Fault → Type 0
+Leaves told before names these more low high new (Ok done) = OutputsAt told before (open_part names (added these more)) new
+Leaves told before names these more low high new (Err fault) = HaltedAt told before names these more low high fault new
 
--- a fault came before they had all that was to be made of them
-abbrev pub StopsShort : Bool → FilesState → (List (List ℕ) → List (List ℕ)) → List Slot → List Slot → Fault → Type 0
-StopsShort told files makes old new fault = (before : List Slot) (these : List (List ℕ))
-    → StandAt told files before these old
-    → StoppedBetween told before (open_part files.names these) (open_part files.names (makes these)) fault new
+-- the faults of files that have names
+abbrev pub IsOfFiles : List Slot → List Slot → Fault → Type 0
+IsOfFiles old new fault = Breaks old new fault × (fault ≡ Suffixes → ⊥)
+
+-- more was added to the files, as many of which are open then, or a fault stopped that
+pub record Adds (told : Bool) (files : FilesState) (more : List (List ℕ)) (low high : ℕ) (old : List Slot)
+    (next : FilesState) (new : List Slot) (result : Result (Unit {0}) Fault) : Type 0 where
+  pub names : from_start next.names ≡ from_start files.names
+  pub owned : KeepsFiles files old next new
+  pub ready : OnOk result (AreReady next new)
+  pub opened : OnOk result (length next.outputs ≡ max (length files.outputs) (length more))
+  pub sound : OnOk result (KeepsBroken old new)
+  pub caused : IfErr result (IsOfFiles old new)
+  pub leaves : (before : List Slot) (these : List (List ℕ)) → StandAt told files before these old
+      → Leaves told before files.names these more low high new result
 
 -- a fault came before the first `count` of them were closed
 abbrev pub ClosesShort : Bool → FilesState → ℕ → List Slot → List Slot → Fault → Type 0
@@ -125,11 +121,3 @@ pub data FailsToFollow (files : FilesState) (old : List Slot) (next : FilesState
   could_not : (fault : Fault) → FailsToOpen old (next_name files.names) new fault
       → next ≡ record files { names = with_one_drawn files.names } → FailsToFollow files old next new fault
   unnamed : new ≡ old → next ≡ files → FailsToFollow files old next new Memory
-
--- a file could not be closed
-abbrev pub CannotClose : List Slot → List Slot → Fault → Type 0
-CannotClose old new fault = (slot : ℕ) × (fault ≡ Write slot) × (2 ≤ slot) × Rose slot old new
-
--- the faults of files that have names
-abbrev pub IsOfFiles : List Slot → List Slot → Fault → Type 0
-IsOfFiles old new fault = Breaks old new fault × (fault ≡ Suffixes → ⊥)

@@ -1,22 +1,18 @@
 -- What private calls say: the two ways to cut, as one stage.
-use Rattle.std.specs.Prelude.{◌≡◌, ℕ, ◌+◌, ◌%◌, Bool, List, length, Result, OnOk, IfErr}
+use Rattle.std.specs.Prelude.{◌≡◌, ℕ, ◌+◌, ◌%◌, Bool, true, List, length, Result, OnOk, IfErr}
 use Rattle.seg_core.specs.Line.{delimiters}
 use Rattle.ports_core.specs.Slot.{Slot}
 use Rattle.ports_core.specs.declared.fault.Fault.{Fault}
 use Rattle.split_core.specs.declared.splitter.Splitter.{Splitter}
 use Rattle.split_core.specs.declared.splitter.Splitter.TheVariants.{Parts, Round}
-use Rattle.split_core.specs.PartsState.{PartsState}
-use Rattle.split_core.specs.PartState as part
+use Rattle.split_core.specs.Ways.{Holds, Owns, Ready, work}
+use Rattle.ports_core.specs.Engine.{TakesIn, PutsOut, CutsOff, EndsShort, EndsWith, EndsThere, IsMet, KeepsOwn}
+use Rattle.ports_core.specs.Engine as engine
 use Rattle.split_core.specs.Round as dealing
 use Rattle.split_core.specs.RoundState.{RoundState}
-use Rattle.split_core.specs.Split.{from_start}
-use Rattle.split_core.specs.inner.Dealt.{dealt_first, reached_by}
-use Rattle.split_core.specs.inner.Moves.{KeepsFile, Passes, Finishes}
-use Rattle.split_core.specs.inner.Sharing.{added, Became, StopsShort, HaveClosed, ClosesShort, CannotClose, IsOfFiles, KeepsFiles}
-
--- what each file has once it got what it gets of a piece
-abbrev pub dealt_more : RoundState → List ℕ → List (List ℕ) → List (List ℕ)
-dealt_more round piece these = added these (dealt_first round.delim round.count round.next piece)
+use Rattle.split_core.specs.inner.Dealt.{dealt_first}
+use Rattle.split_core.specs.inner.Sharing.{Adds, HaveClosed, ClosesShort, KeepsFiles}
+use Rattle.split_core.specs.inner.Moves.{CannotClose}
 
 -- the lines of a piece were dealt to the files, or a fault came before all of them had what they get
 pub record Deals (told : Bool) (old : RoundState) (piece : List ℕ) (before after : List Slot) (new : RoundState)
@@ -24,13 +20,9 @@ pub record Deals (told : Bool) (old : RoundState) (piece : List ℕ) (before aft
   pub delim : new.delim ≡ old.delim
   pub count : new.count ≡ old.count
   pub elide : new.elide ≡ old.elide
-  pub names : from_start new.files.names ≡ from_start old.files.names
   pub next : OnOk result (new.next ≡ (old.next + delimiters old.delim piece) % old.count)
-  pub became : OnOk result (Became told old.files (dealt_more old piece)
-      (reached_by old.delim old.count old.next piece) before new.files after)
-  pub cut : IfErr result (StopsShort told old.files (dealt_more old piece) before after)
-  pub caused : IfErr result (IsOfFiles before after)
-  pub owned : KeepsFiles old.files before new.files after
+  pub adds : Adds told old.files (dealt_first old.delim old.count old.next piece) 0
+      (length (dealt_first old.delim old.count old.next piece)) before new.files after result
 
 -- all files were closed, or one of them broke
 pub record Closes (told : Bool) (old : RoundState) (before after : List Slot) (new : RoundState)
@@ -41,21 +33,27 @@ pub record Closes (told : Bool) (old : RoundState) (before after : List Slot) (n
   pub caused : IfErr result (CannotClose before after)
   pub owned : KeepsFiles old.files before new.files after
 
--- what a piece leaves
-pub data PassesBy (told : Bool) (piece : List ℕ) (before after : List Slot) (result : Result (Unit {0}) Fault) : Splitter
-    → Splitter → Type 0 where
-  of_parts : (old new : PartsState) → Passes told old piece before after new result
-      → PassesBy told piece before after result (Parts old) (Parts new)
-  of_round : (old new : RoundState) → Deals told old piece before after new result
-      → PassesBy told piece before after result (Round old) (Round new)
+-- what a piece leaves: all that a stage owes
+pub record PassesBy (told : Bool) (piece : List ℕ) (before after : List Slot) (result : Result (Unit {0}) Fault)
+    (old new : Splitter) : Type 0 where
+  pub same : work new ≡ work old
+  pub holds : OnOk result (TakesIn Holds piece old new)
+  pub outputs : OnOk result (PutsOut Holds Owns work old piece told before after)
+  pub ready : OnOk result (Ready new after)
+  pub owns : KeepsOwn Owns old new before after
+  pub cut : IfErr result (CutsOff Holds Owns work old piece told before after)
+  pub met : IfErr result (IsMet (work old).means (work old).means.feeding (true ≡ true) (EndsWith Holds work old piece)
+      before after)
 
--- what the end of the input leaves
-pub data FinishesBy (told : Bool) (before after : List Slot) (result : Result (Unit {0}) Fault) : Splitter → Splitter
-    → Type 0 where
-  parts_end : (old new : PartsState) → part.work new ≡ part.work old → Finishes told old before after result
-      → KeepsFile old.current before new.current after → FinishesBy told before after result (Parts old) (Parts new)
-  round_ends : (old new : RoundState) → Closes told old before after new result
-      → FinishesBy told before after result (Round old) (Round new)
+-- and what the end of the input leaves
+pub record FinishesBy (told : Bool) (before after : List Slot) (result : Result (Unit {0}) Fault)
+    (old new : Splitter) : Type 0 where
+  pub same : work new ≡ work old
+  pub outputs : OnOk result (engine.Finishes Holds Owns work old told before after)
+  pub owns : KeepsOwn Owns old new before after
+  pub cut : IfErr result (EndsShort Holds Owns work old told before after)
+  pub met : IfErr result (IsMet (work old).means (work old).means.closing (Unit {0}) (EndsThere Holds work old)
+      before after)
 
 -- how many bytes wait; where lines are dealt, none
 abbrev pub held : Splitter → ℕ

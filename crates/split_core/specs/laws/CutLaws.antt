@@ -16,8 +16,7 @@ use Rattle.split_core.specs.inner.CutLaws.{Cuts, stops, goes, cut_so}
 full_test : (most measure : ℕ) → (nat_lt 0 most && nat_le most measure) ≡ true → (0 < most) × (most ≤ measure)
 full_test most measure is = (grind (arith, nat_tests, is), grind (arith, nat_tests, is))
 
-pub full_some : (limit : Limit) (x : List ℕ) → is_full limit x ≡ true → (0 < most limit)
-    × (most limit ≤ measure limit x)
+pub full_some : (limit : Limit) (x : List ℕ) → is_full limit x ≡ true → (0 < most limit) × (most limit ≤ measure limit x)
 full_some limit x full = full_test (most limit) (measure limit x) full
 
 full_from_test : (most measure : ℕ) → 0 < most → most ≤ measure → (nat_lt 0 most && nat_le most measure) ≡ true
@@ -43,36 +42,29 @@ measure-le-length limit x = omega arith
 pub full-append : (limit : Limit) (x y : List ℕ) → is_full limit x ≡ true → is_full limit (x ++ y) ≡ true
 full-append limit x y full =
     let is = full_some limit x full in
-    full_from limit (x ++ y) is.0 (let sum : measure limit (x ++ y)
-    ≡ measure limit x + measure limit y = measure-append limit x y in
-    let enough : most limit ≤ measure limit x = is.1 in omega arith)
+    full_from limit (x ++ y) is.0 (omega (arith, measure-append limit x y, is.1))
 
-nothing_test : (most measure : ℕ) → measure ≡ 0 → (nat_lt 0 most && nat_le most measure) ≡ false
-nothing_test most measure none = grind (arith, nat_tests, none)
+nothing_test : (most : ℕ) {measure : ℕ} → measure ≡ 0 → (nat_lt 0 most && nat_le most measure) ≡ false
+nothing_test most none = grind (arith, nat_tests, none)
 
 pub nothing_short : (limit : Limit) (x : List ℕ) → length x ≡ 0 → is_full limit x ≡ false
-nothing_short limit x none =
-    nothing_test (most limit) (measure limit x) (omega (arith, none, measure-le-length limit x))
+nothing_short limit x none = nothing_test (most limit) (omega (arith, none, measure-le-length limit x))
 
 pub has_lines : (n : ℕ) → 0 < n → nat_lt 0 n ≡ true
 has_lines n some = grind (arith, nat_tests, some)
 
-pub without_lines : (n : ℕ) → n ≡ 0 → nat_lt 0 n ≡ false
-without_lines n none = grind (arith, nat_tests, none)
+pub without_lines : {n : ℕ} → n ≡ 0 → nat_lt 0 n ≡ false
+without_lines none = grind (arith, nat_tests, none)
 
-pub whole_of_lines : (delim : ℕ) (x : List ℕ) → 0 < delimiters delim x
-    → whole_lines delim x ≡ first_lines delim (delimiters delim x) x
-whole_of_lines delim x some = ap (λ has. cond has (first_lines delim (delimiters delim x) x) x)
-    (has_lines (delimiters delim x) some)
+pub whole_of_lines : (delim : ℕ) (x : List ℕ) → 0 < delimiters delim x → whole_lines delim x ≡ first_lines delim (delimiters delim x) x
+whole_of_lines delim x some = ap (λ has. cond has (first_lines delim (delimiters delim x) x) x) (has_lines (delimiters delim x) some)
 
 pub whole_of_none : (delim : ℕ) (x : List ℕ) → delimiters delim x ≡ 0 → whole_lines delim x ≡ x
-whole_of_none delim x none = ap (λ has. cond has (first_lines delim (delimiters delim x) x) x)
-    (without_lines (delimiters delim x) none)
+whole_of_none delim x none = ap (λ has. cond has (first_lines delim (delimiters delim x) x) x) (without_lines none)
 
-pub whole_then_open : (delim : ℕ) (x : List ℕ) → whole_lines delim x ++ open_line delim x ≡ x
-whole_then_open delim x = by (nat_lt 0 (delimiters delim x)) where
-  by : (has : Bool) → cond has (first_lines delim (delimiters delim x) x) x
-      ++ cond has (after_lines delim (delimiters delim x) x) [] ≡ x
+pub whole_then_open : (delim : ℕ) {x : List ℕ} → whole_lines delim x ++ open_line delim x ≡ x
+whole_then_open delim {x} = by (nat_lt 0 (delimiters delim x)) where
+  by : (has : Bool) → cond has (first_lines delim (delimiters delim x) x) x ++ cond has (after_lines delim (delimiters delim x) x) [] ≡ x
   by true = first_lines_then_rest delim (delimiters delim x) x
   by false = append-nil x
 
@@ -84,15 +76,11 @@ whole_within delim x = by (nat_lt 0 (delimiters delim x)) where
 
 pub whole_some : (delim : ℕ) (x : List ℕ) → 0 < length x → 0 < length (whole_lines delim x)
 whole_some delim x some = by (nat_lt 0 (delimiters delim x)) refl where
-  by : (has : Bool) → nat_lt 0 (delimiters delim x) ≡ has
-      → 0 < length (cond has (first_lines delim (delimiters delim x) x) x)
+  by : (has : Bool) → nat_lt 0 (delimiters delim x) ≡ has → 0 < length (cond has (first_lines delim (delimiters delim x) x) x)
   by true is =
       let lines : delimiters delim (first_lines delim (delimiters delim x) x) ≡ delimiters delim x =
       delimiters-first_lines delim (delimiters delim x) x (omega arith) in
-      let few : delimiters delim (first_lines delim (delimiters delim x) x)
-      ≤ length (first_lines delim (delimiters delim x) x) =
-      delimiters-le-length delim (first_lines delim (delimiters delim x) x) in
-      let has_one : 0 < delimiters delim x = ltb-true 0 (delimiters delim x) is in omega arith
+      omega (arith, delimiters-le-length delim (first_lines delim (delimiters delim x) x), ltb-true 0 (delimiters delim x) is)
   by false is = some
 
 length-take_few : (n : ℕ) (x : List ℕ) → length (take n x) ≤ length x
@@ -101,115 +89,89 @@ length-take_few n x = omega (arith, length-take n x)
 pub first_within : (limit : Limit) (x : List ℕ) → length (first_part limit x) ≤ length x
 first_within (Lines n delim) x = length-first_lines-le delim n x
 first_within (Bytes n) x = length-take_few n x
-first_within (LineBytes n delim) x =
-    let whole : length (whole_lines delim (take n x)) ≤ length (take n x) = whole_within delim (take n x) in
-    let few : length (take n x) ≤ length x = length-take_few n x in omega arith
+first_within (LineBytes n delim) x = omega (arith, whole_within delim (take n x), length-take_few n x)
 
-first_some_by : (limit : Limit) (x : List ℕ) → 0 < most limit → most limit ≤ measure limit x
-    → 0 < length (first_part limit x)
-first_some_by (Lines n delim) x some enough =
-    let lines : delimiters delim (first_lines delim n x) ≡ n = delimiters-first_lines delim n x enough in
-    let few : delimiters delim (first_lines delim n x) ≤ length (first_lines delim n x) =
-    delimiters-le-length delim (first_lines delim n x) in omega arith
-first_some_by (Bytes n) x some enough = let all : length (take n x) ≡ n = length-take-le n x enough in omega arith
-first_some_by (LineBytes n delim) x some enough =
-    whole_some delim (take n x) (let all : length (take n x) ≡ n = length-take-le n x enough in omega arith)
+first_some_by : (limit : Limit) (x : List ℕ) → 0 < most limit → most limit ≤ measure limit x → 0 < length (first_part limit x)
+first_some_by (Lines n delim) x some enough = omega (arith, delimiters-first_lines delim n x enough, delimiters-le-length delim (first_lines delim n x))
+first_some_by (Bytes n) x some enough = omega (arith, length-take-le n x enough)
+first_some_by (LineBytes n delim) x some enough = whole_some delim (take n x) (omega (arith, length-take-le n x enough))
 
 pub first_some : (limit : Limit) (x : List ℕ) → is_full limit x ≡ true → 0 < length (first_part limit x)
 first_some limit x full = let is = full_some limit x full in first_some_by limit x is.0 is.1
 
-first-append_by : (limit : Limit) (x y : List ℕ) → most limit ≤ measure limit x
-    → first_part limit (x ++ y) ≡ first_part limit x
+first-append_by : (limit : Limit) (x y : List ℕ) → most limit ≤ measure limit x → first_part limit (x ++ y) ≡ first_part limit x
 first-append_by (Lines n delim) x y enough = first_lines-full delim n x y enough
 first-append_by (Bytes n) x y enough = take-append-le n x y enough
 first-append_by (LineBytes n delim) x y enough = ap (whole_lines delim) (take-append-le n x y enough)
 
-pub first-append : (limit : Limit) (x y : List ℕ) → is_full limit x ≡ true
-    → first_part limit (x ++ y) ≡ first_part limit x
+pub first-append : (limit : Limit) (x y : List ℕ) → is_full limit x ≡ true → first_part limit (x ++ y) ≡ first_part limit x
 first-append limit x y full = first-append_by limit x y (full_some limit x full).1
 
-pub after-append : (limit : Limit) (x y : List ℕ) → is_full limit x ≡ true
-    → after_first limit (x ++ y) ≡ after_first limit x ++ y
-after-append limit x y full =
-    ap (λ (first : List ℕ). drop (length first) (x ++ y)) (first-append limit x y full)
+pub after-append : (limit : Limit) (x y : List ℕ) → is_full limit x ≡ true → after_first limit (x ++ y) ≡ after_first limit x ++ y
+after-append limit x y full = ap (λ (first : List ℕ). drop (length first) (x ++ y)) (first-append limit x y full)
     ∙ drop-append-le (length (first_part limit x)) x y (first_within limit x)
 
-after_less : (limit : Limit) (x : List ℕ) (bound : ℕ) → is_full limit x ≡ true → length x ≤ suc bound
-    → length (after_first limit x) ≤ bound
-after_less limit x bound full within =
-    let some : 0 < length (first_part limit x) = first_some limit x full in
-    let left : length (after_first limit x) ≡ length x - length (first_part limit x) =
-    length-drop (length (first_part limit x)) x in omega arith
+after_less : (limit : Limit) (x : List ℕ) (bound : ℕ) → is_full limit x ≡ true → length x ≤ suc bound → length (after_first limit x) ≤ bound
+after_less limit x bound full within = omega (arith, first_some limit x full, length-drop (length (first_part limit x)) x)
 
-cuts_within : (limit : Limit) (bound : ℕ) (x : List ℕ) → length x ≤ bound
-    → Cuts limit x (cut_within bound limit x).full (cut_within bound limit x).rest
-cuts_within limit zero x within = stops x (nothing_short limit x (omega arith))
-cuts_within limit (suc bound) x within =
-    by (is_full limit x) refl (λ full. cuts_within limit bound (after_first limit x)
-    (after_less limit x bound full within)) where
+cuts_within : {limit : Limit} (bound : ℕ) {x : List ℕ} → length x ≤ bound → Cuts limit x (cut_within bound limit x).full (cut_within bound limit x).rest
+cuts_within {limit} zero {x} within = stops x (nothing_short limit x (omega arith))
+cuts_within {limit} (suc bound) {x} within =
+    by (is_full limit x) refl (λ full. cuts_within bound (after_less limit x bound full within)) where
       by : (full : Bool) → is_full limit x ≡ full
           → (is_full limit x ≡ true → Cuts limit (after_first limit x) (cut_within bound limit (after_first limit x)).full
           (cut_within bound limit (after_first limit x)).rest)
           → Cuts limit x (cond full (part_before (first_part limit x) (cut_within bound limit (after_first limit x)))
-          (uncut x)).full (cond full (part_before (first_part limit x) (cut_within bound limit (after_first limit x)))
-          (uncut x)).rest
+          (uncut x)).full (cond full (part_before (first_part limit x) (cut_within bound limit (after_first limit x))) (uncut x)).rest
       by true is more = goes x _ _ is (more is)
       by false is more = stops x is
 
-pub cuts_up : (limit : Limit) (x : List ℕ) → Cuts limit x (cut_up limit x).full (cut_up limit x).rest
-cuts_up limit x = cuts_within limit (length x) x (omega arith)
+pub cuts_up : {limit : Limit} {x : List ℕ} → Cuts limit x (cut_up limit x).full (cut_up limit x).rest
+cuts_up {x} = cuts_within (length x) (omega arith)
 
-once_within : (limit : Limit) (bound : ℕ) (x : List ℕ) (parts : List (List ℕ)) (rest : List ℕ) → length x ≤ bound
+once_within : {limit : Limit} (bound : ℕ) {x : List ℕ} {parts : List (List ℕ)} {rest : List ℕ} → length x ≤ bound
     → Cuts limit x parts rest → cut_within bound limit x ≡ cut_so parts rest
-once_within limit zero x _ _ within (stops _ short) = refl
-once_within limit zero x _ _ within (goes _ parts rest full more) =
-    absurd (false≢true (sym (nothing_short limit x (omega arith)) ∙ full))
-once_within limit (suc bound) x _ _ within (stops _ short) =
-    ap (λ full. cond full (part_before (first_part limit x) (cut_within bound limit (after_first limit x))) (uncut x))
-    short
-once_within limit (suc bound) x _ _ within (goes _ parts rest full more) =
-    ap (λ is. cond is (part_before (first_part limit x) (cut_within bound limit (after_first limit x))) (uncut x)) full
-    ∙ ap (part_before (first_part limit x))
-    (once_within limit bound (after_first limit x) parts rest (after_less limit x bound full within) more)
+once_within zero within (stops _ short) = refl
+once_within {limit} zero {x} within (goes _ parts rest full more) = absurd (false≢true (sym (nothing_short limit x (omega arith)) ∙ full))
+once_within {limit} (suc bound) {x} within (stops _ short) =
+    ap (λ full. cond full (part_before (first_part limit x) (cut_within bound limit (after_first limit x))) (uncut x)) short
+once_within {limit} (suc bound) {x} within (goes _ parts rest full more) =
+    ap (λ is. cond is (part_before (first_part limit x) (cut_within bound limit (after_first limit x))) (uncut x)) full ∙ ap (part_before (first_part limit x))
+    (once_within bound (after_less limit x bound full within) more)
 
 -- a text is cut in one way
-pub cut_once : (limit : Limit) (x : List ℕ) (parts : List (List ℕ)) (rest : List ℕ) → Cuts limit x parts rest
-    → cut_up limit x ≡ cut_so parts rest
-cut_once limit x parts rest cuts = once_within limit (length x) x parts rest (omega arith) cuts
+pub cut_once : (limit : Limit) {x : List ℕ} {parts : List (List ℕ)} {rest : List ℕ} → Cuts limit x parts rest → cut_up limit x ≡ cut_so parts rest
+cut_once limit {x} cuts = once_within (length x) (omega arith) cuts
 
-pub cuts_on : (limit : Limit) (x y : List ℕ) (parts more : List (List ℕ)) (rest left : List ℕ) → Cuts limit x parts rest
+pub cuts_on : {limit : Limit} (x y : List ℕ) {parts : List (List ℕ)} (more : List (List ℕ)) {rest left : List ℕ} → Cuts limit x parts rest
     → Cuts limit (rest ++ y) more left → Cuts limit (x ++ y) (parts ++ more) left
-cuts_on limit x y _ more _ left (stops _ short) then = then
-cuts_on limit x y _ more rest left (goes _ parts _ full after) then =
+cuts_on x y more (stops _ short) then = then
+cuts_on {limit} x y more {left} (goes _ parts _ full after) then =
     subst (λ first. Cuts limit (x ++ y) (first ∷ (parts ++ more)) left) (first-append limit x y full)
-    (goes (x ++ y) (parts ++ more) left (full-append limit x y full)
-    (subst (λ those. Cuts limit those (parts ++ more) left) (sym (after-append limit x y full))
-    (cuts_on limit (after_first limit x) y parts more rest left after then)))
+    (goes (x ++ y) (parts ++ more) left (full-append limit x y full) (subst (λ those. Cuts limit those (parts ++ more) left) (sym (after-append limit x y full))
+    (cuts_on (after_first limit x) y more after then)))
 
 -- a text that goes on has its parts, and then those of what was left of it and what follows
-pub cut_on : (limit : Limit) (x y : List ℕ)
-    → cut_up limit (x ++ y) ≡ cut_so ((cut_up limit x).full ++ (cut_up limit ((cut_up limit x).rest ++ y)).full)
+pub cut_on : (limit : Limit) (x y : List ℕ) → cut_up limit (x ++ y) ≡ cut_so ((cut_up limit x).full ++ (cut_up limit ((cut_up limit x).rest ++ y)).full)
     (cut_up limit ((cut_up limit x).rest ++ y)).rest
-cut_on limit x y = cut_once limit (x ++ y) _ _
-    (cuts_on limit x y _ _ _ _ (cuts_up limit x) (cuts_up limit ((cut_up limit x).rest ++ y)))
+cut_on limit x y = cut_once limit (cuts_on x y _ (cuts_up) (cuts_up))
 
-left_short : (limit : Limit) (x : List ℕ) (parts : List (List ℕ)) (rest : List ℕ) → Cuts limit x parts rest
-    → is_full limit rest ≡ false
-left_short limit x _ _ (stops _ short) = short
-left_short limit x _ rest (goes _ parts _ full after) = left_short limit (after_first limit x) parts rest after
+left_short : (limit : Limit) (x : List ℕ) {parts : List (List ℕ)} {rest : List ℕ} → Cuts limit x parts rest → is_full limit rest ≡ false
+left_short limit x (stops _ short) = short
+left_short limit x (goes _ parts _ full after) = left_short limit (after_first limit x) after
 
 -- what is left has no full part
 pub rest_short : (limit : Limit) (x : List ℕ) → is_full limit (cut_up limit x).rest ≡ false
-rest_short limit x = left_short limit x _ _ (cuts_up limit x)
+rest_short limit x = left_short limit x (cuts_up)
 
 -- three ways to go on: no part is full yet; all of the text is one; the text is one and a beginning of the next
 
 pub cut_none : (limit : Limit) (x : List ℕ) → is_full limit x ≡ false → cut_up limit x ≡ cut_so [] x
-cut_none limit x short = cut_once limit x [] x (stops x short)
+cut_none limit x short = cut_once limit (stops x short)
 
 -- what is left is what is settled of it, and what waits
 pub settled_then_waiting : (limit : Limit) (rest : List ℕ) → settled_rest limit rest ++ waiting_rest limit rest ≡ rest
-settled_then_waiting (LineBytes n delim) rest = whole_then_open delim rest
+settled_then_waiting (LineBytes n delim) rest = whole_then_open delim
 settled_then_waiting limit rest = append-nil rest
 
 pub settled_some : (limit : Limit) (rest : List ℕ) → 0 < length rest → 0 < length (settled_rest limit rest)

@@ -10,66 +10,52 @@ use Rattle.split_core.specs.Split.{is_some, dealt_files}
 use Rattle.split_core.specs.Round.{opened_by}
 use Rattle.split_core.specs.inner.DealLaws.{EachSome, share_of}
 
-onto_step : (gets : Bool) (byte : ℕ) (line rest : List ℕ)
-    → cond gets (byte ∷ (line ++ rest)) rest
+onto_step : (gets : Bool) (byte : ℕ) (line rest : List ℕ) → cond gets (byte ∷ (line ++ rest)) rest
     ≡ cond gets (byte ∷ cond gets (line ++ rest) rest) (cond gets (line ++ rest) rest)
 onto_step true byte line rest = refl
 onto_step false byte line rest = refl
 
 -- a byte before the first line goes where that line goes
-dealt_onto : (n file place byte : ℕ) (lines : List (List ℕ))
-    → dealt n file place (onto_first byte lines)
+dealt_onto : (n file place byte : ℕ) (lines : List (List ℕ)) → dealt n file place (onto_first byte lines)
     ≡ cond (eqb (place % n) file) (byte ∷ dealt n file place lines) (dealt n file place lines)
 dealt_onto n file place byte [] = refl
-dealt_onto n file place byte (line ∷ lines) =
-    onto_step (eqb (place % n) file) byte line (dealt n file (place + 1) lines)
+dealt_onto n file place byte (line ∷ lines) = onto_step (eqb (place % n) file) byte line (dealt n file (place + 1) lines)
 
-pub dealt_first : (ends : Bool) (n file place byte : ℕ) (lines : List (List ℕ))
-    → dealt n file place (cond ends ((byte ∷ []) ∷ lines) (onto_first byte lines))
-    ≡ cond (eqb (place % n) file) (byte ∷ dealt n file (cond ends (place + 1) place) lines)
-    (dealt n file (cond ends (place + 1) place) lines)
+pub dealt_first : (ends : Bool) (n file place byte : ℕ) (lines : List (List ℕ)) → dealt n file place (cond ends ((byte ∷ []) ∷ lines) (onto_first byte lines))
+    ≡ cond (eqb (place % n) file) (byte ∷ dealt n file (cond ends (place + 1) place) lines) (dealt n file (cond ends (place + 1) place) lines)
 dealt_first true n file place byte lines = refl
 dealt_first false n file place byte lines = dealt_onto n file place byte lines
 
-goes_on : (gets : Bool) (byte : ℕ) (these more : List ℕ)
-    → cond gets (byte ∷ (these ++ more)) (these ++ more) ≡ cond gets (byte ∷ these) these ++ more
+goes_on : (gets : Bool) (byte : ℕ) (these more : List ℕ) → cond gets (byte ∷ (these ++ more)) (these ++ more) ≡ cond gets (byte ∷ these) these ++ more
 goes_on true byte these more = refl
 goes_on false byte these more = refl
 
-pub next_place : (ends : Bool) (place count : ℕ)
-    → cond ends (place + 1) place + count ≡ place + cond ends (count + 1) count
+pub next_place : (ends : Bool) (place count : ℕ) → cond ends (place + 1) place + count ≡ place + cond ends (count + 1) count
 next_place true place count = omega arith
 next_place false place count = refl
 
 -- an open last line goes on where it began
-pub dealt_append : (delim n file place : ℕ) (x y : List ℕ)
-    → dealt n file place (lines_of delim (x ++ y)) ≡ dealt n file place (lines_of delim x)
+pub dealt_append : (delim n file place : ℕ) (x y : List ℕ) → dealt n file place (lines_of delim (x ++ y)) ≡ dealt n file place (lines_of delim x)
     ++ dealt n file (place + delimiters delim x) (lines_of delim y)
-dealt_append delim n file place [] y = let here : place ≡ place + 0 =
-    omega arith in ap (λ at. dealt n file at (lines_of delim y)) here
+dealt_append delim n file place [] y = let here : place ≡ place + 0 = omega arith in ap (λ at. dealt n file at (lines_of delim y)) here
 dealt_append delim n file place (byte ∷ x) y =
     let next = cond (eqb byte delim) (place + 1) place in
     dealt_first (eqb byte delim) n file place byte (lines_of delim (x ++ y))
     ∙ ap (λ those. cond (eqb (place % n) file) (byte ∷ those) those) (dealt_append delim n file next x y)
-    ∙ goes_on (eqb (place % n) file) byte (dealt n file next (lines_of delim x))
-    (dealt n file (next + delimiters delim x) (lines_of delim y))
+    ∙ goes_on (eqb (place % n) file) byte (dealt n file next (lines_of delim x)) (dealt n file (next + delimiters delim x) (lines_of delim y))
     ∙ ap (λ those. those ++ dealt n file (next + delimiters delim x) (lines_of delim y))
     (sym (dealt_first (eqb byte delim) n file place byte (lines_of delim x)))
-    ∙ ap (λ at. dealt n file place (lines_of delim (byte ∷ x)) ++ dealt n file at (lines_of delim y))
-    (next_place (eqb byte delim) place (delimiters delim x))
+    ∙ ap (λ at. dealt n file place (lines_of delim (byte ∷ x)) ++ dealt n file at (lines_of delim y)) (next_place (eqb byte delim) place (delimiters delim x))
 
 -- Which files have a line
 
 differs : (n file place : ℕ) → place < file → file < n → eqb (place % n) file ≡ false
-differs n file place before within = ne_eqb (place % n) file
-    (λ same. let here : place % n ≡ place = mod-eq_of_lt (omega arith) in omega (arith, same, here))
+differs n file place before within = ne_eqb (place % n) file (λ same. let here : place % n ≡ place = mod-eq_of_lt (omega arith) in omega (arith, same, here))
 
-pub dealt_none : (n file place : ℕ) (lines : List (List ℕ)) → place + length lines ≤ file → file < n
-    → dealt n file place lines ≡ []
+pub dealt_none : (n file place : ℕ) (lines : List (List ℕ)) → place + length lines ≤ file → file < n → dealt n file place lines ≡ []
 dealt_none n file place [] short within = refl
 dealt_none n file place (line ∷ lines) short within =
-    ap (λ gets. cond gets (line ++ dealt n file (place + 1) lines) (dealt n file (place + 1) lines))
-    (differs n file place (omega arith) within)
+    ap (λ gets. cond gets (line ++ dealt n file (place + 1) lines) (dealt n file (place + 1) lines)) (differs n file place (omega arith) within)
     ∙ dealt_none n file (place + 1) lines (omega arith) within
 
 some_line : (line rest : List ℕ) → 0 < length line → 0 < length (line ++ rest)
@@ -96,8 +82,7 @@ onto_each : (byte : ℕ) (lines : List (List ℕ)) → EachSome lines → EachSo
 onto_each byte [] each = (omega arith, tt)
 onto_each byte (line ∷ lines) each = (omega arith, each.1)
 
-each_step : (ends : Bool) (byte : ℕ) (lines : List (List ℕ)) → EachSome lines
-    → EachSome (cond ends ((byte ∷ []) ∷ lines) (onto_first byte lines))
+each_step : (ends : Bool) (byte : ℕ) (lines : List (List ℕ)) → EachSome lines → EachSome (cond ends ((byte ∷ []) ∷ lines) (onto_first byte lines))
 each_step true byte lines each = (omega arith, each)
 each_step false byte lines each = onto_each byte lines each
 
@@ -109,66 +94,50 @@ pub is_some_of : (bytes : List ℕ) → 0 < length bytes → is_some bytes ≡ t
 is_some_of [] some = absurd (omega arith)
 is_some_of (byte ∷ bytes) some = refl
 
-pub share_none : (delim n : ℕ) (x : List ℕ) (file : ℕ) → line_count delim x ≤ file → file < n
-    → share_of delim n x file ≡ []
+pub share_none : (delim n : ℕ) (x : List ℕ) (file : ℕ) → line_count delim x ≤ file → file < n → share_of delim n x file ≡ []
 share_none delim n x file short within = dealt_none n file 0 (lines_of delim x) (omega arith) within
 
-pub share_some : (delim n : ℕ) (x : List ℕ) (file : ℕ) → file < line_count delim x → file < n
-    → is_some (share_of delim n x file) ≡ true
-share_some delim n x file before within =
-    is_some_of _ (dealt_some n file 0 (lines_of delim x) (each_line delim x) (omega arith) (omega arith) within)
+pub share_some : (delim n : ℕ) (x : List ℕ) (file : ℕ) → file < line_count delim x → file < n → is_some (share_of delim n x file) ≡ true
+share_some delim n x file before within = is_some_of _ (dealt_some n file 0 (lines_of delim x) (each_line delim x) (omega arith) (omega arith) within)
 
 -- where members up to a place aren't empty and those from there on are, the filter leaves those up to that place
-filter_next : (f : ℕ → List ℕ) (start n end : ℕ) → (start < end → is_some (f start) ≡ true)
-    → (end ≤ start → f start ≡ []) → (rest : List (List ℕ))
+filter_next : (f : ℕ → List ℕ) (start n end : ℕ) → (start < end → is_some (f start) ≡ true) → (end ≤ start → f start ≡ []) → {rest : List (List ℕ)}
     → rest ≡ map f (range_with_len (start + 1) (min n (end - (start + 1))))
     → cond (is_some (f start)) (f start ∷ rest) rest ≡ map f (range_with_len start (min (suc n) (end - start)))
-filter_next f start n end some none rest are = elim (cases_lt start end) [
+filter_next f start n end some none {rest} are = elim (cases_lt start end) [
   | inl before ↦ kept before
   | inr past ↦ left_out past
 ] where
-  kept : start < end → cond (is_some (f start)) (f start ∷ rest) rest
-      ≡ map f (range_with_len start (min (suc n) (end - start)))
+  kept : start < end → cond (is_some (f start)) (f start ∷ rest) rest ≡ map f (range_with_len start (min (suc n) (end - start)))
   kept before =
       let count : suc (min n (end - (start + 1))) ≡ min (suc n) (end - start) = omega arith in
-      ap (λ is. cond is (f start ∷ rest) rest) (some before) ∙ ap (λ those. f start ∷ those) are
-      ∙ ap (λ k. map f (range_with_len start k)) count
+      ap (λ is. cond is (f start ∷ rest) rest) (some before) ∙ ap (λ those. f start ∷ those) are ∙ ap (λ k. map f (range_with_len start k)) count
 
-  left_out : end ≤ start → cond (is_some (f start)) (f start ∷ rest) rest
-      ≡ map f (range_with_len start (min (suc n) (end - start)))
+  left_out : end ≤ start → cond (is_some (f start)) (f start ∷ rest) rest ≡ map f (range_with_len start (min (suc n) (end - start)))
   left_out past =
       let no_more : min n (end - (start + 1)) ≡ 0 = omega arith in
       let count : min (suc n) (end - start) ≡ 0 = omega arith in
-      ap (λ bytes. cond (is_some bytes) (f start ∷ rest) rest) (none past)
-      ∙ are ∙ ap (λ k. map f (range_with_len (start + 1) k)) no_more
+      ap (λ bytes. cond (is_some bytes) (f start ∷ rest) rest) (none past) ∙ are ∙ ap (λ k. map f (range_with_len (start + 1) k)) no_more
       ∙ sym (ap (λ k. map f (range_with_len start k)) count)
 
-filter_first : (f : ℕ → List ℕ) (start n end : ℕ)
-    → ((file : ℕ) → file < start + n → file < end → is_some (f file) ≡ true)
+filter_first : (f : ℕ → List ℕ) (start n end : ℕ) → ((file : ℕ) → file < start + n → file < end → is_some (f file) ≡ true)
     → ((file : ℕ) → file < start + n → end ≤ file → f file ≡ [])
     → filter is_some (map f (range_with_len start n)) ≡ map f (range_with_len start (min n (end - start)))
-filter_first f start zero end some none = let no_more : 0 ≡ min 0 (end - start) =
-    omega arith in ap (λ k. map f (range_with_len start k)) no_more
-filter_first f start (suc n) end some none =
-    filter_next f start n end (λ before. some start (omega arith) before) (λ past. none start (omega arith) past)
-    (filter is_some (map f (range_with_len (start + 1) n)))
-    (filter_first f (start + 1) n end (λ file within before. some file (omega arith) before)
-    (λ file within past. none file (omega arith) past))
+filter_first f start zero end some none = let no_more : 0 ≡ min 0 (end - start) = omega arith in ap (λ k. map f (range_with_len start k)) no_more
+filter_first f start (suc n) end some none = filter_next f start n end (λ before. some start (omega arith) before) (λ past. none start (omega arith) past)
+    (filter_first f (start + 1) n end (λ file within before. some file (omega arith) before) (λ file within past. none file (omega arith) past))
 
 -- the files that have a line are the first ones
 pub dealt_files_are : (delim : ℕ) (elide : Bool) (n : ℕ) (x : List ℕ)
     → dealt_files delim elide n x ≡ map (share_of delim n x) (range_with_len 0 (opened_by delim elide n x))
 dealt_files_are delim true n x =
     let all : line_count delim x - 0 ≡ line_count delim x = omega arith in
-    filter_first (share_of delim n x) 0 n (line_count delim x)
-    (λ file within before. share_some delim n x file before (omega arith))
-    (λ file within past. share_none delim n x file past (omega arith))
-    ∙ ap (λ lines. map (share_of delim n x) (range_with_len 0 (min n lines))) all
+    filter_first (share_of delim n x) 0 n (line_count delim x) (λ file within before. share_some delim n x file before (omega arith))
+    (λ file within past. share_none delim n x file past (omega arith)) ∙ ap (λ lines. map (share_of delim n x) (range_with_len 0 (min n lines))) all
 dealt_files_are delim false n x = refl
 
 -- a text that goes on opens no fewer files
 
-pub opened_by-grows : (delim : ℕ) (elide : Bool) (n : ℕ) (x y : List ℕ)
-    → opened_by delim elide n x ≤ opened_by delim elide n (x ++ y)
-opened_by-grows delim true n x y = let more = line_count-grows delim x y in omega arith
+pub opened_by-grows : (delim : ℕ) (elide : Bool) (n : ℕ) (x y : List ℕ) → opened_by delim elide n x ≤ opened_by delim elide n (x ++ y)
+opened_by-grows delim true n x y = omega (arith, line_count-grows delim x y)
 opened_by-grows delim false n x y = omega arith

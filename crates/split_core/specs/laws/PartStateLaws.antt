@@ -12,8 +12,7 @@ use Rattle.split_core.specs.Split.{share, are_named, named, only_files, settled_
 use Rattle.split_core.specs.laws.ShareLaws.{part_begins, settled_grow, settled_end, files_settled, files_whole, parts_grow, are_named_more}
 use Rattle.split_core.specs.PartState.{parts_work}
 
-stays : (limit : Limit) (names : Naming) (x y : List ℕ) → (parts_work limit names).is_complete x ≡ true
-    → IsComplete (parts_work limit names) x y
+stays : (limit : Limit) (names : Naming) (x y : List ℕ) → (parts_work limit names).is_complete x ≡ true → IsComplete (parts_work limit names) x y
 stays limit names x y short = record {
   still = ap not more;
   settled_stays = ap only_files (files_settled names limit x y none ∙ sym here);
@@ -24,8 +23,7 @@ stays limit names x y short = record {
   none = sym (ap (are_named names) (length-map (parts limit x) (share Closed))) ∙ not-true _ short
 
   more : are_named names (length (map (share Closed) (parts limit (x ++ y)))) ≡ false
-  more = ap (are_named names) (length-map (parts limit (x ++ y)) (share Closed))
-      ∙ are_named_more names (length (parts limit x)) _ none (parts_grow limit x y)
+  more = ap (are_named names) (length-map (parts limit (x ++ y)) (share Closed)) ∙ are_named_more names (length (parts limit x)) _ none (parts_grow limit x y)
 
   here : named names 0 (settled_parts limit x) ≡ named names 0 (map (share Closed) (cut_up limit x).full)
   here = ap (λ all. named names 0 (settled_parts limit all)) (sym (append-nil x)) ∙ files_settled names limit x [] none

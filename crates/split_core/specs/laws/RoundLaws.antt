@@ -17,8 +17,7 @@ use Rattle.split_core.specs.laws.DealLaws.{dealt_append, dealt_files_are, opened
 begin_step : (is : Bool) (file high : File) (files wholes : List File) → file.name ≡ high.name → file.mode ≡ high.mode
     → file.is_broken ≡ high.is_broken → file.state ≡ Open → IsBeginning file.bytes high.bytes → FilesBegin files wholes
     → FilesBegin (cond is (file ∷ files) []) (cond is (high ∷ wholes) [])
-begin_step true file high files wholes name mode sound open_yet bytes rest =
-    (name, mode, sound, inl open_yet, bytes, rest)
+begin_step true file high files wholes name mode sound open_yet bytes rest = (name, mode, sound, inl open_yet, bytes, rest)
 begin_step false file high files wholes name mode sound open_yet bytes rest = tt
 
 -- where the bytes of some files begin the bytes of others, those files begin these
@@ -41,18 +40,15 @@ all_begin_themselves [] = tt
 all_begin_themselves (bytes ∷ these) = (begins_itself bytes, all_begin_themselves these)
 
 -- each file only grows, and none is taken back
-pub dealt_begin : (delim : ℕ) (elide : Bool) (n : ℕ) (x y : List ℕ)
-    → AllBegin (dealt_files delim elide n x) (dealt_files delim elide n (x ++ y))
-dealt_begin delim elide n x y =
-    subst (λ those. AllBegin (dealt_files delim elide n x) those) (sym (dealt_files_are delim elide n (x ++ y)))
+pub dealt_begin : (delim : ℕ) (elide : Bool) (n : ℕ) (x y : List ℕ) → AllBegin (dealt_files delim elide n x) (dealt_files delim elide n (x ++ y))
+dealt_begin delim elide n x y = subst (λ those. AllBegin (dealt_files delim elide n x) those) (sym (dealt_files_are delim elide n (x ++ y)))
     (subst (λ these. AllBegin these (map (share_of delim n (x ++ y))
     (range_with_len 0 (opened_by delim elide n (x ++ y))))) (sym (dealt_files_are delim elide n x))
     (maps_begin (share_of delim n x) (share_of delim n (x ++ y)) 0 (opened_by delim elide n x)
     (opened_by delim elide n (x ++ y)) (opened_by-grows delim elide n x y)
     (λ file. (_, dealt_append delim n file 0 x y))))
 
-pub lawful : (delim count : ℕ) (elide : Bool) (names : Naming)
-    → IsLawful (round_work (round_plan delim count elide names))
+pub lawful : (delim count : ℕ) (elide : Bool) (names : Naming) → IsLawful (round_work (round_plan delim count elide names))
 lawful delim count elide names = record {
   grows = λ x y. record {
     out = nothing_begins [];

@@ -23,8 +23,7 @@ use Rattle.split_core.specs.inner.ShareLaws.{SharesBegin, whole_parts}
 -- shares that begin others still do after the same front
 pub shares_after : (front low high : List Share) → SharesBegin low high → SharesBegin (front ++ low) (front ++ high)
 shares_after [] low high begins = begins
-shares_after (share ∷ front) low high begins =
-    (inr refl, begins_itself share.bytes, shares_after front low high begins)
+shares_after (share ∷ front) low high begins = (inr refl, begins_itself share.bytes, shares_after front low high begins)
 
 -- the files of shares that begin others begin the files of those
 
@@ -36,31 +35,26 @@ kept_file names place one other (inr same) = inr (ap (file_at names place) same)
 files_by : (names : Naming) (has : Bool) (place : ℕ) (one other : Share) (low high : List File) → (one.state ≡ Open)
     ⊎ (one ≡ other) → IsBeginning one.bytes other.bytes → FilesBegin low high
     → FilesBegin (cond has (file_at names place one ∷ low) []) (cond has (file_at names place other ∷ high) [])
-files_by names true place one other low high kept first rest =
-    (refl, refl, refl, kept_file names place one other kept, first, rest)
+files_by names true place one other low high kept first rest = (refl, refl, refl, kept_file names place one other kept, first, rest)
 files_by names false place one other low high kept first rest = tt
 
-pub files_begin : (names : Naming) (place : ℕ) (low high : List Share) → SharesBegin low high
-    → FilesBegin (named names place low) (named names place high)
+pub files_begin : (names : Naming) (place : ℕ) (low high : List Share) → SharesBegin low high → FilesBegin (named names place low) (named names place high)
 files_begin names place [] high begins = tt
 files_begin names place (share ∷ low) [] begins = absurd begins
 files_begin names place (share ∷ low) (whole ∷ high) begins =
     files_by names (is_named names place) place share whole (named names (place + 1) low) (named names (place + 1) high)
     begins.0 begins.1 (files_begin names (place + 1) low high begins.2)
 
-pub part_begins : (names : Naming) (low high : List Share) → SharesBegin low high
-    → Begins (only_files (named names 0 low)) (only_files (named names 0 high))
+pub part_begins : (names : Naming) (low high : List Share) → SharesBegin low high → Begins (only_files (named names 0 low)) (only_files (named names 0 high))
 part_begins names low high begins = record { out = begins_itself []; files = files_begin names 0 low high begins }
 
 -- names that ran out
 
-no_more_test : (auto : Bool) (most place more : ℕ) → (auto || nat_lt place most) ≡ false → place ≤ more
-    → (auto || nat_lt more most) ≡ false
+no_more_test : (auto : Bool) (most place more : ℕ) → (auto || nat_lt place most) ≡ false → place ≤ more → (auto || nat_lt more most) ≡ false
 no_more_test true most place more is less = is
 no_more_test false most place more is less = grind (arith, nat_tests, is, less)
 
-pub no_more : (names : Naming) (place more : ℕ) → is_named names place ≡ false → place ≤ more
-    → is_named names more ≡ false
+pub no_more : (names : Naming) (place more : ℕ) → is_named names place ≡ false → place ≤ more → is_named names more ≡ false
 no_more names place more is less = no_more_test names.auto _ place more is less
 
 -- the place after the next ones is that after the first of them
@@ -72,11 +66,9 @@ pub named_short : (names : Naming) (place : ℕ) (front rest : List Share) → i
     → named names place (front ++ rest) ≡ named names place front
 named_short names place [] [] none = refl
 named_short names place [] (share ∷ rest) none =
-    ap (λ has. cond has (file_at names place share ∷ named names (place + 1) rest) [])
-    (subst (λ n. is_named names n ≡ false) (add-zero place) none)
+    ap (λ has. cond has (file_at names place share ∷ named names (place + 1) rest) []) (subst (λ n. is_named names n ≡ false) (add-zero place) none)
 named_short names place (share ∷ front) rest none =
-    ap (λ files. cond (is_named names place) (file_at names place share ∷ files) [])
-    (named_short names (place + 1) front rest
+    ap (λ files. cond (is_named names place) (file_at names place share ∷ files) []) (named_short names (place + 1) front rest
     (subst (λ n. is_named names n ≡ false) (one_on place (length front)) none))
 
 -- the parts of whole texts
@@ -91,28 +83,19 @@ first_lines_begin delim k n x less = (
 
 whole_begins_by : (delim : ℕ) (x y : List ℕ) (k m : ℕ) → delimiters delim x ≡ k → delimiters delim (x ++ y) ≡ m
     → IsBeginning (whole_lines delim x) (whole_lines delim (x ++ y))
-whole_begins_by delim x y (suc k) (suc m) here all =
-    subst (λ low. IsBeginning low (whole_lines delim (x ++ y)))
-    (sym (whole_of_lines delim x (omega arith)
-    ∙ sym (first_lines-full delim (delimiters delim x) x y (omega arith))))
-    (subst (λ high. IsBeginning (first_lines delim (delimiters delim x) (x ++ y)) high)
-    (sym (whole_of_lines delim (x ++ y) (omega arith)))
-    (first_lines_begin delim (delimiters delim x) (delimiters delim (x ++ y)) (x ++ y)
-    (let sum : delimiters delim (x ++ y) ≡ delimiters delim x + delimiters delim y = delimiters-append delim x y
-    in omega arith)))
-whole_begins_by delim x y zero (suc m) here all =
-    subst (λ low. IsBeginning low (whole_lines delim (x ++ y))) (sym (whole_of_none delim x here)) (
-      _,
-      whole_of_lines delim (x ++ y) (omega arith) ∙ first_lines-append delim (delimiters delim (x ++ y)) x y
-          ∙ ap (λ front. front ++ first_lines delim (delimiters delim (x ++ y) - delimiters delim x) y)
-          (first_lines-short delim (delimiters delim (x ++ y)) x (omega arith)),
-    )
+whole_begins_by delim x y (suc k) (suc m) here all = subst (λ low. IsBeginning low (whole_lines delim (x ++ y))) (sym (whole_of_lines delim x (omega arith)
+    ∙ sym (first_lines-full delim (delimiters delim x) x y (omega arith)))) (subst (λ high. IsBeginning (first_lines delim (delimiters delim x) (x ++ y)) high)
+    (sym (whole_of_lines delim (x ++ y) (omega arith))) (first_lines_begin delim (delimiters delim x) (delimiters delim (x ++ y)) (x ++ y)
+    (omega (arith, delimiters-append delim x y))))
+whole_begins_by delim x y zero (suc m) here all = subst (λ low. IsBeginning low (whole_lines delim (x ++ y))) (sym (whole_of_none delim x here)) (
+  _,
+  whole_of_lines delim (x ++ y) (omega arith) ∙ first_lines-append delim (delimiters delim (x ++ y)) x y
+      ∙ ap (λ front. front ++ first_lines delim (delimiters delim (x ++ y) - delimiters delim x) y)
+      (first_lines-short delim (delimiters delim (x ++ y)) x (omega arith)),
+)
 whole_begins_by delim x y zero zero here all =
-    subst (λ low. IsBeginning low (whole_lines delim (x ++ y))) (sym (whole_of_none delim x here))
-    (y, whole_of_none delim (x ++ y) all)
-whole_begins_by delim x y (suc k) zero here all =
-    absurd (let sum : delimiters delim (x ++ y)
-    ≡ delimiters delim x + delimiters delim y = delimiters-append delim x y in omega arith)
+    subst (λ low. IsBeginning low (whole_lines delim (x ++ y))) (sym (whole_of_none delim x here)) (y, whole_of_none delim (x ++ y) all)
+whole_begins_by delim x y (suc k) zero here all = absurd (omega (arith, delimiters-append delim x y))
 
 pub whole_begins : (delim : ℕ) (x y : List ℕ) → IsBeginning (whole_lines delim x) (whole_lines delim (x ++ y))
 whole_begins delim x y = whole_begins_by delim x y (delimiters delim x) (delimiters delim (x ++ y)) refl refl
@@ -120,22 +103,18 @@ whole_begins delim x y = whole_begins_by delim x y (delimiters delim x) (delimit
 take_begins_long : (n : ℕ) (x y : List ℕ) → length x < n → (more : List ℕ) × (take n (x ++ y) ≡ x ++ more)
 take_begins_long n [] y short = (take n y, refl)
 take_begins_long zero (byte ∷ x) y short = absurd (omega arith)
-take_begins_long (suc n) (byte ∷ x) y short = let past =
-    take_begins_long n x y (omega arith) in (past.0, ap (λ rest. byte ∷ rest) past.1)
+take_begins_long (suc n) (byte ∷ x) y short = let past = take_begins_long n x y (omega arith) in (past.0, ap (λ rest. byte ∷ rest) past.1)
 
 -- what is settled of a text without a full part begins the first part of the text that goes on
 
-settled_in_full : (limit : Limit) (x y : List ℕ) → measure limit x < most limit
-    → IsBeginning (settled_rest limit x) (first_part limit (x ++ y))
+settled_in_full : (limit : Limit) (x y : List ℕ) → measure limit x < most limit → IsBeginning (settled_rest limit x) (first_part limit (x ++ y))
 settled_in_full (Lines n delim) x y short = (
   _,
-  first_lines-append delim n x y ∙ ap (λ front. front ++ first_lines delim (n - delimiters delim x) y)
-      (first_lines-short delim n x short),
+  first_lines-append delim n x y ∙ ap (λ front. front ++ first_lines delim (n - delimiters delim x) y) (first_lines-short delim n x short),
 )
 settled_in_full (Bytes n) x y short = take_begins_long n x y short
 settled_in_full (LineBytes n delim) x y short =
-    let taken = take_begins_long n x y short in subst
-    (λ those. IsBeginning (whole_lines delim x) (whole_lines delim those)) (sym taken.1)
+    let taken = take_begins_long n x y short in subst (λ those. IsBeginning (whole_lines delim x) (whole_lines delim those)) (sym taken.1)
     (whole_begins delim x taken.0)
 
 settled_in_rest : (limit : Limit) (x y : List ℕ) → IsBeginning (settled_rest limit x) (settled_rest limit (x ++ y))
@@ -148,27 +127,20 @@ settled_in_whole limit x = (_, sym (settled_then_waiting limit x))
 -- what files get of a text that goes on: the full parts of the text, and then what they get of the rest and what
 -- follows
 
-pub settled_on : (limit : Limit) (x y : List ℕ)
-    → settled_parts limit (x ++ y) ≡ map (share Closed) (cut_up limit x).full
+pub settled_on : (limit : Limit) (x y : List ℕ) → settled_parts limit (x ++ y) ≡ map (share Closed) (cut_up limit x).full
     ++ settled_parts limit ((cut_up limit x).rest ++ y)
-settled_on limit x y =
-    ap (λ cut. map (share Closed) cut.full ++ map (share Open) (unless_empty (settled_rest limit cut.rest)))
-    (cut_on limit x y)
-    ∙ ap (λ front. front ++ map (share Open)
-    (unless_empty (settled_rest limit (cut_up limit ((cut_up limit x).rest ++ y)).rest)))
+settled_on limit x y = ap (λ cut. map (share Closed) cut.full ++ map (share Open) (unless_empty (settled_rest limit cut.rest))) (cut_on limit x y)
+    ∙ ap (λ front. front ++ map (share Open) (unless_empty (settled_rest limit (cut_up limit ((cut_up limit x).rest ++ y)).rest)))
     (map-append (share Closed) (cut_up limit x).full (cut_up limit ((cut_up limit x).rest ++ y)).full)
     ∙ append_assoc (map (share Closed) (cut_up limit x).full) _ _
 
-pub parts_on : (limit : Limit) (x y : List ℕ)
-    → parts limit (x ++ y) ≡ (cut_up limit x).full ++ parts limit ((cut_up limit x).rest ++ y)
-parts_on limit x y = ap (λ cut. cut.full ++ unless_empty cut.rest) (cut_on limit x y)
-    ∙ append_assoc (cut_up limit x).full _ _
+pub parts_on : (limit : Limit) (x y : List ℕ) → parts limit (x ++ y) ≡ (cut_up limit x).full ++ parts limit ((cut_up limit x).rest ++ y)
+parts_on limit x y = ap (λ cut. cut.full ++ unless_empty cut.rest) (cut_on limit x y) ∙ append_assoc (cut_up limit x).full _ _
 
 -- a text with a full part has that as its first
-pub cut_first : (limit : Limit) (x : List ℕ) → is_full limit x ≡ true
-    → cut_up limit x ≡ cut_so (first_part limit x ∷ (cut_up limit (after_first limit x)).full)
+pub cut_first : (limit : Limit) (x : List ℕ) → is_full limit x ≡ true → cut_up limit x ≡ cut_so (first_part limit x ∷ (cut_up limit (after_first limit x)).full)
     (cut_up limit (after_first limit x)).rest
-cut_first limit x full = cut_once limit x _ _ (goes x _ _ full (cuts_up limit (after_first limit x)))
+cut_first limit x full = cut_once limit (goes x _ _ full (cuts_up))
 
 -- an open share begins one of more bytes, whatever its state
 opens_more : (state : State) (low high : List ℕ) → IsBeginning low high
@@ -178,22 +150,16 @@ opens_more state (byte ∷ low) [] (rest, is) = absurd (cc)
 opens_more state (byte ∷ low) (first ∷ high) begins = (inl refl, begins, tt)
 
 rest_begins_by : (limit : Limit) (rest y : List ℕ) (full : Bool) → is_full limit (rest ++ y) ≡ full
-    → is_full limit rest ≡ false → SharesBegin (map (share Open) (unless_empty (settled_rest limit rest)))
-    (settled_parts limit (rest ++ y))
-rest_begins_by limit rest y true full short =
-    subst (λ cut. SharesBegin (map (share Open) (unless_empty (settled_rest limit rest)))
-    (map (share Closed) cut.full ++ map (share Open) (unless_empty (settled_rest limit cut.rest))))
-    (sym (cut_first limit (rest ++ y) full))
-    (in_first (settled_rest limit rest) _
-    (settled_in_full limit rest y (short_some limit rest short (full_some limit (rest ++ y) full).0))) where
+    → is_full limit rest ≡ false → SharesBegin (map (share Open) (unless_empty (settled_rest limit rest))) (settled_parts limit (rest ++ y))
+rest_begins_by limit rest y true full short = subst (λ cut. SharesBegin (map (share Open) (unless_empty (settled_rest limit rest)))
+    (map (share Closed) cut.full ++ map (share Open) (unless_empty (settled_rest limit cut.rest)))) (sym (cut_first limit (rest ++ y) full))
+    (in_first (settled_rest limit rest) _ (settled_in_full limit rest y (short_some limit rest short (full_some limit (rest ++ y) full).0))) where
       in_first : (low : List ℕ) (more : List Share) → IsBeginning low (first_part limit (rest ++ y))
           → SharesBegin (map (share Open) (unless_empty low)) (share Closed (first_part limit (rest ++ y)) ∷ more)
       in_first [] more begins = tt
       in_first (byte ∷ low) more begins = (inl refl, begins, tt)
-rest_begins_by limit rest y false full short =
-    subst (λ cut. SharesBegin (map (share Open) (unless_empty (settled_rest limit rest)))
-    (map (share Closed) cut.full ++ map (share Open) (unless_empty (settled_rest limit cut.rest))))
-    (sym (cut_none limit (rest ++ y) full))
+rest_begins_by limit rest y false full short = subst (λ cut. SharesBegin (map (share Open) (unless_empty (settled_rest limit rest)))
+    (map (share Closed) cut.full ++ map (share Open) (unless_empty (settled_rest limit cut.rest)))) (sym (cut_none limit (rest ++ y) full))
     (opens_more Open (settled_rest limit rest) (settled_rest limit (rest ++ y)) (settled_in_rest limit rest y))
 
 pub rest_begins : (limit : Limit) (rest y : List ℕ) → is_full limit rest ≡ false
@@ -202,17 +168,12 @@ rest_begins limit rest y short = rest_begins_by limit rest y (is_full limit (res
 
 -- what is written stays
 pub settled_grow : (limit : Limit) (x y : List ℕ) → SharesBegin (settled_parts limit x) (settled_parts limit (x ++ y))
-settled_grow limit x y =
-    subst (SharesBegin (settled_parts limit x)) (sym (settled_on limit x y))
-    (shares_after (map (share Closed) (cut_up limit x).full) _ _
+settled_grow limit x y = subst (SharesBegin (settled_parts limit x)) (sym (settled_on limit x y)) (shares_after (map (share Closed) (cut_up limit x).full) _ _
     (rest_begins limit (cut_up limit x).rest y (rest_short limit x)))
 
 pub settled_end : (limit : Limit) (x : List ℕ) → SharesBegin (settled_parts limit x) (whole_parts limit x)
-settled_end limit x =
-    subst (SharesBegin (settled_parts limit x))
-    (sym (map-append (share Closed) (cut_up limit x).full (unless_empty (cut_up limit x).rest)))
-    (shares_after (map (share Closed) (cut_up limit x).full) _ _
-    (opens_more Closed (settled_rest limit (cut_up limit x).rest) (cut_up limit x).rest
+settled_end limit x = subst (SharesBegin (settled_parts limit x)) (sym (map-append (share Closed) (cut_up limit x).full (unless_empty (cut_up limit x).rest)))
+    (shares_after (map (share Closed) (cut_up limit x).full) _ _ (opens_more Closed (settled_rest limit (cut_up limit x).rest) (cut_up limit x).rest
     (settled_in_whole limit (cut_up limit x).rest)))
 
 -- there are as many shares as the text has parts
@@ -225,29 +186,21 @@ unless_count (byte ∷ low) [] some back = absurd (let none : 0 < 0 = back (omeg
 unless_count (byte ∷ low) (first ∷ high) some back = refl
 
 pub settled_count : (limit : Limit) (x : List ℕ) → length (settled_parts limit x) ≡ length (parts limit x)
-settled_count limit x =
-    length-append (map (share Closed) (cut_up limit x).full) _
-    ∙ ap (λ n. n + length (map (share Open) (unless_empty (settled_rest limit (cut_up limit x).rest))))
-    (length-map (cut_up limit x).full (share Closed))
-    ∙ ap (λ n. length (cut_up limit x).full + n)
-    (length-map (unless_empty (settled_rest limit (cut_up limit x).rest)) (share Open)
-    ∙ unless_count _ _ (settled_some limit (cut_up limit x).rest) few)
-    ∙ sym (length-append (cut_up limit x).full (unless_empty (cut_up limit x).rest)) where
+settled_count limit x = length-append (map (share Closed) (cut_up limit x).full) _
+    ∙ ap (λ n. n + length (map (share Open) (unless_empty (settled_rest limit (cut_up limit x).rest)))) (length-map (cut_up limit x).full (share Closed))
+    ∙ ap (λ n. length (cut_up limit x).full + n) (length-map (unless_empty (settled_rest limit (cut_up limit x).rest)) (share Open)
+    ∙ unless_count _ _ (settled_some limit (cut_up limit x).rest) few) ∙ sym (length-append (cut_up limit x).full (unless_empty (cut_up limit x).rest)) where
       few : 0 < length (settled_rest limit (cut_up limit x).rest) → 0 < length (cut_up limit x).rest
       few some = let begins = settled_in_whole limit (cut_up limit x).rest in
-          let size : length (cut_up limit x).rest
-          ≡ length (settled_rest limit (cut_up limit x).rest) + length begins.0 = ap length begins.1
-          ∙ length-append (settled_rest limit (cut_up limit x).rest) begins.0 in omega (arith, some)
+          omega (arith, ap length begins.1 ∙ length-append (settled_rest limit (cut_up limit x).rest) begins.0, some)
 
 -- Once names ran out, nothing more is written.
 
-are_named_by : (names : Naming) (count place : ℕ) → are_named names count ≡ false → count ≤ place + 1
-    → is_named names place ≡ false
+are_named_by : (names : Naming) (count place : ℕ) → are_named names count ≡ false → count ≤ place + 1 → is_named names place ≡ false
 are_named_by names zero place none few = absurd (false≢true (sym none))
 are_named_by names (suc last) place none few = no_more names last place none (omega arith)
 
-pub are_named_more : (names : Naming) (count more : ℕ) → are_named names count ≡ false → count ≤ more
-    → are_named names more ≡ false
+pub are_named_more : (names : Naming) (count more : ℕ) → are_named names count ≡ false → count ≤ more → are_named names more ≡ false
 are_named_more names zero more none few = absurd (false≢true (sym none))
 are_named_more names (suc last) zero none few = absurd (omega (arith, few))
 are_named_more names (suc last) (suc more) none few = no_more names last more none (omega arith)
@@ -255,40 +208,31 @@ are_named_more names (suc last) (suc more) none few = no_more names last more no
 parts_few : (limit : Limit) (x : List ℕ) → length (parts limit x) ≤ length (cut_up limit x).full + 1
 parts_few limit x = by (cut_up limit x).full (cut_up limit x).rest where
   by : (full : List (List ℕ)) (rest : List ℕ) → length (full ++ unless_empty rest) ≤ length full + 1
-  by full [] = let size : length (full ++ unless_empty []) ≡ length full + length (unless_empty []) =
-      length-append full (unless_empty []) in omega arith
-  by full (byte ∷ rest) = let size : length (full ++ unless_empty (byte ∷ rest))
-      ≡ length full + length (unless_empty (byte ∷ rest)) =
-      length-append full (unless_empty (byte ∷ rest)) in omega arith
+  by full [] = omega (arith, length-append full (unless_empty []))
+  by full (byte ∷ rest) = omega (arith, length-append full (unless_empty (byte ∷ rest)))
 
 place_nameless : (names : Naming) (limit : Limit) (x : List ℕ) → are_named names (length (parts limit x)) ≡ false
     → is_named names (0 + length (map (share Closed) (cut_up limit x).full)) ≡ false
-place_nameless names limit x short = are_named_by names (length (parts limit x)) _ short
-    (let size : length (map (share Closed) (cut_up limit x).full)
-    ≡ length (cut_up limit x).full = length-map (cut_up limit x).full (share Closed) in
-    let few : length (parts limit x) ≤ length (cut_up limit x).full + 1 = parts_few limit x in omega arith)
+place_nameless names limit x short = are_named_by names (length (parts limit x)) _ short (omega (arith, length-map (cut_up limit x).full (share Closed), parts_few limit x))
 
 -- the files are those of the full parts alone
 pub files_settled : (names : Naming) (limit : Limit) (x y : List ℕ) → are_named names (length (parts limit x)) ≡ false
     → named names 0 (settled_parts limit (x ++ y)) ≡ named names 0 (map (share Closed) (cut_up limit x).full)
 files_settled names limit x y short =
-    ap (named names 0) (settled_on limit x y)
-    ∙ named_short names 0 (map (share Closed) (cut_up limit x).full) _ (place_nameless names limit x short)
+    ap (named names 0) (settled_on limit x y) ∙ named_short names 0 (map (share Closed) (cut_up limit x).full) _ (place_nameless names limit x short)
 
 pub files_whole : (names : Naming) (limit : Limit) (x y : List ℕ) → are_named names (length (parts limit x)) ≡ false
     → named names 0 (whole_parts limit (x ++ y)) ≡ named names 0 (map (share Closed) (cut_up limit x).full)
 files_whole names limit x y short =
-    ap (λ those. named names 0 (map (share Closed) those)) (parts_on limit x y)
-    ∙ ap (named names 0) (map-append (share Closed) (cut_up limit x).full _)
+    ap (λ those. named names 0 (map (share Closed) those)) (parts_on limit x y) ∙ ap (named names 0) (map-append (share Closed) (cut_up limit x).full _)
     ∙ named_short names 0 (map (share Closed) (cut_up limit x).full) _ (place_nameless names limit x short)
+
+pub shares_fewer : (low high : List Share) → SharesBegin low high → length low ≤ length high
+shares_fewer [] high begins = omega arith
+shares_fewer (share ∷ low) [] begins = absurd begins
+shares_fewer (share ∷ low) (whole ∷ high) begins = omega (arith, shares_fewer low high begins.2)
 
 -- a text that goes on has no fewer parts
 pub parts_grow : (limit : Limit) (x y : List ℕ) → length (parts limit x) ≤ length (parts limit (x ++ y))
 parts_grow limit x y = subst (λ n. n ≤ length (parts limit (x ++ y))) (settled_count limit x)
-    (subst (λ n. length (settled_parts limit x) ≤ n) (settled_count limit (x ++ y))
-    (shares_fewer _ _ (settled_grow limit x y))) where
-      shares_fewer : (low high : List Share) → SharesBegin low high → length low ≤ length high
-      shares_fewer [] high begins = omega arith
-      shares_fewer (share ∷ low) [] begins = absurd begins
-      shares_fewer (share ∷ low) (whole ∷ high) begins = let few : length low ≤ length high =
-          shares_fewer low high begins.2 in omega arith
+    (subst (λ n. length (settled_parts limit x) ≤ n) (settled_count limit (x ++ y)) (shares_fewer _ _ (settled_grow limit x y)))

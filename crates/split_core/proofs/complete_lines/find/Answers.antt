@@ -5,5 +5,5 @@ use Rattle.split_core.proofs.AheadLemmas.{sees_further}
 use Rattle.split_core.proofs.complete_lines.find.Goals as goal
 
 pub blocks-2-preserved : goal.blocks-2-preserved
-blocks-2-preserved c = sees_further c.args.delim c.args.text.now c.blocks-2.ahead _ _ _ c.blocks-2.invariant c.blocks-2-test.true refl c.min.ensures
+blocks-2-preserved c = sees_further _ c.blocks-2.invariant c.blocks-2-test.true refl c.min.ensures
     (c.mask_of.ensures ∙ ap (λ those. delimiter_mask c.args.delim (take 64 those)) (take_rest c.args.text.now (c.blocks-2.ahead.passed + c.blocks-2.ahead.width)))

@@ -1,24 +1,23 @@
 use Rattle.std.proofs.Common.{◌+◌, ap, subst, ◌∙◌}
 use Rattle.std.proofs.lemmas.List.{length-map}
 use Rattle.tee_core.specs.inner.Steps.{HasStreams}
-use Rattle.tee_core.specs.Run.{said_of_input}
-use Rattle.tee_core.proofs.CopyLemmas.{copies_ready, known_many}
-use Rattle.tee_core.proofs.CloseLemmas.{closed_next, closing_said, ending_streams}
+use Rattle.tee_core.proofs.CopyLemmas.{after_streams, copies_ready, known_many}
+use Rattle.tee_core.proofs.CloseLemmas.{closed_next, closing_said}
 use Rattle.tee_core.proofs.run.close_all.Goals as goal
 
 pub close-requires : goal.close-requires
-close-requires g c = λ live. let (mode, pieces, messages, copies) = c.requires.copies in copies_ready _ mode _ pieces _ _ _ _ c.requires.tee copies
+close-requires g c = λ live. let (mode, pieces, messages, copies) = c.requires.copies in copies_ready _ mode _ c.requires.tee copies
 
 pub tell_broken-requires-clause-streams : goal.tell_broken-requires-clause-streams
 tell_broken-requires-clause-streams g c =
     let (mode, pieces, messages, copies) = c.requires.copies in
-    subst (HasStreams (g.O.Outs.slots c.close.new.outs)) (length-map c.args.names.now _) (ending_streams _ mode _ pieces messages _ _ _ _ c.requires.tee copies (c.close.ensures.closes c.requires.tee.live))
+    subst (HasStreams (g.O.Outs.slots c.close.new.outs)) (length-map c.args.names.now _) (after_streams _ mode _ (closed_next _ mode _ c.requires.tee copies (c.close.ensures.closes c.requires.tee.live)))
 
 pub tell_broken-requires-clause-known : goal.tell_broken-requires-clause-known
 tell_broken-requires-clause-known g c =
     let (mode, pieces, messages, copies) = c.requires.copies in
-    known_many _ mode _ pieces _ _ _ copies ∙ ap (λ n. n + 1) (length-map c.args.names.now _)
+    known_many _ mode _ copies ∙ ap (λ n. n + 1) (length-map c.args.names.now _)
 
 pub returns : goal.returns
 returns g c mode pieces fault copies =
-    closing_said _ mode _ pieces fault _ _ _ _ _ copies (closed_next _ mode _ pieces (said_of_input fault) _ _ _ _ c.requires.tee copies (c.close.ensures.closes c.requires.tee.live)) c.tell_broken.ensures.said c.tell_broken.ensures.known
+    closing_said _ mode _ copies (closed_next _ mode _ c.requires.tee copies (c.close.ensures.closes c.requires.tee.live)) c.tell_broken.ensures.said c.tell_broken.ensures.known

@@ -5,17 +5,17 @@ use Rattle.split_core.proofs.AheadLemmas.{none_seen, seen_at, split_line, split_
 use Rattle.split_core.proofs.complete_lines.CompleteLines.next.Goals as goal
 
 pub returns-then-ahead-eq0-clause-none : goal.returns-then-ahead-eq0-clause-none
-returns-then-ahead-eq0-clause-none c = sym (ap (λ (left : LinesLeft). delimiters left.delim left.text) c.self.view_is) ∙ none_seen _ _ _ c.find-ahead.ensures.sees c.if-ahead-eq0.true (c.find-ahead.ensures.found c.if-ahead-eq0.true)
+returns-then-ahead-eq0-clause-none c = sym (ap (λ (left : LinesLeft). delimiters left.delim left.text) c.self.view_is) ∙ none_seen c.find-ahead.ensures.sees c.if-ahead-eq0.true (c.find-ahead.ensures.found c.if-ahead-eq0.true)
 
 pub split_at-requires : goal.split_at-requires
-split_at-requires c = let first = (seen_at _ _ _ c.find-ahead.ensures.sees c.if-ahead-eq0.false).0 in let within = first.within in omega arith
+split_at-requires c = let first = (seen_at c.find-ahead.ensures.sees c.if-ahead-eq0.false).0 in omega (arith, first.within)
 
 pub overflow_sub-self : goal.overflow_sub-self
-overflow_sub-self c = let inside = (seen_at _ _ _ c.find-ahead.ensures.sees c.if-ahead-eq0.false).1 in omega arith
+overflow_sub-self c = omega (arith, (seen_at c.find-ahead.ensures.sees c.if-ahead-eq0.false).1)
 
 pub invariant_of-self : goal.invariant_of-self
-invariant_of-self c = split_rest _ _ _ c.find-ahead.result c.find-ahead.ensures.sees c.if-ahead-eq0.false c.split_at.ensures.back
+invariant_of-self c = split_rest c.find-ahead.ensures.sees c.if-ahead-eq0.false c.split_at.ensures.back
 
 pub returns-clause-some : goal.returns-clause-some
 returns-clause-some c = subst (λ (left : LinesLeft). IsFirstLine left.delim left.text c.split_at.result.0.now c.split_at.result.1.now) c.self.view_is
-    (split_line _ _ _ _ _ c.find-ahead.result refl c.find-ahead.ensures.sees c.if-ahead-eq0.false c.split_at.ensures.front c.split_at.ensures.back)
+    (split_line _ refl c.find-ahead.ensures.sees c.if-ahead-eq0.false c.split_at.ensures.front c.split_at.ensures.back)

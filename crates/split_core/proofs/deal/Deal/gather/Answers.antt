@@ -7,12 +7,12 @@ use Rattle.split_core.proofs.DealLemmas.{by_delimiter, line_goes_on, line_goes_r
 use Rattle.split_core.proofs.deal.Deal.gather.Goals as goal
 
 pub append_to-requires-clause-enough : goal.append_to-requires-clause-enough
-append_to-requires-clause-enough c = no_longer _ _ _ _ _ c.in-Some.ensures.some c.lines.invariant.1
+append_to-requires-clause-enough c = no_longer _ c.in-Some.ensures.some c.lines.invariant.1
 
 pub lines-preserved-then-next-count : goal.lines-preserved-then-next-count
 lines-preserved-then-next-count c = (
-  line_goes_on _ _ _ _ c.lines.self-inside.gathered.items _ c.lines.next c.lines.reached c.len-count.result _ _ _ c.lines.invariant.0 (by_delimiter _ _ _ _ _ c.lines.invariant.2 c.in-Some.ensures.some)
-      (c.in_ok-append_to.ensures.ok ∙ ap (λ (line : List ℕ). changed_at c.lines.next (λ had. had ++ line) c.lines.self-inside.gathered.items) (first_taken _ _ _ _ _ (by_delimiter _ _ _ _ _ c.lines.invariant.2 c.in-Some.ensures.some) c.lines.invariant.1))
+  line_goes_on c.lines.reached _ c.lines.invariant.0 (by_delimiter _ _ _ c.lines.invariant.2 c.in-Some.ensures.some)
+      (c.in_ok-append_to.ensures.ok ∙ ap (λ (line : List ℕ). changed_at c.lines.next (λ had. had ++ line) c.lines.self-inside.gathered.items) (first_taken _ (by_delimiter _ _ _ c.lines.invariant.2 c.in-Some.ensures.some) c.lines.invariant.1))
       (let view : length c.self.inside.gathered.items ≡ length c.args.self.now.gathered = ap (λ (deal : DealState). length deal.gathered) c.self.view_is in omega (arith, view, c.len-count.ensures, c.clear.ensures.count)) c.if-next-count.true,
   c.rest-left.ensures,
   c.next.ensures.same ∙ c.lines.invariant.2,
@@ -22,8 +22,8 @@ lines-preserved-then-next-count c = (
 
 pub lines-preserved : goal.lines-preserved
 lines-preserved c = (
-  line_goes_round _ _ _ _ c.lines.self-inside.gathered.items _ c.lines.next c.lines.reached c.len-count.result _ _ _ c.lines.invariant.0 (by_delimiter _ _ _ _ _ c.lines.invariant.2 c.in-Some.ensures.some)
-      (c.in_ok-append_to.ensures.ok ∙ ap (λ (line : List ℕ). changed_at c.lines.next (λ had. had ++ line) c.lines.self-inside.gathered.items) (first_taken _ _ _ _ _ (by_delimiter _ _ _ _ _ c.lines.invariant.2 c.in-Some.ensures.some) c.lines.invariant.1))
+  line_goes_round c.lines.reached _ c.lines.invariant.0 (by_delimiter _ _ _ c.lines.invariant.2 c.in-Some.ensures.some)
+      (c.in_ok-append_to.ensures.ok ∙ ap (λ (line : List ℕ). changed_at c.lines.next (λ had. had ++ line) c.lines.self-inside.gathered.items) (first_taken _ (by_delimiter _ _ _ c.lines.invariant.2 c.in-Some.ensures.some) c.lines.invariant.1))
       (let view : length c.self.inside.gathered.items ≡ length c.args.self.now.gathered = ap (λ (deal : DealState). length deal.gathered) c.self.view_is in omega (arith, view, c.len-count.ensures, c.clear.ensures.count)) (omega (arith, c.if-next-count.false)),
   c.rest-left.ensures,
   c.next.ensures.same ∙ c.lines.invariant.2,
@@ -32,10 +32,10 @@ lines-preserved c = (
 )
 
 at_end : (c : goal.After-max) → Gathers c.args.self.now.delim (length c.args.self.now.gathered) c.args.self.now.next c.args.piece.now c.lines.self-inside.gathered.items c.lines.next (max c.lines.reached c.lines.next)
-at_end c = ends_here _ _ _ _ _ _ _ _ _ c.lines.invariant.0 (c.rest-open.ensures ∙ ap (λ (left : LinesLeft). left.text) c.in_default.ensures.stays) (sym c.if-is_empty.ensures)
+at_end c = ends_here _ c.lines.invariant.0 (c.rest-open.ensures ∙ ap (λ (left : LinesLeft). left.text) c.in_default.ensures.stays) (sym c.if-is_empty.ensures)
 
 at_open : (c : goal.After-max-2) → Gathers c.args.self.now.delim (length c.args.self.now.gathered) c.args.self.now.next c.args.piece.now c.append_to-2.new.gathered.items c.lines.next c.max-2.result
-at_open c = ends_open _ _ _ _ c.lines.self-inside.gathered.items _ _ (max c.lines.reached c.lines.next) _ _ _ c.lines.invariant.0 (c.rest-open.ensures ∙ ap (λ (left : LinesLeft). left.text) c.in_default.ensures.stays) (subst (λ d. delimiters d c.lines.lines.text ≡ 0) c.lines.invariant.2 c.in_default.ensures.none) (sym c.if-is_empty.ensures)
+at_open c = ends_open _ c.lines.invariant.0 (c.rest-open.ensures ∙ ap (λ (left : LinesLeft). left.text) c.in_default.ensures.stays) (subst (λ d. delimiters d c.lines.lines.text ≡ 0) c.lines.invariant.2 c.in_default.ensures.none) (sym c.if-is_empty.ensures)
     (c.in_ok-append_to-2.ensures.ok ∙ ap (λ (line : List ℕ). changed_at c.lines.next (λ had. had ++ line) c.lines.self-inside.gathered.items) (take_all (length c.rest-open.result.now) c.rest-open.result.now (omega arith))) (omega (arith, c.max-2.ensures))
 
 pub returns-then-is_empty-clause-gathered : goal.returns-then-is_empty-clause-gathered

@@ -13,16 +13,16 @@ pub returns-in_err-deal-clause-cut : goal.returns-in_err-deal-clause-cut
 returns-in_err-deal-clause-cut g c = fault_is _ _ _ c.from_residual.ensures.1 (λ before at. stopped_here g.O.Outs.told before nothing _ Memory _ _ at (nothing_begins_part _) refl tt)
 
 pub returns-in_err-open_first-clause-cut : goal.returns-in_err-open_first-clause-cut
-returns-in_err-open_first-clause-cut g c = fault_is _ _ _ c.from_residual-in_err-open_first.ensures.1 (opens_short c.args.delim g.O.Outs.told c.args.elide c.args.names c.args.count c.opened_at_start.result c.new-files.result (g.O.Outs.slots c.args.outs.now) (g.O.Outs.slots c.open_first.new.outs) c.in_err-open_first.field-0.0 c.new-files.ensures c.requires.fresh c.requires.enough (c.opened_at_start.ensures ∙ starts_with c.args.delim c.args.elide c.args.count) c.in_err-open_first.ensures.cut)
+returns-in_err-open_first-clause-cut g c = fault_is _ _ _ c.from_residual-in_err-open_first.ensures.1 (opens_short c.args.delim g.O.Outs.told c.args.elide c.args.names c.args.count c.new-files.ensures c.requires.fresh c.requires.enough (c.opened_at_start.ensures ∙ starts_with c.args.delim c.args.elide c.args.count) c.in_err-open_first.ensures.adds)
 
 pub returns-clause-outputs : goal.returns-clause-outputs
-returns-clause-outputs g c = opens_all c.args.delim g.O.Outs.told c.args.elide c.args.names c.args.count c.opened_at_start.result c.new-files.result c.open_first.new.self (g.O.Outs.slots c.args.outs.now) (g.O.Outs.slots c.open_first.new.outs) c.new-files.ensures c.requires.fresh c.requires.enough (c.opened_at_start.ensures ∙ starts_with c.args.delim c.args.elide c.args.count) c.in_ok-open_first.ensures.became
+returns-clause-outputs g c = opens_all c.args.delim g.O.Outs.told c.args.elide c.args.names c.args.count c.new-files.ensures c.requires.fresh c.requires.enough (c.opened_at_start.ensures ∙ starts_with c.args.delim c.args.elide c.args.count) c.in_ok-open_first.ensures.adds
 
 pub returns-clause-owns : goal.returns-clause-owns
-returns-clause-owns g c = opens_own g.O.Outs.told c.args.names c.opened_at_start.result c.new-files.result c.open_first.new.self (g.O.Outs.slots c.args.outs.now) (g.O.Outs.slots c.open_first.new.outs) c.new-files.ensures c.in_ok-open_first.ensures.became
+returns-clause-owns g c = opens_own g.O.Outs.told c.args.names _ c.new-files.ensures c.in_ok-open_first.ensures.adds
 
 pub returns-clause-does : goal.returns-clause-does
 returns-clause-does g c =
     ap (λ d. round_work (round_plan d (length c.in_ok-deal.deal.gathered) c.args.elide (from_start c.open_first.new.self.names))) c.in_ok-deal.ensures.delim
     ∙ ap (λ n. round_work (round_plan c.args.delim n c.args.elide (from_start c.open_first.new.self.names))) c.in_ok-deal.ensures.count
-    ∙ does_all c.args.delim c.args.names c.open_first.new.self.names c.args.elide c.args.count c.requires.fresh c.requires.enough (c.open_first.ensures.names ∙ ap (λ (files : FilesState). from_start files.names) c.new-files.ensures)
+    ∙ does_all c.args.delim c.args.names c.open_first.new.self.names c.args.elide c.args.count c.requires.fresh c.requires.enough (c.in_ok-open_first.ensures.adds.names ∙ ap (λ (files : FilesState). from_start files.names) c.new-files.ensures)

@@ -25,11 +25,8 @@ returns-in-Round-clause-outputs g c =
     (sym c.in-Round.is) c.in_ok-round-in-Round.ensures.outputs
 
 pub returns-clause-does : goal.returns-clause-does
-returns-clause-does g c =
-    ap (λ (engine : GuardState Splitter). work engine.stage) c.new-2.ensures
-    ∙ c.in_ok-parts.ensures.does
-    ∙ elim c.match-cut.branch [
-      | in-Lines w ↦ by_limit c.args.names w.limit-is ∙ sym (by_cut c.args.delim c.args.elide c.args.names w.in-Lines.is)
-      | in-Bytes w ↦ by_limit c.args.names w.limit-is ∙ sym (by_cut c.args.delim c.args.elide c.args.names w.in-Bytes.is)
-      | in-LineBytes w ↦ by_limit c.args.names w.limit-is ∙ sym (by_cut c.args.delim c.args.elide c.args.names w.in-LineBytes.is)
-    ]
+returns-clause-does g c = ap (λ (engine : GuardState Splitter). work engine.stage) c.new-2.ensures ∙ c.in_ok-parts.ensures.does ∙ elim c.match-cut.branch [
+  | in-Lines w ↦ by_limit c.args.names w.limit-is ∙ sym (by_cut c.args.delim c.args.elide c.args.names w.in-Lines.is)
+  | in-Bytes w ↦ by_limit c.args.names w.limit-is ∙ sym (by_cut c.args.delim c.args.elide c.args.names w.in-Bytes.is)
+  | in-LineBytes w ↦ by_limit c.args.names w.limit-is ∙ sym (by_cut c.args.delim c.args.elide c.args.names w.in-LineBytes.is)
+]
