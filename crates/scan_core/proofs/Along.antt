@@ -21,19 +21,19 @@ pub record IsPlace (line : List ℕ) (place : ℕ) (at_first at_last : Bool) : T
   pub first : IsTrue at_first ↔ (place ≡ 0)
   pub last : IsTrue at_last ↔ (place ≡ length line)
 
-pub flow_goes : (node : Node) (line : List ℕ) (place : ℕ) (at_first at_last : Bool) (from to : ℕ) → IsPlace line place at_first at_last → LeadsOn node at_first at_last from to → Leads node line from place to place
-flow_goes (Take bytes) line place f l from to p h = absurd h
-flow_goes First line place f l from to p h = (h.1, refl, p.first.0 h.0)
-flow_goes Last line place f l from to p h = (h.1, refl, p.last.0 h.0)
-flow_goes (Choose skip) line place f l from to p h = (h, refl)
-flow_goes (Back by) line place f l from to p h = (h, refl)
+pub flow_goes : (node : Node) (line : List ℕ) {place : ℕ} {at_first at_last : Bool} (from to : ℕ) → IsPlace line place at_first at_last → LeadsOn node at_first at_last from to → Leads node line from place to place
+flow_goes (Take bytes) line from to p h = absurd h
+flow_goes First line from to p h = (h.1, refl, p.first.0 h.0)
+flow_goes Last line from to p h = (h.1, refl, p.last.0 h.0)
+flow_goes (Choose skip) line from to p h = (h, refl)
+flow_goes (Back by) line from to p h = (h, refl)
 
-goes_flow : (node : Node) (line : List ℕ) (place : ℕ) (at_first at_last : Bool) (from to : ℕ) → IsPlace line place at_first at_last → Leads node line from place to place → LeadsOn node at_first at_last from to
-goes_flow (Take bytes) line place f l from to p h = absurd (omega (arith, h.1))
-goes_flow First line place f l from to p h = (p.first.1 h.2, h.0)
-goes_flow Last line place f l from to p h = (p.last.1 h.2, h.0)
-goes_flow (Choose skip) line place f l from to p h = h.0
-goes_flow (Back by) line place f l from to p h = h.0
+goes_flow : (node : Node) (line : List ℕ) {place : ℕ} {at_first at_last : Bool} (from to : ℕ) → IsPlace line place at_first at_last → Leads node line from place to place → LeadsOn node at_first at_last from to
+goes_flow (Take bytes) line from to p h = absurd (omega (arith, h.1))
+goes_flow First line from to p h = (p.first.1 h.2, h.0)
+goes_flow Last line from to p h = (p.last.1 h.2, h.0)
+goes_flow (Choose skip) line from to p h = h.0
+goes_flow (Back by) line from to p h = h.0
 
 -- a step stays at its place or goes on by one
 leads_place : (node : Node) (line : List ℕ) (from place to place' : ℕ) → Leads node line from place to place' → (place' ≡ place) ⊎ ((place' ≡ place + 1) × (bytes : List Bool) × (node ≡ Take bytes) × (place < length line) × IsTrue (has bytes (slice_index line place)) × (to ≡ from + 1))
@@ -49,27 +49,27 @@ walk_forward code line (suc count) at place to stop w =
     let h = walk_forward code line count w.0 w.1 to stop w.3 in
     elim (leads_place w.2.0 line at place w.0 w.1 w.2.2) [ inl e ↦ omega (arith, e, h) | inr e ↦ omega (arith, e.0, h) ]
 
-pub entered_on : (code : List Node) (line : List ℕ) (at place to stop : ℕ) → Entered code line at place → Goes code line at place to stop → Entered code line to stop
-entered_on code line at place to stop e g = (e.0, e.1, path_on code line 0 e.0 at place to stop e.2 (1, (to, stop, g, (refl, refl))))
+pub entered_on : (code : List Node) (line : List ℕ) {at place to stop : ℕ} → Entered code line at place → Goes code line at place to stop → Entered code line to stop
+entered_on code line {at} {place} {to} {stop} e g = (e.0, e.1, path_on code line 0 e.0 at place to stop e.2 (1, (to, stop, g, (refl, refl))))
 
-pub closes_exact : (code : List Node) (line : List ℕ) (place : ℕ) (at_first at_last : Bool) (Old Now : ℕ → Type 0) → IsPlace line place at_first at_last → ((number : ℕ) → Old number ↔ Came code line place number)
+pub closes_exact : (code : List Node) (line : List ℕ) {place : ℕ} {at_first at_last : Bool} (Old Now : ℕ → Type 0) → IsPlace line place at_first at_last → ((number : ℕ) → Old number ↔ Came code line place number)
     → ((number : ℕ) → Now number ↔ ((from : ℕ) × (Old from ⊎ (from ≡ 0)) × FlowsOn code at_first at_last from number)) → (number : ℕ) → Now number ↔ Entered code line number place
-closes_exact code line place at_first at_last Old Now p came o number = (λ h. there number ((o number).0 h), λ e. here number e)
+closes_exact code line {place} {at_first} {at_last} Old Now p came o number = (λ h. there number ((o number).0 h), λ e. here number e)
   where
     flows : (count from to : ℕ) → Entered code line from place → Parts (Flows code at_first at_last) count from to → Entered code line to place
     flows zero from to e q = subst (λ n. Entered code line n place) q e
-    flows (suc count) from to e q = entered_on code line q.0 place to place (flows count from q.0 e q.1) (q.2.0, q.2.1, flow_goes q.2.0 line place at_first at_last q.0 to p q.2.2)
+    flows (suc count) from to e q = entered_on code line (flows count from q.0 e q.1) (q.2.0, q.2.1, flow_goes q.2.0 line q.0 to p q.2.2)
 
     there : (number : ℕ) → ((from : ℕ) × (Old from ⊎ (from ≡ 0)) × FlowsOn code at_first at_last from number) → Entered code line number place
     there number f = flows f.2.0 f.0 number (elim f.1 [
-      | inl h ↦ let c = (came f.0).0 h in entered_on code line c.2 c.0 f.0 place c.3 c.4
+      | inl h ↦ let c = (came f.0).0 h in entered_on code line c.3 c.4
       | inr e ↦ (place, p.within, (0, (sym e, refl)))
     ]) f.2.1
 
     close : (from to : ℕ) → Now from → Goes code line from place to place → Now to
     close from to h g =
         let was = (o from).0 h in
-        (o to).1 (was.0, was.1, (suc was.2.0, (from, was.2.1, (g.0, g.1, goes_flow g.0 line place at_first at_last from to p g.2))))
+        (o to).1 (was.0, was.1, (suc was.2.0, (from, was.2.1, (g.0, g.1, goes_flow g.0 line from to p g.2))))
 
     step : (at from at' from' : ℕ) → from ≤ place → Entered code line at from → (from ≡ place → Now at) → Goes code line at from at' from'
         → from' ≡ place → Now at'
@@ -83,16 +83,15 @@ closes_exact code line place at_first at_last Old Now p came o number = (λ h. t
     arrive : (count at from number : ℕ) → from ≤ place → Walks code line count at from number place → Entered code line at from → (from ≡ place → Now at) → Now number
     arrive zero at from number l w e h = subst Now w.0 (h w.1)
     arrive (suc count) at from number l w e h =
-        arrive count w.0 w.1 number (walk_forward code line count w.0 w.1 number place w.3) w.3 (entered_on code line at from w.0 w.1 e w.2)
-        (step at from w.0 w.1 l e h w.2)
+        arrive count w.0 w.1 number (walk_forward code line count w.0 w.1 number place w.3) w.3 (entered_on code line e w.2) (step at from w.0 w.1 l e h w.2)
 
     here : (number : ℕ) → Entered code line number place → Now number
     here number e =
         let l = walk_forward code line e.2.0 0 e.0 number place e.2.1 in
         arrive e.2.0 0 e.0 number l e.2.1 (e.0, e.1, (0, (refl, refl))) (λ q. (o 0).1 (0, inr refl, (0, refl)))
 
-pub inner : (line : List ℕ) (place : ℕ) (at_first : Bool) → place < length line → at_first ≡ (place == 0) → IsPlace line place at_first false
-inner line place at_first h f = record {
+pub inner : (line : List ℕ) {place : ℕ} {at_first : Bool} → place < length line → at_first ≡ (place == 0) → IsPlace line place at_first false
+inner line {place} h f = record {
   within = omega (arith, h);
   first = (λ t. eqb-true place 0 (sym f ∙ t), λ e. f ∙ eq-eqb place 0 e);
   last = (λ t. absurd (false≢true t), λ e. absurd (omega (arith, e, h)));
@@ -103,12 +102,12 @@ more_positions : (code : List Node) (sets : List (List Bool)) (set : List Bool) 
 more_positions code [] set = omega arith
 more_positions code (other ∷ sets) set = let r = more_positions code sets set in omega (arith, r)
 
-pub none_counted : (code : List Node) (line : List ℕ) → AreSteps code line 0 0
-none_counted code line = record { sets = []; all = refl; exact = λ place number h. absurd (omega (arith, h)); total = refl }
+pub none_counted : {code : List Node} (line : List ℕ) → AreSteps code line 0 0
+none_counted line = record { sets = []; all = refl; exact = λ place number h. absurd (omega (arith, h)); total = refl }
 
-pub one_counted : (code : List Node) (line : List ℕ) (place steps steps' : ℕ) (set : List Bool) → AreSteps code line place steps → ((number : ℕ) → IsMarked set number ↔ Entered code line number place) → steps' ≡ steps + positions_among code set
+pub one_counted : {code : List Node} (line : List ℕ) {place steps steps' : ℕ} (set : List Bool) → AreSteps code line place steps → ((number : ℕ) → IsMarked set number ↔ Entered code line number place) → steps' ≡ steps + positions_among code set
     → AreSteps code line (place + 1) steps'
-one_counted code line place steps steps' set a x e = record {
+one_counted {code} line {place} set a x e = record {
   sets = a.sets ++ set ∷ [];
   all = let l = length-append a.sets (set ∷ []) in omega (arith, l, a.all);
   exact = λ p number h. elim (cases_eq p place) [
@@ -118,23 +117,23 @@ one_counted code line place steps steps' set a x e = record {
   total = let m = more_positions code a.sets set in let t = a.total in omega (arith, m, t, e);
 }
 
-pub final : (line : List ℕ) (place : ℕ) (at_first : Bool) → place ≡ length line → at_first ≡ (length line == 0) → IsPlace line place at_first true
-final line place at_first h f = record {
+pub final : (line : List ℕ) {place : ℕ} {at_first : Bool} → place ≡ length line → at_first ≡ (length line == 0) → IsPlace line place at_first true
+final line h f = record {
   within = omega (arith, h);
   first = (λ t. h ∙ eqb-true (length line) 0 (sym f ∙ t), λ e. f ∙ eq-eqb (length line) 0 (sym h ∙ e));
   last = (λ t. h, λ e. refl);
 }
 
 -- the end is entered first at a place, and its steps are among all
-pub steps_before : (code : List Node) (line : List ℕ) (place steps all : ℕ) → place ≤ length line → Entered code line (length code) place
+pub steps_before : {code : List Node} (line : List ℕ) {place steps : ℕ} (all : ℕ) → place ≤ length line → Entered code line (length code) place
     → ((before : ℕ) → before < place → Entered code line (length code) before → ⊥) → AreSteps code line place steps → steps ≤ all → HasStepsBefore code line all
-steps_before code line place steps all within ends first counted least =
+steps_before line {place} {steps} all within ends first counted least =
     record { place = place; within = within; ends = ends; first = first; before = steps; counted = counted; least = least }
 
 -- what a byte leads to from all that was entered at a place
-pub came_exact : (code : List Node) (line : List ℕ) (place byte : ℕ) (Now : ℕ → Type 0) → ((number : ℕ) → Now number ↔ Entered code line number place) → place < length line → byte ≡ slice_index line place
+pub came_exact : (code : List Node) (line : List ℕ) (place : ℕ) {byte : ℕ} (Now : ℕ → Type 0) → ((number : ℕ) → Now number ↔ Entered code line number place) → place < length line → byte ≡ slice_index line place
     → (number : ℕ) → ((from : ℕ) × Now from × Passes code byte from number) ↔ Came code line (suc place) number
-came_exact code line place byte Now a h e number = (
+came_exact code line place Now a h e number = (
   λ k. (place, omega arith, k.0, (a k.0).0 k.1, (Take k.2.0, k.2.1, (k.2.3, omega arith, h, subst (λ b. IsTrue (has k.2.0 b)) e k.2.2))),
   λ c. elim (leads_place c.4.0 line c.2 c.0 number (suc place) c.4.2) [
     | inl s ↦ let q = c.1 in absurd (omega (arith, s, q))

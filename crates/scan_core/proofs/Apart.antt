@@ -26,12 +26,12 @@ pub record Apart (code : List Node) (landings : List Landing) (old now : List �
   pub from : (number : ℕ) → IsIn now number → (start : ℕ) × IsIn old start × FlowsOn code false false start number
   pub done : over ≡ 0 → (start to : ℕ) (at_first at_last : Bool) → start < 64 * count → IsIn now start → Flows code at_first at_last start to → IsIn now to ⊎ LandsOn landings (start / 64) (start % 64) to
 
-pub apart_starts : (code : List Node) (landings : List Landing) (old : List ℕ) → Apart code landings old old 0 0
-apart_starts code landings old = record { size = refl; kept = λ n h. h; from = λ n h. (n, h, (0, refl)); done = λ z start to f l h. absurd (omega (arith, h)) }
+pub apart_starts : {code : List Node} {landings : List Landing} {old : List ℕ} → Apart code landings old old 0 0
+apart_starts = record { size = refl; kept = λ n h. h; from = λ n h. (n, h, (0, refl)); done = λ z start to f l h. absurd (omega (arith, h)) }
 
-pub apart_skip : (code : List Node) (base : Base) (old now : List ℕ) (count over : ℕ) → Apart code base.landings.items old now count over → IsBase code base → ((number : ℕ) → IsIn base.words.items number → IsIn old number) → count < width code → bit_and (get_or now count 0) (get_or base.leads.items count 0) ≡ 0
+pub apart_skip : {code : List Node} {base : Base} {old now : List ℕ} {count : ℕ} (over : ℕ) → Apart code base.landings.items old now count over → IsBase code base → ((number : ℕ) → IsIn base.words.items number → IsIn old number) → count < width code → bit_and (get_or now count 0) (get_or base.leads.items count 0) ≡ 0
     → Apart code base.landings.items old now (count + 1) over
-apart_skip code base old now count over s b begun inside e = record {
+apart_skip {code} {base} {now} {count} over s b begun inside e = record {
   size = s.size;
   kept = s.kept;
   from = s.from;
@@ -49,9 +49,9 @@ apart_skip code base old now count over s b begun inside e = record {
   ];
 }
 
-pub apart_more : (code : List Node) (base : Base) (old now new : List ℕ) (count over over' all : ℕ) → Apart code base.landings.items old now count over → IsBase code base → ((number : ℕ) → IsIn base.words.items number → IsIn old number) → count < width code → length old ≡ width code
+pub apart_more : {code : List Node} {base : Base} {old now new : List ℕ} {count : ℕ} (over : ℕ) {over' : ℕ} (all : ℕ) → Apart code base.landings.items old now count over → IsBase code base → ((number : ℕ) → IsIn base.words.items number → IsIn old number) → count < width code → length old ≡ width code
     → Closes code count (get_or now count 0) all → new ≡ set now count (bit_or (get_or now count 0) all) → over' ≡ bit_or over (bit_and (bit_or (get_or now count 0) all) (get_or base.others.items count 0)) → Apart code base.landings.items old new (count + 1) over'
-apart_more code base old now new count over over' all s b begun inside size closes en eo = record {
+apart_more {code} {base} {now} {new} {count} over {over'} all s b begun inside size closes en eo = record {
   size = c.size ∙ s.size;
   kept = λ n k. c.kept n (s.kept n k);
   from = λ n k. let one = c.from n k in let two = s.from one.0 one.1 in (two.0, two.1, flows_join code false false one.2.0 two.0 one.0 n two.2 one.2.1);
@@ -64,7 +64,7 @@ apart_more code base old now new count over over' all s b begun inside size clos
 }
   where
     c : Closed code count now new
-    c = close_word code count (get_or now count 0) all now new (let e = s.size in omega (arith, e, size, inside)) refl closes en
+    c = close_word all (let e = s.size in omega (arith, e, size, inside)) refl closes en
 
     read : get_or new count 0 ≡ bit_or (get_or now count 0) all
     read = ap (λ w. get_or w count 0) en ∙ get_or-set_same now count (bit_or (get_or now count 0) all) 0 (let e = s.size in omega (arith, e, size, inside))
@@ -87,8 +87,8 @@ apart_more code base old now new count over over' all s b begun inside size clos
           | inr lands ↦ led start to here k (subst (λ n. Flows code false false n to) (sym same) lands.0) lands.1
         ]
 
-pub apart_ends : (code : List Node) (landings : List Landing) (old now : List ℕ) (count over : ℕ) → Apart code landings old now count over → length now ≤ count → ClosesWords code landings old now over
-apart_ends code landings old now count over s h = record {
+pub apart_ends : {code : List Node} {landings : List Landing} {old now : List ℕ} {count : ℕ} (over : ℕ) → Apart code landings old now count over → length now ≤ count → ClosesWords code landings old now over
+apart_ends {now} over s h = record {
   size = s.size;
   kept = s.kept;
   from = s.from;
@@ -97,7 +97,7 @@ apart_ends code landings old now count over s h = record {
 
 -- with the landings, all was entered
 pub spread_landed : (code : List Node) (landings : List Landing) (at_first at_last : Bool) (old now new : List ℕ) (over : ℕ) → ClosesWords code landings old now over → over ≡ 0 → HasLanded code landings now new → SpreadsOut code at_first at_last old new
-spread_landed code landings at_first at_last old now new over s z h = spreading_ends code at_first at_last old new (length new) (record {
+spread_landed code landings at_first at_last old now new over s z h = spreading_ends {code = code} {at_first = at_first} {at_last = at_last} {old = old} {now = new} {at = length new} (record {
   size = h.size ∙ s.size;
   kept = λ n k. h.kept n (s.kept n k);
   from = λ n k. elim (h.from n k) [
@@ -117,8 +117,8 @@ spread_landed code landings at_first at_last old now new over s z h = spreading_
     on n f = (f.0, f.1, (f.2.0, parts_anywhere code at_first at_last f.2.0 f.0 n f.2.1))
 
 -- what the closed words lead to, the words before led to
-pub spread_after : (code : List Node) (landings : List Landing) (at_first at_last : Bool) (old now new : List ℕ) (over : ℕ) → ClosesWords code landings old now over → SpreadsOut code at_first at_last now new → SpreadsOut code at_first at_last old new
-spread_after code landings at_first at_last old now new over s o = record {
+pub spread_after : {code : List Node} {landings : List Landing} {at_first at_last : Bool} {old now new : List ℕ} (over : ℕ) → ClosesWords code landings old now over → SpreadsOut code at_first at_last now new → SpreadsOut code at_first at_last old new
+spread_after {code} {at_first} {at_last} over s o = record {
   size = o.size ∙ s.size;
   exact = λ n. (
     λ k. let one = (o.exact n).0 k in let f = s.from one.0 one.1 in (f.0, f.1, flows_join code at_first at_last one.2.0 f.0 one.0 n (f.2.0, parts_anywhere code at_first at_last f.2.0 f.0 one.0 f.2.1) one.2.1),

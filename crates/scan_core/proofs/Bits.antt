@@ -39,10 +39,10 @@ marking_skip code So at count word before here bit at_first at_last to l f = eli
 ]
 
 -- a number's bit is set
-pub entered_one : (old new : List ℕ) (number word : ℕ) → number < 64 * length old → word ≡ get_or old (number / 64) 0
+pub entered_one : (old : List ℕ) {new : List ℕ} (number : ℕ) {word : ℕ} → number < 64 * length old → word ≡ get_or old (number / 64) 0
     → new ≡ set old (number / 64) (bit_or word (1 * 2 ^ (number % 64) % 2 ^ 64)) → (other : ℕ) → IsIn new other ↔ (IsIn old other ⊎ (other ≡ number))
 unfolding IsIn
-entered_one old new number word h ew en other = elim (cases_eq other number) [
+entered_one old {new} number {word} h ew en other = elim (cases_eq other number) [
   | inl same ↦
       let here = ap (λ n. bit_at (get_or new (n / 64) 0) (n % 64)) same ∙ ap (λ x. bit_at x (number % 64)) read in
       (λ k. inr same, λ k. here ∙ bit_at_set_same w64 word (number % 64) (omega arith))
@@ -54,17 +54,16 @@ entered_one old new number word h ew en other = elim (cases_eq other number) [
 
     elsewhere : (other ≡ number → ⊥) → bit_at (get_or new (other / 64) 0) (other % 64) ≡ bit_at (get_or old (other / 64) 0) (other % 64)
     elsewhere differs = elim (cases_eq (other / 64) (number / 64)) [
-      | inl same ↦
-          ap (λ k. bit_at (get_or new k 0) (other % 64)) same ∙ ap (λ x. bit_at x (other % 64)) read
+      | inl same ↦ ap (λ k. bit_at (get_or new k 0) (other % 64)) same ∙ ap (λ x. bit_at x (other % 64)) read
           ∙ bit_at_set_other w64 word (number % 64) (omega arith) (other % 64) (λ e. differs (omega (arith, e, same)))
           ∙ ap (λ x. bit_at x (other % 64)) ew ∙ ap (λ k. bit_at (get_or old k 0) (other % 64)) (sym same)
       | inr apart ↦ ap (λ x. bit_at x (other % 64)) (ap (λ l. get_or l (other / 64) 0) en ∙ get_or-set_other old (number / 64) (other / 64) (bit_or word (1 * 2 ^ (number % 64) % 2 ^ 64)) 0 apart)
     ]
 
 -- one number more
-pub grows_one : (old new : List ℕ) (number word before on : ℕ) → number < 64 * length old → (IsIn old number → ⊥) → word ≡ get_or old (number / 64) 0 → word < 2 ^ 64 → new ≡ set old (number / 64) (bit_or word (1 * 2 ^ (number % 64) % 2 ^ 64)) → on ≡ min before (number / 64)
+pub grows_one : {old new : List ℕ} (number : ℕ) {word before on : ℕ} → number < 64 * length old → (IsIn old number → ⊥) → word ≡ get_or old (number / 64) 0 → word < 2 ^ 64 → new ≡ set old (number / 64) (bit_or word (1 * 2 ^ (number % 64) % 2 ^ 64)) → on ≡ min before (number / 64)
     → Grows (λ other. other ≡ number) old new before on
-grows_one old new number word before on h none ew fits en eo = record {
+grows_one {old} {new} number {word} h none ew fits en eo = record {
   size = ap length en ∙ length-set old (number / 64) more;
   exact = is;
   low = omega (arith, eo);
@@ -77,7 +76,7 @@ grows_one old new number word before on h none ew fits en eo = record {
     more = bit_or word (1 * 2 ^ (number % 64) % 2 ^ 64)
 
     is : (other : ℕ) → IsIn new other ↔ (IsIn old other ⊎ (other ≡ number))
-    is = entered_one old new number word h ew en
+    is = entered_one old number h ew en
 
     larger : get_or old (number / 64) 0 < bit_or word (1 * 2 ^ (number % 64) % 2 ^ 64)
     larger = elim (cases_eq word (bit_or word (1 * 2 ^ (number % 64) % 2 ^ 64))) [
@@ -91,8 +90,8 @@ grows_one old new number word before on h none ew fits en eo = record {
     fuller = subst (λ l. unset l < unset old) (sym en) (unset-set old (number / 64) (bit_or word (1 * 2 ^ (number % 64) % 2 ^ 64)) (omega (arith, h)) larger
         (let m = or_lt 64 word (1 * 2 ^ (number % 64) % 2 ^ 64) fits (omega arith) in omega (arith, m)))
 
-pub grows_none : (Added : ℕ → Type 0) (old new : List ℕ) (before on : ℕ) → new ≡ old → on ≡ before → ((number : ℕ) → Added number → IsIn old number) → Grows Added old new before on
-grows_none Added old new before on same e within = subst (λ l. Grows Added old l before on) (sym same) (record {
+pub grows_none : (Added : ℕ → Type 0) {old new : List ℕ} {before on : ℕ} → new ≡ old → on ≡ before → ((number : ℕ) → Added number → IsIn old number) → Grows Added old new before on
+grows_none Added {old} {before} {on} same e within = subst (λ l. Grows Added old l before on) (sym same) (record {
   size = refl;
   exact = λ number. (λ h. inl h, elim [ inl h ↦ h | inr h ↦ within number h ]);
   low = omega (arith, e);

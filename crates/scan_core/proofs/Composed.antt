@@ -7,8 +7,8 @@ use Rattle.scan_core.specs.declared.node.Node.TheVariants.{Choose, Back}
 use Rattle.scan_core.specs.Code.{At, Leads, Goes, Walks, Path, maybe, starred}
 use Rattle.scan_core.proofs.Walks.{at_at, at-right, at-split, leads_unshift, walk-left, walk-right, walk_on, path_on, Exact, in_second, through, ended}
 
-pub exact_by : (code : List Node) (line : List ℕ) (Kind Other : ℕ → ℕ → Type 0) → Exact code line Kind → ((from to : ℕ) → Kind from to → Other from to) → ((from to : ℕ) → Other from to → Kind from to) → Exact code line Other
-exact_by code line Kind Other e there here = record {
+pub exact_by : {code : List Node} (line : List ℕ) (Kind Other : ℕ → ℕ → Type 0) → Exact code line Kind → ((from to : ℕ) → Kind from to → Other from to) → ((from to : ℕ) → Other from to → Kind from to) → Exact code line Other
+exact_by line Kind Other e there here = record {
   fits = e.fits;
   sound = λ from to p. there from to (e.sound from to p);
   complete = λ from to k. e.complete from to (here from to k);
@@ -17,16 +17,15 @@ exact_by code line Kind Other e there here = record {
 pub exact_none : (line : List ℕ) → Exact [] line (λ from to. from ≡ to)
 exact_none line = record {
   fits = record { ends = λ n place n' place' g. absurd g.1; begins = λ n by h. absurd h };
-  sound = λ from to p. ended [] line p.0 0 from 0 to refl p.1;
+  sound = λ from to p. ended [] line p.0 0 refl p.1;
   complete = λ from to e. (zero, (refl, e));
 }
 
 -- a code of one node that leads to its end
-pub exact_one : (node : Node) (line : List ℕ) (Kind : ℕ → ℕ → Type 0)
+pub exact_one : {node : Node} (line : List ℕ) (Kind : ℕ → ℕ → Type 0)
     → ((at place at' place' : ℕ) → Leads node line at place at' place' → (at' ≡ at + 1) × Kind place place')
-    → ((place place' : ℕ) → Kind place place' → Leads node line 0 place 1 place')
-    → ((by : ℕ) → node ≡ Back by → ⊥) → Exact (node ∷ []) line Kind
-exact_one node line Kind out there never = record {
+    → ((place place' : ℕ) → Kind place place' → Leads node line 0 place 1 place') → ((by : ℕ) → node ≡ Back by → ⊥) → Exact (node ∷ []) line Kind
+exact_one {node} line Kind out there never = record {
   fits = record { ends = λ n place n' place' g. ends n place n' place' g; begins = λ n by h. begins n by h };
   sound = λ from to p. sound from to p.0 p.1;
   complete = λ from to k. (1, (1, to, (node, refl, there from to k), (refl, refl)));
@@ -44,13 +43,13 @@ exact_one node line Kind out there never = record {
     sound from to zero w = absurd (omega (arith, w.0))
     sound from to (suc count) w =
         let o = out 0 from w.0 w.1 (subst (λ m. Leads m line 0 from w.0 w.1) w.2.1 w.2.2) in
-        subst (λ p. Kind from p) (ended (node ∷ []) line count w.0 w.1 1 to (omega (arith, o.0)) w.3) o.1
+        subst (λ p. Kind from p) (ended (node ∷ []) line count 1 (omega (arith, o.0)) w.3) o.1
 
 -- one code after another
-pub exact_both : (a b : List Node) (line : List ℕ) (Kind Other : ℕ → ℕ → Type 0) → Exact a line Kind → Exact b line Other → Exact (a ++ b) line (λ from to. (middle : ℕ) × Kind from middle × Other middle to)
-exact_both a b line Kind Other e f = record {
+pub exact_both : {a b : List Node} (line : List ℕ) (Kind Other : ℕ → ℕ → Type 0) → Exact a line Kind → Exact b line Other → Exact (a ++ b) line (λ from to. (middle : ℕ) × Kind from middle × Other middle to)
+exact_both {a} {b} line Kind Other e f = record {
   fits = record { ends = λ n place n' place' g. ends n place n' place' g; begins = λ n by h. begins n by (at-split a b n (Back by) h) };
-  sound = λ from to p. let t = through a b line e.fits f.fits p.0 0 from to (omega arith) p.1 in (t.0, e.sound from t.0 t.1, f.sound t.0 to t.2);
+  sound = λ from to p. let t = through line e.fits f.fits p.0 0 from to (omega arith) p.1 in (t.0, e.sound from t.0 t.1, f.sound t.0 to t.2);
   complete = λ from to k. complete from to k.0 (e.complete from k.0 k.1) (f.complete k.0 to k.2);
 }
   where
@@ -59,7 +58,7 @@ exact_both a b line Kind Other e f = record {
       | inl h ↦ let m = e.fits.ends n place n' place' (g.0, h, g.2) in omega (arith, l, m)
       | inr h ↦
           let led : Leads g.0 line (length a + h.0) place n' place' = subst (λ m. Leads g.0 line m place n' place') h.1 g.2 in
-          let moved = leads_unshift g.0 line (length a) h.0 place n' place' (λ by q. f.fits.begins h.0 by (subst (λ node. At b h.0 node) q h.2)) led in
+          let moved = leads_unshift g.0 line (length a) place place' (λ by q. f.fits.begins h.0 by (subst (λ node. At b h.0 node) q h.2)) led in
           let m = f.fits.ends h.0 place moved.0 place' (g.0, h.2, moved.2) in
           omega (arith, l, m, moved.1)
     ]
@@ -77,8 +76,8 @@ exact_both a b line Kind Other e f = record {
         walk_on (a ++ b) line p.0 q.0 0 from (length a) middle (length (a ++ b)) to (walk-left a b line p.0 0 from (length a) middle p.1) second
 
 -- a code that may be passed by
-pub exact_maybe : (code : List Node) (line : List ℕ) (Kind : ℕ → ℕ → Type 0) → Exact code line Kind → Exact (maybe code) line (λ from to. (from ≡ to) ⊎ Kind from to)
-exact_maybe code line Kind e = record {
+pub exact_maybe : {code : List Node} (line : List ℕ) (Kind : ℕ → ℕ → Type 0) → Exact code line Kind → Exact (maybe code) line (λ from to. (from ≡ to) ⊎ Kind from to)
+exact_maybe {code} line Kind e = record {
   fits = record { ends = λ n place n' place' g. ends n place n' place' g; begins = λ n by h. begins n by h };
   sound = λ from to p. sound from to p.0 p.1;
   complete = λ from to k. complete from to k;
@@ -88,7 +87,7 @@ exact_maybe code line Kind e = record {
     ends zero place n' place' g = elim (subst (λ m. Leads m line 0 place n' place') g.1 g.2).0 [ inl q ↦ omega (arith, q) | inr q ↦ omega (arith, q) ]
     ends (suc n) place n' place' g =
         let n1 : suc n ≡ 1 + n = omega arith in
-        let moved = leads_unshift g.0 line 1 n place n' place' (λ by q. e.fits.begins n by (subst (λ node. At code n node) q g.1)) (subst (λ k. Leads g.0 line k place n' place') n1 g.2) in
+        let moved = leads_unshift g.0 line 1 place place' (λ by q. e.fits.begins n by (subst (λ node. At code n node) q g.1)) (subst (λ k. Leads g.0 line k place n' place') n1 g.2) in
         let m = e.fits.ends n place moved.0 place' (g.0, g.1, moved.2) in
         omega (arith, m, moved.1)
 
@@ -102,9 +101,9 @@ exact_maybe code line Kind e = record {
         let led : ((w.0 ≡ 0 + 1) ⊎ (w.0 ≡ 0 + (length code + 1))) × (w.1 ≡ from) = subst (λ m. Leads m line 0 from w.0 w.1) w.2.1 w.2.2 in
         elim led.0 [
           | inl q ↦
-              let inside = in_second (Choose (length code + 1) ∷ []) code line e.fits count w.0 0 w.1 to (omega (arith, q)) w.3 in
+              let inside = in_second (Choose (length code + 1) ∷ []) line e.fits count 0 w.1 to (omega (arith, q)) w.3 in
               inr (e.sound from to (count, subst (λ place. Walks code line count 0 place (length code) to) led.1 inside))
-          | inr q ↦ inl (sym led.1 ∙ ended (maybe code) line count w.0 w.1 (suc (length code)) to (omega (arith, q)) w.3)
+          | inr q ↦ inl (sym led.1 ∙ ended (maybe code) line count (suc (length code)) (omega (arith, q)) w.3)
         ]
 
     complete : (from to : ℕ) → (from ≡ to) ⊎ Kind from to → Path (maybe code) line 0 from (suc (length code)) to
@@ -132,49 +131,49 @@ record StarHolds (code : List Node) (line : List ℕ) (Kind : ℕ → ℕ → Ty
   whole : (place stop : ℕ) → Walks (starred code) line count 0 place (length code + 2) stop → Often Kind place stop
   within : (at k place stop : ℕ) → at ≡ suc k → k ≤ length code → Walks (starred code) line count at place (length code + 2) stop → (middle : ℕ) × Path code line k place (length code) middle × Often Kind middle stop
 
-star_begun : (code : List Node) (line : List ℕ) (Kind : ℕ → ℕ → Type 0) → Exact code line Kind → (count at' place' place stop : ℕ) → StarHolds code line Kind count → (at' ≡ 0 + 1) ⊎ (at' ≡ 0 + (length code + 2)) → place' ≡ place
+star_begun : {code : List Node} (line : List ℕ) (Kind : ℕ → ℕ → Type 0) → Exact code line Kind → {count at' place' place : ℕ} (stop : ℕ) → StarHolds code line Kind count → (at' ≡ 0 + 1) ⊎ (at' ≡ 0 + (length code + 2)) → place' ≡ place
     → Walks (starred code) line count at' place' (length code + 2) stop → Often Kind place stop
-star_begun code line Kind e count at' place' place stop ih (inl q) same w =
+star_begun {code} line Kind e {at'} {place'} {place} stop ih (inl q) same w =
     let inside = ih.within at' 0 place' stop (omega (arith, q)) (omega arith) w in
     let rest : Often Kind inside.0 stop = inside.2 in
     (suc rest.0, parts_first Kind rest.0 place inside.0 stop (e.sound place inside.0 (subst (λ n. Path code line 0 n (length code) inside.0) same inside.1)) rest.1)
-star_begun code line Kind e count at' place' place stop ih (inr q) same w =
+star_begun {code} line Kind e {count} stop ih (inr q) same w =
     let l = length-append code (Back (length code + 1) ∷ []) in
-    (0, sym same ∙ ended (starred code) line count at' place' (length code + 2) stop (omega (arith, q, l)) w)
+    (0, sym same ∙ ended (starred code) line count (length code + 2) (omega (arith, q, l)) w)
 
-star_at : (code : List Node) (line : List ℕ) (Kind : ℕ → ℕ → Type 0) → Exact code line Kind → (count k place stop : ℕ) → StarHolds code line Kind count → k ≤ length code → (at' place' : ℕ) (node : Node)
+star_at : {code : List Node} (line : List ℕ) (Kind : ℕ → ℕ → Type 0) → Exact code line Kind → {count k place : ℕ} (stop : ℕ) → StarHolds code line Kind count → k ≤ length code → (at' place' : ℕ) {node : Node}
     → (At code k node) ⊎ ((j : ℕ) × (k ≡ length code + j) × At (Back (length code + 1) ∷ []) j node) → Leads node line (suc k) place at' place' → Walks (starred code) line count at' place' (length code + 2) stop
     → (middle : ℕ) × Path code line k place (length code) middle × Often Kind middle stop
-star_at code line Kind e count k place stop ih h at' place' node (inl here) led w =
+star_at {code} line Kind e {k} {place} stop ih h at' place' {node} (inl here) led w =
     let n1 : suc k ≡ 1 + k = omega arith in
-    let moved = leads_unshift node line 1 k place at' place' (λ by q. e.fits.begins k by (subst (λ n. At code k n) q here)) (subst (λ n. Leads node line n place at' place') n1 led) in
+    let moved = leads_unshift node line 1 place place' (λ by q. e.fits.begins k by (subst (λ n. At code k n) q here)) (subst (λ n. Leads node line n place at' place') n1 led) in
     let fits = e.fits.ends k place moved.0 place' (node, here, moved.2) in
     let rest = ih.within at' moved.0 place' stop (omega (arith, moved.1)) fits w in
     (rest.0, (suc rest.1.0, (moved.0, place', (node, here, moved.2), rest.1.1)), rest.2)
-star_at code line Kind e count k place stop ih h at' place' node (inr (zero, far, last)) led w =
+star_at {code} line Kind e {count} {k} {place} stop ih h at' place' (inr (zero, far, last)) led w =
     let back_led : Leads (Back (length code + 1)) line (suc k) place at' place' = subst (λ n. Leads n line (suc k) place at' place') last led in
     let at0 : at' ≡ 0 = omega (arith, back_led.0, far) in
     let rest = ih.whole place' stop (subst (λ n. Walks (starred code) line count n place' (length code + 2) stop) at0 w) in
     (place', (zero, (omega (arith, far), sym back_led.1)), rest)
-star_at code line Kind e count k place stop ih h at' place' node (inr (suc j, far, last)) led w = absurd last
+star_at line Kind e stop ih h at' place' (inr (suc j, far, last)) led w = absurd last
 
-star_holds : (code : List Node) (line : List ℕ) (Kind : ℕ → ℕ → Type 0) → Exact code line Kind → (count : ℕ) → StarHolds code line Kind count
-star_holds code line Kind e zero = record {
+star_holds : {code : List Node} (line : List ℕ) (Kind : ℕ → ℕ → Type 0) → Exact code line Kind → (count : ℕ) → StarHolds code line Kind count
+star_holds line Kind e zero = record {
   whole = λ place stop w. absurd (omega (arith, w.0));
   within = λ at k place stop q h w. absurd (omega (arith, w.0, q, h));
 }
-star_holds code line Kind e (suc count) = let ih = star_holds code line Kind e count in record {
+star_holds {code} line Kind e (suc count) = let ih = star_holds line Kind e count in record {
   whole = λ place stop w. let led : ((w.0 ≡ 0 + 1) ⊎ (w.0 ≡ 0 + (length code + 2))) × (w.1 ≡ place) = subst (λ m. Leads m line 0 place w.0 w.1) w.2.1 w.2.2 in
-      star_begun code line Kind e count w.0 w.1 place stop ih led.0 led.1 w.3;
+      star_begun line Kind e stop ih led.0 led.1 w.3;
   within = λ at k place stop q h w.
-      star_at code line Kind e count k place stop ih h w.0 w.1 w.2.0 (at-split code (Back (length code + 1) ∷ []) k w.2.0 (at_at (starred code) at (suc k) w.2.0 q w.2.1)) (subst (λ n. Leads w.2.0 line n place w.0 w.1) q w.2.2) w.3;
+      star_at line Kind e stop ih h w.0 w.1 (at-split code (Back (length code + 1) ∷ []) k w.2.0 (at_at (starred code) w.2.0 q w.2.1)) (subst (λ n. Leads w.2.0 line n place w.0 w.1) q w.2.2) w.3;
 }
 
 -- a code any number of times
-pub exact_starred : (code : List Node) (line : List ℕ) (Kind : ℕ → ℕ → Type 0) → Exact code line Kind → Exact (starred code) line (Often Kind)
-exact_starred code line Kind e = record {
+pub exact_starred : {code : List Node} (line : List ℕ) (Kind : ℕ → ℕ → Type 0) → Exact code line Kind → Exact (starred code) line (Often Kind)
+exact_starred {code} line Kind e = record {
   fits = record { ends = λ n place n' place' g. ends n place n' place' g; begins = λ n by h. begins n by h };
-  sound = λ from to p. (star_holds code line Kind e p.0).whole from to (subst (λ n. Walks (starred code) line p.0 0 from n to) (sym size) p.1);
+  sound = λ from to p. (star_holds line Kind e p.0).whole from to (subst (λ n. Walks (starred code) line p.0 0 from n to) (sym size) p.1);
   complete = λ from to k. complete k.0 from to k.1;
 }
   where
@@ -191,7 +190,7 @@ exact_starred code line Kind e = record {
         there (inl here) =
             let l = length-append code (Back (length code + 1) ∷ []) in
             let n1 : suc n ≡ 1 + n = omega arith in
-            let moved = leads_unshift g.0 line 1 n place n' place' (λ by q. e.fits.begins n by (subst (λ node. At code n node) q here)) (subst (λ k. Leads g.0 line k place n' place') n1 g.2) in
+            let moved = leads_unshift g.0 line 1 place place' (λ by q. e.fits.begins n by (subst (λ node. At code n node) q here)) (subst (λ k. Leads g.0 line k place n' place') n1 g.2) in
             let m = e.fits.ends n place moved.0 place' (g.0, here, moved.2) in
             omega (arith, m, moved.1, l)
         there (inr (zero, far, last)) =
@@ -216,10 +215,9 @@ exact_starred code line Kind e = record {
         let shifted = walk-right (Choose (length code + 2) ∷ []) (code ++ Back (length code + 1) ∷ []) line p.0 0 from (length code) to inside in
         let last : At (starred code) (1 + length code) (Back (length code + 1)) =
         at-right (Choose (length code + 2) ∷ []) (code ++ Back (length code + 1) ∷ []) (length code) (Back (length code + 1))
-        (at_at (code ++ Back (length code + 1) ∷ []) (length code + 0) (length code) (Back (length code + 1)) (omega arith) (at-right code (Back (length code + 1) ∷ []) 0 (Back (length code + 1)) refl)) in
+        (at_at (code ++ Back (length code + 1) ∷ []) (Back (length code + 1)) (omega arith) (at-right code (Back (length code + 1) ∷ []) 0 (Back (length code + 1)) refl)) in
         let home : Path (starred code) line (1 + length code) to 0 to = (1, (0, to, (Back (length code + 1), last, (omega arith, refl)), (refl, refl))) in
-        path_on (starred code) line 0 from (1 + 0) from 0 to
-        (1, (1 + 0, from, (Choose (length code + 2), refl, (inl refl, refl)), (refl, refl)))
+        path_on (starred code) line 0 from (1 + 0) from 0 to (1, (1 + 0, from, (Choose (length code + 2), refl, (inl refl, refl)), (refl, refl)))
         (path_on (starred code) line (1 + 0) from (1 + length code) to 0 to (p.0, shifted) home)
 
     loops : (count from to : ℕ) → Parts Kind count from to → Path (starred code) line 0 from 0 to

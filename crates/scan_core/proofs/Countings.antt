@@ -34,8 +34,8 @@ among_sum code [] = refl
 among_sum [] (mark ∷ marks) = let z = sum_none marks in omega (arith, z)
 among_sum (node ∷ code) (mark ∷ marks) = let r = among_sum code marks in omega (arith, r)
 
-weight_bit : (weight word counts : ℕ) → bit_at counts 0 ≡ weight → weight_if (word % 2 == 1) weight ≡ bit_and word counts % 2
-weight_bit weight word counts e =
+weight_bit : {weight : ℕ} (word counts : ℕ) → bit_at counts 0 ≡ weight → weight_if (word % 2 == 1) weight ≡ bit_and word counts % 2
+weight_bit word counts e =
     let both = bit_at_and word counts 0 in
     let a = bit_at_lowest (bit_and word counts) in
     let b = bit_at_lowest word in
@@ -57,7 +57,7 @@ sum_bits (suc count) weight word counts rest small exact =
     let step = ones_step (bit_and word counts) in
     let shr : bit_and word counts / 2 ≡ bit_and (word / 2) (counts / 2) = and_shr word counts 1 in
     let e = ap count_ones shr in
-    let w = weight_bit (weight 0) word counts (exact 0 (omega arith)) in
+    let w = weight_bit word counts (exact 0 (omega arith)) in
     let same = sum_same (λ n. weight (suc (count + n))) (λ n. weight (suc count + n)) (λ n. ap weight (omega arith)) rest in
     omega (arith, r, step, e, w, same)
   where

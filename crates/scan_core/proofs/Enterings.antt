@@ -64,16 +64,16 @@ room old n r h e =
     omega (arith, m, l, s, r.fits, r.counted)
 
 -- the positions that are counted fit
-pub positions_fit : (code : List Node) (old : Reach) (n : ℕ) → IsReach code old → n ≤ length code → get_or old.marks.items n false ≡ false → old.positions + weight_at code n ≤ length old.marks.items
-positions_fit code old n r l e =
+pub positions_fit : {code : List Node} {old : Reach} (n : ℕ) → IsReach code old → n ≤ length code → get_or old.marks.items n false ≡ false → old.positions + weight_at code n ≤ length old.marks.items
+positions_fit {code} {old} n r l e =
     let p = positions_set code old.marks.items n l (omega (arith, l, r.room)) e in
     let m = positions_marked code (set old.marks.items n true) in
     let s = length-set old.marks.items n true in
     omega (arith, p, m, s, r.weighed)
 
-pub gain_one : (code : List Node) (old new : Reach) (n : ℕ) → IsReach code old → n ≤ length code → get_or old.marks.items n false ≡ false
+pub gain_one : {code : List Node} {old new : Reach} {n : ℕ} → IsReach code old → n ≤ length code → get_or old.marks.items n false ≡ false
     → new.marks.items ≡ set old.marks.items n true → new.list.items ≡ set old.list.items old.count n → new.count ≡ old.count + 1 → new.positions ≡ old.positions + weight_at code n → Gains code (λ other. other ≡ n) old new
-gain_one code old new n r least e em el ec ep = record {
+gain_one {code} {old} {new} {n} r least e em el ec ep = record {
   sound = record {
     fits = ap length el ∙ length-set old.list.items old.count n ∙ r.fits ∙ sym (length-set old.marks.items n true) ∙ sym (ap length em);
     counted = ec ∙ sym (marked-set old.marks.items n h e ∙ ap (λ k. k + 1) (sym r.counted)) ∙ sym (ap marked em);
@@ -119,8 +119,8 @@ gain_one code old new n r least e em el ec ep = record {
           ap (λ k. get_or new.marks.items k false) stays ∙ (is (at_place old.list.items place)).1 (inl (r.marks place (omega (arith, g, ec, other))))
     ]
 
-pub gain_nothing : {code : List Node} (old new : Reach) (Added : ℕ → Type 0) → IsReach code old → new ≡ old → ((n : ℕ) → Added n → ⊥) → Gains code Added old new
-gain_nothing {code = code} old new Added r same never = subst (Gains code Added old) (sym same) (record {
+pub gain_nothing : {code : List Node} {old new : Reach} (Added : ℕ → Type 0) → IsReach code old → new ≡ old → ((n : ℕ) → Added n → ⊥) → Gains code Added old new
+gain_nothing {code = code} {old} Added r same never = subst (Gains code Added old) (sym same) (record {
   sound = r;
   size = refl;
   more = omega arith;
@@ -138,8 +138,8 @@ exact_twice e f = (
   λ h. f.1 (elim h [ inl was ↦ inl (e.1 (inl was)) | inr new ↦ elim new [ inl one ↦ inl (e.1 (inr one)) | inr other ↦ inr other ] ]),
 )
 
-pub gain_by : {code : List Node} (old new : Reach) (Added Other : ℕ → Type 0) → Gains code Added old new → ((n : ℕ) → Added n → Other n) → ((n : ℕ) → Other n → Added n) → Gains code Other old new
-gain_by old new Added Other g there here = record {
+pub gain_by : {code : List Node} {old new : Reach} (Added Other : ℕ → Type 0) → Gains code Added old new → ((n : ℕ) → Added n → Other n) → ((n : ℕ) → Other n → Added n) → Gains code Other old new
+gain_by Added Other g there here = record {
   sound = g.sound;
   size = g.size;
   more = g.more;
@@ -147,8 +147,8 @@ gain_by old new Added Other g there here = record {
   exact = λ number. exact_as (g.exact number) (there number) (here number);
 }
 
-pub gain_both : {code : List Node} (old middle new : Reach) (Added Other : ℕ → Type 0) → Gains code Added old middle → Gains code Other middle new → Gains code (λ n. Added n ⊎ Other n) old new
-gain_both old middle new Added Other f g = record {
+pub gain_both : {code : List Node} {old middle new : Reach} (Added Other : ℕ → Type 0) → Gains code Added old middle → Gains code Other middle new → Gains code (λ n. Added n ⊎ Other n) old new
+gain_both Added Other f g = record {
   sound = g.sound;
   size = g.size ∙ f.size;
   more = omega (arith, f.more, g.more);
@@ -187,28 +187,26 @@ parts_anywhere code at_first at_last zero from to p = p
 parts_anywhere code at_first at_last (suc count) from to p = (p.0, parts_anywhere code at_first at_last count from p.0 p.1, (p.2.0, p.2.1, leads_anywhere p.2.0 at_first at_last p.0 to p.2.2))
 
 -- what a known node leads to
-pub flows_of : (code : List Node) (n : ℕ) (node : Node) (at_first at_last : Bool) (to : ℕ) → At code n node → Flows code at_first at_last n to → LeadsOn node at_first at_last n to
-flows_of code n node at_first at_last to here f = subst (λ m. LeadsOn m at_first at_last n to) (at_once code n f.0 node f.1 here) f.2
+pub flows_of : (code : List Node) {n : ℕ} (node : Node) (at_first at_last : Bool) (to : ℕ) → At code n node → Flows code at_first at_last n to → LeadsOn node at_first at_last n to
+flows_of code {n} node at_first at_last to here f = subst (λ m. LeadsOn m at_first at_last n to) (at_once code n f.0 node f.1 here) f.2
 
-pub node_here : (code : List Node) (n : ℕ) (node read : Node) → n < length code → read ≡ node → read ≡ get_or code n read → At code n node
-node_here code n node read h e is = subst (At code n) (sym is ∙ e) (at_index code n read h)
+pub node_here : (code : List Node) {n : ℕ} {node read : Node} → n < length code → read ≡ node → read ≡ get_or code n read → At code n node
+node_here code {n} {read} h e is = subst (At code n) (sym is ∙ e) (at_index code n read h)
 
-pub flow_one : (code : List Node) (n : ℕ) (node : Node) (at_first at_last : Bool) (target : ℕ) (old new : Reach) → At code n node → ((to : ℕ) → LeadsOn node at_first at_last n to → to ≡ target) → LeadsOn node at_first at_last n target
+pub flow_one : {code : List Node} {n : ℕ} (node : Node) (at_first at_last : Bool) {target : ℕ} {old new : Reach} → At code n node → ((to : ℕ) → LeadsOn node at_first at_last n to → to ≡ target) → LeadsOn node at_first at_last n target
     → Gains code (λ other. other ≡ target) old new → Gains code (Flows code at_first at_last n) old new
-flow_one code n node at_first at_last target old new here only leads g = gain_by old new (λ other. other ≡ target) (Flows code at_first at_last n) g
-    (λ to e. (node, here, subst (LeadsOn node at_first at_last n) (sym e) leads))
-    (λ to f. only to (flows_of code n node at_first at_last to here f))
+flow_one {code} {n} node at_first at_last {target} here only leads g = gain_by (λ other. other ≡ target) (Flows code at_first at_last n) g
+    (λ to e. (node, here, subst (LeadsOn node at_first at_last n) (sym e) leads)) (λ to f. only to (flows_of code node at_first at_last to here f))
 
-pub flow_none : (code : List Node) (n : ℕ) (node : Node) (at_first at_last : Bool) (old new : Reach) → At code n node → ((to : ℕ) → LeadsOn node at_first at_last n to → ⊥) → IsReach code old → new ≡ old → Gains code (Flows code at_first at_last n) old new
-flow_none code n node at_first at_last old new here never r e = gain_nothing old new (Flows code at_first at_last n) r e (λ to f. never to (flows_of code n node at_first at_last to here f))
+pub flow_none : {code : List Node} {n : ℕ} (node : Node) (at_first at_last : Bool) {old new : Reach} → At code n node → ((to : ℕ) → LeadsOn node at_first at_last n to → ⊥) → IsReach code old → new ≡ old → Gains code (Flows code at_first at_last n) old new
+flow_none {code} {n} node at_first at_last here never r e = gain_nothing (Flows code at_first at_last n) r e (λ to f. never to (flows_of code node at_first at_last to here f))
 
-pub flow_two : (code : List Node) (n skip : ℕ) (at_first at_last : Bool) (old middle new : Reach) → At code n (Choose skip) → Gains code (λ other. other ≡ n + 1) old middle → Gains code (λ other. other ≡ n + skip) middle new → Gains code (Flows code at_first at_last n) old new
-flow_two code n skip at_first at_last old middle new here f g = gain_by old new (λ other. (other ≡ n + 1) ⊎ (other ≡ n + skip)) (Flows code at_first at_last n) (gain_both old middle new (λ other. other ≡ n + 1) (λ other. other ≡ n + skip) f g)
-    (λ to e. (Choose skip, here, e))
-    (λ to k. flows_of code n (Choose skip) at_first at_last to here k)
+pub flow_two : {code : List Node} {n : ℕ} (skip : ℕ) (at_first at_last : Bool) {old middle new : Reach} → At code n (Choose skip) → Gains code (λ other. other ≡ n + 1) old middle → Gains code (λ other. other ≡ n + skip) middle new → Gains code (Flows code at_first at_last n) old new
+flow_two {code} {n} skip at_first at_last here f g = gain_by (λ other. (other ≡ n + 1) ⊎ (other ≡ n + skip)) (Flows code at_first at_last n) (gain_both (λ other. other ≡ n + 1) (λ other. other ≡ n + skip) f g)
+    (λ to e. (Choose skip, here, e)) (λ to k. flows_of code (Choose skip) at_first at_last to here k)
 
-pub target_in : (code : List Node) (n skip : ℕ) → IsCode code → At code n (Choose skip) → n + skip ≤ length code
-target_in code n skip c here = c.ends n (n + skip) (Choose skip, here, inr refl)
+pub target_in : {code : List Node} (n skip : ℕ) → IsCode code → At code n (Choose skip) → n + skip ≤ length code
+target_in n skip c here = c.ends n (n + skip) (Choose skip, here, inr refl)
 
 pub count_most : (reach : Reach) → reach.count ≡ marked reach.marks.items → reach.count ≤ length reach.marks.items
 count_most reach counted = let l = marked_most reach.marks.items in omega (arith, l, counted)
@@ -225,21 +223,21 @@ pass_found code n byte to bytes here p =
 pub pass_never : (code : List Node) (n byte to : ℕ) (node : Node) → At code n node → ((bytes : List Bool) → Take bytes ≡ node → ⊥) → Passes code byte n to → ⊥
 pass_never code n byte to node here never p = never p.0 (at_once code n (Take p.0) node p.1 here)
 
-pub pass_least : (code : List Node) (n byte to : ℕ) → Passes code byte n to → n < length code
-pass_least code n byte to p = at_least code n (Take p.0) p.1
+pub pass_least : (code : List Node) {n byte to : ℕ} → Passes code byte n to → n < length code
+pass_least code {n} p = at_least code n (Take p.0) p.1
 
 -- the other nodes take no byte
-pub takes_none : (code : List Node) (n byte to : ℕ) (read : Node) → n < length code → read ≡ get_or code n read
+pub takes_none : (code : List Node) {n byte to : ℕ} {read : Node} → n < length code → read ≡ get_or code n read
     → (read ≡ First) ⊎ ((read ≡ Last) ⊎ (((skip : ℕ) × (read ≡ Choose skip)) ⊎ ((by : ℕ) × (read ≡ Back by)))) → Passes code byte n to → ⊥
-takes_none code n byte to read h is (inl e) p = pass_never code n byte to read (node_here code n read read h refl is) (λ bytes q. cc) p
-takes_none code n byte to read h is (inr (inl e)) p = pass_never code n byte to read (node_here code n read read h refl is) (λ bytes q. cc) p
-takes_none code n byte to read h is (inr (inr (inl (skip, e)))) p = pass_never code n byte to read (node_here code n read read h refl is) (λ bytes q. cc) p
-takes_none code n byte to read h is (inr (inr (inr (by, e)))) p = pass_never code n byte to read (node_here code n read read h refl is) (λ bytes q. cc) p
+takes_none code {n} {byte} {to} {read} h is (inl e) p = pass_never code n byte to read (node_here code h refl is) (λ bytes q. cc) p
+takes_none code {n} {byte} {to} {read} h is (inr (inl e)) p = pass_never code n byte to read (node_here code h refl is) (λ bytes q. cc) p
+takes_none code {n} {byte} {to} {read} h is (inr (inr (inl (skip, e)))) p = pass_never code n byte to read (node_here code h refl is) (λ bytes q. cc) p
+takes_none code {n} {byte} {to} {read} h is (inr (inr (inr (by, e)))) p = pass_never code n byte to read (node_here code h refl is) (λ bytes q. cc) p
 
-pub weight_in : (code : List Node) (n : ℕ) (read : Node) → n < length code → read ≡ get_or code n read → weight_of read ≡ weight_at code n
-weight_in [] n read h e = absurd (omega (arith, h))
-weight_in (node ∷ code) zero read h e = ap weight_of e
-weight_in (node ∷ code) (suc n) read h e = weight_in code n read (omega (arith, h)) e
+pub weight_in : (code : List Node) (n : ℕ) {read : Node} → n < length code → read ≡ get_or code n read → weight_of read ≡ weight_at code n
+weight_in [] n h e = absurd (omega (arith, h))
+weight_in (node ∷ code) zero h e = ap weight_of e
+weight_in (node ∷ code) (suc n) h e = weight_in code n (omega (arith, h)) e
 
 pub weight_out : (code : List Node) (n : ℕ) → length code ≤ n → 1 ≡ weight_at code n
 weight_out [] n h = refl

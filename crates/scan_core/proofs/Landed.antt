@@ -21,12 +21,12 @@ use Rattle.scan_core.proofs.Hoppings.{one_of, none_of}
 use Rattle.scan_core.proofs.Insides.{pushed, one_longer}
 use Rattle.scan_core.proofs.Visitings.{is_in_word}
 
-pub enters_if : (words new : List ℕ) (number : ℕ) (holds : Bool) → number < 64 * length words → new ≡ set words (number / 64) (bit_or (get_or words (number / 64) 0) (bool_byte holds * 2 ^ (number % 64) % 2 ^ 64))
+pub enters_if : (words : List ℕ) {new : List ℕ} (number : ℕ) (holds : Bool) → number < 64 * length words → new ≡ set words (number / 64) (bit_or (get_or words (number / 64) 0) (bool_byte holds * 2 ^ (number % 64) % 2 ^ 64))
     → (other : ℕ) → IsIn new other ↔ (IsIn words other ⊎ (IsTrue holds × (other ≡ number)))
-enters_if words new number true h en other =
-    let e = entered_one words new number (get_or words (number / 64) 0) h refl en other in
+enters_if words number true h en other =
+    let e = entered_one words number h refl en other in
     (λ k. elim (e.0 k) [ inl was ↦ inl was | inr same ↦ inr (refl, same) ], λ k. e.1 (elim k [ inl was ↦ inl was | inr q ↦ inr q.1 ]))
-enters_if words new number false h en other =
+enters_if words number false h en other =
     let none : 0 * 2 ^ (number % 64) % 2 ^ 64 ≡ 0 = omega arith in
     let before : ℕ = get_or words (number / 64) 0 in
     let unchanged = en ∙ ap (set words (number / 64)) (ap (bit_or before) none ∙ or_zero_r before) ∙ set-get_or words (number / 64) 0 in (
@@ -41,13 +41,13 @@ pub record Landing_on (code : List Node) (landings : List Landing) (old now : Li
   pub from : (number : ℕ) → IsIn now number → IsIn old number ⊎ (Ends code number × ((start : ℕ) × IsIn old start × Flows code false false start number))
   pub led : (place : ℕ) → length landings ≤ place + count → place < length landings → (bit : ℕ) → bit < 64 → bit_at (get_or landings place no_landing).from bit ≡ 1 → IsIn old ((get_or landings place no_landing).at * 64 + bit) → IsIn now (get_or landings place no_landing).to
 
-pub land_starts : (code : List Node) (landings : List Landing) (old : List ℕ) → Landing_on code landings old old 0
-land_starts code landings old = record { size = refl; kept = λ n h. h; from = λ n h. inl h; led = λ place l h. absurd (omega (arith, l, h)) }
+pub land_starts : {code : List Node} {landings : List Landing} {old : List ℕ} → Landing_on code landings old old 0
+land_starts = record { size = refl; kept = λ n h. h; from = λ n h. inl h; led = λ place l h. absurd (omega (arith, l, h)) }
 
-pub land_more : (code : List Node) (landings : List Landing) (old now new : List ℕ) (count : ℕ) (landing : Landing) (holds : Bool) → Landing_on code landings old now count → AreLandings code landings → count < length landings → landing ≡ get_or landings (length landings - 1 - count) no_landing → get_or now landing.at 0 < 2 ^ 64
+pub land_more : {code : List Node} {landings : List Landing} {old now new : List ℕ} {count : ℕ} {landing : Landing} {holds : Bool} → Landing_on code landings old now count → AreLandings code landings → count < length landings → landing ≡ get_or landings (length landings - 1 - count) no_landing → get_or now landing.at 0 < 2 ^ 64
     → (IsTrue holds → bit_and (get_or now landing.at 0) landing.from ≡ 0 → ⊥) → ((bit_and (get_or now landing.at 0) landing.from ≡ 0 → ⊥) → IsTrue holds)
     → length new ≡ length now → ((other : ℕ) → IsIn new other ↔ (IsIn now other ⊎ (IsTrue holds × (other ≡ landing.to)))) → Landing_on code landings old new (count + 1)
-land_more code landings old now new count landing holds s are h el fits some all size exact = record {
+land_more {code} {landings} {old} {now} {new} {count} {landing} {holds} s are h el fits some all size exact = record {
   size = size ∙ s.size;
   kept = λ n k. (exact n).1 (inl (s.kept n k));
   from = λ n k. elim ((exact n).0 k) [ inl was ↦ s.from n was | inr new ↦ entered n new.0 new.1 ];
@@ -81,8 +81,8 @@ land_more code landings old now new count landing holds s are h el fits some all
         let here = (is_in_word now landing.at bit small).1 (s.kept (landing.at * 64 + bit) k) in
         (exact landing.to).1 (inr (all (λ none. none_of (get_or now landing.at 0) landing.from bit none here one), refl))
 
-pub land_ends : (code : List Node) (landings : List Landing) (old now : List ℕ) (count : ℕ) → Landing_on code landings old now count → length landings ≤ count → HasLanded code landings old now
-land_ends code landings old now count s h = record {
+pub land_ends : {code : List Node} {landings : List Landing} {old now : List ℕ} {count : ℕ} → Landing_on code landings old now count → length landings ≤ count → HasLanded code landings old now
+land_ends {old} {now} s h = record {
   size = s.size;
   kept = s.kept;
   from = s.from;
@@ -95,12 +95,12 @@ pub record Adding (code : List Node) (old now : List Landing) : Type 0 where
   pub longer : length old ≤ length now
   pub front : (place : ℕ) → place < length old → get_or now place no_landing ≡ get_or old place no_landing
 
-pub adding_starts : (code : List Node) (old : List Landing) → AreLandings code old → Adding code old old
-adding_starts code old are = record { sound = are; longer = omega arith; front = λ place h. refl }
+pub adding_starts : {code : List Node} {old : List Landing} → AreLandings code old → Adding code old old
+adding_starts are = record { sound = are; longer = omega arith; front = λ place h. refl }
 
-pub adding_more : (code : List Node) (old now new : List Landing) (landing : Landing) → Adding code old now → IsLanding code landing → new ≡ now ++ landing ∷ [] → Adding code old new
-adding_more code old now new landing a is e = record {
-  sound = λ place h. pushed no_landing (λ k l. IsLanding code l) now new (length now) landing refl a.sound is e place (omega (arith, h, one));
+pub adding_more : {code : List Node} {old now new : List Landing} {landing : Landing} → Adding code old now → IsLanding code landing → new ≡ now ++ landing ∷ [] → Adding code old new
+adding_more {code} {now} {new} {landing} a is e = record {
+  sound = λ place h. pushed no_landing (λ k l. IsLanding code l) now landing refl a.sound is e place (omega (arith, h, one));
   longer = omega (arith, a.longer, one);
   front = λ place h.
       let l = a.longer in
@@ -108,10 +108,10 @@ adding_more code old now new landing a is e = record {
 }
   where
     one : length new ≡ length now + 1
-    one = one_longer now new (length now) landing refl e
+    one = one_longer now landing refl e
 
-pub hop_lands : (code : List Node) (hops : List Hop) (at which : ℕ) (hop : Hop) → AreHops code (width code * 3) hops → at < width code → which < 3 → hop ≡ get_or hops (at * 3 + which) no_hop → Ends code hop.to → IsLanding code (record { at = at; from = hop.from; to = hop.to })
-hop_lands code hops at which hop are h l e ends =
+pub hop_lands : {code : List Node} {hops : List Hop} {at : ℕ} (which : ℕ) {hop : Hop} → AreHops code (width code * 3) hops → at < width code → which < 3 → hop ≡ get_or hops (at * 3 + which) no_hop → Ends code hop.to → IsLanding code (record { at = at; from = hop.from; to = hop.to })
+hop_lands {code} {hops} {at} which are h l e ends =
     let place : (at * 3 + which) / 3 ≡ at = omega (arith, l) in
     let is = subst (λ x. IsHop code at x) (sym e) (subst (λ n. IsHop code n (get_or hops (at * 3 + which) no_hop)) place (are.each (at * 3 + which) (omega (arith, l, h)))) in
     record { at = h; within = is.within; leads = is.leads; ends = ends }
@@ -119,7 +119,7 @@ hop_lands code hops at which hop are h l e ends =
 -- what a node leads to by its word, the base and the landings
 pub choose_settled : (code : List Node) (base : List ℕ) (landings : List Landing) (at bit skip : ℕ) (at_first at_last : Bool) (to : ℕ) → At code (at * 64 + bit) (Choose skip) → Lands base landings at bit (at * 64 + bit + 1) → Lands base landings at bit (at * 64 + bit + skip) → Flows code at_first at_last (at * 64 + bit) to
     → Flows code false false (at * 64 + bit) to × Lands base landings at bit to
-choose_settled code base landings at bit skip at_first at_last to here next other f = elim (flows_of code (at * 64 + bit) (Choose skip) at_first at_last to here f) [
+choose_settled code base landings at bit skip at_first at_last to here next other f = elim (flows_of code (Choose skip) at_first at_last to here f) [
   | inl e ↦ ((Choose skip, here, inl e), subst (Lands base landings at bit) (sym e) next)
   | inr e ↦ ((Choose skip, here, inr e), subst (Lands base landings at bit) (sym e) other)
 ]
@@ -127,15 +127,15 @@ choose_settled code base landings at bit skip at_first at_last to here next othe
 pub back_settled : (code : List Node) (base : List ℕ) (landings : List Landing) (at bit by : ℕ) (at_first at_last : Bool) (to : ℕ) → At code (at * 64 + bit) (Back by) → Lands base landings at bit (at * 64 + bit - by) → Flows code at_first at_last (at * 64 + bit) to
     → Flows code false false (at * 64 + bit) to × Lands base landings at bit to
 back_settled code base landings at bit by at_first at_last to here before f =
-    let e : at * 64 + bit ≡ to + by = flows_of code (at * 64 + bit) (Back by) at_first at_last to here f in
+    let e : at * 64 + bit ≡ to + by = flows_of code (Back by) at_first at_last to here f in
     let q : at * 64 + bit - by ≡ to = omega (arith, e) in
     ((Back by, here, e), subst (Lands base landings at bit) q before)
 
 pub not_zero : (n : ℕ) → IsTrue (not (eqb n 0)) → n ≡ 0 → ⊥
 not_zero n t = eqb-false n 0 (not-true (eqb n 0) t)
 
-pub is_not_zero : (n : ℕ) → (n ≡ 0 → ⊥) → IsTrue (not (eqb n 0))
-is_not_zero n h = ap not (ne_eqb n 0 h)
+pub is_not_zero : {n : ℕ} → (n ≡ 0 → ⊥) → IsTrue (not (eqb n 0))
+is_not_zero {n} h = ap not (ne_eqb n 0 h)
 
 -- what a landing leads to stays when others are added
 pub lands_kept : (base : List ℕ) (old new : List Landing) (at bit to : ℕ) → length old ≤ length new → ((place : ℕ) → place < length old → get_or new place no_landing ≡ get_or old place no_landing) → Lands base old at bit to → Lands base new at bit to

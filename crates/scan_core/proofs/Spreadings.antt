@@ -18,9 +18,9 @@ pub record Spreading (code : List Node) (at_first at_last : Bool) (old now : Rea
   pub from : (number : ℕ) → Has now number → (start : ℕ) × Has old start × FlowsOn code at_first at_last start number
   pub closed : (place to : ℕ) → place < done → Flows code at_first at_last (at_place now.list.items place) to → Has now to
 
-pub spread_more : (code : List Node) (at_first at_last : Bool) (old now new : Reach) (done number : ℕ) → Spreading code at_first at_last old now done → done < now.count → number ≡ at_place now.list.items done
+pub spread_more : {code : List Node} {at_first at_last : Bool} {old now new : Reach} {done : ℕ} (number : ℕ) → Spreading code at_first at_last old now done → done < now.count → number ≡ at_place now.list.items done
     → Gains code (Flows code at_first at_last number) now new → Spreading code at_first at_last old new (done + 1)
-spread_more code at_first at_last old now new done number s h e g = record {
+spread_more {code} {at_first} {at_last} {now} {new} {done} number s h e g = record {
   sound = g.sound;
   size = g.size ∙ s.size;
   order = omega (arith, h, g.more);
@@ -41,8 +41,8 @@ spread_more code at_first at_last old now new done number s h e g = record {
       | inr other ↦ (g.exact to).1 (inl (s.closed place to (omega (arith, l, other)) f))
     ]
 
-pub spread_ends : (code : List Node) (at_first at_last : Bool) (old now : Reach) (done : ℕ) → Spreading code at_first at_last old now done → now.count ≤ done → Spreads code at_first at_last old now
-spread_ends code at_first at_last old now done s h = record {
+pub spread_ends : {code : List Node} {at_first at_last : Bool} {old now : Reach} {done : ℕ} → Spreading code at_first at_last old now done → now.count ≤ done → Spreads code at_first at_last old now
+spread_ends {code} {at_first} {at_last} {old} {now} s h = record {
   sound = s.sound;
   size = s.size;
   exact = λ number. (s.from number, λ f. follow f.2.0 f.0 number f.1 f.2.1);
@@ -69,14 +69,13 @@ opened code at_first at_last old middle new g s = record {
 abbrev pub Past : Reach → List Node → ℕ → ℕ → ℕ → Type 0
 Past reach code byte below to = (place : ℕ) × (place < below) × Passes code byte (at_place reach.list.items place) to
 
-pub pass_more : (reach : Reach) (code : List Node) (byte below number : ℕ) (old now new : Reach) → Gains code (Past reach code byte below) old now → number ≡ at_place reach.list.items below → Passes code byte number (number + 1)
+pub pass_more : (reach : Reach) {code : List Node} {byte : ℕ} (below number : ℕ) {old now new : Reach} → Gains code (Past reach code byte below) old now → number ≡ at_place reach.list.items below → Passes code byte number (number + 1)
     → Gains code (λ other. other ≡ number + 1) now new → Gains code (Past reach code byte (below + 1)) old new
-pass_more reach code byte below number old now new g e p h = gain_by old new (λ n. Past reach code byte below n ⊎ (n ≡ number + 1)) (Past reach code byte (below + 1)) (gain_both old now new (Past reach code byte below) (λ n. n ≡ number + 1) g h)
+pass_more reach {code} {byte} below number g e p h = gain_by (λ n. Past reach code byte below n ⊎ (n ≡ number + 1)) (Past reach code byte (below + 1)) (gain_both (Past reach code byte below) (λ n. n ≡ number + 1) g h)
     (λ n s. elim s [
       | inl q ↦ (q.0, omega (arith, q.1), q.2)
       | inr q ↦ (below, omega arith, subst (λ m. Passes code byte m n) e (subst (Passes code byte number) (sym q) p))
-    ])
-    here
+    ]) here
   where
     here : (n : ℕ) → Past reach code byte (below + 1) n → Past reach code byte below n ⊎ (n ≡ number + 1)
     here n q = elim (cases_eq q.0 below) [
@@ -84,9 +83,9 @@ pass_more reach code byte below number old now new g e p h = gain_by old new (λ
       | inr other ↦ inl (q.0, omega (arith, q.1, other), q.2)
     ]
 
-pub pass_skip : (reach : Reach) (code : List Node) (byte below number : ℕ) (old now : Reach) → Gains code (Past reach code byte below) old now → number ≡ at_place reach.list.items below → ((to : ℕ) → Passes code byte number to → ⊥)
+pub pass_skip : (reach : Reach) {code : List Node} {byte : ℕ} (below number : ℕ) {old now : Reach} → Gains code (Past reach code byte below) old now → number ≡ at_place reach.list.items below → ((to : ℕ) → Passes code byte number to → ⊥)
     → Gains code (Past reach code byte (below + 1)) old now
-pass_skip reach code byte below number old now g e never = gain_by old now (Past reach code byte below) (Past reach code byte (below + 1)) g (λ n q. (q.0, omega (arith, q.1), q.2)) here
+pass_skip reach {code} {byte} below number g e never = gain_by (Past reach code byte below) (Past reach code byte (below + 1)) g (λ n q. (q.0, omega (arith, q.1), q.2)) here
   where
     here : (n : ℕ) → Past reach code byte (below + 1) n → Past reach code byte below n
     here n q = elim (cases_eq q.0 below) [
@@ -94,8 +93,8 @@ pass_skip reach code byte below number old now g e never = gain_by old now (Past
       | inr other ↦ (q.0, omega (arith, q.1, other), q.2)
     ]
 
-pub pass_ends : (reach : Reach) (code : List Node) (byte below : ℕ) (old now : Reach) → IsReach code reach → Gains code (Past reach code byte below) old now → below ≡ reach.count → Gains code (PassesFrom reach code byte) old now
-pass_ends reach code byte below old now r g e = gain_by old now (Past reach code byte below) (PassesFrom reach code byte) g
+pub pass_ends : {reach : Reach} {code : List Node} (byte below : ℕ) {old now : Reach} → IsReach code reach → Gains code (Past reach code byte below) old now → below ≡ reach.count → Gains code (PassesFrom reach code byte) old now
+pass_ends {reach} {code} byte below r g e = gain_by (Past reach code byte below) (PassesFrom reach code byte) g
     (λ n q. (at_place reach.list.items q.0, r.marks q.0 (omega (arith, q.1, e)), q.2))
     (λ n q. let was = r.listed q.0 q.1 in (was.0, omega (arith, was.1, e), subst (λ m. Passes code byte m n) (sym was.2) q.2))
 
@@ -106,9 +105,9 @@ pub record Emptying (old now : Reach) (done : ℕ) : Type 0 where
   pub count : now.count ≡ old.count
   pub left : (number : ℕ) → Has now number → (place : ℕ) × (done ≤ place) × (place < old.count) × (at_place old.list.items place ≡ number)
 
-pub empty_more : (old now new : Reach) (done number : ℕ) → IsSet old → Emptying old now done → done < old.count → number ≡ at_place old.list.items done → new.marks.items ≡ set now.marks.items number false → new.list.items ≡ now.list.items → new.count ≡ now.count
+pub empty_more : {old now new : Reach} {done : ℕ} (number : ℕ) → IsSet old → Emptying old now done → done < old.count → number ≡ at_place old.list.items done → new.marks.items ≡ set now.marks.items number false → new.list.items ≡ now.list.items → new.count ≡ now.count
     → Emptying old new (done + 1)
-empty_more old now new done number r s h e em el ec = record {
+empty_more {old} {now} {new} {done} number r s h e em el ec = record {
   size = ap length em ∙ length-set now.marks.items number false ∙ s.size;
   list = el ∙ s.list;
   count = ec ∙ s.count;
@@ -144,8 +143,8 @@ none_among code (true ∷ marks) h = absurd (h 0 refl)
 none_among [] (false ∷ marks) h = refl
 none_among (node ∷ code) (false ∷ marks) h = let r = none_among code marks (λ n g. h (suc n) g) in omega (arith, r)
 
-pub empty_ends : (code : List Node) (old now new : Reach) (done : ℕ) → IsSet old → length code < length old.marks.items → Emptying old now done → old.count ≤ done → new.marks.items ≡ now.marks.items → new.list.items ≡ now.list.items → new.count ≡ 0 → new.positions ≡ 0 → IsEmptied code old new
-empty_ends code old now new done r wide s h em el ec ep = record {
+pub empty_ends : {code : List Node} {old now new : Reach} {done : ℕ} → IsSet old → length code < length old.marks.items → Emptying old now done → old.count ≤ done → new.marks.items ≡ now.marks.items → new.list.items ≡ now.list.items → new.count ≡ 0 → new.positions ≡ 0 → IsEmptied code old new
+empty_ends {code} {new} r wide s h em el ec ep = record {
   sound = record {
     fits = ap length el ∙ ap length s.list ∙ r.fits ∙ sym s.size ∙ sym (ap length em);
     counted = ec ∙ sym (none_marked new.marks.items (λ n g. none n g));
@@ -161,8 +160,8 @@ empty_ends code old now new done r wide s h em el ec ep = record {
     none : (n : ℕ) → Has new n → ⊥
     none n g = let was = s.left n (sym (ap (λ l. get_or l n false) em) ∙ g) in omega (arith, was.1, was.2, h)
 
-pub advanced : (code : List Node) (byte : ℕ) (now old empty middle new : Reach) → IsEmptied code old empty → Gains code (PassesFrom now code byte) empty middle → Opens code false false middle new → Advances code byte now old new
-advanced code byte now old empty middle new e g o = record {
+pub advanced : {code : List Node} {byte : ℕ} {now old empty middle new : Reach} → IsEmptied code old empty → Gains code (PassesFrom now code byte) empty middle → Opens code false false middle new → Advances code byte now old new
+advanced {code} {byte} {now} {middle} e g o = record {
   sound = o.sound;
   size = o.size ∙ g.size ∙ e.size;
   exact = λ number. (
@@ -181,8 +180,8 @@ pub record Loading (code : List Node) (flags : List Bool) (old : Reach) (done : 
   pub there : (number : ℕ) → Has now number → IsMarked flags number
   pub here : (number : ℕ) → number < done → IsMarked flags number → Has now number
 
-pub load_more : {code : List Node} (flags : List Bool) (old now new : Reach) (done : ℕ) → Loading code flags old done now → IsMarked flags done → Gains code (λ n. n ≡ done) now new → Loading code flags old (done + 1) new
-load_more flags old now new done l m g = record {
+pub load_more : {code : List Node} {flags : List Bool} {old now new : Reach} {done : ℕ} → Loading code flags old done now → IsMarked flags done → Gains code (λ n. n ≡ done) now new → Loading code flags old (done + 1) new
+load_more {flags} {done} l m g = record {
   sound = g.sound;
   size = g.size ∙ l.size;
   there = λ n h. elim ((g.exact n).0 h) [ inl was ↦ l.there n was | inr e ↦ subst (IsMarked flags) (sym e) m ];
@@ -192,8 +191,8 @@ load_more flags old now new done l m g = record {
   ];
 }
 
-pub load_skip : {code : List Node} (flags : List Bool) (old now : Reach) (done : ℕ) → Loading code flags old done now → get_or flags done false ≡ false → Loading code flags old (done + 1) now
-load_skip flags old now done l e = record {
+pub load_skip : {code : List Node} {flags : List Bool} {old now : Reach} {done : ℕ} → Loading code flags old done now → get_or flags done false ≡ false → Loading code flags old (done + 1) now
+load_skip {flags} {done} l e = record {
   sound = l.sound;
   size = l.size;
   there = l.there;
@@ -203,16 +202,16 @@ load_skip flags old now done l e = record {
   ];
 }
 
-pub load_ends : {code : List Node} (flags : List Bool) (old now : Reach) (done : ℕ) → Loading code flags old done now → length flags ≤ done → Loaded code flags old now
-load_ends flags old now done l h = record { sound = l.sound; size = l.size; exact = λ n. (l.there n, λ f. let m = marks_within flags n f in l.here n (omega (arith, m, h)) f) }
+pub load_ends : {code : List Node} {flags : List Bool} {old now : Reach} {done : ℕ} → Loading code flags old done now → length flags ≤ done → Loaded code flags old now
+load_ends {flags} l h = record { sound = l.sound; size = l.size; exact = λ n. (l.there n, λ f. let m = marks_within flags n f in l.here n (omega (arith, m, h)) f) }
 
 none_of : (size number : ℕ) → IsMarked (replicate size false) number → ⊥
 none_of zero number h = false≢true h
 none_of (suc size) zero h = false≢true h
 none_of (suc size) (suc number) h = none_of size number h
 
-pub fresh : (reach : Reach) (size : ℕ) → reach.marks.items ≡ replicate size false → length reach.list.items ≡ length reach.marks.items → reach.count ≡ 0 → IsSet reach
-fresh reach size em el ec = record {
+pub fresh : {reach : Reach} (size : ℕ) → reach.marks.items ≡ replicate size false → length reach.list.items ≡ length reach.marks.items → reach.count ≡ 0 → IsSet reach
+fresh {reach} size em el ec = record {
   fits = el;
   counted = ec ∙ sym (none_marked reach.marks.items (λ n h. none_of size n (subst (λ l. IsMarked l n) em h)));
   listed = λ n h. absurd (none_of size n (subst (λ l. IsMarked l n) em h));

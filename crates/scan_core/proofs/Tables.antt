@@ -19,8 +19,8 @@ use Rattle.scan_core.specs.inner.Sets.{IsReach, Has, FlowsOn, Passes, Advances, 
 use Rattle.scan_core.specs.inner.Table.{Next, InSets, entry, Tells, IsState, no_state, IsTable}
 use Rattle.scan_core.proofs.Enterings.{at_index, at_once, at_least}
 
-tells_more : (code : List Node) (sets : List (List Bool)) (set : List Bool) (state byte read : ℕ) → state < length sets → Tells code sets state byte read → Tells code (sets ++ set ∷ []) state byte read
-tells_more code sets set state byte read h t = record {
+tells_more : {code : List Node} {sets : List (List Bool)} (set : List Bool) {state byte read : ℕ} → state < length sets → Tells code sets state byte read → Tells code (sets ++ set ∷ []) state byte read
+tells_more {code} {sets} set {state} {byte} {read} h t = record {
   next = λ small.
       let n = t.next small in
       let l = length-append sets (set ∷ []) in (
@@ -32,8 +32,8 @@ tells_more code sets set state byte read h t = record {
 }
 
 -- one more set; no entries of it are there yet
-pub built_set : (code : List Node) (sets : List (List Bool)) (rows : List ℕ) (set : List Bool) → Built code sets rows → length rows ≤ length sets * 256 → (IsMarked set (length code) → ⊥) → Built code (sets ++ set ∷ []) rows
-built_set code sets rows set b small none = record {
+pub built_set : {code : List Node} {sets : List (List Bool)} {rows : List ℕ} (set : List Bool) → Built code sets rows → length rows ≤ length sets * 256 → (IsMarked set (length code) → ⊥) → Built code (sets ++ set ∷ []) rows
+built_set {code} {sets} set b small none = record {
   some = let l = length-append sets (set ∷ []) in omega (arith, l);
   front = λ number. subst (λ s. IsMarked s number ↔ FlowsOn code true false 0 number) (sym (get_or_append_left sets (set ∷ []) [] 0 b.some)) (b.front number);
   none = λ state h k. let l = length-append sets (set ∷ []) in elim (cases_lt state (length sets)) [
@@ -42,12 +42,12 @@ built_set code sets rows set b small none = record {
   ];
   told = λ state byte h b256 r. let l = length-append sets (set ∷ []) in
       let old : state < length sets = omega (arith, r, small) in
-      tells_more code sets set state byte (get_or rows (state * 256 + byte) 0) old (b.told state byte old b256 r);
+      tells_more set old (b.told state byte old b256 r);
 }
 
 -- one more entry
-pub built_entry : (code : List Node) (sets : List (List Bool)) (rows : List ℕ) (state byte read : ℕ) → Built code sets rows → byte < 256 → length rows ≡ state * 256 + byte → Tells code sets state byte read → Built code sets (rows ++ read ∷ [])
-built_entry code sets rows state byte read b h e t = record {
+pub built_entry : {code : List Node} {sets : List (List Bool)} {rows : List ℕ} {state byte read : ℕ} → Built code sets rows → byte < 256 → length rows ≡ state * 256 + byte → Tells code sets state byte read → Built code sets (rows ++ read ∷ [])
+built_entry {code} {sets} {rows} {state} {byte} {read} b h e t = record {
   some = b.some;
   front = b.front;
   none = b.none;
@@ -67,11 +67,11 @@ record Grown (code : List Node) (state : ℕ) (sets sets' : List (List Bool)) (r
   sized : AreSized code sets'
   same : set_at sets' state ≡ set_at sets state
 
-grown : (code : List Node) (state : ℕ) (sets sets' : List (List Bool)) (rows : List ℕ) (marks : List Bool) → Built code sets rows → length rows ≤ length sets * 256 → state < length sets → AreSized code sets → length marks ≡ length code + 1
+grown : {code : List Node} {state : ℕ} {sets sets' : List (List Bool)} {rows : List ℕ} (marks : List Bool) → Built code sets rows → length rows ≤ length sets * 256 → state < length sets → AreSized code sets → length marks ≡ length code + 1
     → (sets' ≡ sets) ⊎ ((sets' ≡ sets ++ marks ∷ []) × (IsMarked marks (length code) → ⊥)) → Grown code state sets sets' rows
-grown code state sets sets' rows marks b r k s m (inl e) = subst (λ t. Grown code state sets t rows) (sym e) (record { built = b; known = k; sized = s; same = refl })
-grown code state sets sets' rows marks b r k s m (inr e) = subst (λ t. Grown code state sets t rows) (sym e.0) (record {
-  built = built_set code sets rows marks b r e.1;
+grown {code} {state} {sets} {rows} marks b r k s m (inl e) = subst (λ t. Grown code state sets t rows) (sym e) (record { built = b; known = k; sized = s; same = refl })
+grown {code} {state} {sets} {rows} marks b r k s m (inr e) = subst (λ t. Grown code state sets t rows) (sym e.0) (record {
+  built = built_set marks b r e.1;
   known = let l = length-append sets (marks ∷ []) in omega (arith, k, l);
   sized = λ n h. let l = length-append sets (marks ∷ []) in elim (cases_lt n (length sets)) [
     | inl old ↦ ap length (get_or_append_left sets (marks ∷ []) [] n old) ∙ s n old
@@ -85,15 +85,14 @@ passes_alike : (code : List Node) (one other from to : ℕ) → AreAlike code on
 passes_alike code one other from to a p = (p.0, p.1, sym (a from p.0 p.1) ∙ p.2, p.3)
 
 next_alike : (code : List Node) (one other : ℕ) (Set : ℕ → Type 0) (number : ℕ) → AreAlike code one other → Next code one Set number → Next code other Set number
-next_alike code one other Set number a n =
-    (n.0, elim n.1 [ inl s ↦ inl (s.0, s.1, passes_alike code one other s.0 n.0 a s.2) | inr e ↦ inr e ], n.2)
+next_alike code one other Set number a n = (n.0, elim n.1 [ inl s ↦ inl (s.0, s.1, passes_alike code one other s.0 n.0 a s.2) | inr e ↦ inr e ], n.2)
 
 alike_back : (code : List Node) (one other : ℕ) → AreAlike code one other → AreAlike code other one
 alike_back code one other a = λ number bytes h. sym (a number bytes h)
 
 -- the entry of a byte's twin is the byte's
-pub tells_twin : (code : List Node) (sets : List (List Bool)) (state byte twin read : ℕ) → AreAlike code byte twin → Tells code sets state twin read → Tells code sets state byte read
-tells_twin code sets state byte twin read a t = record {
+pub tells_twin : {code : List Node} {sets : List (List Bool)} {state byte twin read : ℕ} → AreAlike code byte twin → Tells code sets state twin read → Tells code sets state byte read
+tells_twin {code} {sets} {state} {byte} {twin} a t = record {
   next = λ s. let n = t.next s in (
     n.0,
     λ number. (
@@ -104,10 +103,10 @@ tells_twin code sets state byte twin read a t = record {
   stop = λ e. next_alike code twin byte (InSets sets state) (length code) (alike_back code byte twin a) (t.stop e);
 }
 
-pub twin_entry : (code : List Node) (most state byte twin read d : ℕ) (building : Building) → IsFilling code most state byte building → AreAlike code byte twin → twin < byte → byte < 256 → read ≡ get_or building.rows.items (state * 256 + twin) d → Tells code building.sets.items state byte read
-twin_entry code most state byte twin read d building f a less small e =
+pub twin_entry : {code : List Node} {most state byte twin read : ℕ} (d : ℕ) {building : Building} → IsFilling code most state byte building → AreAlike code byte twin → twin < byte → byte < 256 → read ≡ get_or building.rows.items (state * 256 + twin) d → Tells code building.sets.items state byte read
+twin_entry {code} {state} {twin} d {building} f a less small e =
     let here : state * 256 + twin < length building.rows.items = let l = f.so_far.filled in omega (arith, l, less) in
-    tells_twin code building.sets.items state byte twin read a
+    tells_twin a
     (subst (Tells code building.sets.items state twin) (sym (e ∙ get_or_default building.rows.items (state * 256 + twin) d 0 here)) (f.so_far.built.told state twin f.known (omega (arith, less, small)) here))
 
 -- the set that a byte leads to, which may have been added
@@ -142,7 +141,7 @@ led_on code most state byte read old new marks f b256 a em l er en = record {
     small = let k = f.known in let e = f.so_far.filled in omega (arith, k, e, b256)
 
     g : Grown code state old.sets.items new.sets.items old.rows.items
-    g = grown code state old.sets.items new.sets.items old.rows.items marks f.so_far.built small f.known f.so_far.sized (ap length em ∙ a.size ∙ f.so_far.next_size) l.sets
+    g = grown marks f.so_far.built small f.known f.so_far.sized (ap length em ∙ a.size ∙ f.so_far.next_size) l.sets
 
     old_set : (number : ℕ) → Has old.now number ↔ InSets new.sets.items state number
     old_set number = subst (λ s. Has old.now number ↔ IsMarked s number) (sym g.same) (f.set number)
@@ -154,11 +153,11 @@ led_on code most state byte read old new marks f b256 a em l er en = record {
     )
 
 -- one entry more
-pub filled_more : (code : List Node) (most state byte read : ℕ) (old new : Building) → IsFilling code most state byte old → byte < 256 → Tells code old.sets.items state byte read → new.sets ≡ old.sets → new.now ≡ old.now → new.next ≡ old.next
+pub filled_more : {code : List Node} {most state byte read : ℕ} {old new : Building} → IsFilling code most state byte old → byte < 256 → Tells code old.sets.items state byte read → new.sets ≡ old.sets → new.now ≡ old.now → new.next ≡ old.next
     → new.rows.items ≡ old.rows.items ++ read ∷ [] → IsFilling code most state (byte + 1) new
-filled_more code most state byte read old new f b256 t es en ex er = record {
+filled_more {code} {state} {read} {old} {new} f b256 t es en ex er = record {
   so_far = record {
-    built = subst (Built code new.sets.items) (sym er) (subst (λ s. Built code s (old.rows.items ++ read ∷ [])) (sym e) (built_entry code old.sets.items old.rows.items state byte read f.so_far.built b256 f.so_far.filled t));
+    built = subst (Built code new.sets.items) (sym er) (subst (λ s. Built code s (old.rows.items ++ read ∷ [])) (sym e) (built_entry f.so_far.built b256 f.so_far.filled t));
     filled = let q = length-append old.rows.items (read ∷ []) in let l = ap length er in let w = f.so_far.filled in omega (arith, q, l, w);
     room = let l = ap length e in let r = f.so_far.room in omega (arith, l, r);
     sized = subst (AreSized code) (sym e) f.so_far.sized;
@@ -175,9 +174,9 @@ filled_more code most state byte read old new f b256 t es en ex er = record {
     e = ap (λ s. s.items) es
 
 -- a row begins
-pub fill_starts : (code : List Node) (most state : ℕ) (old new : Building) → IsBuilding code most (state * 256) old → state < length old.sets.items → Loaded code (set_at old.sets.items state) old.now new.now → new.sets ≡ old.sets → new.rows ≡ old.rows → new.next ≡ old.next
+pub fill_starts : {code : List Node} {most state : ℕ} {old new : Building} → IsBuilding code most (state * 256) old → state < length old.sets.items → Loaded code (set_at old.sets.items state) old.now new.now → new.sets ≡ old.sets → new.rows ≡ old.rows → new.next ≡ old.next
     → IsFilling code most state 0 new
-fill_starts code most state old new b k l es er ex = record {
+fill_starts {code} {state} {old} {new} b k l es er ex = record {
   so_far = record {
     built = subst (λ r. Built code new.sets.items r) (sym (ap (λ r. r.items) er)) (subst (λ s. Built code s old.rows.items) (sym e) b.built);
     filled = let q = ap (λ r. length r.items) er in let f = b.filled in omega (arith, q, f);
@@ -196,9 +195,9 @@ fill_starts code most state old new b k l es er ex = record {
     e = ap (λ s. s.items) es
 
 -- the first nodes don't tell two bytes apart
-pub alike_below : (code : List Node) (n one other : ℕ) (node : Node) → ((m : ℕ) (bytes : List Bool) → m < n → At code m (Take bytes) → has bytes one ≡ has bytes other) → node ≡ get_or code n node → n < length code
+pub alike_below : (code : List Node) (n one other : ℕ) {node : Node} → ((m : ℕ) (bytes : List Bool) → m < n → At code m (Take bytes) → has bytes one ≡ has bytes other) → node ≡ get_or code n node → n < length code
     → ((bytes : List Bool) → node ≡ Take bytes → has bytes one ≡ has bytes other) → (m : ℕ) (bytes : List Bool) → m < n + 1 → At code m (Take bytes) → has bytes one ≡ has bytes other
-alike_below code n one other node before is h here m bytes l at = elim (cases_eq m n) [
+alike_below code n one other {node} before is h here m bytes l at = elim (cases_eq m n) [
   | inl same ↦ here bytes (at_once code n node (Take bytes) (subst (At code n) (sym is) (at_index code n node h)) (subst (λ k. At code k (Take bytes)) same at))
   | inr differs ↦ before m bytes (omega (arith, l, differs)) at
 ]
@@ -207,16 +206,16 @@ pub alike_all : (code : List Node) (n one other : ℕ) → length code ≤ n →
 alike_all code n one other h before number bytes at = let l = at_least code number (Take bytes) at in before number bytes (omega (arith, l, h)) at
 
 -- marks that say what flags say are those flags
-same_marks : (marks flags : List Bool) → length marks ≡ length flags → ((n : ℕ) → IsMarked marks n ↔ IsMarked flags n) → marks ≡ flags
-same_marks marks flags e x = ext_get_or false marks flags e
+same_marks : {marks flags : List Bool} → length marks ≡ length flags → ((n : ℕ) → IsMarked marks n ↔ IsMarked flags n) → marks ≡ flags
+same_marks {marks} {flags} e x = ext_get_or false marks flags e
     (λ n h. one_truth (get_or marks n false) (get_or flags n false) (IsMarked flags n) (x n) (λ m. m, λ m. m))
 
 -- what was seen of a set is so
-pub state_is : (code : List Node) (sets : List (List Bool)) (rows : List ℕ) (number : ℕ) (old loaded spread : Reach) (state : State) → length (set_at sets number) ≡ length code + 1 → length old.marks.items ≡ length code + 1 → Loaded code (set_at sets number) old loaded
+pub state_is : {code : List Node} {sets : List (List Bool)} {rows : List ℕ} (number : ℕ) {old loaded spread : Reach} {state : State} → length (set_at sets number) ≡ length code + 1 → length old.marks.items ≡ length code + 1 → Loaded code (set_at sets number) old loaded
     → Spreads code false true loaded spread → state.positions ≡ loaded.positions → (IsTrue state.is_fixed → (byte : ℕ) → byte < 256 → entry rows number byte ≡ number) → state.last_positions ≡ spread.positions → (IsTrue state.ends ↔ Has spread (length code))
     → IsState code sets rows number state
-state_is code sets rows number old loaded spread state sized size l s p f q e = record {
-  positions = p ∙ l.sound.weighed ∙ ap (positions_among code) (same_marks loaded.marks.items (set_at sets number) (l.size ∙ size ∙ sym sized) l.exact);
+state_is {code} number {spread} sized size l s p f q e = record {
+  positions = p ∙ l.sound.weighed ∙ ap (positions_among code) (same_marks (l.size ∙ size ∙ sym sized) l.exact);
   is_fixed = f;
   last = spread.marks.items;
   last_exact = λ to. (
@@ -228,18 +227,18 @@ state_is code sets rows number old loaded spread state sized size l s p f q e = 
 }
 
 -- one state more
-pub one_noted : (code : List Node) (sets : List (List Bool)) (rows : List ℕ) (states new : List State) (number : ℕ) (noted : State) → AreNoted code sets rows states → number ≡ length states → number < length sets → IsState code sets rows number noted → new ≡ states ++ noted ∷ [] → AreNoted code sets rows new
-one_noted code sets rows states new number noted a e h s q = record {
-  some = let l = one_longer states new number noted (sym e) q in omega (arith, l, h);
-  each = λ state g. let l = one_longer states new number noted (sym e) q in
-      pushed no_state (IsState code sets rows) states new number noted (sym e) (λ k b. a.each k (omega (arith, b, e))) s q state (omega (arith, g, l));
+pub one_noted : {code : List Node} {sets : List (List Bool)} {rows : List ℕ} {states new : List State} (number : ℕ) {noted : State} → AreNoted code sets rows states → number ≡ length states → number < length sets → IsState code sets rows number noted → new ≡ states ++ noted ∷ [] → AreNoted code sets rows new
+one_noted {code} {sets} {rows} {states} number {noted} a e h s q = record {
+  some = let l = one_longer states noted (sym e) q in omega (arith, l, h);
+  each = λ state g. let l = one_longer states noted (sym e) q in
+      pushed no_state (IsState code sets rows) states noted (sym e) (λ k b. a.each k (omega (arith, b, e))) s q state (omega (arith, g, l));
 }
 
 -- a table that was built, with what is noted of each state
-pub table_is : (code : List Node) (most state : ℕ) (building : Building) (table : Table) → IsBuilding code most (state * 256) building
+pub table_is : {code : List Node} {most state : ℕ} {building : Building} {table : Table} → IsBuilding code most (state * 256) building
     → state ≡ length building.sets.items → length code ≤ 65536 → most < 65534 → table.rows ≡ building.rows
     → AreNoted code building.sets.items building.rows.items table.states.items → length table.states.items ≡ length building.sets.items → IsTable code table
-table_is code most state building table b all few small same noted count = (
+table_is {code} {most} {building} {table} b all few small same noted count = (
   building.sets.items,
   record {
     few = few;

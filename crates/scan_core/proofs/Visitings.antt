@@ -27,8 +27,8 @@ is_within words number h = elim (cases_lt number (64 * length words)) [
 ]
 
 -- clearing a bit that is set makes a word smaller, and leaves the others
-pub cleared : (word k : ℕ) → k < 64 → bit_at word k ≡ 1 → let left = bit_and word (bit_not w64 (1 * 2 ^ k % 2 ^ 64)) in (left < word) × ((j : ℕ) → j < 64 → (j ≡ k → ⊥) → bit_at left j ≡ bit_at word j) × (bit_at left k ≡ 0)
-cleared word k within set =
+pub cleared : (word : ℕ) {k : ℕ} → k < 64 → bit_at word k ≡ 1 → let left = bit_and word (bit_not w64 (1 * 2 ^ k % 2 ^ 64)) in (left < word) × ((j : ℕ) → j < 64 → (j ≡ k → ⊥) → bit_at left j ≡ bit_at word j) × (bit_at left k ≡ 0)
+cleared word {k} within set =
     let left : ℕ = bit_and word (bit_not w64 (1 * 2 ^ k % 2 ^ 64)) in
     let gone : bit_at left k ≡ 0 = bit_at_clear_same w64 word k within in (
       elim (cases_eq left word) [
@@ -51,8 +51,8 @@ pub record Visiting (code : List Node) (at_first at_last : Bool) (at pending lef
   pub within : (bit : ℕ) → bit < 64 → bit_at left bit ≡ 1 → bit_at pending bit ≡ 1
   pub rest : (bit : ℕ) → bit < 64 → bit_at pending bit ≡ 1 → (bit_at left bit ≡ 1) ⊎ ((to : ℕ) → Flows code at_first at_last (at * 64 + bit) to → IsIn now to)
 
-pub visit_starts : (code : List Node) (at_first at_last : Bool) (at pending : ℕ) (old : List ℕ) → Visiting code at_first at_last at pending pending old old (at + 1)
-visit_starts code at_first at_last at pending old = record {
+pub visit_starts : {code : List Node} {at_first at_last : Bool} {at pending : ℕ} {old : List ℕ} → Visiting code at_first at_last at pending pending old old (at + 1)
+visit_starts = record {
   size = refl;
   kept = λ number h. h;
   from = λ number h. inl h;
@@ -75,8 +75,8 @@ pub flows_join : (code : List Node) (at_first at_last : Bool) (count start middl
 flows_join code at_first at_last zero start middle number f p = subst (FlowsOn code at_first at_last start) p f
 flows_join code at_first at_last (suc count) start middle number f p = let r = flows_join code at_first at_last count start middle p.0 f p.1 in (suc r.0, (p.0, r.1, p.2))
 
-pub spreading_more : (code : List Node) (at_first at_last : Bool) (old now new : List ℕ) (at on : ℕ) → Spreading code at_first at_last old now at → Visits code at_first at_last at now new on → Spreading code at_first at_last old new on
-spreading_more code at_first at_last old now new at on s v = record {
+pub spreading_more : {code : List Node} {at_first at_last : Bool} {old now new : List ℕ} {at on : ℕ} → Spreading code at_first at_last old now at → Visits code at_first at_last at now new on → Spreading code at_first at_last old new on
+spreading_more {code} {at_first} {at_last} {at} s v = record {
   size = v.size ∙ s.size;
   kept = λ number h. v.kept number (s.kept number h);
   from = λ number h. let one = v.from number h in let two = s.from one.0 one.1 in (two.0, two.1, flows_join code at_first at_last one.2.0 two.0 one.0 number two.2 one.2.1);
@@ -86,8 +86,8 @@ spreading_more code at_first at_last old now new at on s v = record {
   ];
 }
 
-pub spreading_ends : (code : List Node) (at_first at_last : Bool) (old now : List ℕ) (at : ℕ) → Spreading code at_first at_last old now at → length now ≤ at → SpreadsOut code at_first at_last old now
-spreading_ends code at_first at_last old now at s h = record {
+pub spreading_ends : {code : List Node} {at_first at_last : Bool} {old now : List ℕ} {at : ℕ} → Spreading code at_first at_last old now at → length now ≤ at → SpreadsOut code at_first at_last old now
+spreading_ends {code} {at_first} {at_last} {old} {now} s h = record {
   size = s.size;
   exact = λ number. (s.from number, λ f. follow f.2.0 f.0 number f.1 f.2.1);
 }
@@ -115,9 +115,9 @@ smaller more less size at on l h m s = elim (cases_lt on (at + 1)) [
       omega (arith, f, g, next, h, l)
 ]
 
-pub visits_smaller : (code : List Node) (at_first at_last : Bool) (at : ℕ) (old new : List ℕ) (on : ℕ) → Visits code at_first at_last at old new on
+pub visits_smaller : {code : List Node} {at_first at_last : Bool} {at : ℕ} {old new : List ℕ} {on : ℕ} → Visits code at_first at_last at old new on
     → at < length old → unset new * (length new + 1) + (length new - on) < unset old * (length old + 1) + (length old - at)
-visits_smaller code at_first at_last at old new on v h =
+visits_smaller {at} {old} {new} {on} v h =
     let e = ap (λ n. unset new * (n + 1) + (n - on)) v.size in
     let s = smaller (unset old) (unset new) (length old) at on v.low h v.fuller v.less in
     omega (arith, s, e)

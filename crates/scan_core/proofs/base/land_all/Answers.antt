@@ -12,8 +12,8 @@ loop-at-preserved c =
     let added = c.in_ok-add_landings.ensures in
     record {
       sound = added.sound;
-      size = one_longer c.loop-at.others.items _ c.loop-at.at _ c.loop-at.invariant.size c.in_ok-push.ensures.items;
-      each = pushed 0 (λ at word. IsOther nodes base landings at word) c.loop-at.others.items _ c.loop-at.at _ c.loop-at.invariant.size (λ k h. other_kept nodes base c.loop-at.landings.items landings k _ added.longer added.front (c.loop-at.invariant.each k h))
+      size = one_longer c.loop-at.others.items _ c.loop-at.invariant.size c.in_ok-push.ensures.items;
+      each = pushed 0 (λ at word. IsOther nodes base landings at word) c.loop-at.others.items _ c.loop-at.invariant.size (λ k h. other_kept nodes base c.loop-at.landings.items landings k _ added.longer added.front (c.loop-at.invariant.each k h))
           (subst (λ l. IsOther nodes base l c.loop-at.at c.others_of.result) c.deref.ensures.value c.others_of.ensures) c.in_ok-push.ensures.items;
     }
 

@@ -5,8 +5,8 @@ use Rattle.scan_core.proofs.base.leads_of.Goals as goal
 
 pub loop-at-preserved : goal.loop-at-preserved
 loop-at-preserved c = record {
-  size = one_longer c.loop-at.leads.items _ c.loop-at.at _ c.loop-at.invariant.size c.in_ok-push.ensures.items;
-  each = pushed 0 (λ at word. IsLeading c.args.nodes.now c.args.words.now at word) c.loop-at.leads.items _ c.loop-at.at _ c.loop-at.invariant.size c.loop-at.invariant.each c.leading.ensures c.in_ok-push.ensures.items;
+  size = one_longer c.loop-at.leads.items _ c.loop-at.invariant.size c.in_ok-push.ensures.items;
+  each = pushed 0 (λ at word. IsLeading c.args.nodes.now c.args.words.now at word) c.loop-at.leads.items _ c.loop-at.invariant.size c.loop-at.invariant.each c.leading.ensures c.in_ok-push.ensures.items;
 }
 
 pub returns-clause-ok : goal.returns-clause-ok

@@ -36,4 +36,4 @@ returns-clause-ok c =
     let all : c.loop-state.state ≡ length c.loop-state.building.sets.items =
     elim c.loop-state-test.branch [ else-loop-state-test w ↦ omega (arith, i.room) | then-loop-state-test+then-state-len w ↦ omega arith ] in
     let noted = c.in_ok-states.ensures.noted in
-    table_is c.args.nodes.now c.min-most.result c.loop-state.state c.loop-state.building _ i all (omega arith) (omega arith) c.in_ok-states.ensures.rows noted.0 noted.1
+    table_is i all (omega arith) (omega arith) c.in_ok-states.ensures.rows noted.0 noted.1

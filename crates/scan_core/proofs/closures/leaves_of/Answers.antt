@@ -5,8 +5,8 @@ use Rattle.scan_core.proofs.closures.leaves_of.Goals as goal
 
 pub loop-at-preserved : goal.loop-at-preserved
 loop-at-preserved c = record {
-  size = one_longer c.loop-at.leaves.items _ c.loop-at.at _ c.loop-at.invariant.size c.in_ok-push.ensures.items;
-  each = pushed 0 (λ at word. IsLeaving c.args.nodes.now c.args.hops.now at word) c.loop-at.leaves.items _ c.loop-at.at _ c.loop-at.invariant.size c.loop-at.invariant.each c.leaving.ensures c.in_ok-push.ensures.items;
+  size = one_longer c.loop-at.leaves.items _ c.loop-at.invariant.size c.in_ok-push.ensures.items;
+  each = pushed 0 (λ at word. IsLeaving c.args.nodes.now c.args.hops.now at word) c.loop-at.leaves.items _ c.loop-at.invariant.size c.loop-at.invariant.each c.leaving.ensures c.in_ok-push.ensures.items;
 }
 
 pub returns-clause-ok : goal.returns-clause-ok

@@ -6,6 +6,6 @@ use Rattle.scan_core.proofs.closures.peers_of.Goals.{then-is_peer, else-is_peer}
 
 pub loop-bit-preserved : goal.loop-bit-preserved
 loop-bit-preserved c = elim c.if-is_peer.branch [
-  | then-is_peer w ↦ subst (Peering c.args.nodes.now c.args.number (c.loop-bit.bit + 1)) (sym w.word-is) (peer_more c.args.nodes.now c.args.number c.loop-bit.bit c.loop-bit.word c.loop-bit.invariant c.loop-bit-test.true (c.is_peer.ensures.yes w.if-is_peer.true))
-  | else-is_peer w ↦ subst (Peering c.args.nodes.now c.args.number (c.loop-bit.bit + 1)) (sym w.word-is) (peer_skip c.args.nodes.now c.args.number c.loop-bit.bit c.loop-bit.word c.loop-bit.invariant (λ e. false≢true (sym w.if-is_peer.false ∙ c.is_peer.ensures.own e)) c.loop-bit-test.true)
+  | then-is_peer w ↦ subst (Peering c.args.nodes.now c.args.number (c.loop-bit.bit + 1)) (sym w.word-is) (peer_more c.args.number c.loop-bit.invariant c.loop-bit-test.true (c.is_peer.ensures.yes w.if-is_peer.true))
+  | else-is_peer w ↦ subst (Peering c.args.nodes.now c.args.number (c.loop-bit.bit + 1)) (sym w.word-is) (peer_skip c.args.number c.loop-bit.invariant (λ e. false≢true (sym w.if-is_peer.false ∙ c.is_peer.ensures.own e)) c.loop-bit-test.true)
 ]

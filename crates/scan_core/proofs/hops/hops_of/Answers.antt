@@ -5,8 +5,8 @@ use Rattle.scan_core.proofs.hops.hops_of.Goals as goal
 
 pub loop-place-preserved : goal.loop-place-preserved
 loop-place-preserved c = record {
-  size = one_longer c.loop-place.hops.items _ c.loop-place.place _ c.loop-place.invariant.size c.in_ok-push.ensures.items;
-  each = pushed no_hop (λ place hop. IsHop c.args.nodes.now (place / 3) hop) c.loop-place.hops.items _ c.loop-place.place _ c.loop-place.invariant.size
+  size = one_longer c.loop-place.hops.items _ c.loop-place.invariant.size c.in_ok-push.ensures.items;
+  each = pushed no_hop (λ place hop. IsHop c.args.nodes.now (place / 3) hop) c.loop-place.hops.items _ c.loop-place.invariant.size
       c.loop-place.invariant.each c.hop_of-hop.ensures c.in_ok-push.ensures.items;
 }
 

@@ -13,8 +13,8 @@ use Rattle.scan_core.specs.inner.Words.{IsMasks}
 use Rattle.scan_core.proofs.Whole.{is_code, enough_room}
 use Rattle.scan_core.proofs.bre.Bre.read.Goals as goal
 
-no_fault : (bre : Pattern) → IsErrOf {T = Pattern} {E = BreFault} (Ok bre) TooLarge → ⊥
-no_fault bre e = cc
+no_fault : {bre : Pattern} → IsErrOf {T = Pattern} {E = BreFault} (Ok bre) TooLarge → ⊥
+no_fault e = cc
 
 other_fault : IsErrOf {T = Pattern} {E = BreFault} (Err Memory) TooLarge → ⊥
 other_fault e = cc
@@ -69,5 +69,5 @@ returns c = record {
   groups = c.in_ok-expression.ensures.groups;
   size = c.in_ok-expression.ensures.size;
   refused = tt;
-  large = λ e. absurd (no_fault _ e);
+  large = λ e. absurd (no_fault e);
 }

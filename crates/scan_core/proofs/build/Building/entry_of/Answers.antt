@@ -6,8 +6,7 @@ use Rattle.scan_core.proofs.Tables.{twin_entry, led_on}
 use Rattle.scan_core.proofs.build.Building.entry_of.Goals as goal
 
 pub returns-then-twin-byte-clause-tells : goal.returns-then-twin-byte-clause-tells
-returns-then-twin-byte-clause-tells c =
-    twin_entry c.args.nodes.now c.args.most c.args.state c.args.byte c.args.twin c.index.result.now _ c.args.self.now c.requires.filling c.requires.twin c.if-twin-byte.true (omega arith) c.index.ensures
+returns-then-twin-byte-clause-tells c = twin_entry _ c.requires.filling c.requires.twin c.if-twin-byte.true (omega arith) c.index.ensures
 
 pub returns-clause-filling : goal.returns-clause-filling
 returns-clause-filling c =

@@ -14,7 +14,7 @@ loop-state-preserved c =
       so_far = c.state_of-noted.ensures.so_far;
       sets = sets;
       rows = rows;
-      noted = one_noted c.args.nodes.now c.args.self.now.sets.items c.args.self.now.rows.items c.loop-state.states.items c.push.new.self.items c.loop-state.state c.state_of-noted.result i.noted (sym i.count) (omega (arith, c.loop-state-test.true, i.all)) noted c.in_ok-push.ensures.items;
+      noted = one_noted c.loop-state.state i.noted (sym i.count) (omega (arith, c.loop-state-test.true, i.all)) noted c.in_ok-push.ensures.items;
       count = (let l = ap length c.in_ok-push.ensures.items in let a = length-append c.loop-state.states.items (c.state_of-noted.result ∷ []) in omega (arith, l, a, i.count));
       all = i.all;
     }

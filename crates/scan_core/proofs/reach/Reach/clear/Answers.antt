@@ -26,7 +26,7 @@ loop-place-preserved c =
     let l = count_most c.args.self.now c.requires.set.counted in
     let s = ap length c.loop-place.invariant.list in
     let e = c.index-number.ensures ∙ get_or_default c.loop-place.self.list.items c.loop-place.place _ 0 (omega (arith, l, s, c.loop-place-test.true, c.requires.set.fits)) ∙ ap (λ l. at_place l c.loop-place.place) c.loop-place.invariant.list in
-    empty_more c.args.self.now c.loop-place.self _ c.loop-place.place c.index-number.result.now c.requires.set c.loop-place.invariant c.loop-place-test.true e refl refl refl
+    empty_more c.index-number.result.now c.requires.set c.loop-place.invariant c.loop-place-test.true e refl refl refl
 
 pub returns : goal.returns
-returns c = empty_ends c.args.nodes.now c.args.self.now c.loop-place.self _ c.loop-place.place c.requires.set c.requires.room c.loop-place.invariant c.loop-place-test.false refl refl refl refl
+returns c = empty_ends c.requires.set c.requires.room c.loop-place.invariant c.loop-place-test.false refl refl refl refl

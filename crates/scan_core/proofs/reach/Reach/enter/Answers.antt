@@ -9,10 +9,10 @@ pub overflow_add-self : goal.overflow_add-self
 overflow_add-self c = let r = room c.args.self.now c.args.number c.requires.sound (omega (arith, c.requires.within, c.requires.sound.room)) (cc) in search (rules, r)
 
 pub returns-then-not-index : goal.returns-then-not-index
-returns-then-not-index c = gain_one c.args.nodes.now c.args.self.now _ c.args.number c.requires.sound c.requires.within (cc) refl refl refl (ap (λ w. c.args.self.now.positions + w) c.weight_at.ensures)
+returns-then-not-index c = gain_one c.requires.sound c.requires.within (cc) refl refl refl (ap (λ w. c.args.self.now.positions + w) c.weight_at.ensures)
 
 pub overflow_add-self-then-not-index : goal.overflow_add-self-then-not-index
 overflow_add-self-then-not-index c =
-    let f = positions_fit c.args.nodes.now c.args.self.now c.args.number c.requires.sound c.requires.within (cc) in
+    let f = positions_fit c.args.number c.requires.sound c.requires.within (cc) in
     let g : c.args.self.now.positions + c.weight_at.result ≤ length c.args.self.now.marks.items = omega (arith, f, c.weight_at.ensures) in
     search (rules, g)

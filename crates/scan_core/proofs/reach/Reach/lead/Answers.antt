@@ -1,44 +1,44 @@
-use Rattle.std.proofs.Common.{rules, ◌+◌, ◌-◌, refl, sym, ◌∙◌, arith}
+use Rattle.std.proofs.Common.{rules, refl, sym, ◌∙◌, arith}
 use Rattle.std.proofs.lemmas.Bool.{false≢true}
 use Rattle.scan_core.proofs.Enterings.{gain_nothing, node_here, flow_one, flow_none, flow_two, target_in, at_least}
 use Rattle.scan_core.proofs.reach.Reach.lead.Goals as goal
 
 pub overflow_add-number-in-Choose-2 : goal.overflow_add-number-in-Choose-2
 overflow_add-number-in-Choose-2 c =
-    let t = target_in c.args.nodes.now c.args.number c.in-Choose.skip c.requires.code (node_here c.args.nodes.now c.args.number _ _ c.if-number-nodes.true c.in-Choose.is c.index-nodes-number.is) in
+    let t = target_in c.args.number c.in-Choose.skip c.requires.code (node_here c.args.nodes.now c.if-number-nodes.true c.in-Choose.is c.index-nodes-number.is) in
     search (rules, t)
 
 pub enter-requires-in-Choose-2-clause-within : goal.enter-requires-in-Choose-2-clause-within
 enter-requires-in-Choose-2-clause-within c =
-    let t = target_in c.args.nodes.now c.args.number c.in-Choose.skip c.requires.code (node_here c.args.nodes.now c.args.number _ _ c.if-number-nodes.true c.in-Choose.is c.index-nodes-number.is) in
+    let t = target_in c.args.number c.in-Choose.skip c.requires.code (node_here c.args.nodes.now c.if-number-nodes.true c.in-Choose.is c.index-nodes-number.is) in
     omega (arith, t)
 
 pub overflow_sub-number : goal.overflow_sub-number
-overflow_sub-number c = c.requires.code.begins c.args.number c.in-Back.by (node_here c.args.nodes.now c.args.number _ _ c.if-number-nodes.true c.in-Back.is c.index-nodes-number.is)
+overflow_sub-number c = c.requires.code.begins c.args.number c.in-Back.by (node_here c.args.nodes.now c.if-number-nodes.true c.in-Back.is c.index-nodes-number.is)
 
 pub returns-in-Take : goal.returns-in-Take
-returns-in-Take c = flow_none c.args.nodes.now c.args.number _ c.args.at_first c.args.at_last _ _ (node_here c.args.nodes.now c.args.number _ _ c.if-number-nodes.true c.in-Take.is c.index-nodes-number.is) (λ to h. h) c.requires.sound refl
+returns-in-Take c = flow_none _ c.args.at_first c.args.at_last (node_here c.args.nodes.now c.if-number-nodes.true c.in-Take.is c.index-nodes-number.is) (λ to h. h) c.requires.sound refl
 
 pub returns-then-at_first : goal.returns-then-at_first
-returns-then-at_first c = flow_one c.args.nodes.now c.args.number _ c.args.at_first c.args.at_last (c.args.number + 1) _ _ (node_here c.args.nodes.now c.args.number _ _ c.if-number-nodes.true c.in-First.is c.index-nodes-number.is) (λ to h. h.1) (c.if-at_first.true, refl) c.enter.ensures
+returns-then-at_first c = flow_one _ c.args.at_first c.args.at_last (node_here c.args.nodes.now c.if-number-nodes.true c.in-First.is c.index-nodes-number.is) (λ to h. h.1) (c.if-at_first.true, refl) c.enter.ensures
 
 pub returns-else-at_first : goal.returns-else-at_first
-returns-else-at_first c = flow_none c.args.nodes.now c.args.number _ c.args.at_first c.args.at_last _ _ (node_here c.args.nodes.now c.args.number _ _ c.if-number-nodes.true c.in-First.is c.index-nodes-number.is) (λ to h. false≢true (sym c.if-at_first.false ∙ h.0)) c.requires.sound refl
+returns-else-at_first c = flow_none _ c.args.at_first c.args.at_last (node_here c.args.nodes.now c.if-number-nodes.true c.in-First.is c.index-nodes-number.is) (λ to h. false≢true (sym c.if-at_first.false ∙ h.0)) c.requires.sound refl
 
 pub returns-then-at_last : goal.returns-then-at_last
-returns-then-at_last c = flow_one c.args.nodes.now c.args.number _ c.args.at_first c.args.at_last (c.args.number + 1) _ _ (node_here c.args.nodes.now c.args.number _ _ c.if-number-nodes.true c.in-Last.is c.index-nodes-number.is) (λ to h. h.1) (c.if-at_last.true, refl) c.enter-then-at_last.ensures
+returns-then-at_last c = flow_one _ c.args.at_first c.args.at_last (node_here c.args.nodes.now c.if-number-nodes.true c.in-Last.is c.index-nodes-number.is) (λ to h. h.1) (c.if-at_last.true, refl) c.enter-then-at_last.ensures
 
 pub returns-else-at_last : goal.returns-else-at_last
-returns-else-at_last c = flow_none c.args.nodes.now c.args.number _ c.args.at_first c.args.at_last _ _ (node_here c.args.nodes.now c.args.number _ _ c.if-number-nodes.true c.in-Last.is c.index-nodes-number.is) (λ to h. false≢true (sym c.if-at_last.false ∙ h.0)) c.requires.sound refl
+returns-else-at_last c = flow_none _ c.args.at_first c.args.at_last (node_here c.args.nodes.now c.if-number-nodes.true c.in-Last.is c.index-nodes-number.is) (λ to h. false≢true (sym c.if-at_last.false ∙ h.0)) c.requires.sound refl
 
 pub returns-in-Choose : goal.returns-in-Choose
-returns-in-Choose c = flow_two c.args.nodes.now c.args.number c.in-Choose.skip c.args.at_first c.args.at_last _ _ _ (node_here c.args.nodes.now c.args.number _ _ c.if-number-nodes.true c.in-Choose.is c.index-nodes-number.is) c.enter-in-Choose.ensures c.enter-in-Choose-2.ensures
+returns-in-Choose c = flow_two c.in-Choose.skip c.args.at_first c.args.at_last (node_here c.args.nodes.now c.if-number-nodes.true c.in-Choose.is c.index-nodes-number.is) c.enter-in-Choose.ensures c.enter-in-Choose-2.ensures
 
 pub returns-in-Back : goal.returns-in-Back
 returns-in-Back c =
-    let here = node_here c.args.nodes.now c.args.number _ _ c.if-number-nodes.true c.in-Back.is c.index-nodes-number.is in
+    let here = node_here c.args.nodes.now c.if-number-nodes.true c.in-Back.is c.index-nodes-number.is in
     let l = c.requires.code.begins c.args.number c.in-Back.by here in
-    flow_one c.args.nodes.now c.args.number _ c.args.at_first c.args.at_last (c.args.number - c.in-Back.by) _ _ here (λ to h. omega (arith, h)) (omega (arith, l)) c.enter-in-Back.ensures
+    flow_one _ c.args.at_first c.args.at_last here (λ to h. omega (arith, h)) (omega (arith, l)) c.enter-in-Back.ensures
 
 pub returns-else-number-nodes : goal.returns-else-number-nodes
-returns-else-number-nodes c = gain_nothing _ _ _ c.requires.sound refl (λ to f. let l = at_least c.args.nodes.now c.args.number f.0 f.1 in omega (arith, l, c.if-number-nodes.false))
+returns-else-number-nodes c = gain_nothing _ c.requires.sound refl (λ to f. let l = at_least c.args.nodes.now c.args.number f.0 f.1 in omega (arith, l, c.if-number-nodes.false))

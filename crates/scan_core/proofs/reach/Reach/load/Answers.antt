@@ -5,9 +5,9 @@ use Rattle.scan_core.proofs.reach.Reach.load.Goals.{then-flags-i, else-flags-i}
 
 pub loop-i-preserved : goal.loop-i-preserved
 loop-i-preserved c = elim c.if-flags-i.branch [
-  | then-flags-i w ↦ subst (Loading c.args.nodes.now c.args.flags.now c.args.self.now (c.loop-i.i + 1)) (sym w.self-is) (load_more c.args.flags.now c.args.self.now c.loop-i.self w.enter.new.self c.loop-i.i c.loop-i.invariant w.if-flags-i.true w.enter.ensures)
-  | else-flags-i w ↦ subst (Loading c.args.nodes.now c.args.flags.now c.args.self.now (c.loop-i.i + 1)) (sym w.self-is) (load_skip c.args.flags.now c.args.self.now c.loop-i.self c.loop-i.i c.loop-i.invariant w.if-flags-i.false)
+  | then-flags-i w ↦ subst (Loading c.args.nodes.now c.args.flags.now c.args.self.now (c.loop-i.i + 1)) (sym w.self-is) (load_more c.loop-i.invariant w.if-flags-i.true w.enter.ensures)
+  | else-flags-i w ↦ subst (Loading c.args.nodes.now c.args.flags.now c.args.self.now (c.loop-i.i + 1)) (sym w.self-is) (load_skip c.loop-i.invariant w.if-flags-i.false)
 ]
 
 pub returns : goal.returns
-returns c = load_ends c.args.flags.now c.args.self.now c.loop-i.self c.loop-i.i c.loop-i.invariant c.loop-i-test.false
+returns c = load_ends c.loop-i.invariant c.loop-i-test.false
