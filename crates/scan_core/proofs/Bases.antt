@@ -14,9 +14,9 @@ choose_within code words number skip at_first at_last to here next other f = eli
 ]
 
 -- number 0 alone was entered, and then all that it leads to
-pub begins_exact : {code : List Node} {empty : List ℕ} (one : List ℕ) {new : List ℕ} {before on : ℕ} → ((number : ℕ) → IsIn empty number → ⊥) → Grows (λ number. number ≡ 0) empty one before on → SpreadsOut code false false one new → (number : ℕ) → IsIn new number ↔ FlowsOn code false false 0 number
-begins_exact {code} {empty} one none g s number = (
-  λ h. let f = (s.exact number).0 h in subst (λ n. FlowsOn code false false n number) (zero_only f.0 ((g.exact f.0).0 f.1)) f.2,
+pub begins_exact : {code : List Node} {at_first : Bool} {empty : List ℕ} (one : List ℕ) {new : List ℕ} {before on : ℕ} → ((number : ℕ) → IsIn empty number → ⊥) → Grows (λ number. number ≡ 0) empty one before on → SpreadsOut code at_first false one new → (number : ℕ) → IsIn new number ↔ FlowsOn code at_first false 0 number
+begins_exact {code} {at_first} {empty} one none g s number = (
+  λ h. let f = (s.exact number).0 h in subst (λ n. FlowsOn code at_first false n number) (zero_only f.0 ((g.exact f.0).0 f.1)) f.2,
   λ f. (s.exact number).1 (0, (g.exact 0).1 (inr refl), f),
 )
   where

@@ -1,5 +1,5 @@
 -- The positions of a set of words are its bits that are positions.
-use Rattle.std.proofs.Common.{◌≡◌, ◌↔◌, inl, inr, ℕ, zero, suc, ◌+◌, ◌*◌, ◌-◌, ◌/◌, ◌%◌, ◌^◌, ◌<◌, ◌≤◌, Bool, true, false, List, [], ◌∷◌, ◌++◌, length, get_or, refl, sym, ap, ◌∙◌, arith, eqb-true, eq-eqb}
+use Rattle.std.proofs.Common.{◌≡◌, ◌↔◌, inl, inr, ℕ, zero, suc, ◌+◌, ◌*◌, ◌-◌, ◌/◌, ◌%◌, ◌^◌, ◌<◌, ◌≤◌, Bool, true, false, List, [], ◌∷◌, ◌++◌, length, length-append, get_or, refl, sym, ap, ◌∙◌, arith, eqb-true, eq-eqb}
 use Rattle.std.proofs.lemmas.Bool.{cases_lt, cases_eq}
 use Rattle.std.specs.Prelude.{◌==◌, bit_and, count_ones}
 use Rattle.std.specs.Int.Count.{ones_step}
@@ -119,6 +119,19 @@ bits_beyond zero word n rest = ap (λ k. get_or rest k false) (omega arith)
 bits_beyond (suc count) word n rest =
     let e : suc count + n ≡ suc (count + n) = omega arith in
     ap (λ k. get_or (bits (suc count) word ++ rest) k false) e ∙ bits_beyond count (word / 2) n rest
+
+bits_length : (count word : ℕ) → length (bits count word) ≡ count
+unfolding bits
+bits_length zero word = refl
+bits_length (suc count) word = let r = bits_length count (word / 2) in omega (arith, r)
+
+pub flags_length : (words : List ℕ) → length (flags_of words) ≡ 64 * length words
+flags_length [] = refl
+flags_length (word ∷ words) =
+    let a = length-append (bits 64 word) (flags_of words) in
+    let b = bits_length 64 word in
+    let r = flags_length words in
+    omega (arith, a, b, r)
 
 flag_is : (words : List ℕ) (n : ℕ) → get_or (flags_of words) n false ≡ (bit_at (get_or words (n / 64) 0) (n % 64) == 1)
 flag_is [] n = sym (ap (λ x. x == 1) (bit_at-zero (n % 64)))

@@ -6,8 +6,8 @@ pub mod Stretches
 pub mod Emitting
 pub mod Finishing
 pub mod Compiled
+pub mod Each
 pub mod Enterings
-pub mod Spreadings
 pub mod Along
 pub mod Whole
 pub mod Bits

@@ -3,6 +3,7 @@ pub mod Base
 pub mod Built
 pub mod Closures
 pub mod Compiling
+pub mod Each
 pub mod Hops
 pub mod Landings
 pub mod Needles

@@ -108,17 +108,17 @@ fn land_all(
     Ok(others)
 }
 
-/// Makes a set what number 0 leads to without a byte.
-fn begin(words: &mut [u64], nodes: &[Node], closures: &Closures)
+/// Makes a set what number 0 leads to without a byte, at a line's front or elsewhere.
+pub fn begin(words: &mut [u64], nodes: &[Node], closures: &Closures, at_first: bool)
     requires code { IsCode nodes.now }
     requires size { length words.old ≡ width nodes.now }
     requires closures { AreClosures nodes.now closures.now }
     ensures size { length words.new ≡ length words.old }
-    ensures exact { (number : ℕ) → IsIn words.new number ↔ FlowsOn nodes.now false false 0 number }
+    ensures exact { (number : ℕ) → IsIn words.new number ↔ FlowsOn nodes.now at_first false 0 number }
 {
     clear(words);
     enter(words, 0, 0);
-    spread_all(words, nodes, closures, false, false);
+    spread_all(words, nodes, closures, at_first, false);
 }
 
 /// What is in each set of a code.
@@ -129,7 +129,7 @@ pub fn base_of(alloc: Global, nodes: &[Node], closures: &Closures) -> Result<Bas
     ensures err { IfErr result (λ fault. fault ≡ Memory) }
 {
     let mut words = vec![in alloc; 0u64; nodes.len() / 64 + 1]?;
-    begin(&mut words, nodes, closures);
+    begin(&mut words, nodes, closures, false);
     let leads = leads_of(alloc, nodes, &words)?;
     let mut landings = Vec::new(alloc);
     let others = land_all(alloc, nodes, &closures.hops, &words, &mut landings)?;

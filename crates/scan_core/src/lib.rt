@@ -21,7 +21,6 @@ mod masks;
 mod needle;
 mod node;
 mod rarest;
-mod reach;
 mod scan;
 mod search;
 mod shift_find;

@@ -4,6 +4,6 @@ use Rattle.scan_core.proofs.build.twins_of.Given as goal
 
 abbrev pub invariant-loop-byte : goal.invariant-loop-byte
 invariant-loop-byte l = record {
-  all : length l.twins.items ≡ l.byte;
-  alike : (at : ℕ) → at < l.byte → AreAlike l.nodes at (slice_index_or l.twins.items at 0);
+  size : length l.twins.items ≡ l.byte;
+  each : (at : ℕ) → at < l.byte → AreAlike l.nodes at (slice_index_or l.twins.items at 0);
 }

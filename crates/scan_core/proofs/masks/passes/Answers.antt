@@ -1,6 +1,6 @@
 use Rattle.std.proofs.Common.{refl, sym, ◌∙◌, arith}
 use Rattle.scan_core.proofs.Enterings.{node_here, pass_least, pass_found, takes_none}
-use Rattle.scan_core.proofs.reach.passes.Goals as goal
+use Rattle.scan_core.proofs.masks.passes.Goals as goal
 
 pub returns-in-Take-clause-yes : goal.returns-in-Take-clause-yes
 returns-in-Take-clause-yes c = λ h. (c.in-Take.set, node_here _ c.if-number-nodes.true c.in-Take.is c.index-nodes-number.is, sym c.contains.ensures ∙ h, refl)
