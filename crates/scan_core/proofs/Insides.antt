@@ -14,37 +14,16 @@ use Rattle.scan_core.specs.Code.{At}
 use Rattle.scan_core.specs.declared.hops.Hop.{Hop}
 use Rattle.scan_core.specs.inner.Hops.{HopsTo}
 use Rattle.scan_core.specs.inner.Sets.{LeadsOn, Flows, FlowsOn}
+use Rattle.scan_core.specs.declared.way.Way.{Way}
+use Rattle.scan_core.specs.inner.Ways.{IsWay, Opens}
 use Rattle.scan_core.specs.inner.Words.{width}
 use Rattle.scan_core.proofs.Enterings.{flows_of}
 use Rattle.scan_core.proofs.Visitings.{cleared}
 
--- a target that is in the word, or that a hop leads to
-stays_or_hops : (code : List Node) (hops : List Hop) {at : ℕ} (bit : ℕ) {target to : ℕ} → bit < 64 → to ≡ target → Flows code false false (at * 64 + bit) to
-    → (target / 64 ≡ at) ⊎ HopsTo hops at bit target → Stays code (at * 64 + bit) to ⊎ HopsTo hops at bit to
-stays_or_hops code hops {at} bit h e f way = elim way [
-  | inl near ↦ inl (f, omega (arith, e, near, h))
-  | inr hop ↦ inr (subst (HopsTo hops at bit) (sym e) hop)
-]
-
-pub choose_stays : (code : List Node) (hops : List Hop) {at : ℕ} (bit skip : ℕ) (at_first at_last : Bool) {to : ℕ} → At code (at * 64 + bit) (Choose skip) → bit < 64
-    → ((at * 64 + bit + 1) / 64 ≡ at) ⊎ HopsTo hops at bit (at * 64 + bit + 1) → ((at * 64 + bit + skip) / 64 ≡ at) ⊎ HopsTo hops at bit (at * 64 + bit + skip)
-    → Flows code at_first at_last (at * 64 + bit) to → Stays code (at * 64 + bit) to ⊎ HopsTo hops at bit to
-choose_stays code hops bit skip at_first at_last {to} here h next other f = elim (flows_of code (Choose skip) at_first at_last to here f) [
-  | inl e ↦ stays_or_hops code hops bit h e (Choose skip, here, inl e) next
-  | inr e ↦ stays_or_hops code hops bit h e (Choose skip, here, inr e) other
-]
-
-pub back_stays : (code : List Node) (hops : List Hop) {at : ℕ} (bit by : ℕ) (at_first at_last : Bool) {to : ℕ} → At code (at * 64 + bit) (Back by) → bit < 64 → ((at * 64 + bit - by) / 64 ≡ at) ⊎ HopsTo hops at bit (at * 64 + bit - by)
-    → Flows code at_first at_last (at * 64 + bit) to → Stays code (at * 64 + bit) to ⊎ HopsTo hops at bit to
-back_stays code hops {at} bit by at_first at_last {to} here h same f =
-    let e : at * 64 + bit ≡ to + by = flows_of code (Back by) at_first at_last to here f in
-    stays_or_hops code hops bit h (omega (arith, e)) (Back by, here, e) same
-
-pub choose_peer : (code : List Node) {n : ℕ} (other skip more : ℕ) (at_first at_last : Bool) {to : ℕ} → At code n (Choose skip) → At code other (Choose more) → (other + 1) / 64 ≡ other / 64 → n + skip ≡ other + more → Flows code at_first at_last other to → Stays code other to ⊎ Flows code at_first at_last n to
-choose_peer code other skip more at_first at_last {to} here there next same f = elim (flows_of code (Choose more) at_first at_last to there f) [
-  | inl e ↦ inl ((Choose more, there, inl e), ap (λ k. k / 64) e ∙ next)
-  | inr e ↦ inr (Choose skip, here, inr (e ∙ sym same))
-]
+-- a step without a byte to a number of the word, or by a hop
+pub stays_or_hops : (code : List Node) (hops : List Hop) (at bit to : ℕ) → bit < 64 → Flows code false false (at * 64 + bit) to → (to / 64 ≡ at) ⊎ HopsTo hops at bit to
+    → Stays code (at * 64 + bit) to ⊎ HopsTo hops at bit to
+stays_or_hops code hops at bit to h f way = elim way [ inl near ↦ inl (f, omega (arith, near, h)) | inr hop ↦ inr hop ]
 
 pub record Peering (code : List Node) (number bit word : ℕ) : Type 0 where
   pub own : number % 64 < bit → bit_at word (number % 64) ≡ 1
@@ -98,29 +77,16 @@ bit_is number bit here h =
 pub no_bit_is : {at : ℕ} (number bit : ℕ) → (number / 64 ≡ at → ⊥) → bit < 64 → (bit_at 0 bit ≡ 1) ↔ (number ≡ at * 64 + bit)
 no_bit_is number bit other h = (λ k. let z = bit_at-zero bit in absurd (omega (arith, z, k)), λ e. absurd (other (omega (arith, e, h))))
 
--- what a node of a word leads to in it
-pub none_led : (code : List Node) {n : ℕ} (node : Node) (to bit : ℕ) → At code n node → ((m : ℕ) → LeadsOn node false false n m → ⊥) → (bit_at 0 bit ≡ 1) ↔ Flows code false false n to
-none_led code node to bit here never = (λ k. let z = bit_at-zero bit in absurd (omega (arith, z, k)), λ f. absurd (never to (flows_of code node false false to here f)))
-
-pub quiet_led : (code : List Node) {n : ℕ} {read : Node} (to bit : ℕ) → At code n read → ((bytes : List Bool) × (read ≡ Take bytes)) ⊎ ((read ≡ First) ⊎ (read ≡ Last)) → (bit_at 0 bit ≡ 1) ↔ Flows code false false n to
-quiet_led code {n} to bit here (inl (bytes, e)) = none_led code (Take bytes) to bit (subst (At code n) e here) (λ m h. h)
-quiet_led code {n} to bit here (inr (inl e)) = none_led code First to bit (subst (At code n) e here) (λ m h. false≢true h.0)
-quiet_led code {n} to bit here (inr (inr e)) = none_led code Last to bit (subst (At code n) e here) (λ m h. false≢true h.0)
-
-pub choose_led : (code : List Node) {n : ℕ} (skip to one other bit : ℕ) → At code n (Choose skip) → ((bit_at one bit ≡ 1) ↔ (n + 1 ≡ to)) → ((bit_at other bit ≡ 1) ↔ (n + skip ≡ to)) → (bit_at (bit_or one other) bit ≡ 1) ↔ Flows code false false n to
-choose_led code skip to one other bit here a b = (
-  λ k. (Choose skip, here, elim (either_bit one other bit k) [ inl first ↦ inl (sym (a.0 first)) | inr second ↦ inr (sym (b.0 second)) ]),
-  λ f. elim (flows_of code (Choose skip) false false to here f) [
-    | inl e ↦ left_bit one other bit (a.1 (sym e))
-    | inr e ↦ right_bit one other bit (b.1 (sym e))
-  ],
+-- what a number of a word leads to in it
+pub both_led : {code : List Node} {number to : ℕ} {way : Way} (one other bit : ℕ) → IsWay code number way → Opens way.when false false → ((bit_at one bit ≡ 1) ↔ (way.one ≡ to))
+    → ((bit_at other bit ≡ 1) ↔ (way.other ≡ to)) → (bit_at (bit_or one other) bit ≡ 1) ↔ Flows code false false number to
+both_led {to} one other bit w o a b = (
+  λ k. (w.exact false false to).1 (o, elim (either_bit one other bit k) [ inl first ↦ inl (sym (a.0 first)) | inr second ↦ inr (sym (b.0 second)) ]),
+  λ f. elim ((w.exact false false to).0 f).1 [ inl e ↦ left_bit one other bit (a.1 (sym e)) | inr e ↦ right_bit one other bit (b.1 (sym e)) ],
 )
 
-pub back_led : (code : List Node) {n : ℕ} (by to all bit : ℕ) → At code n (Back by) → by ≤ n → ((bit_at all bit ≡ 1) ↔ (n - by ≡ to)) → (bit_at all bit ≡ 1) ↔ Flows code false false n to
-back_led code {n} by to all bit here l a = (
-  λ k. let e = a.0 k in (Back by, here, omega (arith, e, l)),
-  λ f. let e : n ≡ to + by = flows_of code (Back by) false false to here f in a.1 (omega (arith, e)),
-)
+pub none_led : (code : List Node) (number to bit : ℕ) → (Flows code false false number to → ⊥) → (bit_at 0 bit ≡ 1) ↔ Flows code false false number to
+none_led code number to bit never = (λ k. let z = bit_at-zero bit in absurd (omega (arith, z, k)), λ f. absurd (never f))
 
 -- some of the numbers are still to be looked at
 pub record Insiding (code : List Node) (at word all left : ℕ) : Type 0 where

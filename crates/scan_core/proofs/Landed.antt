@@ -116,21 +116,6 @@ hop_lands {code} {hops} {at} which are h l e ends =
     let is = subst (λ x. IsHop code at x) (sym e) (subst (λ n. IsHop code n (get_or hops (at * 3 + which) no_hop)) place (are.each (at * 3 + which) (omega (arith, l, h)))) in
     record { at = h; within = is.within; leads = is.leads; ends = ends }
 
--- what a node leads to by its word, the base and the landings
-pub choose_settled : (code : List Node) (base : List ℕ) (landings : List Landing) (at bit skip : ℕ) (at_first at_last : Bool) (to : ℕ) → At code (at * 64 + bit) (Choose skip) → Lands base landings at bit (at * 64 + bit + 1) → Lands base landings at bit (at * 64 + bit + skip) → Flows code at_first at_last (at * 64 + bit) to
-    → Flows code false false (at * 64 + bit) to × Lands base landings at bit to
-choose_settled code base landings at bit skip at_first at_last to here next other f = elim (flows_of code (Choose skip) at_first at_last to here f) [
-  | inl e ↦ ((Choose skip, here, inl e), subst (Lands base landings at bit) (sym e) next)
-  | inr e ↦ ((Choose skip, here, inr e), subst (Lands base landings at bit) (sym e) other)
-]
-
-pub back_settled : (code : List Node) (base : List ℕ) (landings : List Landing) (at bit by : ℕ) (at_first at_last : Bool) (to : ℕ) → At code (at * 64 + bit) (Back by) → Lands base landings at bit (at * 64 + bit - by) → Flows code at_first at_last (at * 64 + bit) to
-    → Flows code false false (at * 64 + bit) to × Lands base landings at bit to
-back_settled code base landings at bit by at_first at_last to here before f =
-    let e : at * 64 + bit ≡ to + by = flows_of code (Back by) at_first at_last to here f in
-    let q : at * 64 + bit - by ≡ to = omega (arith, e) in
-    ((Back by, here, e), subst (Lands base landings at bit) q before)
-
 pub not_zero : (n : ℕ) → IsTrue (not (eqb n 0)) → n ≡ 0 → ⊥
 not_zero n t = eqb-false n 0 (not-true (eqb n 0) t)
 

@@ -1,4 +1,5 @@
 pub mod Walks
+pub mod Ways
 pub mod Composed
 pub mod Codes
 pub mod Weights

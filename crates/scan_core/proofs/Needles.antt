@@ -159,9 +159,6 @@ clear_none pattern text before line after all ends = absurd (omega (arith, ends)
 pub other_node : (code : List Node) (number : ℕ) {node : Node} → At code number node → ((skip : ℕ) → node ≡ Choose skip → ⊥) → (skip : ℕ) → At code number (Choose skip) → ⊥
 other_node code number {node} here differs skip there = differs skip (at_once code number node (Choose skip) here there)
 
-pub same_choice : (code : List Node) (number one other : ℕ) → At code number (Choose one) → At code number (Choose other) → one ≡ other
-same_choice code number one other here there = let same = at_once code number (Choose one) (Choose other) here there in cc
-
 pub rarest_more : {code : List Node} {at : ℕ} {rarest : Rarest} {far : ℕ} → IsRarest code at rarest → rarest.far ≤ far → ((skip : ℕ) → At code at (Choose skip) → at + skip ≤ far)
     → IsRarest code (at + 1) (record { far = far; run = at + 1; from = rarest.from; rank = rarest.rank })
 rarest_more {code} {at} so_far low choice = record {

@@ -10,4 +10,5 @@ pub mod Needles
 pub mod Sets
 pub mod Shifts
 pub mod Table
+pub mod Ways
 pub mod Words

@@ -14,6 +14,7 @@ use crate::closures::Closures;
 use crate::hops::Hop;
 use crate::landing::{Landing, add_landings, others_of};
 use crate::node::Node;
+use crate::way::{When, way_of};
 use crate::words::{clear, enter, has};
 use bre_core::BreFault;
 use std::alloc::Global;
@@ -37,19 +38,15 @@ fn is_within(nodes: &[Node], words: &[u64], number: usize) -> bool
     requires size { length words.now ≡ width nodes.now }
     ensures { IsTrue result → (at_first at_last : Bool) (to : ℕ) → Flows nodes.now at_first at_last number to → IsIn words.now to }
 {
-    if number >= nodes.len() {
-        return true;
-    }
-    match &nodes[number] {
-        Node::Take(_) => true,
-        Node::First | Node::Last => has(words, number + 1),
-        Node::Choose(skip) => {
-            if !has(words, number + 1) {
+    let way = way_of(nodes, number);
+    match way.when {
+        When::Never => true,
+        When::AtFront | When::AtEnd | When::Always => {
+            if !has(words, way.one) {
                 return false;
             }
-            has(words, number + *skip)
+            has(words, way.other)
         }
-        Node::Back(by) => has(words, number - *by),
     }
 }
 

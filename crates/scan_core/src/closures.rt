@@ -10,6 +10,7 @@ ghost use Rattle.scan_core.specs.inner.Words.{width};
 
 use crate::hops::{Hop, hops_of, is_hop};
 use crate::node::Node;
+use crate::way::{When, is_open, way_of};
 use bre_core::BreFault;
 use std::alloc::Global;
 
@@ -49,20 +50,16 @@ fn stays(nodes: &[Node], hops: &[Hop], at: usize, bit: usize) -> bool
     ensures { IsTrue result → (at_first at_last : Bool) (to : ℕ) → Flows nodes.now at_first at_last (at * 64 + bit) to
         → Stays nodes.now (at * 64 + bit) to ⊎ HopsTo hops.now at bit to }
 {
-    let number = at * 64 + bit;
-    if number >= nodes.len() {
-        return true;
-    }
-    match &nodes[number] {
-        Node::Take(_) => true,
-        Node::First | Node::Last => false,
-        Node::Choose(skip) => {
-            if !is_met(hops, at, bit, number + 1) {
+    let way = way_of(nodes, at * 64 + bit);
+    match way.when {
+        When::Never => true,
+        When::AtFront | When::AtEnd => false,
+        When::Always => {
+            if !is_met(hops, at, bit, way.one) {
                 return false;
             }
-            is_met(hops, at, bit, number + *skip)
+            is_met(hops, at, bit, way.other)
         }
-        Node::Back(by) => is_met(hops, at, bit, number - *by),
     }
 }
 
@@ -76,22 +73,18 @@ fn is_peer(nodes: &[Node], number: usize, other: usize) -> bool
     if number == other {
         return true;
     }
-    if number >= nodes.len() {
+    let way = way_of(nodes, number);
+    let peer = way_of(nodes, other);
+    if !is_open(way.when, false, false) {
         return false;
     }
-    if other >= nodes.len() {
-        return false;
-    }
-    let Node::Choose(skip) = &nodes[number] else {
+    let When::Always = peer.when else {
         return false;
     };
-    let Node::Choose(more) = &nodes[other] else {
-        return false;
-    };
-    if (other + 1) / 64 != other / 64 {
+    if peer.one / 64 != other / 64 {
         return false;
     }
-    number + *skip == other + *more
+    way.other == peer.other
 }
 
 /// The numbers of a word whose nodes lead out of it otherwise than by its hops.
@@ -143,15 +136,11 @@ fn targets(nodes: &[Node], at: usize, bit: usize) -> u64
     requires at { at < width nodes.now }
     ensures { (to : ℕ) → to < 64 → (bit_at result to ≡ 1) ↔ Flows nodes.now false false (at * 64 + bit) (at * 64 + to) }
 {
-    let number = at * 64 + bit;
-    if number >= nodes.len() {
+    let way = way_of(nodes, at * 64 + bit);
+    if !is_open(way.when, false, false) {
         return 0;
     }
-    match &nodes[number] {
-        Node::Take(_) | Node::First | Node::Last => 0,
-        Node::Choose(skip) => bit_in(at, number + 1) | bit_in(at, number + *skip),
-        Node::Back(by) => bit_in(at, number - *by),
-    }
+    bit_in(at, way.one) | bit_in(at, way.other)
 }
 
 /// What some numbers of a word lead to in it, without a byte.

@@ -9,6 +9,7 @@ ghost use Rattle.scan_core.specs.inner.Words.{IsIn, width};
 
 use crate::hops::{HOPS, Hop};
 use crate::node::Node;
+use crate::way::{When, way_of};
 use crate::words::{enter_if, has};
 use bre_core::BreFault;
 
@@ -25,19 +26,18 @@ pub struct Landing {
 
 /// Whether a number leads nowhere without a byte.
 fn ends(nodes: &[Node], number: usize) -> bool
+    requires { IsCode nodes.now }
     ensures { IsTrue result → Ends nodes.now number }
 {
-    if number >= nodes.len() {
-        return true;
-    }
-    match &nodes[number] {
-        Node::Take(_) => true,
-        Node::First | Node::Last | Node::Choose(_) | Node::Back(_) => false,
+    match way_of(nodes, number).when {
+        When::Never => true,
+        When::AtFront | When::AtEnd | When::Always => false,
     }
 }
 
 /// Whether a hop is a landing: to a number that leads nowhere, and that isn't in each set anyway.
 fn is_landing(nodes: &[Node], base: &[u64], hop: &Hop) -> bool
+    requires code { IsCode nodes.now }
     requires size { length base.now ≡ width nodes.now }
     requires within { hop.now.to ≤ length nodes.now }
     ensures { IsTrue result → Ends nodes.now hop.now.to }
@@ -59,6 +59,7 @@ pub fn add_landings(
     base: &[u64],
     at: usize,
 ) -> Result<(), BreFault>
+    requires code { IsCode nodes.now }
     requires hops { AreHops nodes.now (width nodes.now * 3) hops.now }
     requires size { length base.now ≡ width nodes.now }
     requires at { at < width nodes.now }
@@ -138,20 +139,16 @@ fn is_settled(
     ensures { IsTrue result → (at_first at_last : Bool) (to : ℕ) → Flows nodes.now at_first at_last (at * 64 + bit) to
         → Flows nodes.now false false (at * 64 + bit) to × Lands base.now landings.now at bit to }
 {
-    let number = at * 64 + bit;
-    if number >= nodes.len() {
-        return true;
-    }
-    match &nodes[number] {
-        Node::Take(_) => true,
-        Node::First | Node::Last => false,
-        Node::Choose(skip) => {
-            if !is_reached(landings, base, start, at, bit, number + 1) {
+    let way = way_of(nodes, at * 64 + bit);
+    match way.when {
+        When::Never => true,
+        When::AtFront | When::AtEnd => false,
+        When::Always => {
+            if !is_reached(landings, base, start, at, bit, way.one) {
                 return false;
             }
-            is_reached(landings, base, start, at, bit, number + *skip)
+            is_reached(landings, base, start, at, bit, way.other)
         }
-        Node::Back(by) => is_reached(landings, base, start, at, bit, number - *by),
     }
 }
 

@@ -28,6 +28,7 @@ mod shift_table;
 mod shift_walk;
 mod table;
 mod walk;
+mod way;
 mod words;
 
 pub use bre::Bre;
