@@ -10,8 +10,9 @@ use Rattle.scan_core.proofs.Enterings.{flow_anywhere, parts_anywhere}
 use Rattle.scan_core.specs.declared.base.Base.{Base}
 use Rattle.scan_core.specs.declared.node.Node.{Node}
 use Rattle.scan_core.specs.inner.Base.{IsBase}
-use Rattle.scan_core.specs.inner.Closures.{ArePeers, Closes, IsLeaving, Stays, AreAllPeers}
+use Rattle.scan_core.specs.inner.Closures.{ArePeers, Closes, IsLeaving, Stays}
 use Rattle.scan_core.specs.declared.hops.Hop.{Hop}
+use Rattle.scan_core.specs.inner.Each.{AreEach}
 use Rattle.scan_core.specs.inner.Hops.{AreHops, Hopped, no_hop}
 use Rattle.scan_core.specs.inner.Sets.{Flows, FlowsOn}
 use Rattle.scan_core.specs.inner.Words.{IsIn, unset, Grows, Visits, width}
@@ -80,7 +81,7 @@ peers_smaller at left {mask} bit m l is p =
     ]
 
 -- the lowest number that is left, and its peers
-pub lowest_left : {code : List Node} {peers : List ℕ} (at left : ℕ) {read : ℕ} (d : ℕ) → AreAllPeers code peers → at < width code
+pub lowest_left : {code : List Node} {peers : List ℕ} (at left : ℕ) {read : ℕ} (d : ℕ) → AreEach 0 (ArePeers code) (width code * 64) peers → at < width code
     → left < 2 ^ 64 → 0 < left → read ≡ get_or peers (at * 64 + trailing_zeros w64 left) d
     → (trailing_zeros w64 left < 64) × (bit_at left (trailing_zeros w64 left) ≡ 1) × ArePeers code (at * 64 + trailing_zeros w64 left) read
 lowest_left {code} {peers} at left d all within fits some e =
@@ -136,7 +137,7 @@ close_more {code} {at_first} {at_last} {at} leaves {left} {mask} bit {old} close
         subst (λ n. Flows code at_first at_last (n + k) to → Stays code (n + k) to ⊎ Flows code at_first at_last (at * 64 + bit) to) e (p.others k at_first at_last to s peer) f
 
 -- what the hops of a word lead to
-pub close_hops : {code : List Node} {hops : List Hop} {at_first at_last : Bool} {at pending left : ℕ} {old now new : List ℕ} {on on' : ℕ} → AreHops code (width code * 3) hops → at < width code → Visiting code at_first at_last at pending left old now on → Grows (Hopped hops at (get_or old at 0) 3) now new on on'
+pub close_hops : {code : List Node} {hops : List Hop} {at_first at_last : Bool} {at pending left : ℕ} {old now new : List ℕ} {on on' : ℕ} → AreHops code hops → at < width code → Visiting code at_first at_last at pending left old now on → Grows (Hopped hops at (get_or old at 0) 3) now new on on'
     → Visiting code at_first at_last at pending left old new on'
 close_hops {code} {hops} {at_first} {at_last} {at} {old} are inside v g =
     visit_more (Hopped hops at (get_or old at 0) 3) v g from v.within
@@ -150,7 +151,7 @@ close_hops {code} {hops} {at_first} {at_last} {at} {old} are inside v g =
         let here = subst (λ n. Flows code false false (n * 64 + h.2) (get_or hops (at * 3 + h.0) no_hop).to) place flow in
         (at * 64 + h.2, (is_in_word old at h.2 h.3).0 h.4, flow_anywhere code at_first at_last (at * 64 + h.2) number (subst (Flows code false false (at * 64 + h.2)) (sym h.6) here))
 
-pub close_ends : {code : List Node} {hops : List Hop} {at_first at_last : Bool} {at left : ℕ} (leaves : ℕ) {start old now new : List ℕ} {on on' : ℕ} → Closed code at start old → Visiting code at_first at_last at (bit_and (get_or old at 0) leaves) left old now on → left ≡ 0 → IsLeaving code hops at leaves → AreHops code (width code * 3) hops → at < width code
+pub close_ends : {code : List Node} {hops : List Hop} {at_first at_last : Bool} {at left : ℕ} (leaves : ℕ) {start old now new : List ℕ} {on on' : ℕ} → Closed code at start old → Visiting code at_first at_last at (bit_and (get_or old at 0) leaves) left old now on → left ≡ 0 → IsLeaving code hops at leaves → AreHops code hops → at < width code
     → Grows (Hopped hops at (get_or old at 0) 3) now new on on' → Visits code at_first at_last at start new on'
 close_ends {code} {at_first} {at_last} {at} {left} leaves {start} {old} {new} {on'} c w e leaving are inside g = record {
   size = v.size ∙ c.size;

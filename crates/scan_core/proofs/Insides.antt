@@ -9,7 +9,8 @@ use Rattle.std.specs.Prelude.{bit_and, bit_or}
 use Rattle.std.specs.Int.{bit_at, bit_not}
 use Rattle.scan_core.specs.declared.node.Node.{Node}
 use Rattle.scan_core.specs.declared.node.Node.TheVariants.{Take, First, Last, Choose, Back}
-use Rattle.scan_core.specs.inner.Closures.{AreInside, Closes, Stays, chosen_at}
+use Rattle.scan_core.specs.inner.Each.{AreEach}
+use Rattle.scan_core.specs.inner.Closures.{Closes, IsInside, Stays, chosen_at}
 use Rattle.scan_core.specs.Code.{At}
 use Rattle.scan_core.specs.declared.hops.Hop.{Hop}
 use Rattle.scan_core.specs.inner.Hops.{HopsTo}
@@ -210,7 +211,7 @@ entry_at {code} place {eight} {chosen} {entry} word which low c =
     subst (λ n. Closes code n (chosen * 2 ^ (eight * 8) % 2 ^ 64) entry) word
     (subst (λ n. Closes code (place / 2048) n entry) (ap (λ n. n * 2 ^ (place / 256 % 8 * 8) % 2 ^ 64) low ∙ ap (λ n. chosen * 2 ^ (n * 8) % 2 ^ 64) which) c)
 
-pub join_more : {code : List Node} {inside : List ℕ} {at word eight : ℕ} (all : ℕ) {entry : ℕ} → Joining code at word eight all → AreInside code (width code * 2048) inside → at < width code → eight < 8 → word < 2 ^ 64 → entry ≡ get_or inside (at * 2048 + (eight * 256 + word / 2 ^ (eight * 8) % 256)) 0 → Joining code at word (eight + 1) (bit_or all entry)
+pub join_more : {code : List Node} {inside : List ℕ} {at word eight : ℕ} (all : ℕ) {entry : ℕ} → Joining code at word eight all → AreEach 0 (IsInside code) (width code * 2048) inside → at < width code → eight < 8 → word < 2 ^ 64 → entry ≡ get_or inside (at * 2048 + (eight * 256 + word / 2 ^ (eight * 8) % 256)) 0 → Joining code at word (eight + 1) (bit_or all entry)
 join_more {code} {at} {word} {eight} all {entry} j i within h fits e = record {
   kept = λ bit l is. elim (cases_lt bit (eight * 8)) [
     | inl before ↦ left_bit all entry bit (j.kept bit before is)
@@ -308,7 +309,7 @@ closes_both one other all more c d e = record {
 }
 
 -- the entry of a choice with both lower and higher numbers
-pub entry_of_halves : {code : List Node} {inside : List ℕ} {place : ℕ} → AreInside code place inside → 0 < place % 16 → 0 < place / 16 % 16 * 16
+pub entry_of_halves : {code : List Node} {inside : List ℕ} {place : ℕ} → AreEach 0 (IsInside code) place inside → 0 < place % 16 → 0 < place / 16 % 16 * 16
     → Closes code (place / 2048) (chosen_at place) (bit_or (get_or inside (place - place % 16) 0) (get_or inside (place - place / 16 % 16 * 16) 0))
 entry_of_halves {code} {inside} {place} i low high = closes_both _ _ _ _ one other bits
   where
@@ -327,13 +328,3 @@ entry_of_halves {code} {inside} {place} i low high = closes_both _ _ _ _ one oth
 
     bits : (bit : ℕ) → bit < 64 → bit_at (chosen_at place) bit ≡ max (bit_at (place / 16 % 16 * 16 * 2 ^ (place / 256 % 8 * 8) % 2 ^ 64) bit) (bit_at (place % 16 * 2 ^ (place / 256 % 8 * 8) % 2 ^ 64) bit)
     bits bit h = ap (λ n. bit_at (n * 2 ^ (place / 256 % 8 * 8) % 2 ^ 64) bit) chosen ∙ halved_placed (place / 16 % 16) (place % 16) (place / 256 % 8 * 8) bit (omega arith) h
-
--- what is so of each entry of a list and of one more
-pub pushed : {X : Type 0} (d : X) (So : ℕ → X → Type 0) (list : List X) {new : List X} {count : ℕ} (entry : X) → length list ≡ count → ((k : ℕ) → k < count → So k (get_or list k d)) → So count entry → new ≡ list ++ entry ∷ [] → (k : ℕ) → k < count + 1 → So k (get_or new k d)
-pushed d So list {count} entry size before here e k h = elim (cases_eq k count) [
-  | inl same ↦ subst (So k) (sym (ap (λ l. get_or l k d) e ∙ get_or_push list entry d k (size ∙ sym same))) (subst (λ n. So n entry) (sym same) here)
-  | inr other ↦ subst (So k) (sym (ap (λ l. get_or l k d) e ∙ get_or_append_left list (entry ∷ []) d k (omega (arith, h, other, size)))) (before k (omega (arith, h, other)))
-]
-
-pub one_longer : {X : Type 0} (list : List X) {new : List X} {count : ℕ} (entry : X) → length list ≡ count → new ≡ list ++ entry ∷ [] → length new ≡ count + 1
-one_longer list entry size e = let l = ap length e in let a = length-append list (entry ∷ []) in omega (arith, l, a, size)

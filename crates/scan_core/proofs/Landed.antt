@@ -1,5 +1,5 @@
 -- Entering what landings lead to.
-use Rattle.std.proofs.Common.{◌≡◌, ◌⊎◌, ◌↔◌, inl, inr, ℕ, ◌+◌, ◌*◌, ◌-◌, ◌/◌, ◌%◌, ◌^◌, ◌<◌, ◌≤◌, Bool, true, false, IsTrue, List, [], ◌∷◌, ◌++◌, length, get_or, set, eqb, not, refl, sym, ap, ◌∙◌, subst, arith}
+use Rattle.std.proofs.Common.{◌≡◌, ◌⊎◌, ◌↔◌, inl, inr, ℕ, ◌+◌, ◌*◌, ◌-◌, ◌/◌, ◌%◌, ◌^◌, ◌<◌, ◌≤◌, Bool, true, false, IsTrue, List, [], ◌∷◌, ◌++◌, length, length-append, append_assoc, get_or, set, eqb, not, refl, sym, ap, ◌∙◌, subst, arith}
 use Rattle.std.proofs.lemmas.Bool.{cases_eq, false≢true, eqb-false, not-true, ne_eqb}
 use Rattle.std.proofs.lemmas.List.{get_or_append_left, set-get_or}
 use Rattle.std.specs.Prelude.{bit_and, bit_or}
@@ -18,7 +18,7 @@ use Rattle.scan_core.specs.inner.Sets.{Flows}
 use Rattle.scan_core.specs.inner.Words.{IsIn, width}
 use Rattle.scan_core.proofs.Enterings.{flows_of}
 use Rattle.scan_core.proofs.Hoppings.{one_of, none_of}
-use Rattle.scan_core.proofs.Insides.{pushed, one_longer}
+use Rattle.scan_core.proofs.Each.{each_more, each_to}
 use Rattle.scan_core.proofs.Visitings.{is_in_word}
 
 pub enters_if : (words : List ℕ) {new : List ℕ} (number : ℕ) (holds : Bool) → number < 64 * length words → new ≡ set words (number / 64) (bit_or (get_or words (number / 64) 0) (bool_byte holds * 2 ^ (number % 64) % 2 ^ 64))
@@ -63,7 +63,7 @@ land_more {code} {landings} {old} {now} {new} {count} {landing} {holds} s are h 
     last = length landings - 1 - count
 
     is : IsLanding code landing
-    is = subst (IsLanding code) (sym el) (are (length landings - 1 - count) (omega (arith, h)))
+    is = subst (IsLanding code) (sym el) (are.each (length landings - 1 - count) (omega (arith, h)))
 
     entered : (number : ℕ) → IsTrue holds → number ≡ landing.to → IsIn old number ⊎ (Ends code number × ((start : ℕ) × IsIn old start × Flows code false false start number))
     entered number t e =
@@ -92,25 +92,15 @@ land_ends {old} {now} s h = record {
 -- landings are added
 pub record Adding (code : List Node) (old now : List Landing) : Type 0 where
   pub sound : AreLandings code now
-  pub longer : length old ≤ length now
-  pub front : (place : ℕ) → place < length old → get_or now place no_landing ≡ get_or old place no_landing
-
-pub adding_starts : {code : List Node} {old : List Landing} → AreLandings code old → Adding code old old
-adding_starts are = record { sound = are; longer = omega arith; front = λ place h. refl }
+  pub grown : (more : List Landing) × (now ≡ old ++ more)
 
 pub adding_more : {code : List Node} {old now new : List Landing} {landing : Landing} → Adding code old now → IsLanding code landing → new ≡ now ++ landing ∷ [] → Adding code old new
-adding_more {code} {now} {new} {landing} a is e = record {
-  sound = λ place h. pushed no_landing (λ k l. IsLanding code l) now landing refl a.sound is e place (omega (arith, h, one));
-  longer = omega (arith, a.longer, one);
-  front = λ place h.
-      let l = a.longer in
-      ap (λ l. get_or l place no_landing) e ∙ get_or_append_left now (landing ∷ []) no_landing place (omega (arith, h, l)) ∙ a.front place h;
+adding_more {old} {now} {landing} a is e = record {
+  sound = let l = ap length e in let m = length-append now (landing ∷ []) in each_to (each_more a.sound is e) (omega (arith, l, m));
+  grown = (a.grown.0 ++ landing ∷ [], e ∙ ap (λ l. l ++ landing ∷ []) a.grown.1 ∙ append_assoc old a.grown.0 (landing ∷ []));
 }
-  where
-    one : length new ≡ length now + 1
-    one = one_longer now landing refl e
 
-pub hop_lands : {code : List Node} {hops : List Hop} {at : ℕ} (which : ℕ) {hop : Hop} → AreHops code (width code * 3) hops → at < width code → which < 3 → hop ≡ get_or hops (at * 3 + which) no_hop → Ends code hop.to → IsLanding code (record { at = at; from = hop.from; to = hop.to })
+pub hop_lands : {code : List Node} {hops : List Hop} {at : ℕ} (which : ℕ) {hop : Hop} → AreHops code hops → at < width code → which < 3 → hop ≡ get_or hops (at * 3 + which) no_hop → Ends code hop.to → IsLanding code (record { at = at; from = hop.from; to = hop.to })
 hop_lands {code} {hops} {at} which are h l e ends =
     let place : (at * 3 + which) / 3 ≡ at = omega (arith, l) in
     let is = subst (λ x. IsHop code at x) (sym e) (subst (λ n. IsHop code n (get_or hops (at * 3 + which) no_hop)) place (are.each (at * 3 + which) (omega (arith, l, h)))) in
@@ -123,16 +113,17 @@ pub is_not_zero : {n : ℕ} → (n ≡ 0 → ⊥) → IsTrue (not (eqb n 0))
 is_not_zero {n} h = ap not (ne_eqb n 0 h)
 
 -- what a landing leads to stays when others are added
-pub lands_kept : (base : List ℕ) (old new : List Landing) (at bit to : ℕ) → length old ≤ length new → ((place : ℕ) → place < length old → get_or new place no_landing ≡ get_or old place no_landing) → Lands base old at bit to → Lands base new at bit to
-lands_kept base old new at bit to longer front (inl near) = inl near
-lands_kept base old new at bit to longer front (inr (inl based)) = inr (inl based)
-lands_kept base old new at bit to longer front (inr (inr on)) =
-    let e = front on.0 on.1 in
-    let l = on.1 in
-    inr (inr (on.0, omega (arith, l, longer), ap (λ x. x.at) e ∙ on.2, ap (λ x. bit_at x.from bit) e ∙ on.3, on.4 ∙ sym (ap (λ x. x.to) e)))
+lands_kept : (base : List ℕ) (old more : List Landing) (at bit to : ℕ) → Lands base old at bit to → Lands base (old ++ more) at bit to
+lands_kept base old more at bit to (inl near) = inl near
+lands_kept base old more at bit to (inr (inl based)) = inr (inl based)
+lands_kept base old more at bit to (inr (inr on)) =
+    let e = get_or_append_left old more no_landing on.0 on.1 in
+    let l = length-append old more in
+    let within = on.1 in
+    inr (inr (on.0, omega (arith, l, within), ap (λ x. x.at) e ∙ on.2, ap (λ x. bit_at x.from bit) e ∙ on.3, on.4 ∙ sym (ap (λ x. x.to) e)))
 
-pub other_kept : (code : List Node) (base : List ℕ) (old new : List Landing) (at word : ℕ) → length old ≤ length new → ((place : ℕ) → place < length old → get_or new place no_landing ≡ get_or old place no_landing) → IsOther code base old at word → IsOther code base new at word
-other_kept code base old new at word longer front is bit at_first at_last to small f = elim (is bit at_first at_last to small f) [
+pub other_kept : (code : List Node) (base : List ℕ) (old new : List Landing) (at word : ℕ) → (more : List Landing) × (new ≡ old ++ more) → IsOther code base old at word → IsOther code base new at word
+other_kept code base old new at word grown is bit at_first at_last to small f = elim (is bit at_first at_last to small f) [
   | inl one ↦ inl one
-  | inr led ↦ inr (led.0, lands_kept base old new at bit to longer front led.1)
+  | inr led ↦ inr (led.0, subst (λ l. Lands base l at bit to) (sym grown.1) (lands_kept base old grown.0 at bit to led.1))
 ]

@@ -87,7 +87,7 @@ at_starts line t = (
 -- the positions of a state, as the words have them
 weight_read : {table : Table} {shifts : ShiftTable} (word : ℕ) {added : ℕ} (e : ℕ) → IsShifted table shifts → added ≡ get_or shifts.weights.items (word % 256) e → IsWeight table.states.items (word % 64) added
 weight_read {table} {shifts} word {added} e i g =
-    let s = i.weights.all in
+    let s = i.weights.size in
     let low : word % 256 < 256 = omega arith in
     let same : word % 256 % 64 ≡ word % 64 = omega arith in
     subst (λ n. IsWeight table.states.items n added) same
@@ -162,7 +162,7 @@ at_moved {code} {shifts} line {place} word {steps'} p s a = subst (λ n. IsAt co
 pub at_more : {code : List Node} {shifts : ShiftTable} (line : List ℕ) {place : ℕ} (word : ℕ) {word' steps read : ℕ} (d : ℕ) {added : ℕ} (e : ℕ) → IsAt code shifts line place word steps → place < length line → slice_index line place < 256
     → read ≡ get_or shifts.words.items (slice_index line place) d → word' ≡ read / 2 ^ (word % 64) → added ≡ get_or shifts.weights.items (word % 256) e → IsAt code shifts line (place + 1) word' (steps + added)
 at_more {shifts} line {place} word {read} d {added} e a h b r w g =
-    let o = subst (λ n. IsOffset a.0.rows.items (length a.0.states.items) a.3.0 (slice_index line place) (six_bits n a.3.0)) (get_or_default shifts.words.items (slice_index line place) 0 d (let s = a.2.words.all in omega (arith, s, b)) ∙ sym r)
+    let o = subst (λ n. IsOffset a.0.rows.items (length a.0.states.items) a.3.0 (slice_index line place) (six_bits n a.3.0)) (get_or_default shifts.words.items (slice_index line place) 0 d (let s = a.2.words.size in omega (arith, s, b)) ∙ sym r)
     (a.2.words.each (slice_index line place) b a.3.0 a.3.2.known) in
     let i = subst (λ n. IsWeight a.0.states.items n added) a.3.1 (weight_read word e a.2 g) in
     let m = state_more line a.1 a.2.complete a.3.2 h b i o in

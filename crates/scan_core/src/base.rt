@@ -2,10 +2,11 @@
 
 ghost use Rattle.std.specs.Prelude.{◌≡◌, ◌⊎◌, ◌↔◌, ◌<◌, ◌+◌, ◌*◌, ◌/◌, ℕ, Bool, false, IsTrue, IfOk, IfErr, [], length};
 ghost use Rattle.bre_core.specs.declared.fault.BreFault.TheVariants.{Memory};
-ghost use Rattle.scan_core.specs.inner.Base.{AreLeads, IsBase, IsLeading};
+ghost use Rattle.scan_core.specs.inner.Base.{IsBase, IsLeading};
 ghost use Rattle.scan_core.specs.inner.Closures.{AreClosures};
+ghost use Rattle.scan_core.specs.inner.Each.{AreEach};
 ghost use Rattle.scan_core.specs.inner.Hops.{AreHops};
-ghost use Rattle.scan_core.specs.inner.Landings.{AreLandings, AreOthers};
+ghost use Rattle.scan_core.specs.inner.Landings.{AreLandings, IsOther};
 ghost use Rattle.scan_core.specs.inner.Sets.{IsCode, Flows, FlowsOn};
 ghost use Rattle.scan_core.specs.inner.Words.{IsIn, width};
 
@@ -70,7 +71,7 @@ fn leading(nodes: &[Node], words: &[u64], at: usize) -> u64
 fn leads_of(alloc: Global, nodes: &[Node], words: &[u64]) -> Result<Vec<u64>, BreFault>
     requires code { IsCode nodes.now }
     requires size { length words.now ≡ width nodes.now }
-    ensures ok { IfOk result (λ leads. AreLeads nodes.now words.now leads.items) }
+    ensures ok { IfOk result (λ leads. AreEach 0 (IsLeading nodes.now words.now) (width nodes.now) leads.items) }
     ensures err { IfErr result (λ fault. fault ≡ Memory) }
 {
     let mut leads = Vec::new(alloc);
@@ -89,11 +90,11 @@ fn land_all(
     landings: &mut Vec<Landing>,
 ) -> Result<Vec<u64>, BreFault>
     requires code { IsCode nodes.now }
-    requires hops { AreHops nodes.now (width nodes.now * 3) hops.now }
+    requires hops { AreHops nodes.now hops.now }
     requires size { length base.now ≡ width nodes.now }
     requires none { landings.old.items ≡ [] }
     ensures sound { IfOk result (λ _. AreLandings nodes.now landings.new.items) }
-    ensures ok { IfOk result (λ others. AreOthers nodes.now base.now landings.new.items others.items) }
+    ensures ok { IfOk result (λ others. AreEach 0 (IsOther nodes.now base.now landings.new.items) (width nodes.now) others.items) }
     ensures err { IfErr result (λ fault. fault ≡ Memory) }
 {
     let mut others = Vec::new(alloc);

@@ -1,9 +1,10 @@
 //! What follows without a byte, ready to be looked up: within a word for eight numbers at once, or for all by a shift.
 
-ghost use Rattle.std.specs.Prelude.{◌≡◌, ◌⊎◌, ◌↔◌, ◌<◌, ◌≤◌, ◌+◌, ◌*◌, ◌/◌, ◌%◌, ◌^◌, ℕ, Bool, false, IsTrue, IfOk, IfErr, IfSome, length};
+ghost use Rattle.std.specs.Prelude.{◌≡◌, ◌⊎◌, ◌↔◌, ◌<◌, ◌≤◌, ◌+◌, ◌*◌, ◌/◌, ◌%◌, ◌^◌, ℕ, Bool, false, IsTrue, IfOk, IfErr, IfSome, None, length};
 ghost use Rattle.std.specs.Int.{bit_at};
 ghost use Rattle.bre_core.specs.declared.fault.BreFault.TheVariants.{Memory};
-ghost use Rattle.scan_core.specs.inner.Closures.{AreAllNexts, AreAllPeers, AreClosures, AreInside, AreLeaves, AreNexts, ArePeers, Closes, IsLeaving, Stays, chosen_at};
+ghost use Rattle.scan_core.specs.inner.Closures.{AreClosures, AreNexts, ArePeers, Closes, IsInside, IsLeaving, Stays};
+ghost use Rattle.scan_core.specs.inner.Each.{AreEach};
 ghost use Rattle.scan_core.specs.inner.Hops.{HopsTo};
 ghost use Rattle.scan_core.specs.inner.Sets.{IsCode, Flows};
 ghost use Rattle.scan_core.specs.inner.Words.{width};
@@ -184,7 +185,7 @@ fn nexts_in(nodes: &[Node], at: usize) -> Option<u64>
 /// What the numbers of a word lead to in it, looked up for eight of them at once.
 #[inline(always)]
 pub fn looked_up(inside: &[u64], nodes: &[Node], at: usize, word: u64) -> u64
-    requires inside { AreInside nodes.now (width nodes.now * 2048) inside.now }
+    requires inside { AreEach 0 (IsInside nodes.now) (width nodes.now * 2048) inside.now }
     requires at { at < width nodes.now }
     ensures { Closes nodes.now at word result }
 {
@@ -212,10 +213,10 @@ pub fn closed(closures: &Closures, nodes: &[Node], at: usize, word: u64) -> u64
 /// What one choice from eight numbers leads to in their word: what its lower and its higher four lead to is in the table
 /// before it, if there are both.
 fn inside_at(inside: &[u64], nodes: &[Node], place: usize) -> u64
-    requires inside { AreInside nodes.now place inside.now }
+    requires inside { AreEach 0 (IsInside nodes.now) place inside.now }
     requires code { IsCode nodes.now }
     requires place { place < width nodes.now * 2048 }
-    ensures { Closes nodes.now (place / 2048) (chosen_at place) result }
+    ensures { IsInside nodes.now place result }
 {
     let low = place % 16;
     let high = place / 16 % 16 * 16;
@@ -232,7 +233,7 @@ fn inside_at(inside: &[u64], nodes: &[Node], place: usize) -> u64
 /// What each choice from each eight numbers leads to in their word.
 fn insides_of(alloc: Global, nodes: &[Node]) -> Result<Vec<u64>, BreFault>
     requires { IsCode nodes.now }
-    ensures ok { IfOk result (λ inside. AreInside nodes.now (width nodes.now * 2048) inside.items) }
+    ensures ok { IfOk result (λ inside. AreEach 0 (IsInside nodes.now) (width nodes.now * 2048) inside.items) }
     ensures err { IfErr result (λ fault. fault ≡ Memory) }
 {
     let mut inside = Vec::new(alloc);
@@ -247,7 +248,7 @@ fn insides_of(alloc: Global, nodes: &[Node]) -> Result<Vec<u64>, BreFault>
 fn leaves_of(alloc: Global, nodes: &[Node], hops: &[Hop]) -> Result<Vec<u64>, BreFault>
     requires code { IsCode nodes.now }
     requires hops { length hops.now ≡ width nodes.now * 3 }
-    ensures ok { IfOk result (λ leaves. AreLeaves nodes.now hops.now leaves.items) }
+    ensures ok { IfOk result (λ leaves. AreEach 0 (IsLeaving nodes.now hops.now) (width nodes.now) leaves.items) }
     ensures err { IfErr result (λ fault. fault ≡ Memory) }
 {
     let mut leaves = Vec::new(alloc);
@@ -261,7 +262,7 @@ fn leaves_of(alloc: Global, nodes: &[Node], hops: &[Hop]) -> Result<Vec<u64>, Br
 fn all_peers(alloc: Global, nodes: &[Node]) -> Result<Vec<u64>, BreFault>
     requires code { IsCode nodes.now }
     requires short { length nodes.now < 2 ^ 32 }
-    ensures ok { IfOk result (λ peers. AreAllPeers nodes.now peers.items) }
+    ensures ok { IfOk result (λ peers. AreEach 0 (ArePeers nodes.now) (width nodes.now * 64) peers.items) }
     ensures err { IfErr result (λ fault. fault ≡ Memory) }
 {
     let mut peers = Vec::new(alloc);
@@ -274,7 +275,7 @@ fn all_peers(alloc: Global, nodes: &[Node]) -> Result<Vec<u64>, BreFault>
 /// The numbers that are led to in each word, as `nexts_in` finds them.
 fn all_nexts(alloc: Global, nodes: &[Node]) -> Result<Vec<Option<u64>>, BreFault>
     requires { IsCode nodes.now }
-    ensures ok { IfOk result (λ nexts. AreAllNexts nodes.now nexts.items) }
+    ensures ok { IfOk result (λ nexts. AreEach None (λ at nexts. IfSome nexts (AreNexts nodes.now at)) (width nodes.now) nexts.items) }
     ensures err { IfErr result (λ fault. fault ≡ Memory) }
 {
     let mut nexts = Vec::new(alloc);

@@ -128,7 +128,7 @@ fn hop_of(nodes: &[Node], hops: &[Hop], at: usize) -> Hop
 /// The hops of each word.
 pub fn hops_of(alloc: Global, nodes: &[Node]) -> Result<Vec<Hop>, BreFault>
     requires { IsCode nodes.now }
-    ensures ok { IfOk result (λ hops. AreHops nodes.now (width nodes.now * 3) hops.items) }
+    ensures ok { IfOk result (λ hops. AreHops nodes.now hops.items) }
     ensures err { IfErr result (λ fault. fault ≡ Memory) }
 {
     let mut hops = Vec::new(alloc);

@@ -1,9 +1,10 @@
 //! Landings: hops to numbers that lead nowhere without a byte, so that nothing more follows once they are entered.
 
-ghost use Rattle.std.specs.Prelude.{◌≡◌, ◌⊎◌, ◌↔◌, ◌<◌, ◌≤◌, ◌+◌, ◌*◌, ◌/◌, ℕ, Bool, false, IsTrue, OnOk, IfErr, length, slice_index_or};
+ghost use Rattle.std.specs.Prelude.{◌≡◌, ◌⊎◌, ◌↔◌, ◌<◌, ◌≤◌, ◌+◌, ◌*◌, ◌/◌, ℕ, Bool, false, IsTrue, OnOk, IfErr, List, ◌++◌, length};
 ghost use Rattle.bre_core.specs.declared.fault.BreFault.TheVariants.{Memory};
+ghost use Rattle.scan_core.specs.declared.landing.Landing.{Landing};
 ghost use Rattle.scan_core.specs.inner.Hops.{AreHops};
-ghost use Rattle.scan_core.specs.inner.Landings.{AreLandings, Ends, HasLanded, IsOther, Lands, LandsOn, no_landing};
+ghost use Rattle.scan_core.specs.inner.Landings.{AreLandings, Ends, HasLanded, IsOther, Lands, LandsOn};
 ghost use Rattle.scan_core.specs.inner.Sets.{IsCode, Flows};
 ghost use Rattle.scan_core.specs.inner.Words.{IsIn, width};
 
@@ -60,14 +61,12 @@ pub fn add_landings(
     at: usize,
 ) -> Result<(), BreFault>
     requires code { IsCode nodes.now }
-    requires hops { AreHops nodes.now (width nodes.now * 3) hops.now }
+    requires hops { AreHops nodes.now hops.now }
     requires size { length base.now ≡ width nodes.now }
     requires at { at < width nodes.now }
     requires sound { AreLandings nodes.now landings.old.items }
     ensures sound { OnOk result (AreLandings nodes.now landings.new.items) }
-    ensures longer { OnOk result (length landings.old.items ≤ length landings.new.items) }
-    ensures front { OnOk result ((place : ℕ) → place < length landings.old.items
-        → slice_index_or landings.new.items place no_landing ≡ slice_index_or landings.old.items place no_landing) }
+    ensures grown { OnOk result ((more : List Landing) × (landings.new.items ≡ landings.old.items ++ more)) }
     ensures err { IfErr result (λ fault. fault ≡ Memory) }
 {
     for which in 0..HOPS {

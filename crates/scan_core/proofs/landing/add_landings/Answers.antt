@@ -1,10 +1,10 @@
-use Rattle.std.proofs.Common.{refl, sym, subst}
-use Rattle.scan_core.proofs.Landed.{Adding, adding_starts, adding_more, hop_lands}
+use Rattle.std.proofs.Common.{[], append-nil, refl, sym, subst}
+use Rattle.scan_core.proofs.Landed.{Adding, adding_more, hop_lands}
 use Rattle.scan_core.proofs.landing.add_landings.Goals as goal
 use Rattle.scan_core.proofs.landing.add_landings.Goals.{then-is_landing+in_ok-push, else-is_landing}
 
 pub loop-which-init : goal.loop-which-init
-loop-which-init c = adding_starts c.requires.sound
+loop-which-init c = record { sound = c.requires.sound; grown = ([], sym (append-nil _)) }
 
 pub loop-which-preserved : goal.loop-which-preserved
 loop-which-preserved c = elim c.if-is_landing.branch [
