@@ -1,6 +1,8 @@
 -- Bits of words, and sets that grow by a number.
-use Rattle.std.proofs.Common.{◌≡◌, ◌⊎◌, ◌↔◌, inl, inr, ℕ, zero, suc, ◌*◌, ◌/◌, ◌%◌, ◌^◌, ◌<◌, ◌≤◌, true, List, [], ◌∷◌, length, get_or, set, eqb, refl, sym, ap, ◌∙◌, subst, arith, eq-eqb, eqb-true, w64, min, ◌+◌, Bool}
-use Rattle.std.proofs.lemmas.Bool.{cases_eq}
+use Rattle.std.proofs.Common.{◌≡◌, ◌⊎◌, ◌↔◌, inl, inr, ℕ, zero, suc, ◌*◌, ◌/◌, ◌%◌, ◌^◌, ◌<◌, ◌≤◌, true, false, IsTrue, not, List, [], ◌∷◌, length, get_or, set, eqb, refl, sym, ap, ◌∙◌, subst, arith, eq-eqb, eqb-true, w64, min, ◌+◌, Bool}
+use Rattle.std.proofs.lemmas.Bool.{cases_eq, false≢true}
+use Rattle.std.specs.Int.Bits.{or_zero_r}
+use mir.Val.{bool_byte}
 use Rattle.std.proofs.lemmas.List.{get_or-set_same, get_or-set_other, length-set, set-get_or}
 use Rattle.std.proofs.lemmas.Nat.{le_or_l, or_lt}
 use Rattle.std.proofs.lemmas.Nat.Bits.{shr_and_one, bit_at_set_same, bit_at_set_other}
@@ -19,24 +21,41 @@ unset-set [] at word h l m = absurd (omega (arith, h))
 unset-set (x ∷ words) zero word h l m = omega (arith, l, m)
 unset-set (x ∷ words) (suc at) word h l m = let r = unset-set words at word (omega (arith, h)) l m in omega (arith, r)
 
--- of the first numbers of a word each has its bit set, or what it leads to is such
-abbrev pub Marking : List Node → (ℕ → ℕ → Type 0) → ℕ → ℕ → ℕ → Type 0
-Marking code So at count word = (bit : ℕ) (at_first at_last : Bool) (to : ℕ) → bit < count → Flows code at_first at_last (at * 64 + bit) to
-    → (bit_at word bit ≡ 1) ⊎ So bit to
+-- the first bits of a word are as they should be, and no others are set
+pub record AreBits (Is : ℕ → ℕ → Type 0) (count word : ℕ) : Type 0 where
+  pub past : (bit : ℕ) → bit < count → Is bit (bit_at word bit)
+  pub rest : (bit : ℕ) → count ≤ bit → bit_at word bit ≡ 0
 
-pub marking_more : (code : List Node) (So : ℕ → ℕ → Type 0) (at count word : ℕ) → Marking code So at count word → count < 64
-    → Marking code So at (count + 1) (bit_or word (1 * 2 ^ count % 2 ^ 64))
-marking_more code So at count word before h bit at_first at_last to l f = elim (cases_eq bit count) [
-  | inl same ↦ inl (ap (bit_at (bit_or word (1 * 2 ^ count % 2 ^ 64))) same ∙ bit_at_set_same w64 word count h)
-  | inr other ↦ elim (before bit at_first at_last to (omega (arith, l, other)) f) [ inl k ↦ inl (bit_at_set_other w64 word count h bit other ∙ k) | inr s ↦ inr s ]
-]
+pub bits_more : {Is : ℕ → ℕ → Type 0} {count word : ℕ} (flag : Bool) → AreBits Is count word → count < 64 → Is count (bool_byte flag)
+    → AreBits Is (count + 1) (bit_or word (bool_byte flag * 2 ^ count % 2 ^ 64))
+bits_more {Is} {count} {word} true a h is = record {
+  past = λ bit l. elim (cases_eq bit count) [
+    | inl same ↦ subst (λ n. Is n (bit_at (bit_or word (1 * 2 ^ count % 2 ^ 64)) n)) (sym same) (subst (Is count) (sym (bit_at_set_same w64 word count h)) is)
+    | inr other ↦ subst (Is bit) (sym (bit_at_set_other w64 word count h bit other)) (a.past bit (omega (arith, l, other)))
+  ];
+  rest = λ bit l. bit_at_set_other w64 word count h bit (λ q. omega (arith, q, l)) ∙ a.rest bit (omega (arith, l));
+}
+bits_more {Is} {count} {word} false a h is =
+    let none : 0 * 2 ^ count % 2 ^ 64 ≡ 0 = omega arith in
+    subst (AreBits Is (count + 1)) (sym (ap (bit_or word) none ∙ or_zero_r word)) (record {
+      past = λ bit l. elim (cases_eq bit count) [
+        | inl same ↦ subst (λ n. Is n (bit_at word n)) (sym same) (subst (Is count) (sym (a.rest count (omega arith))) is)
+        | inr other ↦ a.past bit (omega (arith, l, other))
+      ];
+      rest = λ bit l. a.rest bit (omega (arith, l));
+    })
 
-pub marking_skip : (code : List Node) (So : ℕ → ℕ → Type 0) (at count word : ℕ) → Marking code So at count word
-    → ((at_first at_last : Bool) (to : ℕ) → Flows code at_first at_last (at * 64 + count) to → So count to) → Marking code So at (count + 1) word
-marking_skip code So at count word before here bit at_first at_last to l f = elim (cases_eq bit count) [
-  | inl same ↦ inr (subst (λ n. So n to) (sym same) (here at_first at_last to (subst (λ n. Flows code at_first at_last (at * 64 + n) to) same f)))
-  | inr other ↦ before bit at_first at_last to (omega (arith, l, other)) f
-]
+pub flag_one : (flag : Bool) → (bool_byte flag ≡ 1) ↔ IsTrue flag
+flag_one true = (λ e. refl, λ t. refl)
+flag_one false = (λ e. absurd (omega (arith, e)), λ t. absurd (false≢true t))
+
+pub not_one : (flag : Bool) → IsTrue flag ⊎ (bool_byte (not flag) ≡ 1)
+not_one true = inl refl
+not_one false = inr refl
+
+-- a number's bit is set, or all that it leads to is so
+abbrev pub Unless : List Node → (ℕ → ℕ → Type 0) → ℕ → ℕ → ℕ → Type 0
+Unless code So at bit value = (at_first at_last : Bool) (to : ℕ) → Flows code at_first at_last (at * 64 + bit) to → (value ≡ 1) ⊎ So bit to
 
 -- a number's bit is set
 pub entered_one : (old : List ℕ) {new : List ℕ} (number : ℕ) {word : ℕ} → number < 64 * length old → word ≡ get_or old (number / 64) 0

@@ -15,16 +15,6 @@ use Rattle.scan_core.proofs.Growings.{grows_by, grows_both}
 use Rattle.scan_core.proofs.Insides.{bit_is}
 use Rattle.scan_core.proofs.Visitings.{is_in_word}
 
--- the first numbers of a word that lead to a number
-abbrev pub From : List Node → ℕ → ℕ → ℕ → ℕ → Type 0
-From code at to count word = (bit : ℕ) → bit < 64 → bit_at word bit ≡ 1 → Flows code false false (at * 64 + bit) to
-
-pub from_more : (code : List Node) (at to count word : ℕ) → From code at to count word → count < 64 → Flows code false false (at * 64 + count) to → From code at to (count + 1) (bit_or word (1 * 2 ^ count % 2 ^ 64))
-from_more code at to count word before h here bit small is = elim (cases_eq bit count) [
-  | inl same ↦ subst (λ n. Flows code false false (at * 64 + n) to) (sym same) here
-  | inr other ↦ before bit small (sym (bit_at_set_other w64 word count h bit other) ∙ is)
-]
-
 -- no number leads anywhere
 pub none_leads : (code : List Node) (at to bit : ℕ) → bit_at 0 bit ≡ 1 → Flows code false false (at * 64 + bit) to
 none_leads code at to bit is = let z = bit_at-zero bit in absurd (omega (arith, z, is))

@@ -26,26 +26,6 @@ pub stays_or_hops : (code : List Node) (hops : List Hop) (at bit to : ℕ) → b
     → Stays code (at * 64 + bit) to ⊎ HopsTo hops at bit to
 stays_or_hops code hops at bit to h f way = elim way [ inl near ↦ inl (f, omega (arith, near, h)) | inr hop ↦ inr hop ]
 
-pub record Peering (code : List Node) (number bit word : ℕ) : Type 0 where
-  pub own : number % 64 < bit → bit_at word (number % 64) ≡ 1
-  pub others : (b : ℕ) (at_first at_last : Bool) (to : ℕ) → b < 64 → bit_at word b ≡ 1 → Flows code at_first at_last (number / 64 * 64 + b) to → Stays code (number / 64 * 64 + b) to ⊎ Flows code at_first at_last number to
-
-pub peer_more : {code : List Node} (number : ℕ) {bit word : ℕ} → Peering code number bit word → bit < 64 → ((at_first at_last : Bool) (to : ℕ) → Flows code at_first at_last (number / 64 * 64 + bit) to → Stays code (number / 64 * 64 + bit) to ⊎ Flows code at_first at_last number to)
-    → Peering code number (bit + 1) (bit_or word (1 * 2 ^ bit % 2 ^ 64))
-peer_more {code} number {bit} {word} p h is = record {
-  own = λ l. elim (cases_eq (number % 64) bit) [
-    | inl same ↦ ap (bit_at (bit_or word (1 * 2 ^ bit % 2 ^ 64))) same ∙ bit_at_set_same w64 word bit h
-    | inr other ↦ bit_at_set_other w64 word bit h (number % 64) other ∙ p.own (omega (arith, l, other))
-  ];
-  others = λ b f l to small k. elim (cases_eq b bit) [
-    | inl same ↦ subst (λ n. Flows code f l (number / 64 * 64 + n) to → Stays code (number / 64 * 64 + n) to ⊎ Flows code f l number to) (sym same) (is f l to)
-    | inr other ↦ p.others b f l to small (sym (bit_at_set_other w64 word bit h b other) ∙ k)
-  ];
-}
-
-pub peer_skip : {code : List Node} (number : ℕ) {bit word : ℕ} → Peering code number bit word → (number ≡ number / 64 * 64 + bit → ⊥) → bit < 64 → Peering code number (bit + 1) word
-peer_skip number {bit} p differs h = record { own = λ l. elim (cases_eq (number % 64) bit) [ inl same ↦ absurd (differs (omega (arith, same))) | inr other ↦ p.own (omega (arith, l, other)) ]; others = p.others }
-
 pub either_bit : (a b bit : ℕ) → bit_at (bit_or a b) bit ≡ 1 → (bit_at a bit ≡ 1) ⊎ (bit_at b bit ≡ 1)
 either_bit a b bit h = elim (cases_eq (bit_at a bit) 1) [
   | inl one ↦ inl one

@@ -11,29 +11,6 @@ use Rattle.scan_core.specs.declared.node.Node.{Node}
 use Rattle.scan_core.specs.Code.{At, weight_of}
 use Rattle.scan_core.specs.inner.Words.{AddsMask, IsMask, IsOf, counted_at, width}
 
--- the first bits of a word are those of a kind
-pub record Wording (code : List Node) (kind : Kind) (from bit word : ℕ) : Type 0 where
-  pub past : (b : ℕ) → b < bit → (bit_at word b ≡ 1) ↔ IsOf code kind (from + b)
-  pub rest : (b : ℕ) → bit ≤ b → bit_at word b ≡ 0
-
-pub word_more : {code : List Node} {kind : Kind} {from bit word : ℕ} → Wording code kind from bit word → bit < 64 → IsOf code kind (from + bit) → Wording code kind from (bit + 1) (bit_or word (1 * 2 ^ bit % 2 ^ 64))
-word_more {code} {kind} {from} {bit} {word} w h is = record {
-  past = λ b l. elim (cases_eq b bit) [
-    | inl same ↦ (λ k. subst (λ n. IsOf code kind (from + n)) (sym same) is, λ k. ap (bit_at (bit_or word (1 * 2 ^ bit % 2 ^ 64))) same ∙ bit_at_set_same w64 word bit h)
-    | inr other ↦ let e = bit_at_set_other w64 word bit h b other in let p = w.past b (omega (arith, l, other)) in (λ k. p.0 (sym e ∙ k), λ k. e ∙ p.1 k)
-  ];
-  rest = λ b l. bit_at_set_other w64 word bit h b (λ q. omega (arith, q, l)) ∙ w.rest b (omega (arith, l));
-}
-
-pub word_skip : {code : List Node} {kind : Kind} {from bit word : ℕ} → Wording code kind from bit word → (IsOf code kind (from + bit) → ⊥) → Wording code kind from (bit + 1) word
-word_skip {code} {kind} {from} {bit} w never = record {
-  past = λ b l. elim (cases_eq b bit) [
-    | inl same ↦ (λ k. let z = w.rest b (omega (arith, same)) in absurd (omega (arith, z, k)), λ k. absurd (never (subst (λ n. IsOf code kind (from + n)) same k)))
-    | inr other ↦ w.past b (omega (arith, l, other))
-  ];
-  rest = λ b l. w.rest b (omega (arith, l));
-}
-
 -- the first words of a kind were added
 pub record Adding (code : List Node) (kind : Kind) (old now : List ℕ) (at : ℕ) : Type 0 where
   pub size : length now ≡ length old + at

@@ -60,9 +60,7 @@ fn leading(nodes: &[Node], words: &[u64], at: usize) -> u64
 {
     let mut word: u64 = 0;
     for bit in 0..64usize {
-        if !is_within(nodes, words, at * 64 + bit) {
-            word |= 1u64 << bit;
-        }
+        word |= (!is_within(nodes, words, at * 64 + bit) as u64) << bit;
     }
     word
 }

@@ -97,9 +97,7 @@ fn leaving(nodes: &[Node], hops: &[Hop], at: usize) -> u64
 {
     let mut word: u64 = 0;
     for bit in 0..64usize {
-        if !stays(nodes, hops, at, bit) {
-            word |= 1u64 << bit;
-        }
+        word |= (!stays(nodes, hops, at, bit) as u64) << bit;
     }
     word
 }
@@ -112,9 +110,7 @@ fn peers_of(nodes: &[Node], number: usize) -> u64
 {
     let mut word: u64 = 0;
     for bit in 0..64usize {
-        if is_peer(nodes, number, number / 64 * 64 + bit) {
-            word |= 1u64 << bit;
-        }
+        word |= (is_peer(nodes, number, number / 64 * 64 + bit) as u64) << bit;
     }
     word
 }

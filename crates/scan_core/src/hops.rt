@@ -51,9 +51,7 @@ fn from_of(nodes: &[Node], at: usize, to: usize) -> u64
 {
     let mut word: u64 = 0;
     for bit in 0..64usize {
-        if leads_to(nodes, at * 64 + bit, to) {
-            word |= 1u64 << bit;
-        }
+        word |= (leads_to(nodes, at * 64 + bit, to) as u64) << bit;
     }
     word
 }

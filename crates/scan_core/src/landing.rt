@@ -160,9 +160,7 @@ pub fn others_of(nodes: &[Node], base: &[u64], landings: &[Landing], start: usiz
 {
     let mut word: u64 = 0;
     for bit in 0..64usize {
-        if !is_settled(nodes, base, landings, start, at, bit) {
-            word |= 1u64 << bit;
-        }
+        word |= (!is_settled(nodes, base, landings, start, at, bit) as u64) << bit;
     }
     word
 }

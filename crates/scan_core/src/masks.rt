@@ -72,9 +72,7 @@ fn word_of(nodes: &[Node], kind: Kind, from: usize) -> u64
 {
     let mut word: u64 = 0;
     for bit in 0..64usize {
-        if is_of(nodes, kind, from + bit) {
-            word |= 1u64 << bit;
-        }
+        word |= (is_of(nodes, kind, from + bit) as u64) << bit;
     }
     word
 }
