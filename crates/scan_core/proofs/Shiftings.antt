@@ -13,9 +13,9 @@ use Rattle.scan_core.specs.Counted.{set_at, HasStepsBefore}
 use Rattle.scan_core.specs.inner.Shifts.{AreLight, IsAt, IsComplete, IsOffset, IsReached, IsShiftTable, IsShifted, IsStateAt, IsWeight, six_bits}
 use Rattle.scan_core.specs.Table.{IsFound, IsOutcome}
 use Rattle.scan_core.specs.inner.Table.{IsTable, IsTableOf, Walked, entry, no_state}
-use Rattle.scan_core.proofs.Along.{steps_more, steps_wider, steps_before}
+use Rattle.scan_core.proofs.Along.{steps_more, steps_wider}
 use Rattle.scan_core.proofs.Enterings.{positions_most, weight_length}
-use Rattle.scan_core.proofs.Inners.{walked_starts, walk_least, walk_next, walk_run, walk_ends, fixed_stays, bound_fits}
+use Rattle.scan_core.proofs.Inners.{walked_starts, walk_stops, walk_next, walk_run, walk_ends, fixed_stays, bound_fits}
 
 -- a word's six bits after one state more was put before them
 pub six_more : (word offset state : ℕ) → offset < 64 → six_bits (word * 64 + offset) (suc state) ≡ six_bits word state
@@ -102,7 +102,7 @@ weight_small code table state t w l h =
 
 -- the end that was entered stays entered, whatever steps come
 more_steps : {code : List Node} (line : List ℕ) {steps : ℕ} (added : ℕ) → HasStepsBefore code line steps → HasStepsBefore code line (steps + added)
-more_steps line added has = steps_before line _ has.within has.ends has.first has.counted (let l = has.least in omega (arith, l))
+more_steps line added has = record { place = has.place; within = has.within; ends = has.ends; first = has.first; before = has.before; counted = has.counted; least = let l = has.least in omega (arith, l) }
 
 state_over : {code : List Node} {table : Table} (line : List ℕ) {place state steps : ℕ} (added : ℕ) → IsTable code table → IsStateAt code table line place state steps → place < length line → HasStepsBefore code line (steps + added) → added ≤ weight code + 1
     → IsStateAt code table line (place + 1) (length table.states.items) (steps + added)
@@ -132,7 +132,7 @@ state_going {code} {table} line {place} {state} {steps} {added} t a h b k n e w 
 
 state_ends : {code : List Node} {table : Table} (line : List ℕ) {place state steps added : ℕ} → added ≡ (get_or table.states.items state no_state).positions → IsComplete table.rows.items → IsStateAt code table line place state steps → place < length line → slice_index line place < 256 → state < length table.states.items
     → length table.states.items ≤ entry table.rows.items state (slice_index line place) → HasStepsBefore code line (steps + added)
-state_ends {table} line {place} {state} same c a h b k n =
+state_ends {code} {table} line {place} {state} {steps} same c a h b k n =
     let g = a.going k in
     let s = g.1.states in
     let r = g.1.rows in
@@ -140,7 +140,8 @@ state_ends {table} line {place} {state} same c a h b k n =
       | inl less ↦ absurd (let m = ((g.1.told state (slice_index line place) g.2.known b).next less).0 in omega (arith, m, n, s))
       | inr more ↦ more
     ] in
-    walk_least line g.1 g.2 h b (c (state * 256 + slice_index line place) (omega (arith, k, b, r, s)) high) (g.1.noted state g.2.known) same
+    let o = walk_stops table line place state 0 no_state g h b refl (c (state * 256 + slice_index line place) (omega (arith, k, b, r, s)) high) refl in
+    subst (λ p. HasStepsBefore code line (steps + p)) (sym same) (o.least refl)
 
 state_more : {code : List Node} {table : Table} (line : List ℕ) {place state steps added six : ℕ} → IsTable code table → IsComplete table.rows.items → IsStateAt code table line place state steps → place < length line → slice_index line place < 256
     → IsWeight table.states.items (6 * state) added → IsOffset table.rows.items (length table.states.items) state (slice_index line place) six → (n : ℕ) × (six ≡ 6 * n) × IsStateAt code table line (place + 1) n (steps + added)
@@ -201,7 +202,7 @@ noted_here {shifts} line word d a e = e ∙ ap (λ n. get_or shifts.states.items
 
 pub at_end : {code : List Node} {shifts : ShiftTable} (line : List ℕ) {place : ℕ} (word : ℕ) {steps : ℕ} {noted : State} (d : State) → IsAt code shifts line place word steps → (word % 64 ≡ shifts.stop → ⊥) → place ≡ length line → 0 < length line → noted ≡ get_or shifts.states.items (word % 64 / 6) d
     → IsOutcome code line (record { found = noted.ends; steps = steps + noted.last_positions })
-at_end line word {steps} d a n h some e = walk_ends a.0 line a.3.0 steps d (a.3.2.going (state_here line word a n)) h some (noted_here line word d a e)
+at_end line word {steps} d a n h some e = walk_ends a.0 line _ a.3.0 steps d (a.3.2.going (state_here line word a n)) h some (noted_here line word d a e)
 
 -- no byte can change the state
 pub at_fixed : {code : List Node} {shifts : ShiftTable} (line : List ℕ) {place : ℕ} (word : ℕ) {steps rest : ℕ} {noted : State} (d : State) → IsAt code shifts line place word steps → (word % 64 ≡ shifts.stop → ⊥) → 0 < length line → ((k : ℕ) → k < length line → slice_index line k < 256)
@@ -210,7 +211,7 @@ at_fixed {code} line {place} word {steps} {rest} d a n some b e f r =
     let k = state_here line word a n in
     let q = noted_here line word d a e in
     let w = walk_run code a.0 line place (length line) steps d (a.3.2.going k) a.3.2.within (omega arith) b (λ at l h. fixed_stays line d a.1 k q f at (b at h)) q r in
-    walk_ends a.0 line a.3.0 (steps + rest) d w refl some q
+    walk_ends a.0 line _ a.3.0 (steps + rest) d w refl some q
 
 pub at_fits : {code : List Node} {shifts : ShiftTable} (line : List ℕ) {place : ℕ} (word : ℕ) {steps : ℕ} → IsAt code shifts line place word steps → place ≤ 18446744073709551616 → steps < 340282366920938463463374607431768211456
 at_fits {code} line {place} word {steps} a p = bound_fits code place steps a.1.1.few a.3.2.bound (omega (arith, p))
