@@ -1,6 +1,6 @@
 -- Bits of words, and sets that grow by a number.
 use Rattle.std.proofs.Common.{◌≡◌, ◌⊎◌, ◌↔◌, inl, inr, ℕ, zero, suc, ◌*◌, ◌/◌, ◌%◌, ◌^◌, ◌<◌, ◌≤◌, true, false, IsTrue, not, List, [], ◌∷◌, length, get_or, set, eqb, refl, sym, ap, ◌∙◌, subst, arith, eq-eqb, eqb-true, w64, min, ◌+◌, Bool}
-use Rattle.std.proofs.lemmas.Bool.{cases_eq, false≢true}
+use Rattle.std.proofs.lemmas.Bool.{cases_eq, cases_lt, false≢true}
 use Rattle.std.specs.Int.Bits.{or_zero_r}
 use mir.Val.{bool_byte}
 use Rattle.std.proofs.lemmas.List.{get_or-set_same, get_or-set_other, length-set, set-get_or}
@@ -10,7 +10,7 @@ use Rattle.std.specs.Prelude.{bit_and, bit_or}
 use Rattle.std.specs.Int.{bit_at}
 use Rattle.scan_core.specs.inner.Sets.{Flows}
 use Rattle.scan_core.specs.declared.node.Node.{Node}
-use Rattle.scan_core.specs.inner.Words.{IsIn, unset, Grows}
+use Rattle.scan_core.specs.inner.Words.{GoesOn, IsIn, unset, Grows}
 
 pub has_tests : (words : List ℕ) (number : ℕ) → (eqb (bit_and (get_or words (number / 64) 0 / 2 ^ (number % 64)) 1) 1 ≡ true) ↔ IsIn words number
 unfolding IsIn
@@ -85,10 +85,12 @@ pub grows_one : {old new : List ℕ} (number : ℕ) {word before on : ℕ} → n
 grows_one {old} {new} number {word} h none ew fits en eo = record {
   size = ap length en ∙ length-set old (number / 64) more;
   exact = is;
-  low = omega (arith, eo);
-  under = λ other l k. elim ((is other).0 k) [ inl was ↦ was | inr same ↦ absurd (omega (arith, l, eo, same)) ];
-  fuller = omega (arith, fuller);
-  less = λ l. fuller;
+  goes = record {
+    low = omega (arith, eo);
+    under = λ other l k. elim ((is other).0 k) [ inl was ↦ was | inr same ↦ absurd (omega (arith, l, eo, same)) ];
+    fuller = omega (arith, fuller);
+    less = λ l. fuller;
+  };
 }
   where
     more : ℕ
@@ -109,12 +111,19 @@ grows_one {old} {new} number {word} h none ew fits en eo = record {
     fuller = subst (λ l. unset l < unset old) (sym en) (unset-set old (number / 64) (bit_or word (1 * 2 ^ (number % 64) % 2 ^ 64)) (omega (arith, h)) larger
         (let m = or_lt 64 word (1 * 2 ^ (number % 64) % 2 ^ 64) fits (omega arith) in omega (arith, m)))
 
-pub grows_none : (Added : ℕ → Type 0) {old new : List ℕ} {before on : ℕ} → new ≡ old → on ≡ before → ((number : ℕ) → Added number → IsIn old number) → Grows Added old new before on
-grows_none Added {old} {before} {on} same e within = subst (λ l. Grows Added old l before on) (sym same) (record {
-  size = refl;
-  exact = λ number. (λ h. inl h, elim [ inl h ↦ h | inr h ↦ within number h ]);
-  low = omega (arith, e);
-  under = λ number l h. h;
-  fuller = omega arith;
-  less = λ l. absurd (omega (arith, l, e));
-})
+pub goes_none : (words : List ℕ) (before : ℕ) → GoesOn words words before before
+goes_none words before = record { low = omega arith; under = λ number l h. h; fuller = omega arith; less = λ l. absurd (omega (arith, l)) }
+
+pub goes_both : {old middle new : List ℕ} {before between on : ℕ} → GoesOn old middle before between → GoesOn middle new between on → GoesOn old new before on
+goes_both {between} {on} f g = record {
+  low = omega (arith, f.low, g.low);
+  under = λ number l h. let w = g.low in f.under number (omega (arith, l, w)) (g.under number l h);
+  fuller = omega (arith, f.fuller, g.fuller);
+  less = λ l. elim (cases_lt on between) [
+    | inl lower ↦ let s = g.less lower in let r = f.fuller in omega (arith, s, r)
+    | inr same ↦ let s = f.less (omega (arith, l, same)) in let r = g.fuller in omega (arith, s, r)
+  ];
+}
+
+pub grows_none : (Added : ℕ → Type 0) {words : List ℕ} {on : ℕ} → ((number : ℕ) → Added number → IsIn words number) → Grows Added words words on on
+grows_none Added {words} {on} within = record { size = refl; exact = λ number. (λ h. inl h, elim [ inl h ↦ h | inr h ↦ within number h ]); goes = goes_none words on }

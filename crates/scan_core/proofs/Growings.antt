@@ -9,35 +9,26 @@ use Rattle.scan_core.specs.declared.way.Way.{Way}
 use Rattle.scan_core.specs.inner.Ways.{IsWay, Opens}
 use Rattle.scan_core.specs.inner.Words.{Grows}
 use Rattle.scan_core.proofs.Enterings.{flows_of, exact_as, exact_twice}
-use Rattle.scan_core.proofs.Bits.{grows_none}
+use Rattle.scan_core.proofs.Bits.{goes_both, grows_none}
 
 pub grows_by : (Added Other : ℕ → Type 0) {old new : List ℕ} {before on : ℕ} → Grows Added old new before on → ((n : ℕ) → Added n → Other n) → ((n : ℕ) → Other n → Added n) → Grows Other old new before on
 grows_by Added Other g there here = record {
   size = g.size;
   exact = λ number. exact_as (g.exact number) (there number) (here number);
-  low = g.low;
-  under = g.under;
-  fuller = g.fuller;
-  less = g.less;
+  goes = g.goes;
 }
 
 pub grows_both : (Added Other : ℕ → Type 0) {old middle new : List ℕ} {before : ℕ} (between : ℕ) {on : ℕ} → Grows Added old middle before between → Grows Other middle new between on → Grows (λ n. Added n ⊎ Other n) old new before on
 grows_both Added Other between {on} f g = record {
   size = g.size ∙ f.size;
   exact = λ number. exact_twice (f.exact number) (g.exact number);
-  low = omega (arith, f.low, g.low);
-  under = λ number l h. let w = g.low in f.under number (omega (arith, l, w)) (g.under number l h);
-  fuller = omega (arith, f.fuller, g.fuller);
-  less = λ l. elim (cases_lt on between) [
-    | inl lower ↦ let s = g.less lower in let r = f.fuller in omega (arith, s, r)
-    | inr same ↦ let s = f.less (omega (arith, l, same)) in let r = g.fuller in omega (arith, s, r)
-  ];
+  goes = goes_both f.goes g.goes;
 }
 
 -- a node that leads nowhere at this place, and one that leads to two numbers
 pub grows_closed : {code : List Node} {number : ℕ} {way : Way} {at_first at_last : Bool} {words : List ℕ} {on : ℕ} → IsWay code number way → (Opens way.when at_first at_last → ⊥)
     → Grows (Flows code at_first at_last number) words words on on
-grows_closed {at_first} {at_last} w never = grows_none _ refl refl (λ to f. absurd (never ((w.exact at_first at_last to).0 f).0))
+grows_closed {at_first} {at_last} w never = grows_none _ (λ to f. absurd (never ((w.exact at_first at_last to).0 f).0))
 
 pub grows_way : {code : List Node} {number : ℕ} {way : Way} {at_first at_last : Bool} {old middle new : List ℕ} {before between on : ℕ} → IsWay code number way → Opens way.when at_first at_last
     → Grows (λ n. n ≡ way.one) old middle before between → Grows (λ n. n ≡ way.other) middle new between on → Grows (Flows code at_first at_last number) old new before on

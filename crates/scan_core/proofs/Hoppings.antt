@@ -38,7 +38,7 @@ none_of word from bit none here there =
     omega (arith, e, z, here, there)
 
 pub hopped_starts : (hops : List Hop) (at word : ℕ) {words : List ℕ} {on : ℕ} → Grows (Hopped hops at word 0) words words on on
-hopped_starts hops at word = grows_none (Hopped hops at word 0) refl refl (λ number h. let l = h.1 in absurd (omega (arith, l)))
+hopped_starts hops at word = grows_none (Hopped hops at word 0) (λ number h. let l = h.1 in absurd (omega (arith, l)))
 
 pub hopped_more : (hops : List Hop) (at word count : ℕ) {old now new : List ℕ} {before on on' : ℕ} → word < 2 ^ 64 → (bit_and word (get_or hops (at * 3 + count) no_hop).from ≡ 0 → ⊥) → Grows (Hopped hops at word count) old now before on → Grows (λ other. other ≡ (get_or hops (at * 3 + count) no_hop).to) now new on on'
     → Grows (Hopped hops at word (count + 1)) old new before on'
@@ -86,4 +86,4 @@ follow_new {old} number {word} {bit} {before} h ew eb fits none en eo =
     (en ∙ ap (λ k. set old k (bit_or (get_or old word 0) bit)) ew ∙ ap (λ x. set old (number / 64) (bit_or (get_or old word 0) x)) eb) (eo ∙ ap (min before) ew)
 
 pub follow_old : {words : List ℕ} (number : ℕ) {word bit on : ℕ} → word ≡ number / 64 → bit ≡ 1 * 2 ^ (number % 64) % 2 ^ 64 → get_or words word 0 < 2 ^ 64 → (bit_and (get_or words word 0) bit ≡ 0 → ⊥) → Grows (λ other. other ≡ number) words words on on
-follow_old {words} number ew eb fits some = grows_none (λ other. other ≡ number) refl refl (λ other e. subst (IsIn words) (sym e) (entered_is words number ew eb fits some))
+follow_old {words} number ew eb fits some = grows_none (λ other. other ≡ number) (λ other e. subst (IsIn words) (sym e) (entered_is words number ew eb fits some))

@@ -14,12 +14,12 @@ use Rattle.scan_core.specs.declared.node.Node.TheVariants.{Choose, Back}
 use Rattle.scan_core.specs.Code.{At}
 use Rattle.scan_core.specs.inner.Hops.{AreHops, IsHop, no_hop}
 use Rattle.scan_core.specs.inner.Landings.{AreLandings, Ends, HasLanded, IsLanding, IsOther, Lands, no_landing}
-use Rattle.scan_core.specs.inner.Sets.{Flows}
-use Rattle.scan_core.specs.inner.Words.{IsIn, width}
+use Rattle.scan_core.specs.inner.Sets.{Flows, FlowsOn}
+use Rattle.scan_core.specs.inner.Words.{Adds, IsIn, width}
 use Rattle.scan_core.proofs.Enterings.{flows_of}
 use Rattle.scan_core.proofs.Hoppings.{one_of, none_of}
 use Rattle.scan_core.proofs.Each.{each_more, each_to}
-use Rattle.scan_core.proofs.Visitings.{is_in_word}
+use Rattle.scan_core.proofs.Visitings.{adds_both, adds_none, is_in_word}
 
 pub enters_if : (words : List ℕ) {new : List ℕ} (number : ℕ) (holds : Bool) → number < 64 * length words → new ≡ set words (number / 64) (bit_or (get_or words (number / 64) 0) (bool_byte holds * 2 ^ (number % 64) % 2 ^ 64))
     → (other : ℕ) → IsIn new other ↔ (IsIn words other ⊎ (IsTrue holds × (other ≡ number)))
@@ -36,21 +36,19 @@ enters_if words number false h en other =
 
 -- the last landings were followed
 pub record Landing_on (code : List Node) (landings : List Landing) (old now : List ℕ) (count : ℕ) : Type 0 where
-  pub size : length now ≡ length old
-  pub kept : (number : ℕ) → IsIn old number → IsIn now number
-  pub from : (number : ℕ) → IsIn now number → IsIn old number ⊎ (Ends code number × ((start : ℕ) × IsIn old start × Flows code false false start number))
+  pub adds : Adds code false false old now
+  pub over : (number : ℕ) → IsIn now number → IsIn old number ⊎ Ends code number
   pub led : (place : ℕ) → length landings ≤ place + count → place < length landings → (bit : ℕ) → bit < 64 → bit_at (get_or landings place no_landing).from bit ≡ 1 → IsIn old ((get_or landings place no_landing).at * 64 + bit) → IsIn now (get_or landings place no_landing).to
 
 pub land_starts : {code : List Node} {landings : List Landing} {old : List ℕ} → Landing_on code landings old old 0
-land_starts = record { size = refl; kept = λ n h. h; from = λ n h. inl h; led = λ place l h. absurd (omega (arith, l, h)) }
+land_starts {code} {old} = record { adds = adds_none code false false old; over = λ n h. inl h; led = λ place l h. absurd (omega (arith, l, h)) }
 
 pub land_more : {code : List Node} {landings : List Landing} {old now new : List ℕ} {count : ℕ} {landing : Landing} {holds : Bool} → Landing_on code landings old now count → AreLandings code landings → count < length landings → landing ≡ get_or landings (length landings - 1 - count) no_landing → get_or now landing.at 0 < 2 ^ 64
     → (IsTrue holds → bit_and (get_or now landing.at 0) landing.from ≡ 0 → ⊥) → ((bit_and (get_or now landing.at 0) landing.from ≡ 0 → ⊥) → IsTrue holds)
     → length new ≡ length now → ((other : ℕ) → IsIn new other ↔ (IsIn now other ⊎ (IsTrue holds × (other ≡ landing.to)))) → Landing_on code landings old new (count + 1)
 land_more {code} {landings} {old} {now} {new} {count} {landing} {holds} s are h el fits some all size exact = record {
-  size = size ∙ s.size;
-  kept = λ n k. (exact n).1 (inl (s.kept n k));
-  from = λ n k. elim ((exact n).0 k) [ inl was ↦ s.from n was | inr new ↦ entered n new.0 new.1 ];
+  adds = adds_both s.adds (record { size = size; kept = λ n k. (exact n).1 (inl k); from = λ n k. elim ((exact n).0 k) [ inl was ↦ (n, was, (0, refl)) | inr new ↦ entered n new.0 new.1 ] });
+  over = λ n k. elim ((exact n).0 k) [ inl was ↦ s.over n was | inr new ↦ inr (subst (Ends code) (sym new.1) is.ends) ];
   led = λ place l inside bit small one k. elim (cases_eq place last) [
     | inl same ↦
         let e : get_or landings place no_landing ≡ landing = ap (λ p. get_or landings p no_landing) same ∙ sym el in
@@ -65,27 +63,21 @@ land_more {code} {landings} {old} {now} {new} {count} {landing} {holds} s are h 
     is : IsLanding code landing
     is = subst (IsLanding code) (sym el) (are.each (length landings - 1 - count) (omega (arith, h)))
 
-    entered : (number : ℕ) → IsTrue holds → number ≡ landing.to → IsIn old number ⊎ (Ends code number × ((start : ℕ) × IsIn old start × Flows code false false start number))
+    entered : (number : ℕ) → IsTrue holds → number ≡ landing.to → (start : ℕ) × IsIn now start × FlowsOn code false false start number
     entered number t e =
         let one = one_of (get_or now landing.at 0) landing.from fits (some t) in
-        let flow = is.leads one.0 one.1 one.3 in
-        elim (s.from (landing.at * 64 + one.0) ((is_in_word now landing.at one.0 one.1).0 one.2)) [
-          | inl was ↦
-              let on = subst (Flows code false false (landing.at * 64 + one.0)) (sym e) flow in
-              inr (subst (Ends code) (sym e) is.ends, (landing.at * 64 + one.0, was, on))
-          | inr new ↦ absurd (new.0 false false landing.to flow)
-        ]
+        let start : ℕ = landing.at * 64 + one.0 in
+        (start, (is_in_word now landing.at one.0 one.1).0 one.2, (1, (start, refl, subst (Flows code false false start) (sym e) (is.leads one.0 one.1 one.3))))
 
     reached : (bit : ℕ) → bit < 64 → bit_at landing.from bit ≡ 1 → IsIn old (landing.at * 64 + bit) → IsIn new landing.to
     reached bit small one k =
-        let here = (is_in_word now landing.at bit small).1 (s.kept (landing.at * 64 + bit) k) in
+        let here = (is_in_word now landing.at bit small).1 (s.adds.kept (landing.at * 64 + bit) k) in
         (exact landing.to).1 (inr (all (λ none. none_of (get_or now landing.at 0) landing.from bit none here one), refl))
 
 pub land_ends : {code : List Node} {landings : List Landing} {old now : List ℕ} {count : ℕ} → Landing_on code landings old now count → length landings ≤ count → HasLanded code landings old now
 land_ends {old} {now} s h = record {
-  size = s.size;
-  kept = s.kept;
-  from = s.from;
+  adds = s.adds;
+  over = s.over;
   led = λ at bit to small k on. subst (IsIn now) (sym on.4) (s.led on.0 (omega (arith, h)) on.1 bit small on.3 (subst (λ n. IsIn old (n * 64 + bit)) (sym on.2) k));
 }
 

@@ -5,7 +5,7 @@ use Rattle.scan_core.specs.declared.landing.Landing.{Landing}
 use Rattle.scan_core.specs.declared.node.Node.{Node}
 use Rattle.scan_core.specs.inner.Each.{AreEach}
 use Rattle.scan_core.specs.inner.Sets.{Flows, FlowsOn}
-use Rattle.scan_core.specs.inner.Words.{IsIn, width}
+use Rattle.scan_core.specs.inner.Words.{Adds, IsIn, width}
 
 abbrev pub no_landing : Landing
 no_landing = record { at = 0; from = 0; to = 0 }
@@ -44,16 +44,12 @@ IsOther code base landings at word = (bit : ℕ) (at_first at_last : Bool) (to :
 
 -- what the landings lead to was entered
 pub record HasLanded (code : List Node) (landings : List Landing) (old new : List ℕ) : Type 0 where
-  pub size : length new ≡ length old
-  pub kept : (number : ℕ) → IsIn old number → IsIn new number
-  pub from : (number : ℕ) → IsIn new number → IsIn old number
-      ⊎ (Ends code number × ((start : ℕ) × IsIn old start × Flows code false false start number))
+  pub adds : Adds code false false old new
+  pub over : (number : ℕ) → IsIn new number → IsIn old number ⊎ Ends code number
   pub led : (at bit to : ℕ) → bit < 64 → IsIn old (at * 64 + bit) → LandsOn landings at bit to → IsIn new to
 
 -- each word was closed; if no bit is left over, only what the landings lead to is missing
 pub record ClosesWords (code : List Node) (landings : List Landing) (old new : List ℕ) (over : ℕ) : Type 0 where
-  pub size : length new ≡ length old
-  pub kept : (number : ℕ) → IsIn old number → IsIn new number
-  pub from : (number : ℕ) → IsIn new number → (start : ℕ) × IsIn old start × FlowsOn code false false start number
+  pub adds : Adds code false false old new
   pub done : over ≡ 0 → (start to : ℕ) (at_first at_last : Bool) → IsIn new start → Flows code at_first at_last start to
       → IsIn new to ⊎ LandsOn landings (start / 64) (start % 64) to
