@@ -9,6 +9,3 @@ loop-at-preserved c =
     let added = c.in_ok-add_landings.ensures in
     let other = subst (λ l. IsOther c.args.nodes.now c.args.base.now l c.loop-at.at c.others_of.result) c.deref.ensures.value c.others_of.ensures in
     record { sound = added.sound; others = each_more (each_by c.loop-at.invariant.others (λ k word h. other_kept _ _ _ _ k word added.grown)) other c.in_ok-push.ensures.items }
-
-pub returns-clause-ok : goal.returns-clause-ok
-returns-clause-ok c = each_to c.loop-at.invariant.others (omega arith)

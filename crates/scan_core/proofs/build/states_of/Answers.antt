@@ -7,6 +7,3 @@ loop-state-preserved c = record {
   size = c.state_of-noted.ensures.size ∙ c.loop-state.invariant.size;
   so_far = each_more c.loop-state.invariant.so_far c.state_of-noted.ensures.noted c.in_ok-push.ensures.items;
 }
-
-pub returns-clause-ok : goal.returns-clause-ok
-returns-clause-ok c = each_to c.loop-state.invariant.so_far (omega arith)

@@ -6,9 +6,6 @@ use Rattle.scan_core.proofs.Apart.{Apart, apart_starts, apart_skip, apart_more, 
 use Rattle.scan_core.proofs.closing.close_words.Goals as goal
 use Rattle.scan_core.proofs.closing.close_words.Goals.{then-word-index-ne0, else-word-index-ne0}
 
-pub loop-at-init : goal.loop-at-init
-loop-at-init c = apart_starts
-
 pub loop-at-preserved : goal.loop-at-preserved
 loop-at-preserved c =
     let nodes = c.args.nodes.now in

@@ -5,9 +5,6 @@ use Rattle.scan_core.proofs.Hoppings.{hopped_starts, hopped_more, hopped_skip}
 use Rattle.scan_core.proofs.closing.hop.Goals as goal
 use Rattle.scan_core.proofs.closing.hop.Goals.{then-word-hop-ne0, else-word-hop-ne0}
 
-pub loop-which-init : goal.loop-which-init
-loop-which-init c = hopped_starts c.args.hops.now c.args.at c.args.word
-
 pub loop-which-preserved : goal.loop-which-preserved
 loop-which-preserved c = elim c.if-word-hop-ne0.branch [
   | then-word-hop-ne0 w ↦

@@ -4,6 +4,3 @@ use Rattle.scan_core.proofs.closures.all_peers.Goals as goal
 
 pub loop-number-preserved : goal.loop-number-preserved
 loop-number-preserved c = each_more c.loop-number.invariant c.peers_of.ensures c.in_ok-push.ensures.items
-
-pub returns-clause-ok : goal.returns-clause-ok
-returns-clause-ok c = each_to c.loop-number.invariant (omega arith)

@@ -16,6 +16,3 @@ bits-preserved c =
     let lowest = bit_at-trailing_zeros w64 c.bits.left (omega arith) (search rules) in
     let all : c.bits.all < 2 ^ 64 = search rules in
     inside_more c.bits.all c.targets.result c.bits.invariant all lowest.0 lowest.1 c.targets.ensures
-
-pub returns : goal.returns
-returns c = inside_ends c.bits.all c.bits.invariant (omega arith)

@@ -4,6 +4,3 @@ use Rattle.scan_core.proofs.closures.insides_of.Goals as goal
 
 pub loop-place-preserved : goal.loop-place-preserved
 loop-place-preserved c = each_more c.loop-place.invariant c.inside_at-entry.ensures c.in_ok-push.ensures.items
-
-pub returns-clause-ok : goal.returns-clause-ok
-returns-clause-ok c = each_to c.loop-place.invariant (omega arith)

@@ -4,6 +4,3 @@ use Rattle.scan_core.proofs.closures.leaves_of.Goals as goal
 
 pub loop-at-preserved : goal.loop-at-preserved
 loop-at-preserved c = each_more c.loop-at.invariant c.leaving.ensures c.in_ok-push.ensures.items
-
-pub returns-clause-ok : goal.returns-clause-ok
-returns-clause-ok c = each_to c.loop-at.invariant (omega arith)

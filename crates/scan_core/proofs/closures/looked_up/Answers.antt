@@ -9,6 +9,3 @@ loop-eight-preserved c =
     let within : place < c.args.at * 2048 + 2048 - c.args.at * 2048 = omega (arith, c.loop-eight-test.true) in
     join_more c.loop-eight.all c.loop-eight.invariant c.requires.inside c.requires.at c.loop-eight-test.true c.ranges.word.fits
     (get_or-take _ (drop (c.args.at * 2048) c.args.inside.now) place 0 within ∙ get_or-drop (c.args.at * 2048) c.args.inside.now place 0)
-
-pub returns : goal.returns
-returns c = join_ends c.loop-eight.all (subst (λ n. Joining c.args.nodes.now c.args.at c.args.word n c.loop-eight.all) (omega arith) c.loop-eight.invariant)

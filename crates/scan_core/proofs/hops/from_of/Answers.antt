@@ -4,6 +4,3 @@ use Rattle.scan_core.proofs.hops.from_of.Goals as goal
 
 pub loop-bit-preserved : goal.loop-bit-preserved
 loop-bit-preserved c = bits_more _ c.loop-bit.invariant c.loop-bit-test.true (λ e. c.leads_to.ensures ((flag_one _).0 e))
-
-pub returns : goal.returns
-returns c = λ bit h is. c.loop-bit.invariant.past bit (omega (arith, h, c.loop-bit-test.false)) is

@@ -3,9 +3,6 @@ use Rattle.scan_core.proofs.Landed.{Adding, adding_more, hop_lands}
 use Rattle.scan_core.proofs.landing.add_landings.Goals as goal
 use Rattle.scan_core.proofs.landing.add_landings.Goals.{then-is_landing+in_ok-push, else-is_landing}
 
-pub loop-which-init : goal.loop-which-init
-loop-which-init c = record { sound = c.requires.sound; grown = ([], sym (append-nil _)) }
-
 pub loop-which-preserved : goal.loop-which-preserved
 loop-which-preserved c = elim c.if-is_landing.branch [
   | then-is_landing+in_ok-push w ↦ subst (λ v. Adding c.args.nodes.now c.args.landings.now.items v.items) (sym w.landings-is)

@@ -35,18 +35,3 @@ returns-clause-outcome c =
     let e : c.loop-place.place ≡ length c.args.line.now = omega arith in
     let here = entered_here c.args.line.now c.loop-place.invariant (final c.args.line.now e c.is_empty.ensures) c.spread-2.ensures in
     search_ends c.args.line.now c.spread-2.new.words c.loop-place.invariant here e c.positions-2.ensures c.has-2.ensures
-
-pub loop-place-init : goal.loop-place-init
-loop-place-init c = search_starts c.args.line.now c.requires.base (c.copy_from_slice.ensures.after ∙ c.deref.ensures.value)
-
-pub spread-requires-clause-begun : goal.spread-requires-clause-begun
-spread-requires-clause-begun c = begun c.args.line.now c.requires.base c.loop-place.invariant
-
-pub spread-requires-2-clause-begun : goal.spread-requires-2-clause-begun
-spread-requires-2-clause-begun c = begun c.args.line.now c.requires.base c.loop-place.invariant
-
-pub positions-requires-clause-counts : goal.positions-requires-clause-counts
-positions-requires-clause-counts c = subst (IsMask c.args.nodes.now Counts 0) (sym c.deref-in-loop-place.ensures.value) c.requires.masks.counts
-
-pub positions-requires-2-clause-counts : goal.positions-requires-2-clause-counts
-positions-requires-2-clause-counts c = subst (IsMask c.args.nodes.now Counts 0) (sym c.deref-2.ensures.value) c.requires.masks.counts

@@ -4,6 +4,3 @@ use Rattle.scan_core.proofs.shift_table.weights_of.Goals as goal
 
 pub loop-low-preserved : goal.loop-low-preserved
 loop-low-preserved c = each_more c.loop-low.invariant c.weight_of.ensures c.in_ok-push.ensures.items
-
-pub returns-clause-ok : goal.returns-clause-ok
-returns-clause-ok c = each_to c.loop-low.invariant (omega arith)

@@ -4,6 +4,3 @@ use Rattle.scan_core.proofs.shift_table.words_of.Goals as goal
 
 pub loop-byte-preserved : goal.loop-byte-preserved
 loop-byte-preserved c = each_more c.loop-byte.invariant c.word_of.ensures c.in_ok-push.ensures.items
-
-pub returns-clause-ok : goal.returns-clause-ok
-returns-clause-ok c = each_to c.loop-byte.invariant (omega arith)

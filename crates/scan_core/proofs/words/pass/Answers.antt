@@ -3,9 +3,6 @@ use Rattle.std.proofs.lemmas.Nat.{and_le_l}
 use Rattle.scan_core.proofs.Passings.{passing_starts, passing_more, passing_ends}
 use Rattle.scan_core.proofs.words.pass.Goals as goal
 
-pub loop-at-init : goal.loop-at-init
-loop-at-init c = passing_starts
-
 pub loop-at-preserved : goal.loop-at-preserved
 loop-at-preserved c =
     let f : slice_index_or c.loop-at.words c.loop-at.at 0 < 2 ^ 64 = search rules in

@@ -61,12 +61,3 @@ pub returns-in_err-needle : goal.returns-in_err-needle
 returns-in_err-needle c =
     let p = err_from_is_err_and c.from_residual-in_err-needle.result c.from_residual-in_err-needle.ensures.1 in
     rw (p.1, p.2, c.in_err-needle.ensures.err) (record { reads = tt; groups = tt; size = tt; refused = λ h. absurd h; large = λ e. absurd (other_fault e) })
-
-pub returns : goal.returns
-returns c = record {
-  reads = c.in_ok-expression.ensures.reads;
-  groups = c.in_ok-expression.ensures.groups;
-  size = c.in_ok-expression.ensures.size;
-  refused = tt;
-  large = λ e. absurd (no_fault e);
-}

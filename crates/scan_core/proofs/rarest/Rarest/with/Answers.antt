@@ -6,6 +6,3 @@ pub with_bytes-requires-clause-takes : goal.with_bytes-requires-clause-takes
 with_bytes-requires-clause-takes c =
     let here = node_here c.args.nodes.now c.requires.within c.in-Take.is c.index-nodes-at.is in
     other_node c.args.nodes.now c.args.at here (λ skip same. cc)
-
-pub returns : goal.returns
-returns c = rarest_more c.requires.so_far c.far_after.ensures.low c.far_after.ensures.choice

@@ -1,9 +1,0 @@
-use Rattle.std.proofs.Common.{arith}
-use Rattle.scan_core.proofs.Each.{each_more, each_to}
-use Rattle.scan_core.proofs.closures.all_nexts.Goals as goal
-
-pub loop-at-preserved : goal.loop-at-preserved
-loop-at-preserved c = each_more c.loop-at.invariant c.nexts_in.ensures c.in_ok-push.ensures.items
-
-pub returns-clause-ok : goal.returns-clause-ok
-returns-clause-ok c = each_to c.loop-at.invariant (omega arith)
