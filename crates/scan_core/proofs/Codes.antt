@@ -76,9 +76,9 @@ mutual
   code_exact (append pattern item) line o = exact_both line (Matches pattern line) (MatchesItem item line) (code_exact pattern line o.0) (item_exact item line o.1)
 
   pub item_exact : (item : Item) (line : List ℕ) → IsOrderedItem item → Exact (code_of_item item) line (MatchesItem item line)
-  item_exact (set bytes) line o = exact_one {node = Take bytes} line (MatchesItem (set bytes) line) (λ at place at' place' h. (h.0, (h.1, h.2, h.3))) (λ place place' h. (omega arith, h.0, h.1, h.2)) (λ by q. cc)
-  item_exact front line o = exact_one {node = First} line (MatchesItem front line) (λ at place at' place' h. (h.0, (h.2, h.1 ∙ h.2))) (λ place place' h. (omega arith, h.1 ∙ sym h.0, h.0)) (λ by q. cc)
-  item_exact end line o = exact_one {node = Last} line (MatchesItem end line) (λ at place at' place' h. (h.0, (h.2, h.1 ∙ h.2))) (λ place place' h. (omega arith, h.1 ∙ sym h.0, h.0)) (λ by q. cc)
+  item_exact (set bytes) line o = exact_one {node = Take bytes} line (MatchesItem (set bytes) line) (λ at place at' place' h. (h.0, (h.1, h.2, h.3))) (λ place place' h. (omega arith, h.0, h.1, h.2)) tt
+  item_exact front line o = exact_one {node = First} line (MatchesItem front line) (λ at place at' place' h. (h.0, (h.2, h.1 ∙ h.2))) (λ place place' h. (omega arith, h.1 ∙ sym h.0, h.0)) tt
+  item_exact end line o = exact_one {node = Last} line (MatchesItem end line) (λ at place at' place' h. (h.0, (h.2, h.1 ∙ h.2))) (λ place place' h. (omega arith, h.1 ∙ sym h.0, h.0)) tt
   item_exact (group pattern) line o = code_exact pattern line o
   item_exact (repeat item low high) line o = exact_repeated {code = code_of_item item} line (MatchesItem item line) low high (item_exact item line o.0) o.1
 

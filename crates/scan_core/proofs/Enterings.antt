@@ -74,7 +74,7 @@ pub node_here : (code : List Node) {n : ℕ} {node read : Node} → n < length c
 node_here code {n} {read} h e is = subst (At code n) (sym is ∙ e) (at_index code n read h)
 
 pub target_in : {code : List Node} (n skip : ℕ) → IsCode code → At code n (Choose skip) → n + skip ≤ length code
-target_in n skip c here = c.ends n (n + skip) (Choose skip, here, inr refl)
+target_in n skip c here = c.fits n (Choose skip) here
 
 pub pass_found : (code : List Node) (n byte to : ℕ) (bytes : List Bool) → At code n (Take bytes) → Passes code byte n to → IsTrue (has bytes byte)
 pass_found code n byte to bytes here p =

@@ -48,10 +48,10 @@ way_is code number Last c here = let l = at_least code number Last here in recor
 }
 way_is code number (Choose skip) c here = let l = at_least code number (Choose skip) here in record {
   one = omega (arith, l);
-  other = c.ends number (number + skip) (Choose skip, here, inr refl);
+  other = c.fits number (Choose skip) here;
   exact = λ at_first at_last to. (λ f. (tt, flows_of code (Choose skip) at_first at_last to here f), λ o. (Choose skip, here, o.1));
 }
-way_is code number (Back by) c here = let l = at_least code number (Back by) here in let b = c.begins number by here in record {
+way_is code number (Back by) c here = let l = at_least code number (Back by) here in let b : by ≤ number = c.fits number (Back by) here in record {
   one = omega (arith, l);
   other = omega (arith, l);
   exact = λ at_first at_last to. (

@@ -12,10 +12,7 @@ use Rattle.scan_core.proofs.Along.{flow_goes}
 use Rattle.scan_core.proofs.Weights.{weight_is, length_most}
 
 pub is_code : (pattern : Pattern) → IsOrdered pattern → IsCode (code_of pattern)
-is_code pattern o = record {
-  ends = λ from to f. (code_exact pattern [] o).fits.ends from 0 to 0 (f.0, f.1, (flow_goes f.0 [] from to (record { within = omega arith; first = (λ t. refl, λ e. refl); last = (λ t. refl, λ e. refl) })).0 f.2);
-  begins = (code_exact pattern [] o).fits.begins;
-}
+is_code pattern o = (code_exact pattern [] o).fits
 
 -- what the search finds is what the line contains
 pub found_contains : (pattern : Pattern) (line : List ℕ) {found : Bool} → IsOrdered pattern → (IsTrue found ↔ EndsIn (code_of pattern) line) → found ≡ contains pattern line

@@ -24,10 +24,17 @@ FlowsOn code at_first at_last from to = (count : ℕ) × Parts (Flows code at_fi
 abbrev pub Passes : List Node → ℕ → ℕ → ℕ → Type 0
 Passes code byte from to = (bytes : List Bool) × At code from (Take bytes) × IsTrue (has bytes byte) × (to ≡ from + 1)
 
+-- where a node leads is no more than a size, and not below the front
+abbrev pub FitsIn : ℕ → ℕ → Node → Type 0
+FitsIn size number (Take bytes) = Unit {0}
+FitsIn size number First = Unit {0}
+FitsIn size number Last = Unit {0}
+FitsIn size number (Choose skip) = number + skip ≤ size
+FitsIn size number (Back by) = by ≤ number
+
 -- every node leads to one of the code or to its end
 pub record IsCode (code : List Node) : Type 0 where
-  pub ends : (from to : ℕ) → Flows code true true from to → to ≤ length code
-  pub begins : (from by : ℕ) → At code from (Back by) → by ≤ from
+  pub fits : (number : ℕ) (node : Node) → At code number node → FitsIn (length code) number node
 
 -- nodes that the byte before a place leads to
 abbrev pub Came : List Node → List ℕ → ℕ → ℕ → Type 0

@@ -25,7 +25,7 @@ pub returns-in-Choose : goal.returns-in-Choose
 returns-in-Choose c = way_is c.args.nodes.now c.args.number (Choose _) c.requires (node_here c.args.nodes.now c.if-number-nodes.false c.in-Choose.is c.index-nodes-number.is)
 
 pub overflow_sub-to : goal.overflow_sub-to
-overflow_sub-to c = c.requires.begins c.args.number c.in-Back.by (node_here c.args.nodes.now c.if-number-nodes.false c.in-Back.is c.index-nodes-number.is)
+overflow_sub-to c = c.requires.fits c.args.number (Back _) (node_here c.args.nodes.now c.if-number-nodes.false c.in-Back.is c.index-nodes-number.is)
 
 pub returns-in-Back : goal.returns-in-Back
 returns-in-Back c = way_is c.args.nodes.now c.args.number (Back _) c.requires (node_here c.args.nodes.now c.if-number-nodes.false c.in-Back.is c.index-nodes-number.is)
