@@ -23,9 +23,6 @@ pub record Apart (code : List Node) (landings : List Landing) (old now : List �
   pub adds : Adds code false false old now
   pub done : over ≡ 0 → (start to : ℕ) (at_first at_last : Bool) → start < 64 * count → IsIn now start → Flows code at_first at_last start to → IsIn now to ⊎ LandsOn landings (start / 64) (start % 64) to
 
-pub apart_starts : {code : List Node} {landings : List Landing} {old : List ℕ} → Apart code landings old old 0 0
-apart_starts {code} {old} = record { adds = adds_none code false false old; done = λ z start to f l h. absurd (omega (arith, h)) }
-
 pub apart_skip : {code : List Node} {base : Base} {old now : List ℕ} {count : ℕ} (over : ℕ) → Apart code base.landings.items old now count over → IsBase code base → ((number : ℕ) → IsIn base.words.items number → IsIn old number) → count < width code → bit_and (get_or now count 0) (get_or base.leads.items count 0) ≡ 0
     → Apart code base.landings.items old now (count + 1) over
 apart_skip {code} {base} {now} {count} over s b begun inside e = record {

@@ -37,9 +37,6 @@ none_of word from bit none here there =
     let z = ap (λ w. bit_at w bit) none ∙ bit_at-zero bit in
     omega (arith, e, z, here, there)
 
-pub hopped_starts : (hops : List Hop) (at word : ℕ) {words : List ℕ} {on : ℕ} → Grows (Hopped hops at word 0) words words on on
-hopped_starts hops at word = grows_none (Hopped hops at word 0) (λ number h. let l = h.1 in absurd (omega (arith, l)))
-
 pub hopped_more : (hops : List Hop) (at word count : ℕ) {old now new : List ℕ} {before on on' : ℕ} → word < 2 ^ 64 → (bit_and word (get_or hops (at * 3 + count) no_hop).from ≡ 0 → ⊥) → Grows (Hopped hops at word count) old now before on → Grows (λ other. other ≡ (get_or hops (at * 3 + count) no_hop).to) now new on on'
     → Grows (Hopped hops at word (count + 1)) old new before on'
 hopped_more hops at word count {on} fits some f g =

@@ -55,9 +55,6 @@ bit_is number bit here h =
       λ e. let q : bit ≡ number % 64 = omega (arith, e, here, h) in ap (bit_at (1 * 2 ^ (number % 64) % 2 ^ 64)) q ∙ ap (λ x. bit_at x (number % 64)) (sym word) ∙ same,
     )
 
-pub no_bit_is : {at : ℕ} (number bit : ℕ) → (number / 64 ≡ at → ⊥) → bit < 64 → (bit_at 0 bit ≡ 1) ↔ (number ≡ at * 64 + bit)
-no_bit_is number bit other h = (λ k. let z = bit_at-zero bit in absurd (omega (arith, z, k)), λ e. absurd (other (omega (arith, e, h))))
-
 -- what a number of a word leads to in it
 pub both_led : {code : List Node} {number to : ℕ} {way : Way} (one other bit : ℕ) → IsWay code number way → Opens way.when false false → ((bit_at one bit ≡ 1) ↔ (way.one ≡ to))
     → ((bit_at other bit ≡ 1) ↔ (way.other ≡ to)) → (bit_at (bit_or one other) bit ≡ 1) ↔ Flows code false false number to
@@ -160,16 +157,6 @@ inside_smaller all left found {bit} m f l small here = elim (cases_eq (bit_or al
         let k = bit_at-lt all b in
         omega (arith, e, o, q, z, k)
 
-pub inside_ends : {code : List Node} {at word : ℕ} (all : ℕ) {left : ℕ} → Insiding code at word all left → left ≡ 0 → Closes code at word all
-inside_ends all i e = record {
-  kept = i.kept;
-  from_chosen = i.from_word;
-  closed = λ number to h l k f. elim (i.rest number h k) [
-    | inl waits ↦ let z = ap (λ x. bit_at x number) e ∙ bit_at-zero number in absurd (omega (arith, z, waits))
-    | inr led ↦ led to l f
-  ];
-}
-
 -- the first eights of a word are joined
 pub record Joining (code : List Node) (at word eight all : ℕ) : Type 0 where
   pub kept : (bit : ℕ) → bit < eight * 8 → bit_at word bit ≡ 1 → bit_at all bit ≡ 1
@@ -219,9 +206,6 @@ join_more {code} {at} {word} {eight} all {entry} j i within h fits e = record {
         let place : ℕ = at * 2048 + (eight * 256 + word / 2 ^ (eight * 8) % 256) in
         subst (Closes code at (word / 2 ^ (eight * 8) % 256 * 2 ^ (eight * 8) % 2 ^ 64)) (sym e)
         (entry_at place (omega (arith, h)) (omega (arith, h)) (omega arith) (i.each place (omega (arith, within, h))))
-
-pub join_ends : {code : List Node} {at word : ℕ} (all : ℕ) → Joining code at word 8 all → Closes code at word all
-join_ends all j = record { kept = λ bit l is. j.kept bit (omega (arith, l)) is; from_chosen = j.from_word; closed = j.closed }
 
 -- the bits of a number in its place in a word
 fitted : (n i : ℕ) → i < 64 → bit_at (n % 2 ^ 64) i ≡ bit_at n i

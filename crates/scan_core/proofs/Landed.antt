@@ -40,9 +40,6 @@ pub record Landing_on (code : List Node) (landings : List Landing) (old now : Li
   pub over : (number : ℕ) → IsIn now number → IsIn old number ⊎ Ends code number
   pub led : (place : ℕ) → length landings ≤ place + count → place < length landings → (bit : ℕ) → bit < 64 → bit_at (get_or landings place no_landing).from bit ≡ 1 → IsIn old ((get_or landings place no_landing).at * 64 + bit) → IsIn now (get_or landings place no_landing).to
 
-pub land_starts : {code : List Node} {landings : List Landing} {old : List ℕ} → Landing_on code landings old old 0
-land_starts {code} {old} = record { adds = adds_none code false false old; over = λ n h. inl h; led = λ place l h. absurd (omega (arith, l, h)) }
-
 pub land_more : {code : List Node} {landings : List Landing} {old now new : List ℕ} {count : ℕ} {landing : Landing} {holds : Bool} → Landing_on code landings old now count → AreLandings code landings → count < length landings → landing ≡ get_or landings (length landings - 1 - count) no_landing → get_or now landing.at 0 < 2 ^ 64
     → (IsTrue holds → bit_and (get_or now landing.at 0) landing.from ≡ 0 → ⊥) → ((bit_and (get_or now landing.at 0) landing.from ≡ 0 → ⊥) → IsTrue holds)
     → length new ≡ length now → ((other : ℕ) → IsIn new other ↔ (IsIn now other ⊎ (IsTrue holds × (other ≡ landing.to)))) → Landing_on code landings old new (count + 1)
@@ -73,13 +70,6 @@ land_more {code} {landings} {old} {now} {new} {count} {landing} {holds} s are h 
     reached bit small one k =
         let here = (is_in_word now landing.at bit small).1 (s.adds.kept (landing.at * 64 + bit) k) in
         (exact landing.to).1 (inr (all (λ none. none_of (get_or now landing.at 0) landing.from bit none here one), refl))
-
-pub land_ends : {code : List Node} {landings : List Landing} {old now : List ℕ} {count : ℕ} → Landing_on code landings old now count → length landings ≤ count → HasLanded code landings old now
-land_ends {old} {now} s h = record {
-  adds = s.adds;
-  over = s.over;
-  led = λ at bit to small k on. subst (IsIn now) (sym on.4) (s.led on.0 (omega (arith, h)) on.1 bit small on.3 (subst (λ n. IsIn old (n * 64 + bit)) (sym on.2) k));
-}
 
 -- landings are added
 pub record Adding (code : List Node) (old now : List Landing) : Type 0 where

@@ -25,7 +25,6 @@ pub mod Nexts
 pub mod Closings
 pub mod Shiftings
 pub mod Hoppings
-pub mod Bases
 pub mod Landed
 pub mod Apart
 pub mod Needles

@@ -151,24 +151,10 @@ clear_of pattern needle text place ordered are is lacks before line after all en
     by false same = refl
     by true same = absurd (lacks before line after all ends (is line (part_bytes before line after (subst AreBytes all are)) ((contained pattern line ordered).0 ((contains_tells pattern line).0 same))))
 
-pub clear_none : (pattern : Pattern) (text : List ℕ) → IsClear pattern text 0
-clear_none pattern text before line after all ends = absurd (omega (arith, ends))
-
 -- Choosing the rarest nodes
 
 pub other_node : (code : List Node) (number : ℕ) {node : Node} → At code number node → ((skip : ℕ) → node ≡ Choose skip → ⊥) → (skip : ℕ) → At code number (Choose skip) → ⊥
 other_node code number {node} here differs skip there = differs skip (at_once code number node (Choose skip) here there)
-
-pub rarest_more : {code : List Node} {at : ℕ} {rarest : Rarest} {far : ℕ} → IsRarest code at rarest → rarest.far ≤ far → ((skip : ℕ) → At code at (Choose skip) → at + skip ≤ far)
-    → IsRarest code (at + 1) (record { far = far; run = at + 1; from = rarest.from; rank = rarest.rank })
-rarest_more {code} {at} so_far low choice = record {
-  near = λ number skip less here. elim (cases_eq number at) [
-    | inl same ↦ let f = choice skip (subst (λ n. At code n (Choose skip)) same here) in omega (arith, f, same)
-    | inr other ↦ let f = so_far.near number skip (omega (arith, less, other)) here in omega (arith, f, low)
-  ];
-  begun = omega arith;
-  passed = so_far.passed;
-}
 
 pub literal_more : (code : List Node) (from : ℕ) {at : ℕ} (byte : ℕ) (text : List ℕ) (node : Node) → from + length text ≡ at → IsLiteral code from text → At code at node → TakesOnly node byte → IsLiteral code from (text ++ byte ∷ [])
 literal_more code from {at} byte text node all literal here only k within = elim (cases_eq k (length text)) [

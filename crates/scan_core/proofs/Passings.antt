@@ -80,15 +80,6 @@ pub record Passing (code : List Node) (byte : ℕ) (base old now : List ℕ) (at
   pub bit : carry < 2
   pub over : (carry ≡ 1) ↔ Led code byte old (at * 64)
 
-pub passing_starts : {code : List Node} {byte : ℕ} {base old : List ℕ} → Passing code byte base old old 0 0
-passing_starts = record {
-  size = refl;
-  past = λ number h. absurd (omega (arith, h));
-  rest = λ n h. refl;
-  bit = omega arith;
-  over = (λ h. absurd (omega (arith, h)), λ l. absurd (let e = l.2.3 in omega (arith, e)));
-}
-
 pub passing_more : {code : List Node} {byte : ℕ} {base old now new : List ℕ} (takes : List ℕ) (from : ℕ) {at carry kept : ℕ} → Passing code byte base old now at carry → IsMask code (Takes byte) from takes → length old ≡ width code → at < length old
     → kept ≡ bit_and (get_or now at 0) (get_or takes (from + at) 0) → kept < 2 ^ 64 → new ≡ set now at (bit_or (bit_or (kept * 2 ^ 1 % 2 ^ 64) carry) (get_or base at 0)) → Passing code byte base old new (at + 1) (kept / 2 ^ 63)
 passing_more {code} {byte} {base} {old} {now} {new} takes from {at} {carry} {kept} p m size h ek fits en = record {

@@ -23,19 +23,6 @@ pub record Searched (code : List Node) (line : List ℕ) (place : ℕ) (words : 
   pub came : (number : ℕ) → IsIn words number ↔ (Came code line place number ⊎ FlowsOn code false false 0 number)
   pub so_far : IsCounted code line place steps
 
-pub search_starts : {code : List Node} (line : List ℕ) {base : Base} {words : List ℕ} → IsBase code base → words ≡ base.words.items → Searched code line 0 words 0
-search_starts {code} line b e = record {
-  size = ap length e ∙ b.size;
-  came = λ number. (
-    λ h. inr ((b.exact number).0 (subst (λ w. IsIn w number) e h)),
-    λ c. elim c [ inl k ↦ absurd (omega (arith, k.1)) | inr f ↦ subst (λ w. IsIn w number) (sym e) ((b.exact number).1 f) ],
-  );
-  so_far = counted_starts code line;
-}
-
-pub begun : {code : List Node} (line : List ℕ) {base : Base} {place steps : ℕ} {words : List ℕ} → IsBase code base → Searched code line place words steps → (number : ℕ) → IsIn base.words.items number → IsIn words number
-begun line b s number h = (s.came number).1 (inr ((b.exact number).0 h))
-
 -- what is entered at a place
 pub entered_here : {code : List Node} (line : List ℕ) {place steps : ℕ} {at_first at_last : Bool} {old new : List ℕ} → Searched code line place old steps → IsPlace line place at_first at_last → SpreadsOut code at_first at_last old new
     → (number : ℕ) → IsIn new number ↔ Entered code line number place

@@ -1,7 +1,7 @@
 use Rattle.std.proofs.Common.{◌+◌, sym, subst}
 use Rattle.scan_core.specs.inner.Hops.{Hopped}
 use Rattle.scan_core.specs.inner.Words.{Grows}
-use Rattle.scan_core.proofs.Hoppings.{hopped_starts, hopped_more, hopped_skip}
+use Rattle.scan_core.proofs.Hoppings.{hopped_more, hopped_skip}
 use Rattle.scan_core.proofs.closing.hop.Goals as goal
 use Rattle.scan_core.proofs.closing.hop.Goals.{then-word-hop-ne0, else-word-hop-ne0}
 

@@ -1,4 +1,4 @@
-use Rattle.scan_core.proofs.Insides.{bit_is, no_bit_is}
+use Rattle.scan_core.proofs.Insides.{bit_is}
 use Rattle.scan_core.proofs.closures.bit_in.Goals as goal
 
 pub returns-then-number-at : goal.returns-then-number-at

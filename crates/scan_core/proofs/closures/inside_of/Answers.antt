@@ -1,6 +1,6 @@
 use Rattle.std.proofs.Common.{rules, ◌<◌, ◌^◌, arith, w64}
 use Rattle.std.proofs.lemmas.Nat.Bits.{bit_at-trailing_zeros}
-use Rattle.scan_core.proofs.Insides.{inside_more, inside_smaller, inside_ends}
+use Rattle.scan_core.proofs.Insides.{inside_more, inside_smaller}
 use Rattle.scan_core.proofs.closures.inside_of.Goals as goal
 
 pub bits-smaller : goal.bits-smaller

@@ -3,7 +3,7 @@ use Rattle.scan_core.specs.declared.masks.Kind.TheVariants.{Counts}
 use Rattle.scan_core.specs.inner.Sets.{Passes}
 use Rattle.scan_core.specs.inner.Words.{IsIn, IsMask}
 use Rattle.scan_core.proofs.Along.{inner, final}
-use Rattle.scan_core.proofs.Searchings.{begun, entered_here, search_more, search_found, search_ends, search_starts, search_fits}
+use Rattle.scan_core.proofs.Searchings.{entered_here, search_more, search_found, search_ends, search_fits}
 use Rattle.scan_core.proofs.search.search.Goals as goal
 
 pub overflow_add-steps : goal.overflow_add-steps

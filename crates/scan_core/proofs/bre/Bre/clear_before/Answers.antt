@@ -1,7 +1,7 @@
 use Rattle.std.proofs.Common.{rules, IfSome, subst}
 use Rattle.scan_core.specs.Clear.{IsClear}
 use Rattle.scan_core.specs.inner.Needles.{AreBytes, IsNeedle}
-use Rattle.scan_core.proofs.Needles.{clear_of, clear_none}
+use Rattle.scan_core.proofs.Needles.{clear_of}
 use Rattle.scan_core.proofs.bre.Bre.clear_before.Goals as goal
 
 pub returns-in-Some-clause-clear : goal.returns-in-Some-clause-clear
