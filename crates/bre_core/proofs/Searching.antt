@@ -33,13 +33,13 @@ parts_forward : (Kind : ℕ → ℕ → Type 0) → ((from to : ℕ) → Kind fr
 parts_forward Kind f zero from to p = omega (arith, p)
 parts_forward Kind f (suc count) from to p = let one = parts_forward Kind f count from p.0 p.1 in let other = f p.0 to p.2 in omega (arith, one, other)
 
-parts_tell : (test : ℕ → ℕ → Bool) (Kind : ℕ → ℕ → Type 0) → Tells test Kind → (count : ℕ) → Tells (has_parts test count) (Parts Kind count)
-parts_tell test Kind t zero = record {
+parts_tell : {test : ℕ → ℕ → Bool} (Kind : ℕ → ℕ → Type 0) → Tells test Kind → (count : ℕ) → Tells (has_parts test count) (Parts Kind count)
+parts_tell Kind t zero = record {
   yes = λ from to e. eqb-true from to e;
   no = λ from to e. eq-eqb from to e;
   forward = λ from to e. parts_forward Kind t.forward 0 from to e;
 }
-parts_tell test Kind t (suc count) = let before = parts_tell test Kind t count in record {
+parts_tell {test} Kind t (suc count) = let before = parts_tell Kind t count in record {
   yes = λ from to e.
       let found = any_found (suc to) (λ middle. has_parts test count from middle && test middle to) e in
       let both = and_parts (has_parts test count from found.0) (test found.0 to) found.2 in
@@ -120,11 +120,11 @@ mutual
         let found = any_found (suc (low + to)) (λ count. leb low count && (is_at_most high count && has_parts (matches_item item line) count from to)) e in
         let a = and_parts (leb low found.0) _ found.2 in
         let b = and_parts (is_at_most high found.0) _ a.1 in
-        (found.0, leb-true low found.0 a.0, at_most_yes high found.0 b.0, (parts_tell (matches_item item line) (MatchesItem item line) one found.0).yes from to b.1);
+        (found.0, leb-true low found.0 a.0, at_most_yes high found.0 b.0, (parts_tell (MatchesItem item line) one found.0).yes from to b.1);
     no = λ from to m.
         let few = few_parts (MatchesItem item line) one.forward low high m.0 from to m.1 m.2 m.3 in
         any_there (suc (low + to)) (λ count. leb low count && (is_at_most high count && has_parts (matches_item item line) count from to)) few.0 few.1
-        (and_from _ _ (le-leb low few.0 few.2) (and_from _ _ (at_most_no high few.0 few.3) ((parts_tell (matches_item item line) (MatchesItem item line) one few.0).no from to few.4)));
+        (and_from _ _ (le-leb low few.0 few.2) (and_from _ _ (at_most_no high few.0 few.3) ((parts_tell (MatchesItem item line) one few.0).no from to few.4)));
     forward = λ from to m. parts_forward (MatchesItem item line) one.forward m.0 from to m.3;
   }
 
@@ -134,8 +134,7 @@ contains_tells pattern line = let t = tells pattern line in (
       let to = any_found (suc (length line)) (λ to. any_below (suc to) (λ from. matches pattern line from to)) e in
       let from = any_found (suc to.0) (λ from. matches pattern line from to.0) to.2 in
       (from.0, to.0, omega (arith, from.1), omega (arith, to.1), t.yes from.0 to.0 from.2),
-  λ c.
-      any_there (suc (length line)) (λ to. any_below (suc to) (λ from. matches pattern line from to)) c.1 (omega (arith, c.3))
+  λ c. any_there (suc (length line)) (λ to. any_below (suc to) (λ from. matches pattern line from to)) c.1 (omega (arith, c.3))
       (any_there (suc c.1) (λ from. matches pattern line from c.1) c.0 (omega (arith, c.2)) (t.no c.0 c.1 c.4)),
 )
 

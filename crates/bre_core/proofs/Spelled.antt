@@ -1,5 +1,5 @@
 -- A text is read as a bracket list where it is spelled as one, and only there.
-use Rattle.std.proofs.Common.{◌≡◌, ◌≢◌, ◌⊎◌, inl, inr, ℕ, ◌≤◌, Bool, true, false, not, ◌&&◌, ◌||◌, eqb, cond, List, [], ◌∷◌, ◌++◌, map, drop, Option, Some, None, refl, sym, ap, ◌∙◌, subst}
+use Rattle.std.proofs.Common.{◌≡◌, ◌≢◌, ◌⊎◌, inl, inr, ℕ, ◌≤◌, Bool, true, false, not, ◌&&◌, ◌||◌, eqb, cond, List, [], ◌∷◌, ◌++◌, map, drop, Option, Some, refl, sym, ap, ◌∙◌, subst}
 use Rattle.std.specs.Prelude.{option_and_then, nat_le}
 use Rattle.std.specs.Str.{bytes_eq}
 use Rattle.std.specs.List.{list_all}
@@ -30,9 +30,9 @@ inner_plain (mark ∷ text) e =
     let one = or_parts (eqb mark 46) (eqb mark 61) two.0 in
     cond-false _ _ _ one.0 ∙ cond-false _ _ _ one.1 ∙ cond-false _ _ _ two.1
 
-element_read : (spelling : Spelling) (text : List ℕ) → is_opening spelling text ≡ false → element_at (byte_before spelling text) ≡ Some (Point (byte_of spelling), text)
-element_read (symbol byte) text e = refl
-element_read (plain byte) text e = go (cases_Bool (eqb byte 91)) (and_cases (eqb byte 91) (begins_with 46 text || begins_with 61 text || begins_with 58 text) e)
+element_read : (spelling : Spelling) {text : List ℕ} → is_opening spelling text ≡ false → element_at (byte_before spelling text) ≡ Some (Point (byte_of spelling), text)
+element_read (symbol byte) e = refl
+element_read (plain byte) {text} e = go (cases_Bool (eqb byte 91)) (and_cases (eqb byte 91) (begins_with 46 text || begins_with 61 text || begins_with 58 text) e)
   where
     go : (eqb byte 91 ≡ true) ⊎ (eqb byte 91 ≡ false) → (eqb byte 91 ≡ false) ⊎ ((begins_with 46 text || begins_with 61 text || begins_with 58 text) ≡ false)
         → element_at (byte ∷ text) ≡ Some (Point byte, text)
@@ -45,19 +45,18 @@ no_opening : (spelling : Spelling) (text : List ℕ) → is_opening spelling (45
 no_opening (plain byte) text = and_right (eqb byte 91) _ refl
 no_opening (symbol byte) text = refl
 
-named_read : (name : Class) (text : List ℕ) → element_at (part_before (class name) text) ≡ Some (Named name, text)
-named_read Upper text = refl
-named_read name text = refl
+named_read : (name : Class) {text : List ℕ} → element_at (part_before (class name) text) ≡ Some (Named name, text)
+named_read Upper = refl
+named_read name = refl
 
-part_read : (part : Part) (text : List ℕ) → IsItself part text → option_and_then (λ found. member_from found.0 found.1) (element_at (part_before part text)) ≡ Some (member_of part, text)
-part_read (single spelling) text itself = ap (option_and_then (λ found. member_from found.0 found.1)) (element_read spelling text itself.0) ∙ cond-false _ _ _ itself.1
-part_read (range low high) text itself =
-    ap (option_and_then (λ found. member_from found.0 found.1)) (element_read low (45 ∷ byte_before high text) (no_opening low (byte_before high text)))
-    ∙ cond-true _ _ _ (not_from_false _ itself.2)
-    ∙ ap (option_and_then (λ found. range_to (byte_of low) found.0 found.1)) (element_read high text itself.1)
+part_read : (part : Part) {text : List ℕ} → IsItself part text → option_and_then (λ found. member_from found.0 found.1) (element_at (part_before part text)) ≡ Some (member_of part, text)
+part_read (single spelling) itself = ap (option_and_then (λ found. member_from found.0 found.1)) (element_read spelling itself.0) ∙ cond-false _ _ _ itself.1
+part_read (range low high) {text} itself =
+    ap (option_and_then (λ found. member_from found.0 found.1)) (element_read low (no_opening low (byte_before high text)))
+    ∙ cond-true _ _ _ (not_from_false _ itself.2) ∙ ap (option_and_then (λ found. range_to (byte_of low) found.0 found.1)) (element_read high itself.1)
     ∙ cond-true _ _ _ (le-leb _ _ itself.0)
-part_read (equivalents byte) text itself = refl
-part_read (class name) text itself = ap (option_and_then (λ found. member_from found.0 found.1)) (named_read name text)
+part_read (equivalents byte) itself = refl
+part_read (class name) itself = ap (option_and_then (λ found. member_from found.0 found.1)) (named_read name)
 
 at_place : (first : Bool) (text : List ℕ) → MayBegin first text → member_at first text ≡ option_and_then (λ found. member_from found.0 found.1) (element_at text)
 at_place true text may = refl
@@ -65,7 +64,7 @@ at_place false text may = cond-false _ _ _ (or_from _ _ may.0 may.1)
 
 one_read : (first : Bool) (part : Part) (text : List ℕ) → MayBegin first (part_before part text) → IsItself part text
     → ReadsMember (first, part_before part text) (member_of part) (false, text)
-one_read first part text may itself = (at_place first (part_before part text) may ∙ part_read part text itself, refl)
+one_read first part text may itself = (at_place first (part_before part text) may ∙ part_read part itself, refl)
 
 others_read : (parts : List Part) (text : List ℕ) → Stand false parts text → Steps ReadsMember (false, parts_before parts text) (map member_of parts) (false, text)
 others_read [] text stand = refl
@@ -75,9 +74,9 @@ parts_read : (parts : List Part) (text : List ℕ) → parts ≢ [] → Stand tr
 parts_read [] text some stand = absurd (some refl)
 parts_read (part ∷ parts) text some stand = ((false, parts_before parts text), one_read true part (parts_before parts text) stand.0 stand.1, others_read parts text stand.2)
 
-after_caret : (complemented : Bool) (parts : List Part) (rest : List ℕ) → IsBracketList complemented parts rest → after_complement (list_before complemented parts rest) ≡ parts_before parts (93 ∷ rest)
-after_caret true parts rest list = refl
-after_caret false parts rest list = cond-false _ _ _ list.caret
+after_caret : (complemented : Bool) {parts : List Part} {rest : List ℕ} → IsBracketList complemented parts rest → after_complement (list_before complemented parts rest) ≡ parts_before parts (93 ∷ rest)
+after_caret true list = refl
+after_caret false list = cond-false _ _ _ list.caret
 
 -- a list that is spelled by the rules is read as its members
 pub list_read : (complemented : Bool) (parts : List Part) (rest : List ℕ) → IsBracketList complemented parts rest
@@ -85,7 +84,7 @@ pub list_read : (complemented : Bool) (parts : List Part) (rest : List ℕ) → 
 list_read complemented parts rest list = (
   record {
     members = map member_of parts;
-    way = subst (λ t. Steps ReadsMember (true, t) (map member_of parts) (false, 93 ∷ rest)) (sym (after_caret complemented parts rest list)) (parts_read parts (93 ∷ rest) list.some list.stand);
+    way = subst (λ t. Steps ReadsMember (true, t) (map member_of parts) (false, 93 ∷ rest)) (sym (after_caret complemented list)) (parts_read parts (93 ∷ rest) list.some list.stand);
     bytes = ap (λ b. matched_bytes b (map member_of parts)) (sym list.caret);
   },
   refl,
@@ -138,8 +137,8 @@ ElementIs (Point byte) text rest = (spelling : Spelling) × (byte_of spelling �
 ElementIs (Same byte) text rest = text ≡ part_before (equivalents byte) rest
 ElementIs (Named name) text rest = text ≡ part_before (class name) rest
 
-enclosed_found : (mark : ℕ) (text : List ℕ) (byte : ℕ) (rest : List ℕ) → enclosed mark text ≡ Some (byte, rest) → text ≡ byte ∷ mark ∷ 93 ∷ rest
-enclosed_found mark (first ∷ second ∷ third ∷ text) byte rest e =
+enclosed_found : {mark : ℕ} (text : List ℕ) {byte : ℕ} {rest : List ℕ} → enclosed mark text ≡ Some (byte, rest) → text ≡ byte ∷ mark ∷ 93 ∷ rest
+enclosed_found {mark} (first ∷ second ∷ third ∷ text) {byte} {rest} e =
     let found = cond_some (eqb second mark && eqb third 93) (first, text) (byte, rest) e in
     let tests = and_parts (eqb second mark) (eqb third 93) found.0 in
     let f : first ≡ byte = ap (λ p. p.0) found.1 in
@@ -147,50 +146,47 @@ enclosed_found mark (first ∷ second ∷ third ∷ text) byte rest e =
     let h : third ≡ 93 = eqb-true third 93 tests.1 in
     let k : text ≡ rest = ap (λ p. p.1) found.1 in
     cc (f, g, h, k)
-enclosed_found mark text byte rest e = absurd (none-some _ e)
+enclosed_found text e = absurd (none-some _ e)
 
-name_found : (text name rest : List ℕ) → name_at text ≡ Some (name, rest) → text ≡ name ++ (58 ∷ 93 ∷ rest)
-name_found [] name rest e = absurd (none-some _ e)
-name_found (byte ∷ text) name rest e = go (cases_Bool (eqb byte 58 && begins_with 93 text)) (λ n r f. name_found text n r f)
+name_found : (text : List ℕ) {name rest : List ℕ} → name_at text ≡ Some (name, rest) → text ≡ name ++ (58 ∷ 93 ∷ rest)
+name_found [] e = absurd (none-some _ e)
+name_found (byte ∷ text) {name} {rest} e = go (cases_Bool (eqb byte 58 && begins_with 93 text)) (λ n r f. name_found text f)
   where
     go : ((eqb byte 58 && begins_with 93 text) ≡ true) ⊎ ((eqb byte 58 && begins_with 93 text) ≡ false) → ((n r : List ℕ) → name_at text ≡ Some (n, r) → text ≡ n ++ (58 ∷ 93 ∷ r))
         → byte ∷ text ≡ name ++ (58 ∷ 93 ∷ rest)
     go (inl here) more =
         let tests = and_parts (eqb byte 58) (begins_with 93 text) here in
         let ends : ◌≡◌ {A = List ℕ × List ℕ} ([], drop 1 text) (name, rest) = same_Some _ _ (sym (cond-true _ _ _ here) ∙ e) in
-        ap (λ b. b ∷ text) (eqb-true byte 58 tests.0) ∙ ap (λ t. 58 ∷ t) (begun 93 text tests.1) ∙ ap (λ p. p.0 ++ (58 ∷ 93 ∷ p.1)) ends
+        ap (λ b. b ∷ text) (eqb-true byte 58 tests.0) ∙ ap (λ t. 58 ∷ t) (begun text tests.1) ∙ ap (λ p. p.0 ++ (58 ∷ 93 ∷ p.1)) ends
     go (inr later) more =
-        let found = mapped {B = List ℕ × List ℕ} (λ f. (byte ∷ f.0, f.1)) (name_at text) (name, rest) (sym (cond-false _ _ _ later) ∙ e) in
+        let found = mapped {B = List ℕ × List ℕ} (λ f. (byte ∷ f.0, f.1)) (name_at text) (sym (cond-false _ _ _ later) ∙ e) in
         ap (λ t. byte ∷ t) (more found.0.0 found.0.1 found.1) ∙ ap (λ p. p.0 ++ (58 ∷ 93 ∷ p.1)) found.2
 
 -- a name that is tried
-tried : (name : List ℕ) (one : Class) (others : Option Class) (found : Class) → (others ≡ Some found → name ≡ name_of found)
+tried : {name : List ℕ} (one : Class) {others : Option Class} {found : Class} → (others ≡ Some found → name ≡ name_of found)
     → cond (bytes_eq name (name_of one)) (Some one) others ≡ Some found → name ≡ name_of found
-tried name one others found more e = go (cases_Bool (bytes_eq name (name_of one)))
+tried {name} one {found} more e = go (cases_Bool (bytes_eq name (name_of one)))
   where
     go : (bytes_eq name (name_of one) ≡ true) ⊎ (bytes_eq name (name_of one) ≡ false) → name ≡ name_of found
     go (inl same) = (bytes_eq-Decides name (name_of one)).0 same ∙ ap name_of (same_Some _ _ (sym (cond-true _ _ _ same) ∙ e))
     go (inr other) = more (sym (cond-false _ _ _ other) ∙ e)
 
-class_is : (name : List ℕ) (found : Class) → class_named name ≡ Some found → name ≡ name_of found
-class_is name found =
-    tried name Upper _ found (tried name Lower _ found (tried name Alpha _ found (tried name Digit _ found (tried name Alnum _ found (tried name Xdigit _ found
-    (tried name Blank _ found (tried name Space _ found (tried name Cntrl _ found (tried name Graph _ found (tried name Print _ found
-    (tried name Punct None found (λ e. absurd (none-some _ e)))))))))))))
+class_is : {name : List ℕ} {found : Class} → class_named name ≡ Some found → name ≡ name_of found
+class_is =
+    tried Upper (tried Lower (tried Alpha (tried Digit (tried Alnum (tried Xdigit (tried Blank (tried Space (tried Cntrl (tried Graph (tried Print
+    (tried Punct (λ e. absurd (none-some _ e)))))))))))))
 
-class_found : (text : List ℕ) (name : Class) (rest : List ℕ) → class_at text ≡ Some (name, rest) → text ≡ name_of name ++ (58 ∷ 93 ∷ rest)
-class_found text name rest e =
+class_found : {text : List ℕ} {name : Class} {rest : List ℕ} → class_at text ≡ Some (name, rest) → text ≡ name_of name ++ (58 ∷ 93 ∷ rest)
+class_found {text} {name} {rest} e =
     option_and_then_some _ (name_at text) (name, rest) e (λ found is ends.
-    let named = mapped {B = Class × List ℕ} (λ c. (c, found.1)) (class_named found.0) (name, rest) ends in
-    name_found text found.0 found.1 is
-    ∙ ap (λ n. n ++ (58 ∷ 93 ∷ found.1)) (class_is found.0 named.0 named.1)
-    ∙ ap (λ p. name_of p.0 ++ (58 ∷ 93 ∷ p.1)) named.2)
+    let named = mapped {B = Class × List ℕ} (λ c. (c, found.1)) (class_named found.0) ends in
+    name_found text is ∙ ap (λ n. n ++ (58 ∷ 93 ∷ found.1)) (class_is named.1) ∙ ap (λ p. name_of p.0 ++ (58 ∷ 93 ∷ p.1)) named.2)
 
-inner_found : (text : List ℕ) (element : Element) (rest : List ℕ) → inner_at text ≡ Some (element, rest) → ElementIs element (91 ∷ text) rest
-inner_found [] element rest e =
+inner_found : (text : List ℕ) {element : Element} {rest : List ℕ} → inner_at text ≡ Some (element, rest) → ElementIs element (91 ∷ text) rest
+inner_found [] {element} {rest} e =
     let same : ◌≡◌ {A = Element × List ℕ} (Point 91, []) (element, rest) = same_Some _ _ e in
     subst (λ p. ElementIs p.0 (91 ∷ []) p.1) same (plain 91, refl, refl, refl)
-inner_found (mark ∷ text) element rest e = dot (cases_Bool (eqb mark 46))
+inner_found (mark ∷ text) {element} {rest} e = dot (cases_Bool (eqb mark 46))
   where
     plainly : eqb mark 46 ≡ false → eqb mark 61 ≡ false → eqb mark 58 ≡ false → ◌≡◌ {A = Option (Element × List ℕ)} (Some (Point 91, mark ∷ text)) (Some (element, rest)) → ElementIs element (91 ∷ mark ∷ text) rest
     plainly f g h k =
@@ -199,29 +195,29 @@ inner_found (mark ∷ text) element rest e = dot (cases_Bool (eqb mark 46))
 
     colon : eqb mark 46 ≡ false → eqb mark 61 ≡ false → (eqb mark 58 ≡ true) ⊎ (eqb mark 58 ≡ false) → ElementIs element (91 ∷ mark ∷ text) rest
     colon f g (inl is) =
-        let found = mapped {B = Element × List ℕ} (λ p. (Named p.0, p.1)) (class_at text) (element, rest) (sym (cond-false _ _ _ f ∙ cond-false _ _ _ g ∙ cond-true _ _ _ is) ∙ e) in
-        subst (λ p. ElementIs p.0 (91 ∷ mark ∷ text) p.1) found.2 (ap (λ b. 91 ∷ b ∷ text) (eqb-true mark 58 is) ∙ ap (λ t. 91 ∷ 58 ∷ t) (class_found text found.0.0 found.0.1 found.1))
+        let found = mapped {B = Element × List ℕ} (λ p. (Named p.0, p.1)) (class_at text) (sym (cond-false _ _ _ f ∙ cond-false _ _ _ g ∙ cond-true _ _ _ is) ∙ e) in
+        subst (λ p. ElementIs p.0 (91 ∷ mark ∷ text) p.1) found.2 (ap (λ b. 91 ∷ b ∷ text) (eqb-true mark 58 is) ∙ ap (λ t. 91 ∷ 58 ∷ t) (class_found found.1))
     colon f g (inr other) = plainly f g other (sym (cond-false _ _ _ f ∙ cond-false _ _ _ g ∙ cond-false _ _ _ other) ∙ e)
 
     equals : eqb mark 46 ≡ false → (eqb mark 61 ≡ true) ⊎ (eqb mark 61 ≡ false) → ElementIs element (91 ∷ mark ∷ text) rest
     equals f (inl is) =
-        let found = mapped {B = Element × List ℕ} (λ p. (Same p.0, p.1)) (enclosed 61 text) (element, rest) (sym (cond-false _ _ _ f ∙ cond-true _ _ _ is) ∙ e) in
-        subst (λ p. ElementIs p.0 (91 ∷ mark ∷ text) p.1) found.2 (ap (λ b. 91 ∷ b ∷ text) (eqb-true mark 61 is) ∙ ap (λ t. 91 ∷ 61 ∷ t) (enclosed_found 61 text found.0.0 found.0.1 found.1))
+        let found = mapped {B = Element × List ℕ} (λ p. (Same p.0, p.1)) (enclosed 61 text) (sym (cond-false _ _ _ f ∙ cond-true _ _ _ is) ∙ e) in
+        subst (λ p. ElementIs p.0 (91 ∷ mark ∷ text) p.1) found.2 (ap (λ b. 91 ∷ b ∷ text) (eqb-true mark 61 is) ∙ ap (λ t. 91 ∷ 61 ∷ t) (enclosed_found text found.1))
     equals f (inr other) = colon f other (cases_Bool (eqb mark 58))
 
     dot : (eqb mark 46 ≡ true) ⊎ (eqb mark 46 ≡ false) → ElementIs element (91 ∷ mark ∷ text) rest
     dot (inl is) =
-        let found = mapped {B = Element × List ℕ} (λ p. (Point p.0, p.1)) (enclosed 46 text) (element, rest) (sym (cond-true _ _ _ is) ∙ e) in
+        let found = mapped {B = Element × List ℕ} (λ p. (Point p.0, p.1)) (enclosed 46 text) (sym (cond-true _ _ _ is) ∙ e) in
         subst (λ p. ElementIs p.0 (91 ∷ mark ∷ text) p.1) found.2
-        (symbol found.0.0, refl, ap (λ b. 91 ∷ b ∷ text) (eqb-true mark 46 is) ∙ ap (λ t. 91 ∷ 46 ∷ t) (enclosed_found 46 text found.0.0 found.0.1 found.1), refl)
+        (symbol found.0.0, refl, ap (λ b. 91 ∷ b ∷ text) (eqb-true mark 46 is) ∙ ap (λ t. 91 ∷ 46 ∷ t) (enclosed_found text found.1), refl)
     dot (inr other) = equals other (cases_Bool (eqb mark 61))
 
-element_found : (text : List ℕ) (element : Element) (rest : List ℕ) → element_at text ≡ Some (element, rest) → ElementIs element text rest
-element_found [] element rest e = absurd (none-some _ e)
-element_found (byte ∷ text) element rest e = go (cases_Bool (eqb byte 91))
+element_found : (text : List ℕ) {element : Element} {rest : List ℕ} → element_at text ≡ Some (element, rest) → ElementIs element text rest
+element_found [] e = absurd (none-some _ e)
+element_found (byte ∷ text) {element} {rest} e = go (cases_Bool (eqb byte 91))
   where
     go : (eqb byte 91 ≡ true) ⊎ (eqb byte 91 ≡ false) → ElementIs element (byte ∷ text) rest
-    go (inl bracket) = subst (λ b. ElementIs element (b ∷ text) rest) (sym (eqb-true byte 91 bracket)) (inner_found text element rest (sym (cond-true _ _ _ bracket) ∙ e))
+    go (inl bracket) = subst (λ b. ElementIs element (b ∷ text) rest) (sym (eqb-true byte 91 bracket)) (inner_found text (sym (cond-true _ _ _ bracket) ∙ e))
     go (inr other) =
         let same : ◌≡◌ {A = Element × List ℕ} (Point byte, text) (element, rest) = same_Some _ _ (sym (cond-false _ _ _ other) ∙ e) in
         subst (λ p. ElementIs p.0 (byte ∷ text) p.1) same (plain byte, refl, refl, and_left _ _ other)
@@ -239,9 +235,9 @@ dash_inside (byte ∷ text) e =
     let tests = and_parts (eqb byte 45) (not (begins_with 93 text)) e in
     (ap (λ b. b ∷ text) (eqb-true byte 45 tests.0), not-true (begins_with 93 text) tests.1)
 
-range_found : (text : List ℕ) (low : Spelling) (after : List ℕ) (element : Element) (member : Member) (left rest : List ℕ)
+range_found : {text : List ℕ} (low : Spelling) (after : List ℕ) (element : Element) {member : Member} (left : List ℕ) {rest : List ℕ}
     → text ≡ byte_before low (45 ∷ after) → begins_with 93 after ≡ false → ElementIs element after left → range_to (byte_of low) element left ≡ Some (member, rest) → Spells text member rest
-range_found text low after (Point byte) member left rest whole unclosed high e =
+range_found low after (Point byte) {member} left {rest} whole unclosed high e =
     let found = cond_some (nat_le (byte_of low) byte) (Range (byte_of low) byte, left) (member, rest) e in
     let ends : left ≡ rest = ap (λ p. p.1) found.1 in
     let spelled : after ≡ byte_before high.0 rest = high.2 ∙ ap (byte_before high.0) ends in
@@ -255,23 +251,23 @@ range_found text low after (Point byte) member left rest whole unclosed high e =
       whole = whole ∙ ap (λ t. byte_before low (45 ∷ t)) spelled;
       same = sym (ap (λ p. p.0) found.1) ∙ ap (λ b. Range (byte_of low) b) (sym high.1);
     }
-range_found text low after element member left rest whole unclosed high e = absurd (none-some _ e)
+range_found low after element left whole unclosed high e = absurd (none-some _ e)
 
-from_found : (text : List ℕ) (element : Element) (after : List ℕ) (member : Member) (rest : List ℕ) → ElementIs element text after → member_from element after ≡ Some (member, rest) → Spells text member rest
-from_found text (Same byte) after member rest is e =
+from_found : {text : List ℕ} (element : Element) (after : List ℕ) {member : Member} {rest : List ℕ} → ElementIs element text after → member_from element after ≡ Some (member, rest) → Spells text member rest
+from_found (Same byte) after {member} {rest} is e =
     let same : ◌≡◌ {A = Member × List ℕ} (Range byte byte, after) (member, rest) = same_Some _ _ e in
     record { part = equivalents byte; itself = tt; whole = is ∙ ap (part_before (equivalents byte)) (ap (λ p. p.1) same); same = sym (ap (λ p. p.0) same) }
-from_found text (Named name) after member rest is e =
+from_found (Named name) after {member} {rest} is e =
     let same : ◌≡◌ {A = Member × List ℕ} (InClass name, after) (member, rest) = same_Some _ _ e in
     record { part = class name; itself = tt; whole = is ∙ ap (part_before (class name)) (ap (λ p. p.1) same); same = sym (ap (λ p. p.0) same) }
-from_found text (Point byte) after member rest is e = go (cases_Bool (is_dash_inside after))
+from_found {text} (Point byte) after {member} {rest} is e = go (cases_Bool (is_dash_inside after))
   where
     go : (is_dash_inside after ≡ true) ⊎ (is_dash_inside after ≡ false) → Spells text member rest
     go (inl dash) =
         let inside = dash_inside after dash in
         option_and_then_some _ (element_at (drop 1 after)) (member, rest) (sym (cond-true _ _ _ dash) ∙ e) (λ found ends to.
-        range_found text is.0 (drop 1 after) found.0 member found.1 rest (is.2 ∙ ap (byte_before is.0) inside.0) inside.1
-        (element_found (drop 1 after) found.0 found.1 ends) (ap (λ b. range_to b found.0 found.1) is.1 ∙ to))
+        range_found is.0 (drop 1 after) found.0 found.1 (is.2 ∙ ap (byte_before is.0) inside.0) inside.1
+        (element_found (drop 1 after) ends) (ap (λ b. range_to b found.0 found.1) is.1 ∙ to))
     go (inr alone) =
         let same : ◌≡◌ {A = Member × List ℕ} (Range byte byte, after) (member, rest) = same_Some _ _ (sym (cond-false _ _ _ alone) ∙ e) in
         let ends : after ≡ rest = ap (λ p. p.1) same in
@@ -282,17 +278,17 @@ from_found text (Point byte) after member rest is e = go (cases_Bool (is_dash_in
           same = sym (ap (λ p. p.0) same) ∙ ap (λ b. Range b b) (sym is.1);
         }
 
-may_begin : (first : Bool) (text : List ℕ) (found : Member × List ℕ) → member_at first text ≡ Some found → MayBegin first text
-may_begin true text found e = tt
-may_begin false text found e = elim (cases_Bool (begins_with 93 text || is_dash_inside text)) [
+may_begin : (first : Bool) (text : List ℕ) {found : Member × List ℕ} → member_at first text ≡ Some found → MayBegin first text
+may_begin true text e = tt
+may_begin false text e = elim (cases_Bool (begins_with 93 text || is_dash_inside text)) [
   | inl closes ↦ absurd (none-some _ (sym (cond-true _ _ _ closes) ∙ e))
   | inr goes ↦ or_parts _ _ goes
 ]
 
-member_found : (first : Bool) (text : List ℕ) (member : Member) (rest : List ℕ) → member_at first text ≡ Some (member, rest) → Spells text member rest
-member_found first text member rest e =
-    option_and_then_some _ (element_at text) (member, rest) (sym (at_place first text (may_begin first text (member, rest) e)) ∙ e)
-    (λ found is from. from_found text found.0 found.1 member rest (element_found text found.0 found.1 is) from)
+member_found : (first : Bool) {text : List ℕ} {member : Member} {rest : List ℕ} → member_at first text ≡ Some (member, rest) → Spells text member rest
+member_found first {text} {member} {rest} e =
+    option_and_then_some _ (element_at text) (member, rest) (sym (at_place first text (may_begin first text e)) ∙ e)
+    (λ found is from. from_found found.0 found.1 (element_found text is) from)
 
 -- members that are read are spelled by parts
 record SpellsAll (first : Bool) (text : List ℕ) (members : List Member) (end : List ℕ) : Type 0 where
@@ -301,22 +297,22 @@ record SpellsAll (first : Bool) (text : List ℕ) (members : List Member) (end :
   whole : text ≡ parts_before parts end
   same : members ≡ map member_of parts
 
-members_found : (first : Bool) (text : List ℕ) (members : List Member) (end : List ℕ) → Steps ReadsMember (first, text) members (false, end) → SpellsAll first text members end
-members_found first text [] end way = record { parts = []; stand = tt; whole = ap (λ s. s.1) way; same = refl }
-members_found first text (member ∷ members) end way =
-    let more = members_found false way.0.1 members end (subst (λ place. Steps ReadsMember (place, way.0.1) members (false, end)) way.1.1 way.2) in
-    let one = member_found first text member way.0.1 way.1.0 in
+members_found : (first : Bool) {text : List ℕ} (members : List Member) (end : List ℕ) → Steps ReadsMember (first, text) members (false, end) → SpellsAll first text members end
+members_found first [] end way = record { parts = []; stand = tt; whole = ap (λ s. s.1) way; same = refl }
+members_found first {text} (member ∷ members) end way =
+    let more = members_found false members end (subst (λ place. Steps ReadsMember (place, way.0.1) members (false, end)) way.1.1 way.2) in
+    let one = member_found first way.1.0 in
     let whole : text ≡ parts_before (one.part ∷ more.parts) end = one.whole ∙ ap (part_before one.part) more.whole in
     record {
       parts = one.part ∷ more.parts;
-      stand = (subst (MayBegin first) whole (may_begin first text (member, way.0.1) way.1.0), subst (IsItself one.part) more.whole one.itself, more.stand);
+      stand = (subst (MayBegin first) whole (may_begin first text way.1.0), subst (IsItself one.part) more.whole one.itself, more.stand);
       whole = whole;
       same = ap (λ m. m ∷ members) one.same ∙ ap (λ ms. member_of one.part ∷ ms) more.same;
     }
 
 -- the first place doesn't follow a member
-has_parts : (text : List ℕ) (members : List Member) (parts : List Part) (end : List ℕ) → Steps ReadsMember (true, text) members (false, end) → members ≡ map member_of parts → parts ≢ []
-has_parts text members parts end way same none =
+has_parts : (text : List ℕ) {members : List Member} (parts : List Part) (end : List ℕ) → Steps ReadsMember (true, text) members (false, end) → members ≡ map member_of parts → parts ≢ []
+has_parts text {members} parts end way same none =
     let e : members ≡ [] = same ∙ ap (map member_of) none in
     let stays = subst (λ ms. Steps ReadsMember (true, text) ms (false, end)) e way in
     false≢true (sym (ap (λ s. s.0) stays))
@@ -328,12 +324,12 @@ list_found text set rest found = go (cases_Bool (begins_with 94 text))
     spelled : (complemented : Bool) (after : List ℕ) → begins_with 94 text ≡ complemented → Steps ReadsMember (true, after) found.members (false, 93 ∷ rest)
         → ((parts : List Part) → after ≡ parts_before parts (93 ∷ rest) → text ≡ list_before complemented parts rest) → IsSpelled text found.members set rest
     spelled complemented after caret way whole =
-        let all = members_found true after found.members (93 ∷ rest) way in
+        let all = members_found true found.members (93 ∷ rest) way in
         let is = whole all.parts all.whole in
         record {
           complemented = complemented;
           parts = all.parts;
-          list = record { some = has_parts after found.members all.parts (93 ∷ rest) way all.same; stand = all.stand; caret = subst (λ t. begins_with 94 t ≡ complemented) is caret };
+          list = record { some = has_parts after all.parts (93 ∷ rest) way all.same; stand = all.stand; caret = subst (λ t. begins_with 94 t ≡ complemented) is caret };
           whole = is;
           same = all.same;
           bytes = found.bytes ∙ ap (λ b. matched_bytes b found.members) caret;
@@ -343,12 +339,12 @@ list_found text set rest found = go (cases_Bool (begins_with 94 text))
     way_from after is = subst (λ t. Steps ReadsMember (true, t) found.members (false, 93 ∷ rest)) is found.way
 
     go : (begins_with 94 text ≡ true) ⊎ (begins_with 94 text ≡ false) → IsSpelled text found.members set rest
-    go (inl caret) = spelled true (drop 1 text) caret (way_from (drop 1 text) (cond-true _ _ _ caret)) (λ parts whole. begun 94 text caret ∙ ap (λ t. 94 ∷ t) whole)
+    go (inl caret) = spelled true (drop 1 text) caret (way_from (drop 1 text) (cond-true _ _ _ caret)) (λ parts whole. begun text caret ∙ ap (λ t. 94 ∷ t) whole)
     go (inr other) = spelled false text other (way_from text (cond-false _ _ _ other)) (λ parts whole. whole)
 
 -- two readings of one text have the same members
 pub same_list : (text : List ℕ) (one other : List Bool) (rest end : List ℕ) (found : IsBracket text one rest) (again : IsBracket text other end) → (found.members ≡ again.members) × (one ≡ other) × (rest ≡ end)
 same_list text one other rest end found again =
-    let same = one_way ReadsMember members_decided _ (false, 93 ∷ rest) (false, 93 ∷ end) found.members again.members found.way again.way (closed_stuck rest) (closed_stuck end) in
-    let decided = bracket_decided text one other rest end found again in
+    let same = one_way ReadsMember members_decided _ found.members again.members found.way again.way (closed_stuck rest) (closed_stuck end) in
+    let decided = bracket_decided one other end found again in
     (same.given, decided.0, decided.1)

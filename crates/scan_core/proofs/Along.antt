@@ -9,10 +9,13 @@ use Rattle.std.specs.Prelude.{◌==◌}
 use Rattle.std.proofs.Common.{length-append}
 use Rattle.std.proofs.lemmas.List.{get_or_push, get_or_append_left}
 use Rattle.scan_core.specs.Sets.{positions_among}
-use Rattle.scan_core.specs.Counted.{positions_in_all, AreSteps, HasStepsBefore}
-use Rattle.scan_core.specs.Code.{At, Leads, Goes, Walks, Entered}
+use Rattle.scan_core.specs.Counted.{positions_in_all, AreSteps}
+use Rattle.scan_core.specs.Code.{At, Leads, Goes, Walks, Entered, weight}
 use Rattle.scan_core.specs.Sets.{IsMarked}
+use Rattle.scan_core.specs.Table.{IsOutcome}
+use Rattle.scan_core.specs.inner.Table.{IsCounted}
 use Rattle.scan_core.specs.inner.Sets.{LeadsOn, Flows, FlowsOn, Passes, Came}
+use Rattle.scan_core.proofs.Enterings.{positions_most}
 use Rattle.scan_core.proofs.Walks.{path_on}
 
 -- which place of the line this is
@@ -21,19 +24,13 @@ pub record IsPlace (line : List ℕ) (place : ℕ) (at_first at_last : Bool) : T
   pub first : IsTrue at_first ↔ (place ≡ 0)
   pub last : IsTrue at_last ↔ (place ≡ length line)
 
-pub flow_goes : (node : Node) (line : List ℕ) (place : ℕ) (at_first at_last : Bool) (from to : ℕ) → IsPlace line place at_first at_last → LeadsOn node at_first at_last from to → Leads node line from place to place
-flow_goes (Take bytes) line place f l from to p h = absurd h
-flow_goes First line place f l from to p h = (h.1, refl, p.first.0 h.0)
-flow_goes Last line place f l from to p h = (h.1, refl, p.last.0 h.0)
-flow_goes (Choose skip) line place f l from to p h = (h, refl)
-flow_goes (Back by) line place f l from to p h = (h, refl)
-
-goes_flow : (node : Node) (line : List ℕ) (place : ℕ) (at_first at_last : Bool) (from to : ℕ) → IsPlace line place at_first at_last → Leads node line from place to place → LeadsOn node at_first at_last from to
-goes_flow (Take bytes) line place f l from to p h = absurd (omega (arith, h.1))
-goes_flow First line place f l from to p h = (p.first.1 h.2, h.0)
-goes_flow Last line place f l from to p h = (p.last.1 h.2, h.0)
-goes_flow (Choose skip) line place f l from to p h = h.0
-goes_flow (Back by) line place f l from to p h = h.0
+pub flow_goes : (node : Node) (line : List ℕ) {place : ℕ} {at_first at_last : Bool} (from to : ℕ) → IsPlace line place at_first at_last
+    → LeadsOn node at_first at_last from to ↔ Leads node line from place to place
+flow_goes (Take bytes) line from to p = (λ h. absurd h, λ h. absurd (omega (arith, h.1)))
+flow_goes First line from to p = (λ h. (h.1, refl, p.first.0 h.0), λ h. (p.first.1 h.2, h.0))
+flow_goes Last line from to p = (λ h. (h.1, refl, p.last.0 h.0), λ h. (p.last.1 h.2, h.0))
+flow_goes (Choose skip) line from to p = (λ h. (h, refl), λ h. h.0)
+flow_goes (Back by) line from to p = (λ h. (h, refl), λ h. h.0)
 
 -- a step stays at its place or goes on by one
 leads_place : (node : Node) (line : List ℕ) (from place to place' : ℕ) → Leads node line from place to place' → (place' ≡ place) ⊎ ((place' ≡ place + 1) × (bytes : List Bool) × (node ≡ Take bytes) × (place < length line) × IsTrue (has bytes (slice_index line place)) × (to ≡ from + 1))
@@ -49,27 +46,27 @@ walk_forward code line (suc count) at place to stop w =
     let h = walk_forward code line count w.0 w.1 to stop w.3 in
     elim (leads_place w.2.0 line at place w.0 w.1 w.2.2) [ inl e ↦ omega (arith, e, h) | inr e ↦ omega (arith, e.0, h) ]
 
-pub entered_on : (code : List Node) (line : List ℕ) (at place to stop : ℕ) → Entered code line at place → Goes code line at place to stop → Entered code line to stop
-entered_on code line at place to stop e g = (e.0, e.1, path_on code line 0 e.0 at place to stop e.2 (1, (to, stop, g, (refl, refl))))
+pub entered_on : (code : List Node) (line : List ℕ) {at place to stop : ℕ} → Entered code line at place → Goes code line at place to stop → Entered code line to stop
+entered_on code line {at} {place} {to} {stop} e g = (e.0, e.1, path_on code line 0 e.0 at place to stop e.2 (1, (to, stop, g, (refl, refl))))
 
-pub closes_exact : (code : List Node) (line : List ℕ) (place : ℕ) (at_first at_last : Bool) (Old Now : ℕ → Type 0) → IsPlace line place at_first at_last → ((number : ℕ) → Old number ↔ Came code line place number)
+pub closes_exact : (code : List Node) (line : List ℕ) {place : ℕ} {at_first at_last : Bool} (Old Now : ℕ → Type 0) → IsPlace line place at_first at_last → ((number : ℕ) → Old number ↔ Came code line place number)
     → ((number : ℕ) → Now number ↔ ((from : ℕ) × (Old from ⊎ (from ≡ 0)) × FlowsOn code at_first at_last from number)) → (number : ℕ) → Now number ↔ Entered code line number place
-closes_exact code line place at_first at_last Old Now p came o number = (λ h. there number ((o number).0 h), λ e. here number e)
+closes_exact code line {place} {at_first} {at_last} Old Now p came o number = (λ h. there number ((o number).0 h), λ e. here number e)
   where
     flows : (count from to : ℕ) → Entered code line from place → Parts (Flows code at_first at_last) count from to → Entered code line to place
     flows zero from to e q = subst (λ n. Entered code line n place) q e
-    flows (suc count) from to e q = entered_on code line q.0 place to place (flows count from q.0 e q.1) (q.2.0, q.2.1, flow_goes q.2.0 line place at_first at_last q.0 to p q.2.2)
+    flows (suc count) from to e q = entered_on code line (flows count from q.0 e q.1) (q.2.0, q.2.1, (flow_goes q.2.0 line q.0 to p).0 q.2.2)
 
     there : (number : ℕ) → ((from : ℕ) × (Old from ⊎ (from ≡ 0)) × FlowsOn code at_first at_last from number) → Entered code line number place
     there number f = flows f.2.0 f.0 number (elim f.1 [
-      | inl h ↦ let c = (came f.0).0 h in entered_on code line c.2 c.0 f.0 place c.3 c.4
+      | inl h ↦ let c = (came f.0).0 h in entered_on code line c.3 c.4
       | inr e ↦ (place, p.within, (0, (sym e, refl)))
     ]) f.2.1
 
     close : (from to : ℕ) → Now from → Goes code line from place to place → Now to
     close from to h g =
         let was = (o from).0 h in
-        (o to).1 (was.0, was.1, (suc was.2.0, (from, was.2.1, (g.0, g.1, goes_flow g.0 line place at_first at_last from to p g.2))))
+        (o to).1 (was.0, was.1, (suc was.2.0, (from, was.2.1, (g.0, g.1, (flow_goes g.0 line from to p).1 g.2))))
 
     step : (at from at' from' : ℕ) → from ≤ place → Entered code line at from → (from ≡ place → Now at) → Goes code line at from at' from'
         → from' ≡ place → Now at'
@@ -83,16 +80,15 @@ closes_exact code line place at_first at_last Old Now p came o number = (λ h. t
     arrive : (count at from number : ℕ) → from ≤ place → Walks code line count at from number place → Entered code line at from → (from ≡ place → Now at) → Now number
     arrive zero at from number l w e h = subst Now w.0 (h w.1)
     arrive (suc count) at from number l w e h =
-        arrive count w.0 w.1 number (walk_forward code line count w.0 w.1 number place w.3) w.3 (entered_on code line at from w.0 w.1 e w.2)
-        (step at from w.0 w.1 l e h w.2)
+        arrive count w.0 w.1 number (walk_forward code line count w.0 w.1 number place w.3) w.3 (entered_on code line e w.2) (step at from w.0 w.1 l e h w.2)
 
     here : (number : ℕ) → Entered code line number place → Now number
     here number e =
         let l = walk_forward code line e.2.0 0 e.0 number place e.2.1 in
         arrive e.2.0 0 e.0 number l e.2.1 (e.0, e.1, (0, (refl, refl))) (λ q. (o 0).1 (0, inr refl, (0, refl)))
 
-pub inner : (line : List ℕ) (place : ℕ) (at_first : Bool) → place < length line → at_first ≡ (place == 0) → IsPlace line place at_first false
-inner line place at_first h f = record {
+pub inner : (line : List ℕ) {place : ℕ} {at_first : Bool} → place < length line → at_first ≡ (place == 0) → IsPlace line place at_first false
+inner line {place} h f = record {
   within = omega (arith, h);
   first = (λ t. eqb-true place 0 (sym f ∙ t), λ e. f ∙ eq-eqb place 0 e);
   last = (λ t. absurd (false≢true t), λ e. absurd (omega (arith, e, h)));
@@ -103,12 +99,9 @@ more_positions : (code : List Node) (sets : List (List Bool)) (set : List Bool) 
 more_positions code [] set = omega arith
 more_positions code (other ∷ sets) set = let r = more_positions code sets set in omega (arith, r)
 
-pub none_counted : (code : List Node) (line : List ℕ) → AreSteps code line 0 0
-none_counted code line = record { sets = []; all = refl; exact = λ place number h. absurd (omega (arith, h)); total = refl }
-
-pub one_counted : (code : List Node) (line : List ℕ) (place steps steps' : ℕ) (set : List Bool) → AreSteps code line place steps → ((number : ℕ) → IsMarked set number ↔ Entered code line number place) → steps' ≡ steps + positions_among code set
+one_counted : {code : List Node} (line : List ℕ) {place steps steps' : ℕ} (set : List Bool) → AreSteps code line place steps → ((number : ℕ) → IsMarked set number ↔ Entered code line number place) → steps' ≡ steps + positions_among code set
     → AreSteps code line (place + 1) steps'
-one_counted code line place steps steps' set a x e = record {
+one_counted {code} line {place} set a x e = record {
   sets = a.sets ++ set ∷ [];
   all = let l = length-append a.sets (set ∷ []) in omega (arith, l, a.all);
   exact = λ p number h. elim (cases_eq p place) [
@@ -118,23 +111,17 @@ one_counted code line place steps steps' set a x e = record {
   total = let m = more_positions code a.sets set in let t = a.total in omega (arith, m, t, e);
 }
 
-pub final : (line : List ℕ) (place : ℕ) (at_first : Bool) → place ≡ length line → at_first ≡ (length line == 0) → IsPlace line place at_first true
-final line place at_first h f = record {
+pub final : (line : List ℕ) {place : ℕ} {at_first : Bool} → place ≡ length line → at_first ≡ (length line == 0) → IsPlace line place at_first true
+final line h f = record {
   within = omega (arith, h);
   first = (λ t. h ∙ eqb-true (length line) 0 (sym f ∙ t), λ e. f ∙ eq-eqb (length line) 0 (sym h ∙ e));
   last = (λ t. h, λ e. refl);
 }
 
--- the end is entered first at a place, and its steps are among all
-pub steps_before : (code : List Node) (line : List ℕ) (place steps all : ℕ) → place ≤ length line → Entered code line (length code) place
-    → ((before : ℕ) → before < place → Entered code line (length code) before → ⊥) → AreSteps code line place steps → steps ≤ all → HasStepsBefore code line all
-steps_before code line place steps all within ends first counted least =
-    record { place = place; within = within; ends = ends; first = first; before = steps; counted = counted; least = least }
-
 -- what a byte leads to from all that was entered at a place
-pub came_exact : (code : List Node) (line : List ℕ) (place byte : ℕ) (Now : ℕ → Type 0) → ((number : ℕ) → Now number ↔ Entered code line number place) → place < length line → byte ≡ slice_index line place
+pub came_exact : (code : List Node) (line : List ℕ) (place : ℕ) {byte : ℕ} (Now : ℕ → Type 0) → ((number : ℕ) → Now number ↔ Entered code line number place) → place < length line → byte ≡ slice_index line place
     → (number : ℕ) → ((from : ℕ) × Now from × Passes code byte from number) ↔ Came code line (suc place) number
-came_exact code line place byte Now a h e number = (
+came_exact code line place Now a h e number = (
   λ k. (place, omega arith, k.0, (a k.0).0 k.1, (Take k.2.0, k.2.1, (k.2.3, omega arith, h, subst (λ b. IsTrue (has k.2.0 b)) e k.2.2))),
   λ c. elim (leads_place c.4.0 line c.2 c.0 number (suc place) c.4.2) [
     | inl s ↦ let q = c.1 in absurd (omega (arith, s, q))
@@ -156,3 +143,50 @@ steps_wider place most steps size h k =
     let f : (place + (most - place)) * size ≡ place * size + (most - place) * size = grind arith in
     let g = ap (λ n. n * size) e in
     omega (arith, h, f, g)
+
+pub counted_starts : (code : List Node) (line : List ℕ) → IsCounted code line 0 0
+counted_starts code line = record {
+  none = λ before h. absurd (omega (arith, h));
+  counted = record { sets = []; all = refl; exact = λ place number h. absurd (omega (arith, h)); total = refl };
+  bound = omega arith;
+}
+
+pub counted_more : {code : List Node} {line : List ℕ} {place steps : ℕ} (set : List Bool) → IsCounted code line place steps → ((number : ℕ) → IsMarked set number ↔ Entered code line number place)
+    → (IsMarked set (length code) → ⊥) → IsCounted code line (place + 1) (steps + positions_among code set)
+counted_more {code} {line} {place} {steps} set s here never = record {
+  none = λ before l k. elim (cases_eq before place) [
+    | inl same ↦ never ((here (length code)).1 (subst (λ q. Entered code line (length code) q) same k))
+    | inr other ↦ s.none before (omega (arith, l, other)) k
+  ];
+  counted = one_counted line set s.counted here refl;
+  bound = let m = positions_most code set in steps_more place steps (positions_among code set) (weight code + 1) s.bound m;
+}
+
+-- the end is entered at a place
+pub counted_found : {code : List Node} {line : List ℕ} {place steps all : ℕ} → IsCounted code line place steps → place ≤ length line → Entered code line (length code) place → steps ≤ all
+    → all ≤ (length line + 1) * (weight code + 1) → IsOutcome code line (record { found = true; steps = all })
+counted_found {place} {steps} s within ends least most = record {
+  exact = (λ t. (place, within, ends), λ e. refl);
+  counted = λ f. absurd (false≢true (sym f));
+  least = λ t. record { place = place; within = within; ends = ends; first = s.none; before = steps; counted = s.counted; least = least };
+  bound = most;
+}
+
+-- the line's end
+pub counted_ends : {code : List Node} {line : List ℕ} {place steps : ℕ} {found : Bool} (set : List Bool) → IsCounted code line place steps → ((number : ℕ) → IsMarked set number ↔ Entered code line number place)
+    → place ≡ length line → (IsTrue found ↔ IsMarked set (length code)) → IsOutcome code line (record { found = found; steps = steps + positions_among code set })
+counted_ends {code} {line} {place} {steps} set s here e test = record {
+  exact = (
+    λ t. (place, omega (arith, e), (here (length code)).0 (test.0 t)),
+    λ k. elim (cases_eq k.0 place) [
+      | inl same ↦ test.1 ((here (length code)).1 (subst (λ q. Entered code line (length code) q) same k.2))
+      | inr other ↦ absurd (s.none k.0 (omega (arith, k.1, e, other)) k.2)
+    ],
+  );
+  counted = λ absent. subst (λ n. AreSteps code line (n + 1) (steps + positions_among code set)) e (one_counted line set s.counted here refl);
+  least = λ t. (counted_found s (omega (arith, e)) ((here (length code)).0 (test.0 t)) (omega arith) all).least refl;
+  bound = all;
+}
+  where
+    all : steps + positions_among code set ≤ (length line + 1) * (weight code + 1)
+    all = subst (λ n. steps + positions_among code set ≤ (n + 1) * (weight code + 1)) e (steps_more place steps (positions_among code set) (weight code + 1) s.bound (positions_most code set))

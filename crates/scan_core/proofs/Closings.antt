@@ -10,14 +10,16 @@ use Rattle.scan_core.proofs.Enterings.{flow_anywhere, parts_anywhere}
 use Rattle.scan_core.specs.declared.base.Base.{Base}
 use Rattle.scan_core.specs.declared.node.Node.{Node}
 use Rattle.scan_core.specs.inner.Base.{IsBase}
-use Rattle.scan_core.specs.inner.Closures.{ArePeers, Closes, IsLeaving, Stays, AreAllPeers}
+use Rattle.scan_core.specs.inner.Closures.{ArePeers, Closes, IsLeaving, Stays}
 use Rattle.scan_core.specs.declared.hops.Hop.{Hop}
+use Rattle.scan_core.specs.inner.Each.{AreEach}
 use Rattle.scan_core.specs.inner.Hops.{AreHops, Hopped, no_hop}
 use Rattle.scan_core.specs.inner.Sets.{Flows, FlowsOn}
-use Rattle.scan_core.specs.inner.Words.{IsIn, unset, Grows, Visits, width}
+use Rattle.scan_core.specs.inner.Words.{Adds, IsIn, unset, Grows, Visits, width}
 use Rattle.scan_core.proofs.Insides.{fresh_bit, left_bit, right_bit, either_bit}
+use Rattle.scan_core.proofs.Bits.{goes_both}
 use Rattle.scan_core.proofs.Passings.{set_elsewhere}
-use Rattle.scan_core.proofs.Visitings.{Visiting, is_in_word}
+use Rattle.scan_core.proofs.Visitings.{Visiting, adds_anywhere, adds_both, adds_none, is_in_word}
 
 unset_fuller : (words : List ℕ) (at word : ℕ) → get_or words at 0 ≤ word → unset (set words at word) ≤ unset words
 unset_fuller [] at word l = omega arith
@@ -26,28 +28,28 @@ unset_fuller (x ∷ words) (suc at) word l = let r = unset_fuller words at word 
 
 -- a word was closed
 pub record Closed (code : List Node) (at : ℕ) (old now : List ℕ) : Type 0 where
-  pub size : length now ≡ length old
-  pub kept : (number : ℕ) → IsIn old number → IsIn now number
-  pub from : (number : ℕ) → IsIn now number → (start : ℕ) × IsIn old start × FlowsOn code false false start number
+  pub adds : Adds code false false old now
   pub under : (number : ℕ) → number < 64 * at → IsIn now number → IsIn old number
   pub fuller : unset now ≤ unset old
   pub closed : (start to : ℕ) → start / 64 ≡ at → IsIn now start → Stays code start to → IsIn now to
 
-pub close_word : (code : List Node) (at word all : ℕ) (old now : List ℕ) → at < length old → word ≡ get_or old at 0 → Closes code at word all → now ≡ set old at (bit_or word all) → Closed code at old now
-close_word code at word all old now h ew c en = record {
-  size = ap length en ∙ length-set old at (bit_or word all);
-  kept = λ number k. elim (cases_eq (number / 64) at) [
-    | inl same ↦ let e : number ≡ at * 64 + number % 64 = omega (arith, same) in subst (IsIn now) (sym e) ((is_in_word now at (number % 64) (omega arith)).0 (bit_now (number % 64) (left_bit word all (number % 64) (bit_old (number % 64) (omega arith) (subst (IsIn old) e k)))))
-    | inr other ↦ subst (λ w. IsIn w number) (sym en) ((set_elsewhere old at (bit_or word all) number other).1 k)
-  ];
-  from = λ number k. elim (cases_eq (number / 64) at) [
-    | inl same ↦
-        let e : number ≡ at * 64 + number % 64 = omega (arith, same) in
-        let b = c.from_chosen (number % 64) (omega arith) (in_all (number % 64) (omega arith) (subst (IsIn now) e k)) in
-        (at * 64 + b.0, (is_in_word old at b.0 b.1).0 (ap (λ w. bit_at w b.0) (sym ew) ∙ b.2), subst (λ n. FlowsOn code false false (at * 64 + b.0) n) (sym e) b.3)
-    | inr other ↦ (number, (set_elsewhere old at (bit_or word all) number other).0 (subst (λ w. IsIn w number) en k), (0, refl))
-  ];
-  under = λ number l k. (set_elsewhere old at (bit_or word all) number (λ q. omega (arith, q, l))).0 (subst (λ w. IsIn w number) en k);
+pub close_word : {code : List Node} {at word : ℕ} (all : ℕ) {old now : List ℕ} → at < length old → word ≡ get_or old at 0 → Closes code at word all → now ≡ set old at (bit_or word all) → Closed code at old now
+close_word {code} {at} {word} all {old} {now} h ew c en = record {
+  adds = record {
+    size = ap length en ∙ length-set old at (bit_or word all);
+    kept = λ number k. elim (cases_eq (number / 64) at) [
+      | inl same ↦ let e : number ≡ at * 64 + number % 64 = omega (arith, same) in subst (IsIn now) (sym e) ((is_in_word now at (number % 64) (omega arith)).0 (bit_now (number % 64) (left_bit word all (number % 64) (bit_old (number % 64) (omega arith) (subst (IsIn old) e k)))))
+      | inr other ↦ subst (λ w. IsIn w number) (sym en) ((set_elsewhere old (bit_or word all) number other).1 k)
+    ];
+    from = λ number k. elim (cases_eq (number / 64) at) [
+      | inl same ↦
+          let e : number ≡ at * 64 + number % 64 = omega (arith, same) in
+          let b = c.from_chosen (number % 64) (omega arith) (in_all (number % 64) (omega arith) (subst (IsIn now) e k)) in
+          (at * 64 + b.0, (is_in_word old at b.0 b.1).0 (ap (λ w. bit_at w b.0) (sym ew) ∙ b.2), subst (λ n. FlowsOn code false false (at * 64 + b.0) n) (sym e) b.3)
+      | inr other ↦ (number, (set_elsewhere old (bit_or word all) number other).0 (subst (λ w. IsIn w number) en k), (0, refl))
+    ];
+  };
+  under = λ number l k. (set_elsewhere old (bit_or word all) number (λ q. omega (arith, q, l))).0 (subst (λ w. IsIn w number) en k);
   fuller = subst (λ w. unset w ≤ unset old) (sym en) (unset_fuller old at (bit_or word all) (let l = le_or_l word all in omega (arith, l, ew)));
   closed = λ start to here k s.
       let e : start ≡ at * 64 + start % 64 = omega (arith, here) in
@@ -69,8 +71,8 @@ close_word code at word all old now h ew c en = record {
     in_all : (bit : ℕ) → bit < 64 → IsIn now (at * 64 + bit) → bit_at all bit ≡ 1
     in_all bit l k = elim (either_bit word all bit (sym (ap (λ w. bit_at w bit) read) ∙ (is_in_word now at bit l).1 k)) [ inl w ↦ c.kept bit l w | inr a ↦ a ]
 
-pub peers_smaller : (code : List Node) (at left mask bit : ℕ) → mask < 2 ^ 64 → bit < 64 → bit_at left bit ≡ 1 → ArePeers code (at * 64 + bit) mask → bit_and left (bit_not w64 mask) < left
-peers_smaller code at left mask bit m l is p =
+pub peers_smaller : {code : List Node} (at left : ℕ) {mask : ℕ} (bit : ℕ) → mask < 2 ^ 64 → bit < 64 → bit_at left bit ≡ 1 → ArePeers code (at * 64 + bit) mask → bit_and left (bit_not w64 mask) < left
+peers_smaller at left {mask} bit m l is p =
     let e : (at * 64 + bit) % 64 ≡ bit = omega (arith, l) in
     let own = ap (bit_at mask) (sym e) ∙ p.own in
     let b = fresh_bit left mask bit m l in
@@ -80,46 +82,41 @@ peers_smaller code at left mask bit m l is p =
     ]
 
 -- the lowest number that is left, and its peers
-pub lowest_left : (code : List Node) (peers : List ℕ) (at left read d : ℕ) → AreAllPeers code peers → at < width code
+pub lowest_left : {code : List Node} {peers : List ℕ} (at left : ℕ) {read : ℕ} (d : ℕ) → AreEach 0 (ArePeers code) (width code * 64) peers → at < width code
     → left < 2 ^ 64 → 0 < left → read ≡ get_or peers (at * 64 + trailing_zeros w64 left) d
     → (trailing_zeros w64 left < 64) × (bit_at left (trailing_zeros w64 left) ≡ 1) × ArePeers code (at * 64 + trailing_zeros w64 left) read
-lowest_left code peers at left read d all within fits some e =
+lowest_left {code} {peers} at left d all within fits some e =
     let lowest = bit_at-trailing_zeros w64 left some fits in
     let place : ℕ = at * 64 + trailing_zeros w64 left in
     let is = get_or_default peers place d 0 (omega (arith, all.size, lowest.0, within)) in
     (lowest.0, lowest.1, subst (ArePeers code place) (sym (e ∙ is)) (all.each place (omega (arith, lowest.0, within))))
 
 -- numbers that the old ones lead to were added
-visit_more : (code : List Node) (at_first at_last : Bool) (at pending left still : ℕ) (Added : ℕ → Type 0) (old now new : List ℕ) (on on' : ℕ) → Visiting code at_first at_last at pending left old now on → Grows Added now new on on'
+visit_more : {code : List Node} {at_first at_last : Bool} {at pending left still : ℕ} (Added : ℕ → Type 0) {old now new : List ℕ} {on on' : ℕ} → Visiting code at_first at_last at pending left old now on → Grows Added now new on on'
     → ((number : ℕ) → Added number → (start : ℕ) × IsIn old start × Flows code at_first at_last start number)
     → ((bit : ℕ) → bit < 64 → bit_at still bit ≡ 1 → bit_at pending bit ≡ 1)
     → ((bit : ℕ) → bit < 64 → bit_at pending bit ≡ 1 → (bit_at still bit ≡ 1) ⊎ ((to : ℕ) → Flows code at_first at_last (at * 64 + bit) to → IsIn new to))
     → Visiting code at_first at_last at pending still old new on'
-visit_more code at_first at_last at pending left still Added old now new on on' v g led within rest = record {
-  size = g.size ∙ v.size;
-  kept = λ number h. (g.exact number).1 (inl (v.kept number h));
-  from = λ number h. elim ((g.exact number).0 h) [ inl was ↦ v.from number was | inr added ↦ inr (led number added) ];
-  low = omega (arith, v.low, g.low);
-  under = λ number l h. let w = g.low in v.under number (omega (arith, l, w)) (g.under number l h);
-  fuller = omega (arith, v.fuller, g.fuller);
-  less = λ l. elim (cases_lt on' on) [
-    | inl lower ↦ let s = g.less lower in let r = v.fuller in omega (arith, s, r)
-    | inr same ↦ let s = v.less (omega (arith, l, same)) in let r = g.fuller in omega (arith, s, r)
-  ];
+visit_more Added {on} {on'} v g led within rest = record {
+  adds = record {
+    size = g.size ∙ v.adds.size;
+    kept = λ number h. (g.exact number).1 (inl (v.adds.kept number h));
+    from = λ number h. elim ((g.exact number).0 h) [ inl was ↦ v.adds.from number was | inr added ↦ let f = led number added in (f.0, f.1, (1, (f.0, refl, f.2))) ];
+  };
+  goes = goes_both v.goes g.goes;
   within = within;
   rest = rest;
 }
 
 -- a node that leads out of the word, and its peers with it
-pub close_more : (code : List Node) (at_first at_last : Bool) (at leaves left mask bit : ℕ) (start old now new : List ℕ) (on on' : ℕ) → Closed code at start old → Visiting code at_first at_last at (bit_and (get_or old at 0) leaves) left old now on → bit < 64 → bit_at left bit ≡ 1 → mask < 2 ^ 64 → ArePeers code (at * 64 + bit) mask
+pub close_more : {code : List Node} {at_first at_last : Bool} {at : ℕ} (leaves : ℕ) {left mask : ℕ} (bit : ℕ) {start old now new : List ℕ} {on on' : ℕ} → Closed code at start old → Visiting code at_first at_last at (bit_and (get_or old at 0) leaves) left old now on → bit < 64 → bit_at left bit ≡ 1 → mask < 2 ^ 64 → ArePeers code (at * 64 + bit) mask
     → Grows (Flows code at_first at_last (at * 64 + bit)) now new on on' → Visiting code at_first at_last at (bit_and (get_or old at 0) leaves) (bit_and left (bit_not w64 mask)) old new on'
-close_more code at_first at_last at leaves left mask bit start old now new on on' closed v small here m p g =
-    visit_more code at_first at_last at (bit_and (get_or old at 0) leaves) left (bit_and left (bit_not w64 mask)) (Flows code at_first at_last (at * 64 + bit)) old now new on on' v g
-    (λ number f. (at * 64 + bit, in_old bit small (v.within bit small here), f))
+close_more {code} {at_first} {at_last} {at} leaves {left} {mask} bit {old} closed v small here m p g =
+    visit_more (Flows code at_first at_last (at * 64 + bit)) v g (λ number f. (at * 64 + bit, in_old bit small (v.within bit small here), f))
     (λ k s h. let b = fresh_bit left mask k m s in v.within k s (let l = bit_at-lt left k in omega (arith, h, b, l)))
     (λ k s h. elim (cases_eq (bit_at mask k) 1) [
       | inl peer ↦ inr (λ to f. elim (others k s peer to f) [
-        | inl stays ↦ (g.exact to).1 (inl (v.kept to (closed.closed (at * 64 + k) to (omega (arith, s)) (in_old k s h) stays)))
+        | inl stays ↦ (g.exact to).1 (inl (v.adds.kept to (closed.closed (at * 64 + k) to (omega (arith, s)) (in_old k s h) stays)))
         | inr led ↦ (g.exact to).1 (inr led)
       ])
       | inr other ↦ elim (v.rest k s h) [
@@ -137,10 +134,10 @@ close_more code at_first at_last at leaves left mask bit start old now new on on
         subst (λ n. Flows code at_first at_last (n + k) to → Stays code (n + k) to ⊎ Flows code at_first at_last (at * 64 + bit) to) e (p.others k at_first at_last to s peer) f
 
 -- what the hops of a word lead to
-pub close_hops : (code : List Node) (hops : List Hop) (at_first at_last : Bool) (at pending left : ℕ) (old now new : List ℕ) (on on' : ℕ) → AreHops code (width code * 3) hops → at < width code → Visiting code at_first at_last at pending left old now on → Grows (Hopped hops at (get_or old at 0) 3) now new on on'
+pub close_hops : {code : List Node} {hops : List Hop} {at_first at_last : Bool} {at pending left : ℕ} {old now new : List ℕ} {on on' : ℕ} → AreHops code hops → at < width code → Visiting code at_first at_last at pending left old now on → Grows (Hopped hops at (get_or old at 0) 3) now new on on'
     → Visiting code at_first at_last at pending left old new on'
-close_hops code hops at_first at_last at pending left old now new on on' are inside v g =
-    visit_more code at_first at_last at pending left left (Hopped hops at (get_or old at 0) 3) old now new on on' v g from v.within
+close_hops {code} {hops} {at_first} {at_last} {at} {old} are inside v g =
+    visit_more (Hopped hops at (get_or old at 0) 3) v g from v.within
     (λ k s h. elim (v.rest k s h) [ inl waits ↦ inl waits | inr led ↦ inr (λ to f. (g.exact to).1 (inl (led to f))) ])
   where
     from : (number : ℕ) → Hopped hops at (get_or old at 0) 3 number → (start : ℕ) × IsIn old start × Flows code at_first at_last start number
@@ -151,27 +148,19 @@ close_hops code hops at_first at_last at pending left old now new on on' are ins
         let here = subst (λ n. Flows code false false (n * 64 + h.2) (get_or hops (at * 3 + h.0) no_hop).to) place flow in
         (at * 64 + h.2, (is_in_word old at h.2 h.3).0 h.4, flow_anywhere code at_first at_last (at * 64 + h.2) number (subst (Flows code false false (at * 64 + h.2)) (sym h.6) here))
 
-pub close_ends : (code : List Node) (hops : List Hop) (at_first at_last : Bool) (at left leaves : ℕ) (start old now new : List ℕ) (on on' : ℕ) → Closed code at start old → Visiting code at_first at_last at (bit_and (get_or old at 0) leaves) left old now on → left ≡ 0 → IsLeaving code hops at leaves → AreHops code (width code * 3) hops → at < width code
+pub close_ends : {code : List Node} {hops : List Hop} {at_first at_last : Bool} {at left : ℕ} (leaves : ℕ) {start old now new : List ℕ} {on on' : ℕ} → Closed code at start old → Visiting code at_first at_last at (bit_and (get_or old at 0) leaves) left old now on → left ≡ 0 → IsLeaving code hops at leaves → AreHops code hops → at < width code
     → Grows (Hopped hops at (get_or old at 0) 3) now new on on' → Visits code at_first at_last at start new on'
-close_ends code hops at_first at_last at left leaves start old now new on on' c w e leaving are inside g = record {
-  size = v.size ∙ c.size;
-  kept = λ number h. v.kept number (c.kept number h);
-  from = λ number h. elim (v.from number h) [
-    | inl was ↦ closed_from number was
-    | inr led ↦ let one = closed_from led.0 led.1 in (one.0, one.1, (suc one.2.0, (led.0, one.2.1, led.2)))
-  ];
-  low = v.low;
-  under = λ number l below h. c.under number below (v.under number l h);
-  fuller = omega (arith, v.fuller, c.fuller);
-  less = λ l. let s = v.less l in let f = c.fuller in omega (arith, s, f);
-  done = λ last from to here h f. all from to here (v.under from (omega (arith, last, here)) h) f;
+close_ends {code} {at_first} {at_last} {at} {left} leaves {start} {old} {new} {on'} c w e leaving are inside g = record {
+  adds = adds_both (adds_anywhere at_first at_last c.adds) v.adds;
+  low = v.goes.low;
+  under = λ number l below h. c.under number below (v.goes.under number l h);
+  fuller = omega (arith, v.goes.fuller, c.fuller);
+  less = λ l. let s = v.goes.less l in let f = c.fuller in omega (arith, s, f);
+  done = λ last from to here h f. all from to here (v.goes.under from (omega (arith, last, here)) h) f;
 }
   where
     v : Visiting code at_first at_last at (bit_and (get_or old at 0) leaves) left old new on'
-    v = close_hops code hops at_first at_last at (bit_and (get_or old at 0) leaves) left old now new on on' are inside w g
-
-    closed_from : (number : ℕ) → IsIn old number → (from : ℕ) × IsIn start from × FlowsOn code at_first at_last from number
-    closed_from number h = let f = c.from number h in (f.0, f.1, (f.2.0, parts_anywhere code at_first at_last f.2.0 f.0 number f.2.1))
+    v = close_hops are inside w g
 
     all : (from to : ℕ) → from / 64 ≡ at → IsIn old from → Flows code at_first at_last from to → IsIn new to
     all from to here h f =
@@ -186,17 +175,15 @@ close_ends code hops at_first at_last at left leaves start old now new on on' c 
                 | inr led ↦ led to flow
               ]
           | inr more ↦ elim more [
-            | inl stays ↦ v.kept to (c.closed (at * 64 + from % 64) to (omega arith) ((is_in_word old at (from % 64) (omega arith)).0 one) stays)
+            | inl stays ↦ v.adds.kept to (c.closed (at * 64 + from % 64) to (omega arith) ((is_in_word old at (from % 64) (omega arith)).0 one) stays)
             | inr hop ↦ (g.exact to).1 (inr (hop.0, hop.1, from % 64, omega arith, one, hop.2, hop.3))
           ]
         ]
 
 -- none of the word's numbers leads out of the base
-pub close_none : (code : List Node) (base : Base) (at_first at_last : Bool) (at : ℕ) (words : List ℕ) → IsBase code base → ((number : ℕ) → IsIn base.words.items number → IsIn words number) → at < width code → bit_and (get_or words at 0) (get_or base.leads.items at 0) ≡ 0 → Visits code at_first at_last at words words (at + 1)
-close_none code base at_first at_last at words b begun inside e = record {
-  size = refl;
-  kept = λ number h. h;
-  from = λ number h. (number, h, (0, refl));
+pub close_none : {code : List Node} {base : Base} {at_first at_last : Bool} {at : ℕ} {words : List ℕ} → IsBase code base → ((number : ℕ) → IsIn base.words.items number → IsIn words number) → at < width code → bit_and (get_or words at 0) (get_or base.leads.items at 0) ≡ 0 → Visits code at_first at_last at words words (at + 1)
+close_none {code} {base} {at_first} {at_last} {at} {words} b begun inside e = record {
+  adds = adds_none code at_first at_last words;
   low = omega arith;
   under = λ number l below h. h;
   fuller = omega arith;

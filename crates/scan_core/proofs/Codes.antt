@@ -1,10 +1,10 @@
 -- The code of a pattern: it is walked through just where the pattern matches.
-use Rattle.std.proofs.Common.{◌≡◌, ◌⊎◌, ◌↔◌, inl, inr, ℕ, zero, suc, ◌+◌, ◌-◌, ◌≤◌, List, [], ◌++◌, length, Option, Some, None, refl, sym, ◌∙◌, subst, arith}
+use Rattle.std.proofs.Common.{◌≡◌, ◌⊎◌, ◌↔◌, inl, inr, ℕ, zero, suc, ◌+◌, ◌-◌, ◌≤◌, List, ◌++◌, length, Option, Some, None, refl, sym, ◌∙◌, subst, arith}
 use Rattle.bre_core.specs.Match.{Parts, IsAtMost, Matches, MatchesItem, Contains}
 use Rattle.bre_core.specs.Pattern.{Pattern, nothing, append, Item, set, front, end, group, repeat}
 use Rattle.scan_core.specs.declared.node.Node.{Node}
 use Rattle.scan_core.specs.declared.node.Node.TheVariants.{Take, First, Last}
-use Rattle.scan_core.specs.Code.{starred, up_to, copies, tail_of, code_of, code_of_item, Entered, IsOrdered, IsOrderedItem}
+use Rattle.scan_core.specs.Code.{up_to, copies, tail_of, code_of, code_of_item, Entered, IsOrdered, IsOrderedItem}
 use Rattle.scan_core.proofs.Walks.{Exact}
 use Rattle.scan_core.proofs.Composed.{exact_by, exact_none, exact_one, exact_both, exact_maybe, exact_starred, parts_first, parts_next, Often}
 use Rattle.bre_core.proofs.Matching.{stays}
@@ -12,16 +12,16 @@ use Rattle.bre_core.proofs.Matching.{stays}
 abbrev pub AtMost : (ℕ → ℕ → Type 0) → ℕ → ℕ → ℕ → Type 0
 AtMost Kind most from to = (count : ℕ) × (count ≤ most) × Parts Kind count from to
 
-exact_copies : (code : List Node) (line : List ℕ) (Kind : ℕ → ℕ → Type 0) → Exact code line Kind → (count : ℕ) → Exact (copies count code) line (Parts Kind count)
-exact_copies code line Kind e zero = exact_none line
-exact_copies code line Kind e (suc count) = exact_both (copies count code) code line (Parts Kind count) Kind (exact_copies code line Kind e count) e
+exact_copies : {code : List Node} (line : List ℕ) (Kind : ℕ → ℕ → Type 0) → Exact code line Kind → (count : ℕ) → Exact (copies count code) line (Parts Kind count)
+exact_copies line Kind e zero = exact_none line
+exact_copies line Kind e (suc count) = exact_both line (Parts Kind count) Kind (exact_copies line Kind e count) e
 
-exact_up_to : (code : List Node) (line : List ℕ) (Kind : ℕ → ℕ → Type 0) → Exact code line Kind → (most : ℕ) → Exact (up_to most code) line (AtMost Kind most)
-exact_up_to code line Kind e zero = exact_by [] line (λ from to. from ≡ to) (AtMost Kind 0) (exact_none line) (λ from to q. (0, omega arith, q))
+exact_up_to : {code : List Node} (line : List ℕ) (Kind : ℕ → ℕ → Type 0) → Exact code line Kind → (most : ℕ) → Exact (up_to most code) line (AtMost Kind most)
+exact_up_to line Kind e zero = exact_by line (λ from to. from ≡ to) (AtMost Kind 0) (exact_none line) (λ from to q. (0, omega arith, q))
     (λ from to k. let e : k.0 ≡ 0 = omega (arith, k.1) in subst (λ n. Parts Kind n from to) e k.2)
-exact_up_to code line Kind e (suc most) =
-    exact_by (up_to (suc most) code) line (λ from to. (from ≡ to) ⊎ ((middle : ℕ) × Kind from middle × AtMost Kind most middle to)) (AtMost Kind (suc most))
-    (exact_maybe (code ++ up_to most code) line (λ from to. (middle : ℕ) × Kind from middle × AtMost Kind most middle to) (exact_both code (up_to most code) line Kind (AtMost Kind most) e (exact_up_to code line Kind e most)))
+exact_up_to line Kind e (suc most) =
+    exact_by line (λ from to. (from ≡ to) ⊎ ((middle : ℕ) × Kind from middle × AtMost Kind most middle to)) (AtMost Kind (suc most))
+    (exact_maybe line (λ from to. (middle : ℕ) × Kind from middle × AtMost Kind most middle to) (exact_both line Kind (AtMost Kind most) e (exact_up_to line Kind e most)))
     there (λ from to k. here k.0 from to k.1 k.2)
   where
     there : (from to : ℕ) → (from ≡ to) ⊎ ((middle : ℕ) × Kind from middle × AtMost Kind most middle to) → AtMost Kind (suc most) from to
@@ -53,18 +53,17 @@ parts_split Kind first (suc second) from to r =
 abbrev Between : (ℕ → ℕ → Type 0) → ℕ → Option ℕ → ℕ → ℕ → Type 0
 Between Kind low high from to = (count : ℕ) × (low ≤ count) × IsAtMost high count × Parts Kind count from to
 
-exact_repeated : (code : List Node) (line : List ℕ) (Kind : ℕ → ℕ → Type 0) (low : ℕ) (high : Option ℕ) → Exact code line Kind → IsAtMost high low → Exact (copies low code ++ tail_of code low high) line (Between Kind low high)
-exact_repeated code line Kind low None e b =
-    exact_by (copies low code ++ starred code) line (λ from to. (middle : ℕ) × Parts Kind low from middle × Often Kind middle to) (Between Kind low None)
-    (exact_both (copies low code) (starred code) line (Parts Kind low) (Often Kind) (exact_copies code line Kind e low) (exact_starred code line Kind e))
-    (λ from to k. let often : Often Kind k.0 to = k.2 in (low + often.0, omega arith, tt, parts_join Kind low often.0 from k.0 to k.1 often.1))
-    (λ from to k.
+exact_repeated : {code : List Node} (line : List ℕ) (Kind : ℕ → ℕ → Type 0) (low : ℕ) (high : Option ℕ) → Exact code line Kind → IsAtMost high low → Exact (copies low code ++ tail_of code low high) line (Between Kind low high)
+exact_repeated line Kind low None e b =
+    exact_by line (λ from to. (middle : ℕ) × Parts Kind low from middle × Often Kind middle to) (Between Kind low None)
+    (exact_both line (Parts Kind low) (Often Kind) (exact_copies line Kind e low) (exact_starred line Kind e))
+    (λ from to k. let often : Often Kind k.0 to = k.2 in (low + often.0, omega arith, tt, parts_join Kind low often.0 from k.0 to k.1 often.1)) (λ from to k.
     let q : k.0 ≡ low + (k.0 - low) = omega (arith, k.1) in
     let split = parts_split Kind low (k.0 - low) from to (subst (λ c. Parts Kind c from to) q k.3) in
     (split.0, split.1, (k.0 - low, split.2)))
-exact_repeated code line Kind low (Some high) e b =
-    exact_by (copies low code ++ up_to (high - low) code) line (λ from to. (middle : ℕ) × Parts Kind low from middle × AtMost Kind (high - low) middle to) (Between Kind low (Some high))
-    (exact_both (copies low code) (up_to (high - low) code) line (Parts Kind low) (AtMost Kind (high - low)) (exact_copies code line Kind e low) (exact_up_to code line Kind e (high - low)))
+exact_repeated line Kind low (Some high) e b =
+    exact_by line (λ from to. (middle : ℕ) × Parts Kind low from middle × AtMost Kind (high - low) middle to) (Between Kind low (Some high))
+    (exact_both line (Parts Kind low) (AtMost Kind (high - low)) (exact_copies line Kind e low) (exact_up_to line Kind e (high - low)))
     (λ from to k. let most : AtMost Kind (high - low) k.0 to = k.2 in (low + most.0, omega arith, omega (arith, most.1, b), parts_join Kind low most.0 from k.0 to k.1 most.2))
     (λ from to k.
     let q : k.0 ≡ low + (k.0 - low) = omega (arith, k.1) in
@@ -74,14 +73,14 @@ exact_repeated code line Kind low (Some high) e b =
 mutual
   pub code_exact : (pattern : Pattern) (line : List ℕ) → IsOrdered pattern → Exact (code_of pattern) line (Matches pattern line)
   code_exact nothing line o = exact_none line
-  code_exact (append pattern item) line o = exact_both (code_of pattern) (code_of_item item) line (Matches pattern line) (MatchesItem item line) (code_exact pattern line o.0) (item_exact item line o.1)
+  code_exact (append pattern item) line o = exact_both line (Matches pattern line) (MatchesItem item line) (code_exact pattern line o.0) (item_exact item line o.1)
 
   pub item_exact : (item : Item) (line : List ℕ) → IsOrderedItem item → Exact (code_of_item item) line (MatchesItem item line)
-  item_exact (set bytes) line o = exact_one (Take bytes) line (MatchesItem (set bytes) line) (λ at place at' place' h. (h.0, (h.1, h.2, h.3))) (λ place place' h. (omega arith, h.0, h.1, h.2)) (λ by q. cc)
-  item_exact front line o = exact_one First line (MatchesItem front line) (λ at place at' place' h. (h.0, (h.2, h.1 ∙ h.2))) (λ place place' h. (omega arith, h.1 ∙ sym h.0, h.0)) (λ by q. cc)
-  item_exact end line o = exact_one Last line (MatchesItem end line) (λ at place at' place' h. (h.0, (h.2, h.1 ∙ h.2))) (λ place place' h. (omega arith, h.1 ∙ sym h.0, h.0)) (λ by q. cc)
+  item_exact (set bytes) line o = exact_one {node = Take bytes} line (MatchesItem (set bytes) line) (λ at place at' place' h. (h.0, (h.1, h.2, h.3))) (λ place place' h. (omega arith, h.0, h.1, h.2)) tt
+  item_exact front line o = exact_one {node = First} line (MatchesItem front line) (λ at place at' place' h. (h.0, (h.2, h.1 ∙ h.2))) (λ place place' h. (omega arith, h.1 ∙ sym h.0, h.0)) tt
+  item_exact end line o = exact_one {node = Last} line (MatchesItem end line) (λ at place at' place' h. (h.0, (h.2, h.1 ∙ h.2))) (λ place place' h. (omega arith, h.1 ∙ sym h.0, h.0)) tt
   item_exact (group pattern) line o = code_exact pattern line o
-  item_exact (repeat item low high) line o = exact_repeated (code_of_item item) line (MatchesItem item line) low high (item_exact item line o.0) o.1
+  item_exact (repeat item low high) line o = exact_repeated {code = code_of_item item} line (MatchesItem item line) low high (item_exact item line o.0) o.1
 
 -- the line contains a match just where the end is entered at one of its places
 pub contained : (pattern : Pattern) (line : List ℕ) → IsOrdered pattern → Contains pattern line ↔ ((place : ℕ) × (place ≤ length line) × Entered (code_of pattern) line (length (code_of pattern)) place)

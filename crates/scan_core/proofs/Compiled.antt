@@ -51,15 +51,15 @@ mutual
 abbrev Base : List Pending → Type 0
 Base pending = (pending ≡ []) ⊎ ((around : List Pending) × (pending ≡ around ++ Group ∷ []))
 
-finished_base : (nodes : List Node) (pending : List Pending) (new : Compiling) → Base pending → Finishes nodes pending new → IsNow nodes pending None new
-finished_base nodes pending new (inl e) f = subst (λ p. IsNow nodes p None new) (sym e) (finished_all nodes pending new f e)
-finished_base nodes pending new (inr e) f = finished_group nodes pending e.0 new f e.1
+finished_base : {nodes : List Node} {pending : List Pending} {new : Compiling} → Base pending → Finishes nodes pending new → IsNow nodes pending None new
+finished_base {nodes} {new} (inl e) f = subst (λ p. IsNow nodes p None new) (sym e) (finished_all f e)
+finished_base (inr e) f = finished_group e.0 f e.1
 
 takes_writing : (old new : Compiling) (token : Token) → old.passing ≡ None → Takes old token new → Writes token old new
 takes_writing old new token e t = subst (λ p. TakesIn p token old new) e t
 
-takes_passing : (old new : Compiling) (token : Token) (depth : ℕ) → old.passing ≡ Some depth → Takes old token new → Passes depth token old new
-takes_passing old new token depth e t = subst (λ p. TakesIn p token old new) e t
+takes_passing : (old new : Compiling) (token : Token) {depth : ℕ} → old.passing ≡ Some depth → Takes old token new → Passes depth token old new
+takes_passing old new token e t = subst (λ p. TakesIn p token old new) e t
 
 -- what is passed over leaves nodes and what waits
 passed_from : (depth : ℕ) (old now new : Compiling) → now.nodes.items ≡ old.nodes.items → now.pending.items ≡ old.pending.items → PassesLeaf depth now new → PassesLeaf depth old new
@@ -67,29 +67,29 @@ passed_from zero old now new n p f = subst (λ l. Finishes l old.pending.items n
 passed_from (suc depth) old now new n p f = record { nodes = f.nodes ∙ n; pending = f.pending ∙ p; passing = f.passing }
 
 mutual
-  pass_pattern : (pattern : Pattern) (tokens : List Token) (depth : ℕ) (old final : Compiling) → old.passing ≡ Some (suc depth) → Steps Takes old (backwards pattern ++ tokens) final
+  pass_pattern : (pattern : Pattern) (tokens : List Token) {depth : ℕ} (old final : Compiling) → old.passing ≡ Some (suc depth) → Steps Takes old (backwards pattern ++ tokens) final
       → (new : Compiling) × IsNow old.nodes.items old.pending.items (Some (suc depth)) new × Steps Takes new tokens final
-  pass_pattern nothing tokens depth old final e s = (old, record { nodes = refl; pending = refl; passing = e }, s)
-  pass_pattern (append pattern item) tokens depth old final e s =
+  pass_pattern nothing tokens old final e s = (old, record { nodes = refl; pending = refl; passing = e }, s)
+  pass_pattern (append pattern item) tokens {depth} old final e s =
       let one = pass_item item (backwards pattern ++ tokens) (suc depth) old final e (subst (λ l. Steps Takes old l final) (append_assoc (backwards_item item) (backwards pattern) tokens) s) in
       let now : IsNow old.nodes.items old.pending.items (Some (suc depth)) one.0 = one.1 in
-      let other = pass_pattern pattern tokens depth one.0 final now.passing one.2 in
+      let other = pass_pattern pattern tokens one.0 final now.passing one.2 in
       let new : IsNow one.0.nodes.items one.0.pending.items (Some (suc depth)) other.0 = other.1 in
       (other.0, record { nodes = new.nodes ∙ now.nodes; pending = new.pending ∙ now.pending; passing = new.passing }, other.2)
 
   pass_item : (item : Item) (tokens : List Token) (depth : ℕ) (old final : Compiling) → old.passing ≡ Some depth → Steps Takes old (backwards_item item ++ tokens) final
       → (new : Compiling) × PassesLeaf depth old new × Steps Takes new tokens final
-  pass_item (set bytes) tokens depth old final e s = (s.0, takes_passing old s.0 (Set bytes) depth e s.1, s.2)
-  pass_item front tokens depth old final e s = (s.0, takes_passing old s.0 Front depth e s.1, s.2)
-  pass_item end tokens depth old final e s = (s.0, takes_passing old s.0 End depth e s.1, s.2)
+  pass_item (set bytes) tokens depth old final e s = (s.0, takes_passing old s.0 (Set bytes) {depth = depth} e s.1, s.2)
+  pass_item front tokens depth old final e s = (s.0, takes_passing old s.0 Front {depth = depth} e s.1, s.2)
+  pass_item end tokens depth old final e s = (s.0, takes_passing old s.0 End {depth = depth} e s.1, s.2)
   pass_item (group pattern) tokens depth old final e s =
-      let opened : IsNow old.nodes.items old.pending.items (Some (suc depth)) s.0 = takes_passing old s.0 Close depth e s.1 in
-      let inner = pass_pattern pattern (Open ∷ tokens) depth s.0 final opened.passing (subst (λ l. Steps Takes s.0 l final) (append_assoc (backwards pattern) (Open ∷ []) tokens) s.2) in
+      let opened : IsNow old.nodes.items old.pending.items (Some (suc depth)) s.0 = takes_passing old s.0 Close {depth = depth} e s.1 in
+      let inner = pass_pattern pattern (Open ∷ tokens) {depth = depth} s.0 final opened.passing (subst (λ l. Steps Takes s.0 l final) (append_assoc (backwards pattern) (Open ∷ []) tokens) s.2) in
       let now : IsNow s.0.nodes.items s.0.pending.items (Some (suc depth)) inner.0 = inner.1 in
-      let closed = takes_passing inner.0 inner.2.0 Open (suc depth) now.passing inner.2.1 in
+      let closed = takes_passing inner.0 inner.2.0 Open {depth = suc depth} now.passing inner.2.1 in
       (inner.2.0, passed_from depth old inner.0 inner.2.0 (now.nodes ∙ opened.nodes) (now.pending ∙ opened.pending) closed, inner.2.2)
   pass_item (repeat item low high) tokens depth old final e s =
-      let stays : IsNow old.nodes.items old.pending.items (Some depth) s.0 = takes_passing old s.0 (Repeat low high) depth e s.1 in
+      let stays : IsNow old.nodes.items old.pending.items (Some depth) s.0 = takes_passing old s.0 (Repeat low high) {depth = depth} e s.1 in
       let inner = pass_item item tokens depth s.0 final stays.passing s.2 in
       (inner.0, passed_from depth old s.0 inner.0 stays.nodes stays.pending inner.1, inner.2)
 
@@ -98,12 +98,12 @@ repeated_out : (old code : List Node) (now new : Compiling) (pending : List Pend
     → now.nodes.items ++ reverse code ≡ old ++ begun d.high (reverse code) → now.pending.items ≡ pending ++ Repeated d ∷ []
     → Finishes (now.nodes.items ++ reverse code) now.pending.items new → Finishes (old ++ reverse (copies d.low code ++ tail_of code d.low d.high)) pending new
 repeated_out old code now new pending d s n p f =
-    let out = finished_repeated (now.nodes.items ++ reverse code) now.pending.items pending d new f p in
+    let out = finished_repeated (now.nodes.items ++ reverse code) pending d new f p in
     subst (λ l. Finishes l pending new) (out.1 old code (sym s) n) out.2
 
 -- an item that stands no time
-none_of : (nodes code : List Node) (low : ℕ) → low ≤ 0 → nodes ≡ nodes ++ reverse (copies low code ++ up_to (0 - low) code)
-none_of nodes code low h =
+none_of : {nodes : List Node} (code : List Node) (low : ℕ) → low ≤ 0 → nodes ≡ nodes ++ reverse (copies low code ++ up_to (0 - low) code)
+none_of {nodes} code low h =
     let z : 0 ≡ low = omega (arith, h) in
     let e : 0 ≡ 0 - low = omega arith in
     sym (append-nil nodes) ∙ ap (λ n. nodes ++ reverse (copies n code)) z ∙ ap (λ l. nodes ++ reverse l) (sym (append-nil (copies low code))) ∙ ap (λ n. nodes ++ reverse (copies low code ++ up_to n code)) e
@@ -114,7 +114,7 @@ mutual
   write_pattern nothing tokens old final o e b s = (old, record { nodes = sym (append-nil old.nodes.items); pending = refl; passing = e }, s)
   write_pattern (append pattern item) tokens old final o e b s =
       let one = write_item item (backwards pattern ++ tokens) old final o.1 e (subst (λ l. Steps Takes old l final) (append_assoc (backwards_item item) (backwards pattern) tokens) s) in
-      let now = finished_base (old.nodes.items ++ reverse (code_of_item item)) old.pending.items one.0 b one.1 in
+      let now = finished_base b one.1 in
       let other = write_pattern pattern tokens one.0 final o.0 now.passing (subst Base (sym now.pending) b) one.2 in
       let new : IsNow (one.0.nodes.items ++ reverse (code_of pattern)) one.0.pending.items None other.0 = other.1 in (
         other.0,
@@ -147,7 +147,7 @@ mutual
   write_item (repeat item low (Some zero)) tokens old final o e s =
       let begins : Begins low (Some zero) old s.0 = takes_writing old s.0 (Repeat low (Some zero)) e s.1 in
       let inner = pass_item item tokens 0 s.0 final begins.passing s.2 in
-      (inner.0, subst (λ l. Finishes l old.pending.items inner.0) (begins.nodes ∙ none_of old.nodes.items (code_of_item item) low o.1) (subst (λ p. Finishes s.0.nodes.items p inner.0) begins.pending inner.1), inner.2)
+      (inner.0, subst (λ l. Finishes l old.pending.items inner.0) (begins.nodes ∙ none_of {nodes = old.nodes.items} (code_of_item item) low o.1) (subst (λ p. Finishes s.0.nodes.items p inner.0) begins.pending inner.1), inner.2)
   write_item (repeat item low (Some (suc high))) tokens old final o e s =
       let begins : Begins low (Some (suc high)) old s.0 = takes_writing old s.0 (Repeat low (Some (suc high))) e s.1 in
       let inner = write_item item tokens s.0 final o.0 begins.passing s.2 in
@@ -179,8 +179,8 @@ mutual
       (ordered_item item parts.0, bound_order low high parts.1.0)
 
 -- all tokens were read
-pub compiled : (pattern : Pattern) (tokens : List Token) (first final : Compiling) → tokens ≡ written pattern → AreBounded tokens → IsNow [] [] None first → Steps Takes first (reverse tokens) final → reverse final.nodes.items ≡ code_of pattern
-compiled pattern tokens first final e b n s =
+pub compiled : (pattern : Pattern) {tokens : List Token} {first : Compiling} (final : Compiling) → tokens ≡ written pattern → AreBounded tokens → IsNow [] [] None first → Steps Takes first (reverse tokens) final → reverse final.nodes.items ≡ code_of pattern
+compiled pattern {first} final e b n s =
     let way : Steps Takes first (backwards pattern ++ []) final = subst (λ l. Steps Takes first l final) (ap reverse e ∙ reverse-written pattern ∙ sym (append-nil (backwards pattern))) s in
     let all = write_pattern pattern [] first final (ordered pattern (subst AreBounded e b)) n.passing (inl n.pending) way in
     let now : IsNow (first.nodes.items ++ reverse (code_of pattern)) first.pending.items None all.0 = all.1 in
@@ -191,14 +191,14 @@ pub way_starts : (tokens : List Token) (place : ℕ) (first : Compiling) → len
 way_starts tokens place first h = subst (λ l. Steps Takes first (reverse l) first) (sym (at_drop_all (λ ts. ts) tokens place h)) refl
 
 -- one token more, towards the front
-pub way_more : (tokens : List Token) (place before : ℕ) (token : Token) (first now new : Compiling) → place ≡ before + 1 → before < length tokens → token ≡ get_or tokens before token → Steps Takes first (reverse (drop place tokens)) now → Takes now token new
+pub way_more : (tokens : List Token) {place : ℕ} (before : ℕ) {token : Token} (first now new : Compiling) → place ≡ before + 1 → before < length tokens → token ≡ get_or tokens before token → Steps Takes first (reverse (drop place tokens)) now → Takes now token new
     → Steps Takes first (reverse (drop before tokens)) new
-way_more tokens place before token first now new e h is s t =
+way_more tokens {place} before {token} first now new e h is s t =
     let rest : drop before tokens ≡ token ∷ drop (before + 1) tokens = at_drop_more (λ ts. ts) tokens before token h ∙ ap (λ k. k ∷ drop (before + 1) tokens) (sym is) in
     let all : reverse (drop before tokens) ≡ reverse (drop place tokens) ++ token ∷ [] = ap reverse rest ∙ reverse-append (token ∷ []) (drop (before + 1) tokens) ∙ ap (λ n. reverse (drop n tokens) ++ token ∷ []) (sym e) in
     subst (λ l. Steps Takes first l new) (sym all) (Steps-push Takes first now new (reverse (drop place tokens)) token s t)
 
-pub bounded_at : (tokens : List Token) (place : ℕ) (token : Token) → AreBounded tokens → place < length tokens → token ≡ get_or tokens place token → IsBounded token
-bounded_at [] place token b h e = absurd (omega arith)
-bounded_at (first ∷ tokens) zero token b h e = subst IsBounded (sym e) b.0
-bounded_at (first ∷ tokens) (suc place) token b h e = bounded_at tokens place token b.1 (omega arith) e
+pub bounded_at : (tokens : List Token) (place : ℕ) {token : Token} → AreBounded tokens → place < length tokens → token ≡ get_or tokens place token → IsBounded token
+bounded_at [] place b h e = absurd (omega arith)
+bounded_at (first ∷ tokens) zero b h e = subst IsBounded (sym e) b.0
+bounded_at (first ∷ tokens) (suc place) b h e = bounded_at tokens place b.1 (omega arith) e

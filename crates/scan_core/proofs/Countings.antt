@@ -1,5 +1,5 @@
 -- The positions of a set of words are its bits that are positions.
-use Rattle.std.proofs.Common.{◌≡◌, ◌↔◌, inl, inr, ℕ, zero, suc, ◌+◌, ◌*◌, ◌-◌, ◌/◌, ◌%◌, ◌^◌, ◌<◌, ◌≤◌, Bool, true, false, List, [], ◌∷◌, ◌++◌, length, get_or, refl, sym, ap, ◌∙◌, arith, eqb-true, eq-eqb}
+use Rattle.std.proofs.Common.{◌≡◌, ◌↔◌, inl, inr, ℕ, zero, suc, ◌+◌, ◌*◌, ◌-◌, ◌/◌, ◌%◌, ◌^◌, ◌<◌, ◌≤◌, Bool, true, false, List, [], ◌∷◌, ◌++◌, length, length-append, get_or, refl, sym, ap, ◌∙◌, arith, eqb-true, eq-eqb}
 use Rattle.std.proofs.lemmas.Bool.{cases_lt, cases_eq}
 use Rattle.std.specs.Prelude.{◌==◌, bit_and, count_ones}
 use Rattle.std.specs.Int.Count.{ones_step}
@@ -34,8 +34,8 @@ among_sum code [] = refl
 among_sum [] (mark ∷ marks) = let z = sum_none marks in omega (arith, z)
 among_sum (node ∷ code) (mark ∷ marks) = let r = among_sum code marks in omega (arith, r)
 
-weight_bit : (weight word counts : ℕ) → bit_at counts 0 ≡ weight → weight_if (word % 2 == 1) weight ≡ bit_and word counts % 2
-weight_bit weight word counts e =
+weight_bit : {weight : ℕ} (word counts : ℕ) → bit_at counts 0 ≡ weight → weight_if (word % 2 == 1) weight ≡ bit_and word counts % 2
+weight_bit word counts e =
     let both = bit_at_and word counts 0 in
     let a = bit_at_lowest (bit_and word counts) in
     let b = bit_at_lowest word in
@@ -57,7 +57,7 @@ sum_bits (suc count) weight word counts rest small exact =
     let step = ones_step (bit_and word counts) in
     let shr : bit_and word counts / 2 ≡ bit_and (word / 2) (counts / 2) = and_shr word counts 1 in
     let e = ap count_ones shr in
-    let w = weight_bit (weight 0) word counts (exact 0 (omega arith)) in
+    let w = weight_bit word counts (exact 0 (omega arith)) in
     let same = sum_same (λ n. weight (suc (count + n))) (λ n. weight (suc count + n)) (λ n. ap weight (omega arith)) rest in
     omega (arith, r, step, e, w, same)
   where
@@ -119,6 +119,19 @@ bits_beyond zero word n rest = ap (λ k. get_or rest k false) (omega arith)
 bits_beyond (suc count) word n rest =
     let e : suc count + n ≡ suc (count + n) = omega arith in
     ap (λ k. get_or (bits (suc count) word ++ rest) k false) e ∙ bits_beyond count (word / 2) n rest
+
+bits_length : (count word : ℕ) → length (bits count word) ≡ count
+unfolding bits
+bits_length zero word = refl
+bits_length (suc count) word = let r = bits_length count (word / 2) in omega (arith, r)
+
+pub flags_length : (words : List ℕ) → length (flags_of words) ≡ 64 * length words
+flags_length [] = refl
+flags_length (word ∷ words) =
+    let a = length-append (bits 64 word) (flags_of words) in
+    let b = bits_length 64 word in
+    let r = flags_length words in
+    omega (arith, a, b, r)
 
 flag_is : (words : List ℕ) (n : ℕ) → get_or (flags_of words) n false ≡ (bit_at (get_or words (n / 64) 0) (n % 64) == 1)
 flag_is [] n = sym (ap (λ x. x == 1) (bit_at-zero (n % 64)))

@@ -14,10 +14,10 @@ reverse-starred code =
     ∙ ap (λ l. l ++ Choose (length code + 2) ∷ []) (reverse-append code (Back (length code + 1) ∷ []))
 
 -- without a bound
-pub starred_out : (nodes marked chosen new before code : List Node) (start size low : ℕ) → length before ≡ start → nodes ≡ before ++ Back 0 ∷ reverse code → size ≡ length nodes - start - 1
+pub starred_out : {nodes marked chosen new : List Node} (before code : List Node) {start size : ℕ} (low : ℕ) → length before ≡ start → nodes ≡ before ++ Back 0 ∷ reverse code → size ≡ length nodes - start - 1
     → marked ≡ set nodes start (Back (size + 1)) → chosen ≡ marked ++ Choose (length marked - start + 1) ∷ [] → new ≡ chosen ++ copies low (stretch (start + 1) size chosen)
     → new ≡ before ++ reverse (copies low code ++ starred code)
-starred_out nodes marked chosen new before code start size low b n s m ch e =
+starred_out {marked} {chosen} before code {start} {size} low b n s m ch e =
     e ∙ ap (λ l. chosen ++ copies low l) here ∙ ap (λ l. l ++ copies low (reverse code)) whole
     ∙ append_assoc before (reverse (starred code)) (copies low (reverse code))
     ∙ ap (λ l. before ++ (reverse (starred code) ++ l)) (sym (reverse-copies low code))
@@ -45,8 +45,7 @@ starred_out nodes marked chosen new before code start size low b n s m ch e =
     whole : chosen ≡ before ++ reverse (starred code)
     whole =
         ch ∙ ap (λ l. l ++ Choose (length marked - start + 1) ∷ []) set_now ∙ ap (λ k. (before ++ Back (length code + 1) ∷ reverse code) ++ Choose k ∷ []) skip
-        ∙ append_assoc before (Back (length code + 1) ∷ reverse code) (Choose (length code + 2) ∷ [])
-        ∙ ap (λ l. before ++ l) (sym (reverse-starred code))
+        ∙ append_assoc before (Back (length code + 1) ∷ reverse code) (Choose (length code + 2) ∷ []) ∙ ap (λ l. before ++ l) (sym (reverse-starred code))
 
     parted : chosen ≡ (before ++ Back (length code + 1) ∷ []) ++ (reverse code ++ Choose (length code + 2) ∷ [])
     parted = whole ∙ ap (λ l. before ++ l) (reverse-starred code) ∙ sym (append_assoc before (Back (length code + 1) ∷ []) (reverse code ++ Choose (length code + 2) ∷ []))
@@ -55,36 +54,31 @@ starred_out nodes marked chosen new before code start size low b n s m ch e =
     here =
         let a = length-append before (Back (length code + 1) ∷ []) in
         let r = length-reverse code in
-        ap (stretch (start + 1) size) parted ∙ stretch_after (before ++ Back (length code + 1) ∷ []) (reverse code) (Choose (length code + 2) ∷ []) (start + 1) size (omega (arith, a, b)) (omega (arith, r, counted))
+        ap (stretch (start + 1) size) parted ∙ stretch_after (before ++ Back (length code + 1) ∷ []) (Choose (length code + 2) ∷ []) (omega (arith, a, b)) (omega (arith, r, counted))
 
-counted_item : (nodes before code : List Node) (start : ℕ) → length before ≡ start → nodes ≡ before ++ reverse code → length code ≡ length nodes - start
-counted_item nodes before code start b n =
+counted_item : {nodes : List Node} (before code : List Node) {start : ℕ} → length before ≡ start → nodes ≡ before ++ reverse code → length code ≡ length nodes - start
+counted_item before code b n =
     let l = ap length n in
     let a = length-append before (reverse code) in
     let r = length-reverse code in
     omega (arith, l, a, r, b)
 
 -- the item where it stands, nodes having been written after it
-item_here : (nodes now more before code : List Node) (start size : ℕ) → length before ≡ start → nodes ≡ before ++ reverse code → size ≡ length nodes - start
+item_here : {nodes now : List Node} (more before code : List Node) {start size : ℕ} → length before ≡ start → nodes ≡ before ++ reverse code → size ≡ length nodes - start
     → now ≡ nodes ++ more → stretch start size now ≡ reverse code
-item_here nodes now more before code start size b n s g =
+item_here more before code {start} {size} b n s g =
     let r = length-reverse code in
-    let c = counted_item nodes before code start b n in
-    ap (stretch start size) (g ∙ ap (λ l. l ++ more) n ∙ append_assoc before (reverse code) more)
-    ∙ stretch_after before (reverse code) more start size b (omega (arith, r, s, c))
+    let c = counted_item before code b n in
+    ap (stretch start size) (g ∙ ap (λ l. l ++ more) n ∙ append_assoc before (reverse code) more) ∙ stretch_after before more b (omega (arith, r, s, c))
 
 -- `count` times
-pub exact_out : (nodes new before code : List Node) (start size low high : ℕ) → length before ≡ start → nodes ≡ before ++ reverse code → size ≡ length nodes - start → low ≡ high → 0 < high
+pub exact_out : {nodes new : List Node} (before code : List Node) {start size low high : ℕ} → length before ≡ start → nodes ≡ before ++ reverse code → size ≡ length nodes - start → low ≡ high → 0 < high
     → new ≡ nodes ++ copies (low - 1) (stretch start size nodes) → new ≡ before ++ reverse (copies low code ++ up_to (high - low) code)
-exact_out nodes new before code start size low high b n s same some e =
-    e ∙ ap (λ l. nodes ++ copies (low - 1) l) (item_here nodes nodes [] before code start size b n s (sym (append-nil nodes)))
-    ∙ ap (λ l. l ++ copies (low - 1) (reverse code)) n
-    ∙ append_assoc before (reverse code) (copies (low - 1) (reverse code))
-    ∙ ap (λ l. before ++ l) (copies_turn (low - 1) (reverse code))
-    ∙ ap (λ k. before ++ copies k (reverse code)) one
-    ∙ ap (λ l. before ++ l) (sym (reverse-copies low code))
-    ∙ ap (λ l. before ++ reverse l) (sym (append-nil (copies low code)))
-    ∙ ap (λ k. before ++ reverse (copies low code ++ up_to k code)) none
+exact_out {nodes} before code {low} {high} b n s same some e =
+    e ∙ ap (λ l. nodes ++ copies (low - 1) l) (item_here [] before code b n s (sym (append-nil nodes))) ∙ ap (λ l. l ++ copies (low - 1) (reverse code)) n
+    ∙ append_assoc before (reverse code) (copies (low - 1) (reverse code)) ∙ ap (λ l. before ++ l) (copies_turn (low - 1) (reverse code))
+    ∙ ap (λ k. before ++ copies k (reverse code)) one ∙ ap (λ l. before ++ l) (sym (reverse-copies low code))
+    ∙ ap (λ l. before ++ reverse l) (sym (append-nil (copies low code))) ∙ ap (λ k. before ++ reverse (copies low code ++ up_to k code)) none
   where
     one : suc (low - 1) ≡ low
     one = omega (arith, same, some)
@@ -93,8 +87,8 @@ exact_out nodes new before code start size low high b n s same some e =
     none = omega (arith, same)
 
 -- the first optional copy
-pub optional_first : (nodes new before code : List Node) (start : ℕ) → length before ≡ start → nodes ≡ before ++ reverse code → new ≡ nodes ++ Choose (length nodes - start + 1) ∷ [] → new ≡ before ++ reverse (up_to 1 code)
-optional_first nodes new before code start b n e =
+pub optional_first : {nodes new : List Node} (before code : List Node) {start : ℕ} → length before ≡ start → nodes ≡ before ++ reverse code → new ≡ nodes ++ Choose (length nodes - start + 1) ∷ [] → new ≡ before ++ reverse (up_to 1 code)
+optional_first {nodes} before code {start} b n e =
     e ∙ ap (λ l. l ++ Choose (length nodes - start + 1) ∷ []) n ∙ ap (λ k. (before ++ reverse code) ++ Choose k ∷ []) skip
     ∙ append_assoc before (reverse code) (Choose (length (code ++ []) + 1) ∷ [])
     ∙ ap (λ l. before ++ (reverse l ++ Choose (length (code ++ []) + 1) ∷ [])) (sym (append-nil code))
@@ -102,14 +96,14 @@ optional_first nodes new before code start b n e =
   where
     skip : length nodes - start + 1 ≡ length (code ++ []) + 1
     skip =
-        let s = counted_item nodes before code start b n in
+        let s = counted_item before code b n in
         let a = length-append code [] in
         omega (arith, s, a)
 
 -- one more optional copy
-pub optional_more : (nodes now middle new more before code : List Node) (start size count : ℕ) → length before ≡ start → nodes ≡ before ++ reverse code → size ≡ length nodes - start → now ≡ nodes ++ more
+pub optional_more : {nodes now middle new : List Node} (more before code : List Node) {start size : ℕ} (count : ℕ) → length before ≡ start → nodes ≡ before ++ reverse code → size ≡ length nodes - start → now ≡ nodes ++ more
     → now ≡ before ++ reverse (up_to count code) → middle ≡ now ++ stretch start size now → new ≡ middle ++ Choose (length middle - start + 1) ∷ [] → new ≡ before ++ reverse (up_to (count + 1) code)
-optional_more nodes now middle new more before code start size count b n s g w m e =
+optional_more {now} {middle} more before code {start} count b n s g w m e =
     e ∙ ap (λ l. l ++ Choose (length middle - start + 1) ∷ []) copied ∙ ap (λ k. (before ++ reverse (code ++ up_to count code)) ++ Choose k ∷ []) skip
     ∙ append_assoc before (reverse (code ++ up_to count code)) (Choose (length (code ++ up_to count code) + 1) ∷ [])
     ∙ ap (λ l. before ++ l) (sym (reverse-cons (Choose (length (code ++ up_to count code) + 1)) (code ++ up_to count code)))
@@ -117,7 +111,7 @@ optional_more nodes now middle new more before code start size count b n s g w m
   where
     copied : middle ≡ before ++ reverse (code ++ up_to count code)
     copied =
-        m ∙ ap (λ l. now ++ l) (item_here nodes now more before code start size b n s g)
+        m ∙ ap (λ l. now ++ l) (item_here more before code b n s g)
         ∙ ap (λ l. l ++ reverse code) w ∙ append_assoc before (reverse (up_to count code)) (reverse code)
         ∙ ap (λ l. before ++ l) (sym (reverse-append code (up_to count code)))
 
@@ -129,16 +123,15 @@ optional_more nodes now middle new more before code start size count b n s g w m
         omega (arith, l, a, r, b)
 
 -- the copies that are always there, before the optional ones
-pub bounded_out : (nodes now new more before code : List Node) (start size low high count : ℕ) → length before ≡ start → nodes ≡ before ++ reverse code → size ≡ length nodes - start → now ≡ nodes ++ more
+pub bounded_out : {nodes now new : List Node} (more before code : List Node) {start size : ℕ} (low high : ℕ) {count : ℕ} → length before ≡ start → nodes ≡ before ++ reverse code → size ≡ length nodes - start → now ≡ nodes ++ more
     → now ≡ before ++ reverse (up_to count code) → count ≡ high - low → new ≡ now ++ copies low (stretch start size now) → new ≡ before ++ reverse (copies low code ++ up_to (high - low) code)
-bounded_out nodes now new more before code start size low high count b n s g w k e =
-    e ∙ ap (λ l. now ++ copies low l) (item_here nodes now more before code start size b n s g) ∙ ap (λ l. l ++ copies low (reverse code)) w
+bounded_out {now} more before code low high {count} b n s g w k e =
+    e ∙ ap (λ l. now ++ copies low l) (item_here more before code b n s g) ∙ ap (λ l. l ++ copies low (reverse code)) w
     ∙ append_assoc before (reverse (up_to count code)) (copies low (reverse code))
     ∙ ap (λ l. before ++ (reverse (up_to count code) ++ l)) (sym (reverse-copies low code))
-    ∙ ap (λ l. before ++ l) (sym (reverse-append (copies low code) (up_to count code)))
-    ∙ ap (λ m. before ++ reverse (copies low code ++ up_to m code)) k
+    ∙ ap (λ l. before ++ l) (sym (reverse-append (copies low code) (up_to count code))) ∙ ap (λ m. before ++ reverse (copies low code ++ up_to m code)) k
 
 -- what was written stays at the front
-pub grown_on : (nodes now middle new more first second : List Node) → now ≡ nodes ++ more → middle ≡ now ++ first → new ≡ middle ++ second → (all : List Node) × (new ≡ nodes ++ all)
-grown_on nodes now middle new more first second g m e =
+pub grown_on : (nodes : List Node) {now middle new : List Node} (more first second : List Node) → now ≡ nodes ++ more → middle ≡ now ++ first → new ≡ middle ++ second → (all : List Node) × (new ≡ nodes ++ all)
+grown_on nodes more first second g m e =
     ((more ++ first) ++ second, e ∙ ap (λ l. l ++ second) (m ∙ ap (λ l. l ++ first) g ∙ append_assoc nodes more first) ∙ append_assoc nodes (more ++ first) second)

@@ -15,16 +15,6 @@ use Rattle.scan_core.proofs.Growings.{grows_by, grows_both}
 use Rattle.scan_core.proofs.Insides.{bit_is}
 use Rattle.scan_core.proofs.Visitings.{is_in_word}
 
--- the first numbers of a word that lead to a number
-abbrev pub From : List Node → ℕ → ℕ → ℕ → ℕ → Type 0
-From code at to count word = (bit : ℕ) → bit < 64 → bit_at word bit ≡ 1 → Flows code false false (at * 64 + bit) to
-
-pub from_more : (code : List Node) (at to count word : ℕ) → From code at to count word → count < 64 → Flows code false false (at * 64 + count) to → From code at to (count + 1) (bit_or word (1 * 2 ^ count % 2 ^ 64))
-from_more code at to count word before h here bit small is = elim (cases_eq bit count) [
-  | inl same ↦ subst (λ n. Flows code false false (at * 64 + n) to) (sym same) here
-  | inr other ↦ before bit small (sym (bit_at_set_other w64 word count h bit other) ∙ is)
-]
-
 -- no number leads anywhere
 pub none_leads : (code : List Node) (at to bit : ℕ) → bit_at 0 bit ≡ 1 → Flows code false false (at * 64 + bit) to
 none_leads code at to bit is = let z = bit_at-zero bit in absurd (omega (arith, z, is))
@@ -47,13 +37,10 @@ none_of word from bit none here there =
     let z = ap (λ w. bit_at w bit) none ∙ bit_at-zero bit in
     omega (arith, e, z, here, there)
 
-pub hopped_starts : (hops : List Hop) (at word : ℕ) (words : List ℕ) (on : ℕ) → Grows (Hopped hops at word 0) words words on on
-hopped_starts hops at word words on = grows_none (Hopped hops at word 0) words words on on refl refl (λ number h. let l = h.1 in absurd (omega (arith, l)))
-
-pub hopped_more : (hops : List Hop) (at word count : ℕ) (old now new : List ℕ) (before on on' : ℕ) → word < 2 ^ 64 → (bit_and word (get_or hops (at * 3 + count) no_hop).from ≡ 0 → ⊥) → Grows (Hopped hops at word count) old now before on → Grows (λ other. other ≡ (get_or hops (at * 3 + count) no_hop).to) now new on on'
+pub hopped_more : (hops : List Hop) (at word count : ℕ) {old now new : List ℕ} {before on on' : ℕ} → word < 2 ^ 64 → (bit_and word (get_or hops (at * 3 + count) no_hop).from ≡ 0 → ⊥) → Grows (Hopped hops at word count) old now before on → Grows (λ other. other ≡ (get_or hops (at * 3 + count) no_hop).to) now new on on'
     → Grows (Hopped hops at word (count + 1)) old new before on'
-hopped_more hops at word count old now new before on on' fits some f g =
-    grows_by (λ n. Hopped hops at word count n ⊎ (n ≡ (get_or hops (at * 3 + count) no_hop).to)) (Hopped hops at word (count + 1)) old new before on' (grows_both (Hopped hops at word count) (λ other. other ≡ (get_or hops (at * 3 + count) no_hop).to) old now new before on on' f g) there here
+hopped_more hops at word count {on} fits some f g =
+    grows_by (λ n. Hopped hops at word count n ⊎ (n ≡ (get_or hops (at * 3 + count) no_hop).to)) (Hopped hops at word (count + 1)) (grows_both (Hopped hops at word count) (λ other. other ≡ (get_or hops (at * 3 + count) no_hop).to) on f g) there here
   where
     there : (n : ℕ) → Hopped hops at word count n ⊎ (n ≡ (get_or hops (at * 3 + count) no_hop).to) → Hopped hops at word (count + 1) n
     there n (inl h) = (h.0, (let l = h.1 in omega (arith, l)), h.2, h.3, h.4, h.5, h.6)
@@ -65,10 +52,9 @@ hopped_more hops at word count old now new before on on' fits some f g =
       | inr other ↦ inl (h.0, (let l = h.1 in omega (arith, l, other)), h.2, h.3, h.4, h.5, h.6)
     ]
 
-pub hopped_skip : (hops : List Hop) (at word count : ℕ) (old now : List ℕ) (before on : ℕ) → bit_and word (get_or hops (at * 3 + count) no_hop).from ≡ 0 → Grows (Hopped hops at word count) old now before on → Grows (Hopped hops at word (count + 1)) old now before on
-hopped_skip hops at word count old now before on none f = grows_by (Hopped hops at word count) (Hopped hops at word (count + 1)) old now before on f
-    (λ n h. (h.0, (let l = h.1 in omega (arith, l)), h.2, h.3, h.4, h.5, h.6))
-    here
+pub hopped_skip : (hops : List Hop) (at word count : ℕ) {old now : List ℕ} {before on : ℕ} → bit_and word (get_or hops (at * 3 + count) no_hop).from ≡ 0 → Grows (Hopped hops at word count) old now before on → Grows (Hopped hops at word (count + 1)) old now before on
+hopped_skip hops at word count none f = grows_by (Hopped hops at word count) (Hopped hops at word (count + 1)) f
+    (λ n h. (h.0, (let l = h.1 in omega (arith, l)), h.2, h.3, h.4, h.5, h.6)) here
   where
     here : (n : ℕ) → Hopped hops at word (count + 1) n → Hopped hops at word count n
     here n h = elim (cases_eq h.0 count) [
@@ -77,24 +63,24 @@ hopped_skip hops at word count old now before on none f = grows_by (Hopped hops 
     ]
 
 -- a number by its word and bit
-pub entered_is : (words : List ℕ) (number word bit : ℕ) → word ≡ number / 64 → bit ≡ 1 * 2 ^ (number % 64) % 2 ^ 64 → get_or words word 0 < 2 ^ 64 → (bit_and (get_or words word 0) bit ≡ 0 → ⊥) → IsIn words number
-entered_is words number word bit ew eb fits some =
+pub entered_is : (words : List ℕ) (number : ℕ) {word bit : ℕ} → word ≡ number / 64 → bit ≡ 1 * 2 ^ (number % 64) % 2 ^ 64 → get_or words word 0 < 2 ^ 64 → (bit_and (get_or words word 0) bit ≡ 0 → ⊥) → IsIn words number
+entered_is words number {word} {bit} ew eb fits some =
     let one = one_of (get_or words word 0) bit fits some in
-    let same : number ≡ word * 64 + one.0 = (bit_is word number one.0 (sym ew) one.1).0 (ap (λ x. bit_at x one.0) (sym eb) ∙ one.3) in
+    let same : number ≡ word * 64 + one.0 = (bit_is number one.0 (sym ew) one.1).0 (ap (λ x. bit_at x one.0) (sym eb) ∙ one.3) in
     subst (IsIn words) (sym same) ((is_in_word words word one.0 one.1).0 one.2)
 
-pub absent_is : (words : List ℕ) (number word bit : ℕ) → word ≡ number / 64 → bit ≡ 1 * 2 ^ (number % 64) % 2 ^ 64 → bit_and (get_or words word 0) bit ≡ 0 → IsIn words number → ⊥
-absent_is words number word bit ew eb none h =
+pub absent_is : (words : List ℕ) (number : ℕ) {word bit : ℕ} → word ≡ number / 64 → bit ≡ 1 * 2 ^ (number % 64) % 2 ^ 64 → bit_and (get_or words word 0) bit ≡ 0 → IsIn words number → ⊥
+absent_is words number {word} {bit} ew eb none h =
     let same : number ≡ word * 64 + number % 64 = omega (arith, ew) in
     let one = (is_in_word words word (number % 64) (omega arith)).1 (subst (IsIn words) same h) in
-    let two = ap (λ x. bit_at x (number % 64)) eb ∙ (bit_is word number (number % 64) (sym ew) (omega arith)).1 same in
+    let two = ap (λ x. bit_at x (number % 64)) eb ∙ (bit_is number (number % 64) (sym ew) (omega arith)).1 same in
     none_of (get_or words word 0) bit (number % 64) none one two
 
-pub follow_new : (old new : List ℕ) (number word bit before on : ℕ) → number < 64 * length old → word ≡ number / 64 → bit ≡ 1 * 2 ^ (number % 64) % 2 ^ 64 → get_or old word 0 < 2 ^ 64 → bit_and (get_or old word 0) bit ≡ 0 → new ≡ set old word (bit_or (get_or old word 0) bit) → on ≡ min before word
+pub follow_new : {old new : List ℕ} (number : ℕ) {word bit before on : ℕ} → number < 64 * length old → word ≡ number / 64 → bit ≡ 1 * 2 ^ (number % 64) % 2 ^ 64 → get_or old word 0 < 2 ^ 64 → bit_and (get_or old word 0) bit ≡ 0 → new ≡ set old word (bit_or (get_or old word 0) bit) → on ≡ min before word
     → Grows (λ other. other ≡ number) old new before on
-follow_new old new number word bit before on h ew eb fits none en eo =
-    grows_one old new number (get_or old word 0) before on h (absent_is old number word bit ew eb none) (ap (λ k. get_or old k 0) ew) fits
+follow_new {old} number {word} {bit} {before} h ew eb fits none en eo =
+    grows_one number h (absent_is old number ew eb none) (ap (λ k. get_or old k 0) ew) fits
     (en ∙ ap (λ k. set old k (bit_or (get_or old word 0) bit)) ew ∙ ap (λ x. set old (number / 64) (bit_or (get_or old word 0) x)) eb) (eo ∙ ap (min before) ew)
 
-pub follow_old : (words : List ℕ) (number word bit on : ℕ) → word ≡ number / 64 → bit ≡ 1 * 2 ^ (number % 64) % 2 ^ 64 → get_or words word 0 < 2 ^ 64 → (bit_and (get_or words word 0) bit ≡ 0 → ⊥) → Grows (λ other. other ≡ number) words words on on
-follow_old words number word bit on ew eb fits some = grows_none (λ other. other ≡ number) words words on on refl refl (λ other e. subst (IsIn words) (sym e) (entered_is words number word bit ew eb fits some))
+pub follow_old : {words : List ℕ} (number : ℕ) {word bit on : ℕ} → word ≡ number / 64 → bit ≡ 1 * 2 ^ (number % 64) % 2 ^ 64 → get_or words word 0 < 2 ^ 64 → (bit_and (get_or words word 0) bit ≡ 0 → ⊥) → Grows (λ other. other ≡ number) words words on on
+follow_old {words} number ew eb fits some = grows_none (λ other. other ≡ number) (λ other e. subst (IsIn words) (sym e) (entered_is words number ew eb fits some))

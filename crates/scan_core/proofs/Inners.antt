@@ -10,30 +10,30 @@ use Rattle.scan_core.specs.Code.{Entered, weight}
 use Rattle.scan_core.specs.Counted.{AreSteps, EndsIn, HasStepsBefore, IsStepCount, set_at}
 use Rattle.scan_core.specs.Sets.{IsMarked, positions_among}
 use Rattle.scan_core.specs.inner.Sets.{Flows, FlowsOn, Passes}
-use Rattle.scan_core.specs.inner.Table.{Next, Inner, InSets, entry, IsState, no_state, IsTableOf, Walked}
+use Rattle.scan_core.specs.inner.Table.{Next, Inner, InSets, entry, IsState, no_state, IsTableOf, Walked, IsCounted}
 use Rattle.scan_core.specs.Table.{IsOutcome}
 use Rattle.scan_core.proofs.Enterings.{positions_most, weight_length, parts_anywhere}
 use Rattle.scan_core.proofs.Codes.{parts_join}
-use Rattle.scan_core.proofs.Along.{closes_exact, came_exact, one_counted, none_counted, steps_more, steps_wider, steps_before}
+use Rattle.scan_core.proofs.Along.{closes_exact, came_exact, counted_starts, counted_more, counted_found, counted_ends, steps_more, steps_wider}
 
 -- at every place but the last
 pub inner_entered : (code : List Node) (line : List ℕ) (place : ℕ) → place < length line → (number : ℕ) → Inner code line place number ↔ Entered code line number place
 inner_entered code line zero h number =
-    closes_exact code line 0 true false (λ n. ⊥) (Inner code line 0) (record { within = omega arith; first = (λ t. refl, λ e. refl); last = (λ t. absurd (false≢true t), λ e. absurd (omega (arith, e, h))) })
+    closes_exact code line (λ n. ⊥) (Inner code line 0) (record { within = omega arith; first = (λ t. refl, λ e. refl); last = (λ t. absurd (false≢true t), λ e. absurd (omega (arith, e, h))) })
     (λ n. (λ b. absurd b, λ c. absurd (omega (arith, c.1))))
     (λ n. (λ f. (0, inr refl, f), λ f. elim f.1 [ inl b ↦ absurd b | inr e ↦ subst (λ k. FlowsOn code true false k n) e f.2 ])) number
 inner_entered code line (suc place) h number =
-    closes_exact code line (suc place) false false (λ n. (before : ℕ) × Inner code line place before × Passes code (slice_index line place) before n) (Inner code line (suc place))
+    closes_exact code line (λ n. (before : ℕ) × Inner code line place before × Passes code (slice_index line place) before n) (Inner code line (suc place))
     (record { within = omega (arith, h); first = (λ t. absurd (false≢true t), λ e. absurd (omega (arith, e))); last = (λ t. absurd (false≢true t), λ e. absurd (omega (arith, e, h))) })
-    (came_exact code line place (slice_index line place) (Inner code line place) (inner_entered code line place (omega (arith, h))) (omega (arith, h)) refl)
+    (came_exact code line place (Inner code line place) (inner_entered code line place (omega (arith, h))) (omega (arith, h)) refl)
     (λ n. (λ f. f, λ f. f)) number
 
-pub next_by : (code : List Node) (byte : ℕ) (One Other : ℕ → Type 0) → ((n : ℕ) → One n → Other n) → (number : ℕ) → Next code byte One number → Next code byte Other number
-next_by code byte One Other there number h = (h.0, elim h.1 [ inl s ↦ inl (s.0, there s.0 s.1, s.2) | inr e ↦ inr e ], h.2)
+pub next_by : (code : List Node) {byte : ℕ} (One Other : ℕ → Type 0) → ((n : ℕ) → One n → Other n) → (number : ℕ) → Next code byte One number → Next code byte Other number
+next_by code One Other there number h = (h.0, elim h.1 [ inl s ↦ inl (s.0, there s.0 s.1, s.2) | inr e ↦ inr e ], h.2)
 
 -- at the last place, after a byte
-pub last_entered : (code : List Node) (line : List ℕ) (place : ℕ) → suc place ≡ length line → (number : ℕ) → Entered code line number (suc place) ↔ ((from : ℕ) × Inner code line (suc place) from × FlowsOn code false true from number)
-last_entered code line place h number = (
+pub last_entered : (code : List Node) (line : List ℕ) {place : ℕ} → suc place ≡ length line → (number : ℕ) → Entered code line number (suc place) ↔ ((from : ℕ) × Inner code line (suc place) from × FlowsOn code false true from number)
+last_entered code line {place} h number = (
   λ e. let f = (exact number).1 e in (f.0, (f.0, f.1, (0, refl)), f.2),
   λ k.
       let before = parts_anywhere code false true k.1.2.0 k.1.0 k.0 k.1.2.1 in
@@ -41,197 +41,126 @@ last_entered code line place h number = (
 )
   where
     exact : (n : ℕ) → ((from : ℕ) × (((before : ℕ) × Inner code line place before × Passes code (slice_index line place) before from) ⊎ (from ≡ 0)) × FlowsOn code false true from n) ↔ Entered code line n (suc place)
-    exact n = closes_exact code line (suc place) false true (λ m. (before : ℕ) × Inner code line place before × Passes code (slice_index line place) before m)
+    exact n = closes_exact code line (λ m. (before : ℕ) × Inner code line place before × Passes code (slice_index line place) before m)
         (λ m. (from : ℕ) × (((before : ℕ) × Inner code line place before × Passes code (slice_index line place) before from) ⊎ (from ≡ 0)) × FlowsOn code false true from m)
         (record { within = omega (arith, h); first = (λ t. absurd (false≢true t), λ e. absurd (omega (arith, e))); last = (λ t. h, λ e. refl) })
-        (came_exact code line place (slice_index line place) (Inner code line place) (inner_entered code line place (omega (arith, h))) (omega (arith, h)) refl)
+        (came_exact code line place (Inner code line place) (inner_entered code line place (omega (arith, h))) (omega (arith, h)) refl)
         (λ m. (λ f. f, λ f. f)) n
 
-pub walked_starts : (code : List Node) (sets : List (List Bool)) (table : Table) (line : List ℕ) → IsTableOf code sets table → Walked code sets line 0 0 0
-walked_starts code sets table line t = record { within = omega arith; known = t.some; exact = t.front; none = λ before h. absurd (omega (arith, h)); counted = none_counted code line; bound = omega arith }
+pub walked_starts : {code : List Node} {sets : List (List Bool)} {table : Table} (line : List ℕ) → IsTableOf code sets table → Walked code sets line 0 0 0
+walked_starts {code} line t = record { within = omega arith; known = t.some; exact = t.front; so_far = counted_starts code line }
 
 -- what is entered where the state's set is, and before
-walked_here : (code : List Node) (sets : List (List Bool)) (line : List ℕ) (place state steps : ℕ) → Walked code sets line place state steps
+walked_here : {code : List Node} {sets : List (List Bool)} (line : List ℕ) {place state steps : ℕ} → Walked code sets line place state steps
     → place < length line → (number : ℕ) → InSets sets state number ↔ Entered code line number place
-walked_here code sets line place state steps w h number =
+walked_here {code} line {place} w h number =
     let i = inner_entered code line place h number in
     (λ m. i.0 ((w.exact number).0 m), λ f. (w.exact number).1 (i.1 f))
 
-walked_none : (code : List Node) (sets : List (List Bool)) (table : Table) (line : List ℕ) (place state steps : ℕ) → IsTableOf code sets table
-    → Walked code sets line place state steps → place < length line → (before : ℕ) → before < suc place → Entered code line (length code) before → ⊥
-walked_none code sets table line place state steps t w h before l f = elim (cases_eq before place) [
-  | inl same ↦ t.none state w.known ((walked_here code sets line place state steps w h (length code)).1 (subst (λ p. Entered code line (length code) p) same f))
-  | inr other ↦ w.none before (omega (arith, l, other)) f
-]
-
 -- one byte more
-pub walked_more : (code : List Node) (sets : List (List Bool)) (table : Table) (line : List ℕ) (place state next steps steps' : ℕ) → IsTableOf code sets table → Walked code sets line place state steps → place < length line → slice_index line place < 256
+pub walked_more : {code : List Node} {sets : List (List Bool)} {table : Table} (line : List ℕ) {place state next steps steps' : ℕ} → IsTableOf code sets table → Walked code sets line place state steps → place < length line → slice_index line place < 256
     → next ≡ entry table.rows.items state (slice_index line place) → next < 65534 → steps' ≡ steps + positions_among code (set_at sets state) → Walked code sets line (suc place) next steps'
-walked_more code sets table line place state next steps steps' t w h b e k p = record {
+walked_more {code} {sets} {table} line {place} {state} {steps} {steps'} t w h b e k p = record {
   within = omega (arith, h);
   known = omega (arith, e, step.0);
   exact = λ number. subst (λ s. InSets sets s number ↔ Inner code line (suc place) number) (sym e) (
-    λ i. next_by code (slice_index line place) (InSets sets state) (Inner code line place) (λ n. (w.exact n).0) number ((step.1 number).0 i),
-    λ i. (step.1 number).1 (next_by code (slice_index line place) (Inner code line place) (InSets sets state) (λ n. (w.exact n).1) number i),
+    λ i. next_by code (InSets sets state) (Inner code line place) (λ n. (w.exact n).0) number ((step.1 number).0 i),
+    λ i. (step.1 number).1 (next_by code (Inner code line place) (InSets sets state) (λ n. (w.exact n).1) number i),
   );
-  none = walked_none code sets table line place state steps t w h;
-  counted =
+  so_far =
       let one : place + 1 ≡ suc place = omega arith in
-      subst (λ n. AreSteps code line n steps') one
-      (one_counted code line place steps steps' (set_at sets state) w.counted (walked_here code sets line place state steps w h) p);
-  bound =
-      let m = positions_most code (set_at sets state) in
-      let q = steps_more place steps (positions_among code (set_at sets state)) (weight code + 1) w.bound m in
-      let one : place + 1 ≡ suc place = omega arith in
-      let e2 = ap (λ n. n * (weight code + 1)) one in
-      omega (arith, q, p, e2);
+      subst (λ n. IsCounted code line n steps') one (subst (IsCounted code line (place + 1)) (sym p) (counted_more (set_at sets state) w.so_far (walked_here line w h) (t.none state w.known)));
 }
   where
     step : (entry table.rows.items state (slice_index line place) < length sets) × ((number : ℕ) → InSets sets (entry table.rows.items state (slice_index line place)) number ↔ Next code (slice_index line place) (InSets sets state) number)
     step = (t.told state (slice_index line place) w.known b).next (omega (arith, e, k))
 
-walked_stay : (code : List Node) (sets : List (List Bool)) (table : Table) (line : List ℕ) (more place state steps : ℕ) → IsTableOf code sets table → Walked code sets line place state steps → place + more ≤ length line → ((k : ℕ) → k < length line → slice_index line k < 256)
+walked_stay : {code : List Node} {sets : List (List Bool)} {table : Table} (line : List ℕ) (more : ℕ) {place state steps : ℕ} → IsTableOf code sets table → Walked code sets line place state steps → place + more ≤ length line → ((k : ℕ) → k < length line → slice_index line k < 256)
     → ((k : ℕ) → place ≤ k → k < place + more → entry table.rows.items state (slice_index line k) ≡ state) → Walked code sets line (place + more) state (steps + positions_among code (set_at sets state) * more)
-walked_stay code sets table line zero place state steps t w h b s =
+walked_stay {code} {sets} line zero {place} {state} {steps} t w h b s =
     let e : place ≡ place + 0 = omega arith in
     let z : positions_among code (set_at sets state) * 0 ≡ 0 = grind arith in
     let q : steps ≡ steps + positions_among code (set_at sets state) * 0 = omega (arith, z) in
     subst (λ p. Walked code sets line p state (steps + positions_among code (set_at sets state) * 0)) e (subst (λ n. Walked code sets line place state n) q w)
-walked_stay code sets table line (suc more) place state steps t w h b s =
-    let before = walked_stay code sets table line more place state steps t w (omega (arith, h)) b (λ k l u. s k l (omega (arith, u))) in
+walked_stay {code} {sets} line (suc more) {place} {state} {steps} t w h b s =
+    let before = walked_stay line more t w (omega (arith, h)) b (λ k l u. s k l (omega (arith, u))) in
     let m = t.most in
     let z : positions_among code (set_at sets state) * suc more ≡ positions_among code (set_at sets state) * more + positions_among code (set_at sets state) = mul-suc (positions_among code (set_at sets state)) more in
-    let last = walked_more code sets table line (place + more) state state (steps + positions_among code (set_at sets state) * more) (steps + positions_among code (set_at sets state) * suc more) t before (omega (arith, h)) (b (place + more) (omega (arith, h)))
+    let last = walked_more line t before (omega (arith, h)) (b (place + more) (omega (arith, h)))
     (sym (s (place + more) (omega arith) (omega arith))) (let l = w.known in omega (arith, m, l)) (omega (arith, z)) in
     let e : suc (place + more) ≡ place + suc more = omega arith in
     subst (λ p. Walked code sets line p state (steps + positions_among code (set_at sets state) * suc more)) e last
 
--- a stretch in which the state stays
-pub walked_run : (code : List Node) (sets : List (List Bool)) (table : Table) (line : List ℕ) (from to state steps : ℕ) → IsTableOf code sets table → Walked code sets line from state steps → from ≤ to → to ≤ length line → ((k : ℕ) → k < length line → slice_index line k < 256)
-    → ((k : ℕ) → from ≤ k → k < to → entry table.rows.items state (slice_index line k) ≡ state) → Walked code sets line to state (steps + positions_among code (set_at sets state) * (to - from))
-walked_run code sets table line from to state steps t w l h b s =
-    let q : from + (to - from) ≡ to = omega (arith, l) in
-    subst (λ p. Walked code sets line p state (steps + positions_among code (set_at sets state) * (to - from))) q
-    (walked_stay code sets table line (to - from) from state steps t w (omega (arith, l, h)) b (λ k m u. s k m (omega (arith, u, l))))
-
 -- what is entered after a byte is entered also where the line ends there
 entered_there : (code : List Node) (line : List ℕ) (place number : ℕ) → place < length line → Inner code line (suc place) number → Entered code line number (suc place)
 entered_there code line place number h i = elim (cases_eq (suc place) (length line)) [
-  | inl same ↦ (last_entered code line place same number).1 (number, i, (0, refl))
+  | inl same ↦ (last_entered code line same number).1 (number, i, (0, refl))
   | inr other ↦ (inner_entered code line (suc place) (omega (arith, h, other)) number).0 i
 ]
 
-pub walked_stops : (code : List Node) (sets : List (List Bool)) (table : Table) (line : List ℕ) (place state steps : ℕ) → IsTableOf code sets table → Walked code sets line place state steps → place < length line → slice_index line place < 256
-    → entry table.rows.items state (slice_index line place) ≡ 65535 → EndsIn code line
-walked_stops code sets table line place state steps t w h b e = (
-  suc place,
-  omega (arith, h),
-  entered_there code line place (length code) h
-      (next_by code (slice_index line place) (InSets sets state) (Inner code line place) (λ n. (w.exact n).0) (length code) ((t.told state (slice_index line place) w.known b).stop e)),
-)
+pub entry_read : {table : Table} {code : List Node} {sets : List (List Bool)} (state byte : ℕ) {read : ℕ} (d : ℕ) → IsTableOf code sets table → state < length sets → byte < 256 → read ≡ get_or table.rows.items (state * 256 + byte) d → read ≡ entry table.rows.items state byte
+entry_read {table} state byte d t h b e = e ∙ get_or_default table.rows.items (state * 256 + byte) d 0 (let r = t.rows in omega (arith, h, b, r))
 
--- where a byte leads to the end, it is entered first
-walked_least : (code : List Node) (sets : List (List Bool)) (table : Table) (line : List ℕ) (place state steps : ℕ) → IsTableOf code sets table → Walked code sets line place state steps → place < length line → slice_index line place < 256
-    → entry table.rows.items state (slice_index line place) ≡ 65535 → HasStepsBefore code line (steps + positions_among code (set_at sets state))
-unfolding walked_stops
-walked_least code sets table line place state steps t w h b e =
-    let now : ℕ = steps + positions_among code (set_at sets state) in
-    let counted = one_counted code line place steps now (set_at sets state) w.counted (walked_here code sets line place state steps w h) refl in
-    let one : place + 1 ≡ suc place = omega arith in
-    let ends = (walked_stops code sets table line place state steps t w h b e).2 in
-    steps_before code line (suc place) now now (omega (arith, h)) ends (walked_none code sets table line place state steps t w h)
-    (subst (λ n. AreSteps code line n now) one counted) (omega arith)
-
--- the steps of a byte that leads to the end, as they are noted
-pub walk_least : (code : List Node) (sets : List (List Bool)) (table : Table) (line : List ℕ) (place state steps added : ℕ) (noted : State) → IsTableOf code sets table → Walked code sets line place state steps → place < length line → slice_index line place < 256
-    → entry table.rows.items state (slice_index line place) ≡ 65535 → IsState code sets table.rows.items state noted → added ≡ noted.positions → HasStepsBefore code line (steps + added)
-walk_least code sets table line place state steps added noted t w h b e n same =
-    subst (λ p. HasStepsBefore code line (steps + p)) (sym (same ∙ n.positions)) (walked_least code sets table line place state steps t w h b e)
-
--- the line's end
-pub record WalkEnds (code : List Node) (line : List ℕ) (found : Bool) (steps : ℕ) : Type 0 where
-  pub exact : IsTrue found ↔ EndsIn code line
-  pub counted : IsStepCount code line steps
-  pub least : IsTrue found → HasStepsBefore code line steps
-  pub bound : steps ≤ (length line + 1) * (weight code + 1)
-
-pub walked_ends : (code : List Node) (sets : List (List Bool)) (rows : List ℕ) (line : List ℕ) (place state steps : ℕ) (noted : State) → IsState code sets rows state noted → Walked code sets line place state steps → place ≡ length line → 0 < length line
-    → WalkEnds code line noted.ends (steps + noted.last_positions)
-walked_ends code sets rows line zero state steps noted n w h some = absurd (omega (arith, h, some))
-walked_ends code sets rows line (suc place) state steps noted n w h some = record {
-  exact = (
-    λ f. (suc place, omega (arith, h), (last (length code)).0 (n.ends.0 f)),
-    λ k. elim (cases_eq k.0 (suc place)) [
-      | inl same ↦ n.ends.1 ((last (length code)).1 (subst (λ p. Entered code line (length code) p) same k.2))
-      | inr other ↦ absurd (w.none k.0 (omega (arith, k.1, h, other)) k.2)
-    ],
-  );
-  counted = subst (λ m. AreSteps code line (m + 1) (steps + noted.last_positions)) h
-      (one_counted code line (suc place) steps (steps + noted.last_positions) n.last w.counted last (ap (λ p. steps + p) n.last_positions));
-  least = λ f. steps_before code line (suc place) steps _ (omega (arith, h)) ((last (length code)).0 (n.ends.0 f)) w.none w.counted (omega arith);
-  bound =
-      let m = positions_most code n.last in
-      let q = steps_more (suc place) steps noted.last_positions (weight code + 1) w.bound (let p = n.last_positions in omega (arith, m, p)) in
-      let e = ap (λ m. (m + 1) * (weight code + 1)) h in
-      omega (arith, q, e);
-}
-  where
-    last : (number : ℕ) → IsMarked n.last number ↔ Entered code line number (suc place)
-    last number = (
-      λ m. let k = (n.last_exact number).0 m in (last_entered code line place h number).1 (k.0, (w.exact k.0).0 k.1, k.2),
-      λ f. let k = (last_entered code line place h number).0 f in (n.last_exact number).1 (k.0, (w.exact k.0).1 k.1, k.2),
-    )
-
-pub entry_read : (table : Table) (code : List Node) (sets : List (List Bool)) (state byte read d : ℕ) → IsTableOf code sets table → state < length sets → byte < 256 → read ≡ get_or table.rows.items (state * 256 + byte) d → read ≡ entry table.rows.items state byte
-entry_read table code sets state byte read d t h b e = e ∙ get_or_default table.rows.items (state * 256 + byte) d 0 (let r = t.rows in omega (arith, h, b, r))
-
-pub noted_read : (table : Table) (code : List Node) (sets : List (List Bool)) (state : ℕ) (read d : State) → IsTableOf code sets table → state < length sets → read ≡ get_or table.states.items state d → IsState code sets table.rows.items state read
-noted_read table code sets state read d t h e = subst (IsState code sets table.rows.items state) (sym (e ∙ get_or_default table.states.items state d no_state (let s = t.states in omega (arith, h, s)))) (t.noted state h)
+pub noted_read : {table : Table} {code : List Node} {sets : List (List Bool)} {state : ℕ} {read : State} (d : State) → IsTableOf code sets table → state < length sets → read ≡ get_or table.states.items state d → IsState code sets table.rows.items state read
+noted_read {table} {code} {sets} {state} d t h e = subst (IsState code sets table.rows.items state) (sym (e ∙ get_or_default table.states.items state d no_state (let s = t.states in omega (arith, h, s)))) (t.noted state h)
 
 -- along a line, by some table's sets
 abbrev pub WalkedOf : List Node → Table → List ℕ → ℕ → ℕ → ℕ → Type 0
 WalkedOf code table line place state steps = (sets : List (List Bool)) × IsTableOf code sets table × Walked code sets line place state steps
 
-pub walk_run : (code : List Node) (table : Table) (line : List ℕ) (from to state steps added : ℕ) (noted d : State) → WalkedOf code table line from state steps → from ≤ to → to ≤ length line → ((k : ℕ) → k < length line → slice_index line k < 256)
+-- a stretch in which the state stays
+pub walk_run : (code : List Node) (table : Table) (line : List ℕ) (from to : ℕ) {state : ℕ} (steps : ℕ) {added : ℕ} {noted : State} (d : State) → WalkedOf code table line from state steps → from ≤ to → to ≤ length line → ((k : ℕ) → k < length line → slice_index line k < 256)
     → ((k : ℕ) → from ≤ k → k < to → entry table.rows.items state (slice_index line k) ≡ state) → noted ≡ get_or table.states.items state d → added ≡ noted.positions * (to - from) → WalkedOf code table line to state (steps + added)
-walk_run code table line from to state steps added noted d w l h b s e a =
-    let n = noted_read table code w.0 state noted d w.1 w.2.known e in
-    let q : steps + positions_among code (set_at w.0 state) * (to - from) ≡ steps + added = ap (λ p. steps + p * (to - from)) (sym n.positions) ∙ ap (λ p. steps + p) (sym a) in
-    (w.0, w.1, subst (Walked code w.0 line to state) q (walked_run code w.0 table line from to state steps w.1 w.2 l h b s))
+walk_run code table line from to {state} steps {added} d w l h b s e a =
+    let n = noted_read d w.1 w.2.known e in
+    let more : steps + positions_among code (set_at w.0 state) * (to - from) ≡ steps + added = ap (λ p. steps + p * (to - from)) (sym n.positions) ∙ ap (λ p. steps + p) (sym a) in
+    let there : from + (to - from) ≡ to = omega (arith, l) in
+    let stays = walked_stay line (to - from) w.1 w.2 (omega (arith, l, h)) b (λ k m u. s k m (omega (arith, u, l))) in
+    (w.0, w.1, subst (Walked code w.0 line to state) more (subst (λ p. Walked code w.0 line p state (steps + positions_among code (set_at w.0 state) * (to - from))) there stays))
 
-pub walk_next : (code : List Node) (table : Table) (line : List ℕ) (place state next steps d' : ℕ) (noted d : State) → WalkedOf code table line place state steps → place < length line → slice_index line place < 256
+pub walk_next : (code : List Node) (table : Table) (line : List ℕ) (place state : ℕ) {next : ℕ} (steps d' : ℕ) {noted : State} (d : State) → WalkedOf code table line place state steps → place < length line → slice_index line place < 256
     → next ≡ get_or table.rows.items (state * 256 + slice_index line place) d' → next < 65534 → noted ≡ get_or table.states.items state d → WalkedOf code table line (place + 1) next (steps + noted.positions)
-walk_next code table line place state next steps d' noted d w h b e k f =
-    let n = noted_read table code w.0 state noted d w.1 w.2.known f in
-    let r = entry_read table code w.0 state (slice_index line place) next d' w.1 w.2.known b e in
+walk_next code table line place state {next} steps d' {noted} d w h b e k f =
+    let n = noted_read d w.1 w.2.known f in
+    let r = entry_read state (slice_index line place) d' w.1 w.2.known b e in
     let one : suc place ≡ place + 1 = omega arith in
-    (w.0, w.1, subst (λ p. Walked code w.0 line p next (steps + noted.positions)) one (walked_more code w.0 table line place state next steps (steps + noted.positions) w.1 w.2 h b r k (ap (λ p. steps + p) n.positions)))
+    (w.0, w.1, subst (λ p. Walked code w.0 line p next (steps + noted.positions)) one (walked_more line w.1 w.2 h b r k (ap (λ p. steps + p) n.positions)))
 
 -- one place more
-pub walk_one : (code : List Node) (table : Table) (line : List ℕ) (place state steps : ℕ) (noted d : State) → WalkedOf code table line place state steps → noted ≡ get_or table.states.items state d
+pub walk_one : (code : List Node) (table : Table) (line : List ℕ) (place state steps : ℕ) {noted : State} (d : State) → WalkedOf code table line place state steps → noted ≡ get_or table.states.items state d
     → steps + noted.positions ≤ (place + 1) * (weight code + 1)
-walk_one code table line place state steps noted d w f =
-    let n = noted_read table code w.0 state noted d w.1 w.2.known f in
+walk_one code table line place state steps {noted} d w f =
+    let n = noted_read d w.1 w.2.known f in
     let m = positions_most code (set_at w.0 state) in
-    steps_more place steps noted.positions (weight code + 1) w.2.bound (let p = n.positions in omega (arith, m, p))
+    steps_more place steps noted.positions (weight code + 1) w.2.so_far.bound (let p = n.positions in omega (arith, m, p))
 
-pub walk_stops : (code : List Node) (table : Table) (line : List ℕ) (place state next steps d' : ℕ) (noted d : State) → WalkedOf code table line place state steps → place < length line → slice_index line place < 256
+-- a byte leads to the end
+pub walk_stops : {code : List Node} (table : Table) (line : List ℕ) (place state : ℕ) {next steps : ℕ} (d' : ℕ) {noted : State} (d : State) → WalkedOf code table line place state steps → place < length line → slice_index line place < 256
     → next ≡ get_or table.rows.items (state * 256 + slice_index line place) d' → next ≡ 65535 → noted ≡ get_or table.states.items state d → IsOutcome code line (record { found = true; steps = steps + noted.positions })
-walk_stops code table line place state next steps d' noted d w h b e k f =
-    let r = entry_read table code w.0 state (slice_index line place) next d' w.1 w.2.known b e in
-    record {
-      exact = (λ t. walked_stops code w.0 table line place state steps w.1 w.2 h b (sym r ∙ k), λ t. refl);
-      counted = λ f. absurd (false≢true (sym f));
-      least = λ t. walk_least code w.0 table line place state steps noted.positions noted w.1 w.2 h b (sym r ∙ k) (noted_read table code w.0 state noted d w.1 w.2.known f) refl;
-      bound = steps_wider (place + 1) (length line + 1) (steps + noted.positions) (weight code + 1) (walk_one code table line place state steps noted d w f) (omega (arith, h));
-    }
+walk_stops {code} table line place state {steps} d' {noted} d w h b e k f =
+    let r = entry_read state (slice_index line place) d' w.1 w.2.known b e in
+    let n = noted_read d w.1 w.2.known f in
+    let next = next_by code (InSets w.0 state) (Inner code line place) (λ m. (w.2.exact m).0) (length code) ((w.1.told state (slice_index line place) w.2.known b).stop (sym r ∙ k)) in
+    let one : suc place ≡ place + 1 = omega arith in
+    let counted = subst (λ p. IsCounted code line (place + 1) (steps + p)) (sym n.positions) (counted_more (set_at w.0 state) w.2.so_far (walked_here line w.2 h) (w.1.none state w.2.known)) in
+    counted_found counted (omega (arith, h)) (subst (Entered code line (length code)) one (entered_there code line place (length code) h next)) (omega arith)
+    (steps_wider (place + 1) (length line + 1) (steps + noted.positions) (weight code + 1) (walk_one code table line place state steps d w f) (omega (arith, h)))
 
-pub walk_ends : (code : List Node) (table : Table) (line : List ℕ) (place state steps : ℕ) (noted d : State) → WalkedOf code table line place state steps → place ≡ length line → 0 < length line → noted ≡ get_or table.states.items state d
+-- the line's end
+pub walk_ends : {code : List Node} (table : Table) (line : List ℕ) (place : ℕ) (state steps : ℕ) {noted : State} (d : State) → WalkedOf code table line place state steps → place ≡ length line → 0 < length line → noted ≡ get_or table.states.items state d
     → IsOutcome code line (record { found = noted.ends; steps = steps + noted.last_positions })
-walk_ends code table line place state steps noted d w h some e =
-    let n = noted_read table code w.0 state noted d w.1 w.2.known e in
-    let q = walked_ends code w.0 table.rows.items line place state steps noted n w.2 h some in
-    record { exact = q.exact; counted = λ f. q.counted; least = q.least; bound = q.bound }
+walk_ends table line zero state steps d w h some e = absurd (omega (arith, h, some))
+walk_ends {code} table line (suc place) state steps {noted} d w h some e =
+    subst (λ p. IsOutcome code line (record { found = noted.ends; steps = steps + p })) (sym n.last_positions) (counted_ends n.last w.2.so_far last h n.ends)
+  where
+    n : IsState code w.0 table.rows.items state noted
+    n = noted_read d w.1 w.2.known e
+
+    last : (number : ℕ) → IsMarked n.last number ↔ Entered code line number (suc place)
+    last number = let l = last_entered code line h number in (
+      λ m. let k = (n.last_exact number).0 m in l.1 (k.0, (w.2.exact k.0).0 k.1, k.2),
+      λ f. let k = l.0 f in (n.last_exact number).1 (k.0, (w.2.exact k.0).1 k.1, k.2),
+    )
 
 pub bound_fits : (code : List Node) (places steps : ℕ) → length code ≤ 65536 → steps ≤ places * (weight code + 1) → places ≤ 18446744073709551617 → steps < 340282366920938463463374607431768211456
 bound_fits code places steps few h p =
@@ -240,12 +169,12 @@ bound_fits code places steps few h p =
     let b : places * (weight code + 1) ≤ 18446744073709551617 * 65537 = mul-le-mul p most in
     omega (arith, h, b)
 
-pub walk_fits : (code : List Node) (table : Table) (line : List ℕ) (place state steps : ℕ) → WalkedOf code table line place state steps → place ≤ 18446744073709551616 → steps < 340282366920938463463374607431768211456
-walk_fits code table line place state steps w p = bound_fits code place steps w.1.few w.2.bound (omega (arith, p))
+pub walk_fits : (code : List Node) (table : Table) (line : List ℕ) (place state : ℕ) {steps : ℕ} → WalkedOf code table line place state steps → place ≤ 18446744073709551616 → steps < 340282366920938463463374607431768211456
+walk_fits code table line place state {steps} w p = bound_fits code place steps w.1.few w.2.so_far.bound (omega (arith, p))
 
 -- a state that no byte changes
-pub fixed_stays : (code : List Node) (table : Table) (line : List ℕ) (state : ℕ) (noted d : State) → ((sets : List (List Bool)) × IsTableOf code sets table) → state < length table.states.items → noted ≡ get_or table.states.items state d → noted.is_fixed ≡ true
+pub fixed_stays : {code : List Node} {table : Table} (line : List ℕ) {state : ℕ} {noted : State} (d : State) → ((sets : List (List Bool)) × IsTableOf code sets table) → state < length table.states.items → noted ≡ get_or table.states.items state d → noted.is_fixed ≡ true
     → (place : ℕ) → slice_index line place < 256 → entry table.rows.items state (slice_index line place) ≡ state
-fixed_stays code table line state noted d t h e f place b =
+fixed_stays line d t h e f place b =
     let s = t.1.states in
-    (noted_read table code t.0 state noted d t.1 (omega (arith, h, s)) e).is_fixed f (slice_index line place) b
+    (noted_read d t.1 (omega (arith, h, s)) e).is_fixed f (slice_index line place) b

@@ -9,62 +9,22 @@ use Rattle.std.specs.Prelude.{bit_and, bit_or}
 use Rattle.std.specs.Int.{bit_at, bit_not}
 use Rattle.scan_core.specs.declared.node.Node.{Node}
 use Rattle.scan_core.specs.declared.node.Node.TheVariants.{Take, First, Last, Choose, Back}
-use Rattle.scan_core.specs.inner.Closures.{AreInside, Closes, Stays, chosen_at}
+use Rattle.scan_core.specs.inner.Each.{AreEach}
+use Rattle.scan_core.specs.inner.Closures.{Closes, IsInside, Stays, chosen_at}
 use Rattle.scan_core.specs.Code.{At}
 use Rattle.scan_core.specs.declared.hops.Hop.{Hop}
 use Rattle.scan_core.specs.inner.Hops.{HopsTo}
 use Rattle.scan_core.specs.inner.Sets.{LeadsOn, Flows, FlowsOn}
+use Rattle.scan_core.specs.declared.way.Way.{Way}
+use Rattle.scan_core.specs.inner.Ways.{IsWay, Opens}
 use Rattle.scan_core.specs.inner.Words.{width}
 use Rattle.scan_core.proofs.Enterings.{flows_of}
 use Rattle.scan_core.proofs.Visitings.{cleared}
 
--- a target that is in the word, or that a hop leads to
-stays_or_hops : (code : List Node) (hops : List Hop) (at bit target to : ℕ) → bit < 64 → to ≡ target → Flows code false false (at * 64 + bit) to
-    → (target / 64 ≡ at) ⊎ HopsTo hops at bit target → Stays code (at * 64 + bit) to ⊎ HopsTo hops at bit to
-stays_or_hops code hops at bit target to h e f way = elim way [
-  | inl near ↦ inl (f, omega (arith, e, near, h))
-  | inr hop ↦ inr (subst (HopsTo hops at bit) (sym e) hop)
-]
-
-pub choose_stays : (code : List Node) (hops : List Hop) (at bit skip : ℕ) (at_first at_last : Bool) (to : ℕ) → At code (at * 64 + bit) (Choose skip) → bit < 64
-    → ((at * 64 + bit + 1) / 64 ≡ at) ⊎ HopsTo hops at bit (at * 64 + bit + 1) → ((at * 64 + bit + skip) / 64 ≡ at) ⊎ HopsTo hops at bit (at * 64 + bit + skip)
-    → Flows code at_first at_last (at * 64 + bit) to → Stays code (at * 64 + bit) to ⊎ HopsTo hops at bit to
-choose_stays code hops at bit skip at_first at_last to here h next other f = elim (flows_of code (at * 64 + bit) (Choose skip) at_first at_last to here f) [
-  | inl e ↦ stays_or_hops code hops at bit (at * 64 + bit + 1) to h e (Choose skip, here, inl e) next
-  | inr e ↦ stays_or_hops code hops at bit (at * 64 + bit + skip) to h e (Choose skip, here, inr e) other
-]
-
-pub back_stays : (code : List Node) (hops : List Hop) (at bit by : ℕ) (at_first at_last : Bool) (to : ℕ) → At code (at * 64 + bit) (Back by) → bit < 64 → ((at * 64 + bit - by) / 64 ≡ at) ⊎ HopsTo hops at bit (at * 64 + bit - by)
-    → Flows code at_first at_last (at * 64 + bit) to → Stays code (at * 64 + bit) to ⊎ HopsTo hops at bit to
-back_stays code hops at bit by at_first at_last to here h same f =
-    let e : at * 64 + bit ≡ to + by = flows_of code (at * 64 + bit) (Back by) at_first at_last to here f in
-    stays_or_hops code hops at bit (at * 64 + bit - by) to h (omega (arith, e)) (Back by, here, e) same
-
-pub choose_peer : (code : List Node) (n other skip more : ℕ) (at_first at_last : Bool) (to : ℕ) → At code n (Choose skip) → At code other (Choose more) → (other + 1) / 64 ≡ other / 64 → n + skip ≡ other + more → Flows code at_first at_last other to → Stays code other to ⊎ Flows code at_first at_last n to
-choose_peer code n other skip more at_first at_last to here there next same f = elim (flows_of code other (Choose more) at_first at_last to there f) [
-  | inl e ↦ inl ((Choose more, there, inl e), ap (λ k. k / 64) e ∙ next)
-  | inr e ↦ inr (Choose skip, here, inr (e ∙ sym same))
-]
-
-pub record Peering (code : List Node) (number bit word : ℕ) : Type 0 where
-  pub own : number % 64 < bit → bit_at word (number % 64) ≡ 1
-  pub others : (b : ℕ) (at_first at_last : Bool) (to : ℕ) → b < 64 → bit_at word b ≡ 1 → Flows code at_first at_last (number / 64 * 64 + b) to → Stays code (number / 64 * 64 + b) to ⊎ Flows code at_first at_last number to
-
-pub peer_more : (code : List Node) (number bit word : ℕ) → Peering code number bit word → bit < 64 → ((at_first at_last : Bool) (to : ℕ) → Flows code at_first at_last (number / 64 * 64 + bit) to → Stays code (number / 64 * 64 + bit) to ⊎ Flows code at_first at_last number to)
-    → Peering code number (bit + 1) (bit_or word (1 * 2 ^ bit % 2 ^ 64))
-peer_more code number bit word p h is = record {
-  own = λ l. elim (cases_eq (number % 64) bit) [
-    | inl same ↦ ap (bit_at (bit_or word (1 * 2 ^ bit % 2 ^ 64))) same ∙ bit_at_set_same w64 word bit h
-    | inr other ↦ bit_at_set_other w64 word bit h (number % 64) other ∙ p.own (omega (arith, l, other))
-  ];
-  others = λ b f l to small k. elim (cases_eq b bit) [
-    | inl same ↦ subst (λ n. Flows code f l (number / 64 * 64 + n) to → Stays code (number / 64 * 64 + n) to ⊎ Flows code f l number to) (sym same) (is f l to)
-    | inr other ↦ p.others b f l to small (sym (bit_at_set_other w64 word bit h b other) ∙ k)
-  ];
-}
-
-pub peer_skip : (code : List Node) (number bit word : ℕ) → Peering code number bit word → (number ≡ number / 64 * 64 + bit → ⊥) → bit < 64 → Peering code number (bit + 1) word
-peer_skip code number bit word p differs h = record { own = λ l. elim (cases_eq (number % 64) bit) [ inl same ↦ absurd (differs (omega (arith, same))) | inr other ↦ p.own (omega (arith, l, other)) ]; others = p.others }
+-- a step without a byte to a number of the word, or by a hop
+pub stays_or_hops : (code : List Node) (hops : List Hop) (at bit to : ℕ) → bit < 64 → Flows code false false (at * 64 + bit) to → (to / 64 ≡ at) ⊎ HopsTo hops at bit to
+    → Stays code (at * 64 + bit) to ⊎ HopsTo hops at bit to
+stays_or_hops code hops at bit to h f way = elim way [ inl near ↦ inl (f, omega (arith, near, h)) | inr hop ↦ inr hop ]
 
 pub either_bit : (a b bit : ℕ) → bit_at (bit_or a b) bit ≡ 1 → (bit_at a bit ≡ 1) ⊎ (bit_at b bit ≡ 1)
 either_bit a b bit h = elim (cases_eq (bit_at a bit) 1) [
@@ -79,8 +39,8 @@ pub right_bit : (a b bit : ℕ) → bit_at b bit ≡ 1 → bit_at (bit_or a b) b
 right_bit a b bit h = let e = bit_at_or a b bit in let l = bit_at-lt a bit in omega (arith, e, h, l)
 
 -- a bit that stands for a number of a word
-pub bit_is : (at number bit : ℕ) → number / 64 ≡ at → bit < 64 → (bit_at (1 * 2 ^ (number % 64) % 2 ^ 64) bit ≡ 1) ↔ (number ≡ at * 64 + bit)
-bit_is at number bit here h =
+pub bit_is : {at : ℕ} (number bit : ℕ) → number / 64 ≡ at → bit < 64 → (bit_at (1 * 2 ^ (number % 64) % 2 ^ 64) bit ≡ 1) ↔ (number ≡ at * 64 + bit)
+bit_is number bit here h =
     let zero_or : (n : ℕ) → bit_or 0 n ≡ n = λ n. or_zero_l n in
     let same = bit_at_set_same w64 0 (number % 64) (omega arith) in
     let word : bit_or 0 (1 * 2 ^ (number % 64) % 2 ^ 64) ≡ 1 * 2 ^ (number % 64) % 2 ^ 64 = zero_or (1 * 2 ^ (number % 64) % 2 ^ 64) in (
@@ -95,32 +55,16 @@ bit_is at number bit here h =
       λ e. let q : bit ≡ number % 64 = omega (arith, e, here, h) in ap (bit_at (1 * 2 ^ (number % 64) % 2 ^ 64)) q ∙ ap (λ x. bit_at x (number % 64)) (sym word) ∙ same,
     )
 
-pub no_bit_is : (at number bit : ℕ) → (number / 64 ≡ at → ⊥) → bit < 64 → (bit_at 0 bit ≡ 1) ↔ (number ≡ at * 64 + bit)
-no_bit_is at number bit other h = (λ k. let z = bit_at-zero bit in absurd (omega (arith, z, k)), λ e. absurd (other (omega (arith, e, h))))
-
--- what a node of a word leads to in it
-pub none_led : (code : List Node) (n : ℕ) (node : Node) (to bit : ℕ) → At code n node → ((m : ℕ) → LeadsOn node false false n m → ⊥) → (bit_at 0 bit ≡ 1) ↔ Flows code false false n to
-none_led code n node to bit here never = (λ k. let z = bit_at-zero bit in absurd (omega (arith, z, k)), λ f. absurd (never to (flows_of code n node false false to here f)))
-
-pub quiet_led : (code : List Node) (n : ℕ) (read : Node) (to bit : ℕ) → At code n read → ((bytes : List Bool) × (read ≡ Take bytes)) ⊎ ((read ≡ First) ⊎ (read ≡ Last)) → (bit_at 0 bit ≡ 1) ↔ Flows code false false n to
-quiet_led code n read to bit here (inl (bytes, e)) = none_led code n (Take bytes) to bit (subst (At code n) e here) (λ m h. h)
-quiet_led code n read to bit here (inr (inl e)) = none_led code n First to bit (subst (At code n) e here) (λ m h. false≢true h.0)
-quiet_led code n read to bit here (inr (inr e)) = none_led code n Last to bit (subst (At code n) e here) (λ m h. false≢true h.0)
-
-pub choose_led : (code : List Node) (n skip to one other bit : ℕ) → At code n (Choose skip) → ((bit_at one bit ≡ 1) ↔ (n + 1 ≡ to)) → ((bit_at other bit ≡ 1) ↔ (n + skip ≡ to)) → (bit_at (bit_or one other) bit ≡ 1) ↔ Flows code false false n to
-choose_led code n skip to one other bit here a b = (
-  λ k. (Choose skip, here, elim (either_bit one other bit k) [ inl first ↦ inl (sym (a.0 first)) | inr second ↦ inr (sym (b.0 second)) ]),
-  λ f. elim (flows_of code n (Choose skip) false false to here f) [
-    | inl e ↦ left_bit one other bit (a.1 (sym e))
-    | inr e ↦ right_bit one other bit (b.1 (sym e))
-  ],
+-- what a number of a word leads to in it
+pub both_led : {code : List Node} {number to : ℕ} {way : Way} (one other bit : ℕ) → IsWay code number way → Opens way.when false false → ((bit_at one bit ≡ 1) ↔ (way.one ≡ to))
+    → ((bit_at other bit ≡ 1) ↔ (way.other ≡ to)) → (bit_at (bit_or one other) bit ≡ 1) ↔ Flows code false false number to
+both_led {to} one other bit w o a b = (
+  λ k. (w.exact false false to).1 (o, elim (either_bit one other bit k) [ inl first ↦ inl (sym (a.0 first)) | inr second ↦ inr (sym (b.0 second)) ]),
+  λ f. elim ((w.exact false false to).0 f).1 [ inl e ↦ left_bit one other bit (a.1 (sym e)) | inr e ↦ right_bit one other bit (b.1 (sym e)) ],
 )
 
-pub back_led : (code : List Node) (n by to all bit : ℕ) → At code n (Back by) → by ≤ n → ((bit_at all bit ≡ 1) ↔ (n - by ≡ to)) → (bit_at all bit ≡ 1) ↔ Flows code false false n to
-back_led code n by to all bit here l a = (
-  λ k. let e = a.0 k in (Back by, here, omega (arith, e, l)),
-  λ f. let e : n ≡ to + by = flows_of code n (Back by) false false to here f in a.1 (omega (arith, e)),
-)
+pub none_led : (code : List Node) (number to bit : ℕ) → (Flows code false false number to → ⊥) → (bit_at 0 bit ≡ 1) ↔ Flows code false false number to
+none_led code number to bit never = (λ k. let z = bit_at-zero bit in absurd (omega (arith, z, k)), λ f. absurd (never f))
 
 -- some of the numbers are still to be looked at
 pub record Insiding (code : List Node) (at word all left : ℕ) : Type 0 where
@@ -133,9 +77,9 @@ pub record Insiding (code : List Node) (at word all left : ℕ) : Type 0 where
 pub fresh_bit : (found all bit : ℕ) → all < 2 ^ 64 → bit < 64 → bit_at (bit_and found (bit_not w64 all)) bit ≡ min (bit_at found bit) (1 - bit_at all bit)
 fresh_bit found all bit m l = bit_at_and found (bit_not w64 all) bit ∙ ap (min (bit_at found bit)) (bit_at_not w64 all bit m l)
 
-pub inside_more : (code : List Node) (at word all left bit found : ℕ) → Insiding code at word all left → all < 2 ^ 64 → bit < 64 → bit_at left bit ≡ 1 → ((to : ℕ) → to < 64 → (bit_at found to ≡ 1) ↔ Flows code false false (at * 64 + bit) (at * 64 + to))
+pub inside_more : {code : List Node} {at word : ℕ} (all : ℕ) {left bit : ℕ} (found : ℕ) → Insiding code at word all left → all < 2 ^ 64 → bit < 64 → bit_at left bit ≡ 1 → ((to : ℕ) → to < 64 → (bit_at found to ≡ 1) ↔ Flows code false false (at * 64 + bit) (at * 64 + to))
     → Insiding code at word (bit_or all (bit_and found (bit_not w64 all))) (bit_or (bit_and left (bit_not w64 (1 * 2 ^ bit % 2 ^ 64))) (bit_and found (bit_not w64 all)))
-inside_more code at word all left bit found i m small here is = record {
+inside_more {code} {at} all {left} {bit} found i m small here is = record {
   kept = λ b h k. left_bit all more b (i.kept b h k);
   from_word = λ n h k. elim (either_bit all more n k) [
     | inl old ↦ i.from_word n h old
@@ -155,7 +99,7 @@ inside_more code at word all left bit found i m small here is = record {
     | inl old ↦ elim (i.rest b h old) [
       | inl waits ↦ elim (cases_eq b bit) [
         | inl same ↦ inr (λ to l f. found_in to l ((is to l).1 (subst (λ n. Flows code false false (at * 64 + n) (at * 64 + to)) same f)))
-        | inr other ↦ inl (left_bit less more b ((cleared left bit small here).1 b h other ∙ waits))
+        | inr other ↦ inl (left_bit less more b ((cleared left small here).1 b h other ∙ waits))
       ]
       | inr led ↦ inr (λ to l f. left_bit all more to (led to l f))
     ]
@@ -176,13 +120,13 @@ inside_more code at word all left bit found i m small here is = record {
     ]
 
 -- the word grows, or fewer are left
-pub inside_smaller : (all left found bit : ℕ) → all < 2 ^ 64 → found < 2 ^ 64 → left < 2 ^ 64 → bit < 64 → bit_at left bit ≡ 1
+pub inside_smaller : (all left found : ℕ) {bit : ℕ} → all < 2 ^ 64 → found < 2 ^ 64 → left < 2 ^ 64 → bit < 64 → bit_at left bit ≡ 1
     → (2 ^ 64 - bit_or all (bit_and found (bit_not w64 all))) * 2 ^ 64 + bit_or (bit_and left (bit_not w64 (1 * 2 ^ bit % 2 ^ 64))) (bit_and found (bit_not w64 all)) < (2 ^ 64 - all) * 2 ^ 64 + left
-inside_smaller all left found bit m f l small here = elim (cases_eq (bit_or all more) all) [
+inside_smaller all left found {bit} m f l small here = elim (cases_eq (bit_or all more) all) [
   | inl same ↦
       let none : more ≡ 0 = same_from_bits_below 64 more 0 more_fits (omega arith) (λ b h. absent same b h) in
       let e : bit_or less more ≡ less = ap (bit_or less) none ∙ or_zero_r less in
-      let c = (cleared left bit small here).0 in
+      let c = (cleared left small here).0 in
       let p = ap (λ x. (2 ^ 64 - x) * 2 ^ 64) same in
       omega (arith, e, c, p)
   | inr grown ↦
@@ -213,16 +157,6 @@ inside_smaller all left found bit m f l small here = elim (cases_eq (bit_or all 
         let k = bit_at-lt all b in
         omega (arith, e, o, q, z, k)
 
-pub inside_ends : (code : List Node) (at word all left : ℕ) → Insiding code at word all left → left ≡ 0 → Closes code at word all
-inside_ends code at word all left i e = record {
-  kept = i.kept;
-  from_chosen = i.from_word;
-  closed = λ number to h l k f. elim (i.rest number h k) [
-    | inl waits ↦ let z = ap (λ x. bit_at x number) e ∙ bit_at-zero number in absurd (omega (arith, z, waits))
-    | inr led ↦ led to l f
-  ];
-}
-
 -- the first eights of a word are joined
 pub record Joining (code : List Node) (at word eight all : ℕ) : Type 0 where
   pub kept : (bit : ℕ) → bit < eight * 8 → bit_at word bit ≡ 1 → bit_at all bit ≡ 1
@@ -238,14 +172,14 @@ eight_bits word eight bit h =
     ap (λ x. bit_at x bit) q ∙ bit_at_and word (2 ^ (8 + eight * 8) - 2 ^ (eight * 8)) bit
 
 -- an entry by its word, its eight and its choice
-entry_at : (code : List Node) (place at eight chosen entry : ℕ) → place / 2048 ≡ at → place / 256 % 8 ≡ eight → place % 256 ≡ chosen
+entry_at : {code : List Node} (place : ℕ) {at eight chosen entry : ℕ} → place / 2048 ≡ at → place / 256 % 8 ≡ eight → place % 256 ≡ chosen
     → Closes code (place / 2048) (chosen_at place) entry → Closes code at (chosen * 2 ^ (eight * 8) % 2 ^ 64) entry
-entry_at code place at eight chosen entry word which low c =
+entry_at {code} place {eight} {chosen} {entry} word which low c =
     subst (λ n. Closes code n (chosen * 2 ^ (eight * 8) % 2 ^ 64) entry) word
     (subst (λ n. Closes code (place / 2048) n entry) (ap (λ n. n * 2 ^ (place / 256 % 8 * 8) % 2 ^ 64) low ∙ ap (λ n. chosen * 2 ^ (n * 8) % 2 ^ 64) which) c)
 
-pub join_more : (code : List Node) (inside : List ℕ) (at word eight all entry : ℕ) → Joining code at word eight all → AreInside code (width code * 2048) inside → at < width code → eight < 8 → word < 2 ^ 64 → entry ≡ get_or inside (at * 2048 + (eight * 256 + word / 2 ^ (eight * 8) % 256)) 0 → Joining code at word (eight + 1) (bit_or all entry)
-join_more code inside at word eight all entry j i within h fits e = record {
+pub join_more : {code : List Node} {inside : List ℕ} {at word eight : ℕ} (all : ℕ) {entry : ℕ} → Joining code at word eight all → AreEach 0 (IsInside code) (width code * 2048) inside → at < width code → eight < 8 → word < 2 ^ 64 → entry ≡ get_or inside (at * 2048 + (eight * 256 + word / 2 ^ (eight * 8) % 256)) 0 → Joining code at word (eight + 1) (bit_or all entry)
+join_more {code} {at} {word} {eight} all {entry} j i within h fits e = record {
   kept = λ bit l is. elim (cases_lt bit (eight * 8)) [
     | inl before ↦ left_bit all entry bit (j.kept bit before is)
     | inr here ↦
@@ -271,10 +205,7 @@ join_more code inside at word eight all entry j i within h fits e = record {
     c =
         let place : ℕ = at * 2048 + (eight * 256 + word / 2 ^ (eight * 8) % 256) in
         subst (Closes code at (word / 2 ^ (eight * 8) % 256 * 2 ^ (eight * 8) % 2 ^ 64)) (sym e)
-        (entry_at code place at eight _ _ (omega (arith, h)) (omega (arith, h)) (omega arith) (i.each place (omega (arith, within, h))))
-
-pub join_ends : (code : List Node) (at word all : ℕ) → Joining code at word 8 all → Closes code at word all
-join_ends code at word all j = record { kept = λ bit l is. j.kept bit (omega (arith, l)) is; from_chosen = j.from_word; closed = j.closed }
+        (entry_at place (omega (arith, h)) (omega (arith, h)) (omega arith) (i.each place (omega (arith, within, h))))
 
 -- the bits of a number in its place in a word
 fitted : (n i : ℕ) → i < 64 → bit_at (n % 2 ^ 64) i ≡ bit_at n i
@@ -325,8 +256,8 @@ halved_placed high low s i h small = elim (cases_lt i s) [
 ]
 
 -- what two choices lead to is what both together lead to
-closes_both : (code : List Node) (at one other chosen all more : ℕ) → Closes code at one all → Closes code at other more → ((bit : ℕ) → bit < 64 → bit_at chosen bit ≡ max (bit_at one bit) (bit_at other bit)) → Closes code at chosen (bit_or all more)
-closes_both code at one other chosen all more c d e = record {
+closes_both : {code : List Node} {at : ℕ} (one other : ℕ) {chosen : ℕ} (all more : ℕ) → Closes code at one all → Closes code at other more → ((bit : ℕ) → bit < 64 → bit_at chosen bit ≡ max (bit_at one bit) (bit_at other bit)) → Closes code at chosen (bit_or all more)
+closes_both one other all more c d e = record {
   kept = λ bit h is. elim (cases_eq (bit_at one bit) 1) [
     | inl first ↦ left_bit all more bit (c.kept bit h first)
     | inr differs ↦ right_bit all more bit (d.kept bit h (let q = e bit h in let l = bit_at-lt one bit in let m = bit_at-lt other bit in omega (arith, q, l, m, is, differs)))
@@ -342,9 +273,9 @@ closes_both code at one other chosen all more c d e = record {
 }
 
 -- the entry of a choice with both lower and higher numbers
-pub entry_of_halves : (code : List Node) (inside : List ℕ) (place : ℕ) → AreInside code place inside → 0 < place % 16 → 0 < place / 16 % 16 * 16
+pub entry_of_halves : {code : List Node} {inside : List ℕ} {place : ℕ} → AreEach 0 (IsInside code) place inside → 0 < place % 16 → 0 < place / 16 % 16 * 16
     → Closes code (place / 2048) (chosen_at place) (bit_or (get_or inside (place - place % 16) 0) (get_or inside (place - place / 16 % 16 * 16) 0))
-entry_of_halves code inside place i low high = closes_both code (place / 2048) _ _ (chosen_at place) _ _ one other bits
+entry_of_halves {code} {inside} {place} i low high = closes_both _ _ _ _ one other bits
   where
     chosen : place % 256 ≡ place / 16 % 16 * 16 + place % 16
     chosen = omega arith
@@ -352,22 +283,12 @@ entry_of_halves code inside place i low high = closes_both code (place / 2048) _
     one : Closes code (place / 2048) (place / 16 % 16 * 16 * 2 ^ (place / 256 % 8 * 8) % 2 ^ 64) (get_or inside (place - place % 16) 0)
     one =
         let before : ℕ = place - place % 16 in
-        entry_at code before _ _ _ _ (omega arith) (omega arith) (omega arith) (i.each before (omega (arith, low)))
+        entry_at before (omega arith) (omega arith) (omega arith) (i.each before (omega (arith, low)))
 
     other : Closes code (place / 2048) (place % 16 * 2 ^ (place / 256 % 8 * 8) % 2 ^ 64) (get_or inside (place - place / 16 % 16 * 16) 0)
     other =
         let before : ℕ = place - place / 16 % 16 * 16 in
-        entry_at code before _ _ _ _ (omega arith) (omega arith) (omega arith) (i.each before (omega (arith, high)))
+        entry_at before (omega arith) (omega arith) (omega arith) (i.each before (omega (arith, high)))
 
     bits : (bit : ℕ) → bit < 64 → bit_at (chosen_at place) bit ≡ max (bit_at (place / 16 % 16 * 16 * 2 ^ (place / 256 % 8 * 8) % 2 ^ 64) bit) (bit_at (place % 16 * 2 ^ (place / 256 % 8 * 8) % 2 ^ 64) bit)
     bits bit h = ap (λ n. bit_at (n * 2 ^ (place / 256 % 8 * 8) % 2 ^ 64) bit) chosen ∙ halved_placed (place / 16 % 16) (place % 16) (place / 256 % 8 * 8) bit (omega arith) h
-
--- what is so of each entry of a list and of one more
-pub pushed : {X : Type 0} (d : X) (So : ℕ → X → Type 0) (list new : List X) (count : ℕ) (entry : X) → length list ≡ count → ((k : ℕ) → k < count → So k (get_or list k d)) → So count entry → new ≡ list ++ entry ∷ [] → (k : ℕ) → k < count + 1 → So k (get_or new k d)
-pushed d So list new count entry size before here e k h = elim (cases_eq k count) [
-  | inl same ↦ subst (So k) (sym (ap (λ l. get_or l k d) e ∙ get_or_push list entry d k (size ∙ sym same))) (subst (λ n. So n entry) (sym same) here)
-  | inr other ↦ subst (So k) (sym (ap (λ l. get_or l k d) e ∙ get_or_append_left list (entry ∷ []) d k (omega (arith, h, other, size)))) (before k (omega (arith, h, other)))
-]
-
-pub one_longer : {X : Type 0} (list new : List X) (count : ℕ) (entry : X) → length list ≡ count → new ≡ list ++ entry ∷ [] → length new ≡ count + 1
-one_longer list new count entry size e = let l = ap length e in let a = length-append list (entry ∷ []) in omega (arith, l, a, size)

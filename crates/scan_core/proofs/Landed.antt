@@ -1,5 +1,5 @@
 -- Entering what landings lead to.
-use Rattle.std.proofs.Common.{◌≡◌, ◌⊎◌, ◌↔◌, inl, inr, ℕ, ◌+◌, ◌*◌, ◌-◌, ◌/◌, ◌%◌, ◌^◌, ◌<◌, ◌≤◌, Bool, true, false, IsTrue, List, [], ◌∷◌, ◌++◌, length, get_or, set, eqb, not, refl, sym, ap, ◌∙◌, subst, arith}
+use Rattle.std.proofs.Common.{◌≡◌, ◌⊎◌, ◌↔◌, inl, inr, ℕ, ◌+◌, ◌*◌, ◌-◌, ◌/◌, ◌%◌, ◌^◌, ◌<◌, ◌≤◌, Bool, true, false, IsTrue, List, [], ◌∷◌, ◌++◌, length, length-append, append_assoc, get_or, set, eqb, not, refl, sym, ap, ◌∙◌, subst, arith}
 use Rattle.std.proofs.lemmas.Bool.{cases_eq, false≢true, eqb-false, not-true, ne_eqb}
 use Rattle.std.proofs.lemmas.List.{get_or_append_left, set-get_or}
 use Rattle.std.specs.Prelude.{bit_and, bit_or}
@@ -14,19 +14,19 @@ use Rattle.scan_core.specs.declared.node.Node.TheVariants.{Choose, Back}
 use Rattle.scan_core.specs.Code.{At}
 use Rattle.scan_core.specs.inner.Hops.{AreHops, IsHop, no_hop}
 use Rattle.scan_core.specs.inner.Landings.{AreLandings, Ends, HasLanded, IsLanding, IsOther, Lands, no_landing}
-use Rattle.scan_core.specs.inner.Sets.{Flows}
-use Rattle.scan_core.specs.inner.Words.{IsIn, width}
+use Rattle.scan_core.specs.inner.Sets.{Flows, FlowsOn}
+use Rattle.scan_core.specs.inner.Words.{Adds, IsIn, width}
 use Rattle.scan_core.proofs.Enterings.{flows_of}
 use Rattle.scan_core.proofs.Hoppings.{one_of, none_of}
-use Rattle.scan_core.proofs.Insides.{pushed, one_longer}
-use Rattle.scan_core.proofs.Visitings.{is_in_word}
+use Rattle.scan_core.proofs.Each.{each_more, each_to}
+use Rattle.scan_core.proofs.Visitings.{adds_both, adds_none, is_in_word}
 
-pub enters_if : (words new : List ℕ) (number : ℕ) (holds : Bool) → number < 64 * length words → new ≡ set words (number / 64) (bit_or (get_or words (number / 64) 0) (bool_byte holds * 2 ^ (number % 64) % 2 ^ 64))
+pub enters_if : (words : List ℕ) {new : List ℕ} (number : ℕ) (holds : Bool) → number < 64 * length words → new ≡ set words (number / 64) (bit_or (get_or words (number / 64) 0) (bool_byte holds * 2 ^ (number % 64) % 2 ^ 64))
     → (other : ℕ) → IsIn new other ↔ (IsIn words other ⊎ (IsTrue holds × (other ≡ number)))
-enters_if words new number true h en other =
-    let e = entered_one words new number (get_or words (number / 64) 0) h refl en other in
+enters_if words number true h en other =
+    let e = entered_one words number h refl en other in
     (λ k. elim (e.0 k) [ inl was ↦ inl was | inr same ↦ inr (refl, same) ], λ k. e.1 (elim k [ inl was ↦ inl was | inr q ↦ inr q.1 ]))
-enters_if words new number false h en other =
+enters_if words number false h en other =
     let none : 0 * 2 ^ (number % 64) % 2 ^ 64 ≡ 0 = omega arith in
     let before : ℕ = get_or words (number / 64) 0 in
     let unchanged = en ∙ ap (set words (number / 64)) (ap (bit_or before) none ∙ or_zero_r before) ∙ set-get_or words (number / 64) 0 in (
@@ -36,21 +36,16 @@ enters_if words new number false h en other =
 
 -- the last landings were followed
 pub record Landing_on (code : List Node) (landings : List Landing) (old now : List ℕ) (count : ℕ) : Type 0 where
-  pub size : length now ≡ length old
-  pub kept : (number : ℕ) → IsIn old number → IsIn now number
-  pub from : (number : ℕ) → IsIn now number → IsIn old number ⊎ (Ends code number × ((start : ℕ) × IsIn old start × Flows code false false start number))
+  pub adds : Adds code false false old now
+  pub over : (number : ℕ) → IsIn now number → IsIn old number ⊎ Ends code number
   pub led : (place : ℕ) → length landings ≤ place + count → place < length landings → (bit : ℕ) → bit < 64 → bit_at (get_or landings place no_landing).from bit ≡ 1 → IsIn old ((get_or landings place no_landing).at * 64 + bit) → IsIn now (get_or landings place no_landing).to
 
-pub land_starts : (code : List Node) (landings : List Landing) (old : List ℕ) → Landing_on code landings old old 0
-land_starts code landings old = record { size = refl; kept = λ n h. h; from = λ n h. inl h; led = λ place l h. absurd (omega (arith, l, h)) }
-
-pub land_more : (code : List Node) (landings : List Landing) (old now new : List ℕ) (count : ℕ) (landing : Landing) (holds : Bool) → Landing_on code landings old now count → AreLandings code landings → count < length landings → landing ≡ get_or landings (length landings - 1 - count) no_landing → get_or now landing.at 0 < 2 ^ 64
+pub land_more : {code : List Node} {landings : List Landing} {old now new : List ℕ} {count : ℕ} {landing : Landing} {holds : Bool} → Landing_on code landings old now count → AreLandings code landings → count < length landings → landing ≡ get_or landings (length landings - 1 - count) no_landing → get_or now landing.at 0 < 2 ^ 64
     → (IsTrue holds → bit_and (get_or now landing.at 0) landing.from ≡ 0 → ⊥) → ((bit_and (get_or now landing.at 0) landing.from ≡ 0 → ⊥) → IsTrue holds)
     → length new ≡ length now → ((other : ℕ) → IsIn new other ↔ (IsIn now other ⊎ (IsTrue holds × (other ≡ landing.to)))) → Landing_on code landings old new (count + 1)
-land_more code landings old now new count landing holds s are h el fits some all size exact = record {
-  size = size ∙ s.size;
-  kept = λ n k. (exact n).1 (inl (s.kept n k));
-  from = λ n k. elim ((exact n).0 k) [ inl was ↦ s.from n was | inr new ↦ entered n new.0 new.1 ];
+land_more {code} {landings} {old} {now} {new} {count} {landing} {holds} s are h el fits some all size exact = record {
+  adds = adds_both s.adds (record { size = size; kept = λ n k. (exact n).1 (inl k); from = λ n k. elim ((exact n).0 k) [ inl was ↦ (n, was, (0, refl)) | inr new ↦ entered n new.0 new.1 ] });
+  over = λ n k. elim ((exact n).0 k) [ inl was ↦ s.over n was | inr new ↦ inr (subst (Ends code) (sym new.1) is.ends) ];
   led = λ place l inside bit small one k. elim (cases_eq place last) [
     | inl same ↦
         let e : get_or landings place no_landing ≡ landing = ap (λ p. get_or landings p no_landing) same ∙ sym el in
@@ -63,91 +58,54 @@ land_more code landings old now new count landing holds s are h el fits some all
     last = length landings - 1 - count
 
     is : IsLanding code landing
-    is = subst (IsLanding code) (sym el) (are (length landings - 1 - count) (omega (arith, h)))
+    is = subst (IsLanding code) (sym el) (are.each (length landings - 1 - count) (omega (arith, h)))
 
-    entered : (number : ℕ) → IsTrue holds → number ≡ landing.to → IsIn old number ⊎ (Ends code number × ((start : ℕ) × IsIn old start × Flows code false false start number))
+    entered : (number : ℕ) → IsTrue holds → number ≡ landing.to → (start : ℕ) × IsIn now start × FlowsOn code false false start number
     entered number t e =
         let one = one_of (get_or now landing.at 0) landing.from fits (some t) in
-        let flow = is.leads one.0 one.1 one.3 in
-        elim (s.from (landing.at * 64 + one.0) ((is_in_word now landing.at one.0 one.1).0 one.2)) [
-          | inl was ↦
-              let on = subst (Flows code false false (landing.at * 64 + one.0)) (sym e) flow in
-              inr (subst (Ends code) (sym e) is.ends, (landing.at * 64 + one.0, was, on))
-          | inr new ↦ absurd (new.0 false false landing.to flow)
-        ]
+        let start : ℕ = landing.at * 64 + one.0 in
+        (start, (is_in_word now landing.at one.0 one.1).0 one.2, (1, (start, refl, subst (Flows code false false start) (sym e) (is.leads one.0 one.1 one.3))))
 
     reached : (bit : ℕ) → bit < 64 → bit_at landing.from bit ≡ 1 → IsIn old (landing.at * 64 + bit) → IsIn new landing.to
     reached bit small one k =
-        let here = (is_in_word now landing.at bit small).1 (s.kept (landing.at * 64 + bit) k) in
+        let here = (is_in_word now landing.at bit small).1 (s.adds.kept (landing.at * 64 + bit) k) in
         (exact landing.to).1 (inr (all (λ none. none_of (get_or now landing.at 0) landing.from bit none here one), refl))
-
-pub land_ends : (code : List Node) (landings : List Landing) (old now : List ℕ) (count : ℕ) → Landing_on code landings old now count → length landings ≤ count → HasLanded code landings old now
-land_ends code landings old now count s h = record {
-  size = s.size;
-  kept = s.kept;
-  from = s.from;
-  led = λ at bit to small k on. subst (IsIn now) (sym on.4) (s.led on.0 (omega (arith, h)) on.1 bit small on.3 (subst (λ n. IsIn old (n * 64 + bit)) (sym on.2) k));
-}
 
 -- landings are added
 pub record Adding (code : List Node) (old now : List Landing) : Type 0 where
   pub sound : AreLandings code now
-  pub longer : length old ≤ length now
-  pub front : (place : ℕ) → place < length old → get_or now place no_landing ≡ get_or old place no_landing
+  pub grown : (more : List Landing) × (now ≡ old ++ more)
 
-pub adding_starts : (code : List Node) (old : List Landing) → AreLandings code old → Adding code old old
-adding_starts code old are = record { sound = are; longer = omega arith; front = λ place h. refl }
-
-pub adding_more : (code : List Node) (old now new : List Landing) (landing : Landing) → Adding code old now → IsLanding code landing → new ≡ now ++ landing ∷ [] → Adding code old new
-adding_more code old now new landing a is e = record {
-  sound = λ place h. pushed no_landing (λ k l. IsLanding code l) now new (length now) landing refl a.sound is e place (omega (arith, h, one));
-  longer = omega (arith, a.longer, one);
-  front = λ place h.
-      let l = a.longer in
-      ap (λ l. get_or l place no_landing) e ∙ get_or_append_left now (landing ∷ []) no_landing place (omega (arith, h, l)) ∙ a.front place h;
+pub adding_more : {code : List Node} {old now new : List Landing} {landing : Landing} → Adding code old now → IsLanding code landing → new ≡ now ++ landing ∷ [] → Adding code old new
+adding_more {old} {now} {landing} a is e = record {
+  sound = let l = ap length e in let m = length-append now (landing ∷ []) in each_to (each_more a.sound is e) (omega (arith, l, m));
+  grown = (a.grown.0 ++ landing ∷ [], e ∙ ap (λ l. l ++ landing ∷ []) a.grown.1 ∙ append_assoc old a.grown.0 (landing ∷ []));
 }
-  where
-    one : length new ≡ length now + 1
-    one = one_longer now new (length now) landing refl e
 
-pub hop_lands : (code : List Node) (hops : List Hop) (at which : ℕ) (hop : Hop) → AreHops code (width code * 3) hops → at < width code → which < 3 → hop ≡ get_or hops (at * 3 + which) no_hop → Ends code hop.to → IsLanding code (record { at = at; from = hop.from; to = hop.to })
-hop_lands code hops at which hop are h l e ends =
+pub hop_lands : {code : List Node} {hops : List Hop} {at : ℕ} (which : ℕ) {hop : Hop} → AreHops code hops → at < width code → which < 3 → hop ≡ get_or hops (at * 3 + which) no_hop → Ends code hop.to → IsLanding code (record { at = at; from = hop.from; to = hop.to })
+hop_lands {code} {hops} {at} which are h l e ends =
     let place : (at * 3 + which) / 3 ≡ at = omega (arith, l) in
     let is = subst (λ x. IsHop code at x) (sym e) (subst (λ n. IsHop code n (get_or hops (at * 3 + which) no_hop)) place (are.each (at * 3 + which) (omega (arith, l, h)))) in
     record { at = h; within = is.within; leads = is.leads; ends = ends }
 
--- what a node leads to by its word, the base and the landings
-pub choose_settled : (code : List Node) (base : List ℕ) (landings : List Landing) (at bit skip : ℕ) (at_first at_last : Bool) (to : ℕ) → At code (at * 64 + bit) (Choose skip) → Lands base landings at bit (at * 64 + bit + 1) → Lands base landings at bit (at * 64 + bit + skip) → Flows code at_first at_last (at * 64 + bit) to
-    → Flows code false false (at * 64 + bit) to × Lands base landings at bit to
-choose_settled code base landings at bit skip at_first at_last to here next other f = elim (flows_of code (at * 64 + bit) (Choose skip) at_first at_last to here f) [
-  | inl e ↦ ((Choose skip, here, inl e), subst (Lands base landings at bit) (sym e) next)
-  | inr e ↦ ((Choose skip, here, inr e), subst (Lands base landings at bit) (sym e) other)
-]
-
-pub back_settled : (code : List Node) (base : List ℕ) (landings : List Landing) (at bit by : ℕ) (at_first at_last : Bool) (to : ℕ) → At code (at * 64 + bit) (Back by) → Lands base landings at bit (at * 64 + bit - by) → Flows code at_first at_last (at * 64 + bit) to
-    → Flows code false false (at * 64 + bit) to × Lands base landings at bit to
-back_settled code base landings at bit by at_first at_last to here before f =
-    let e : at * 64 + bit ≡ to + by = flows_of code (at * 64 + bit) (Back by) at_first at_last to here f in
-    let q : at * 64 + bit - by ≡ to = omega (arith, e) in
-    ((Back by, here, e), subst (Lands base landings at bit) q before)
-
 pub not_zero : (n : ℕ) → IsTrue (not (eqb n 0)) → n ≡ 0 → ⊥
 not_zero n t = eqb-false n 0 (not-true (eqb n 0) t)
 
-pub is_not_zero : (n : ℕ) → (n ≡ 0 → ⊥) → IsTrue (not (eqb n 0))
-is_not_zero n h = ap not (ne_eqb n 0 h)
+pub is_not_zero : {n : ℕ} → (n ≡ 0 → ⊥) → IsTrue (not (eqb n 0))
+is_not_zero {n} h = ap not (ne_eqb n 0 h)
 
 -- what a landing leads to stays when others are added
-pub lands_kept : (base : List ℕ) (old new : List Landing) (at bit to : ℕ) → length old ≤ length new → ((place : ℕ) → place < length old → get_or new place no_landing ≡ get_or old place no_landing) → Lands base old at bit to → Lands base new at bit to
-lands_kept base old new at bit to longer front (inl near) = inl near
-lands_kept base old new at bit to longer front (inr (inl based)) = inr (inl based)
-lands_kept base old new at bit to longer front (inr (inr on)) =
-    let e = front on.0 on.1 in
-    let l = on.1 in
-    inr (inr (on.0, omega (arith, l, longer), ap (λ x. x.at) e ∙ on.2, ap (λ x. bit_at x.from bit) e ∙ on.3, on.4 ∙ sym (ap (λ x. x.to) e)))
+lands_kept : (base : List ℕ) (old more : List Landing) (at bit to : ℕ) → Lands base old at bit to → Lands base (old ++ more) at bit to
+lands_kept base old more at bit to (inl near) = inl near
+lands_kept base old more at bit to (inr (inl based)) = inr (inl based)
+lands_kept base old more at bit to (inr (inr on)) =
+    let e = get_or_append_left old more no_landing on.0 on.1 in
+    let l = length-append old more in
+    let within = on.1 in
+    inr (inr (on.0, omega (arith, l, within), ap (λ x. x.at) e ∙ on.2, ap (λ x. bit_at x.from bit) e ∙ on.3, on.4 ∙ sym (ap (λ x. x.to) e)))
 
-pub other_kept : (code : List Node) (base : List ℕ) (old new : List Landing) (at word : ℕ) → length old ≤ length new → ((place : ℕ) → place < length old → get_or new place no_landing ≡ get_or old place no_landing) → IsOther code base old at word → IsOther code base new at word
-other_kept code base old new at word longer front is bit at_first at_last to small f = elim (is bit at_first at_last to small f) [
+pub other_kept : (code : List Node) (base : List ℕ) (old new : List Landing) (at word : ℕ) → (more : List Landing) × (new ≡ old ++ more) → IsOther code base old at word → IsOther code base new at word
+other_kept code base old new at word grown is bit at_first at_last to small f = elim (is bit at_first at_last to small f) [
   | inl one ↦ inl one
-  | inr led ↦ inr (led.0, lands_kept base old new at bit to longer front led.1)
+  | inr led ↦ inr (led.0, subst (λ l. Lands base l at bit to) (sym grown.1) (lands_kept base old grown.0 at bit to led.1))
 ]

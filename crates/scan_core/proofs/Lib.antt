@@ -1,4 +1,5 @@
 pub mod Walks
+pub mod Ways
 pub mod Composed
 pub mod Codes
 pub mod Weights
@@ -6,8 +7,8 @@ pub mod Stretches
 pub mod Emitting
 pub mod Finishing
 pub mod Compiled
+pub mod Each
 pub mod Enterings
-pub mod Spreadings
 pub mod Along
 pub mod Whole
 pub mod Bits
@@ -24,7 +25,6 @@ pub mod Nexts
 pub mod Closings
 pub mod Shiftings
 pub mod Hoppings
-pub mod Bases
 pub mod Landed
 pub mod Apart
 pub mod Needles

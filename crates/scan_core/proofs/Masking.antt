@@ -11,37 +11,14 @@ use Rattle.scan_core.specs.declared.node.Node.{Node}
 use Rattle.scan_core.specs.Code.{At, weight_of}
 use Rattle.scan_core.specs.inner.Words.{AddsMask, IsMask, IsOf, counted_at, width}
 
--- the first bits of a word are those of a kind
-pub record Wording (code : List Node) (kind : Kind) (from bit word : ℕ) : Type 0 where
-  pub past : (b : ℕ) → b < bit → (bit_at word b ≡ 1) ↔ IsOf code kind (from + b)
-  pub rest : (b : ℕ) → bit ≤ b → bit_at word b ≡ 0
-
-pub word_more : (code : List Node) (kind : Kind) (from bit word : ℕ) → Wording code kind from bit word → bit < 64 → IsOf code kind (from + bit) → Wording code kind from (bit + 1) (bit_or word (1 * 2 ^ bit % 2 ^ 64))
-word_more code kind from bit word w h is = record {
-  past = λ b l. elim (cases_eq b bit) [
-    | inl same ↦ (λ k. subst (λ n. IsOf code kind (from + n)) (sym same) is, λ k. ap (bit_at (bit_or word (1 * 2 ^ bit % 2 ^ 64))) same ∙ bit_at_set_same w64 word bit h)
-    | inr other ↦ let e = bit_at_set_other w64 word bit h b other in let p = w.past b (omega (arith, l, other)) in (λ k. p.0 (sym e ∙ k), λ k. e ∙ p.1 k)
-  ];
-  rest = λ b l. bit_at_set_other w64 word bit h b (λ q. omega (arith, q, l)) ∙ w.rest b (omega (arith, l));
-}
-
-pub word_skip : (code : List Node) (kind : Kind) (from bit word : ℕ) → Wording code kind from bit word → (IsOf code kind (from + bit) → ⊥) → Wording code kind from (bit + 1) word
-word_skip code kind from bit word w never = record {
-  past = λ b l. elim (cases_eq b bit) [
-    | inl same ↦ (λ k. let z = w.rest b (omega (arith, same)) in absurd (omega (arith, z, k)), λ k. absurd (never (subst (λ n. IsOf code kind (from + n)) same k)))
-    | inr other ↦ w.past b (omega (arith, l, other))
-  ];
-  rest = λ b l. w.rest b (omega (arith, l));
-}
-
 -- the first words of a kind were added
 pub record Adding (code : List Node) (kind : Kind) (old now : List ℕ) (at : ℕ) : Type 0 where
   pub size : length now ≡ length old + at
   pub kept : (n : ℕ) → n < length old → get_or now n 0 ≡ get_or old n 0
   pub exact : (number : ℕ) → number < 64 * at → (bit_at (get_or now (length old + number / 64) 0) (number % 64) ≡ 1) ↔ IsOf code kind number
 
-pub add_more : (code : List Node) (kind : Kind) (old now new : List ℕ) (at word : ℕ) → Adding code kind old now at → ((bit : ℕ) → bit < 64 → (bit_at word bit ≡ 1) ↔ IsOf code kind (at * 64 + bit)) → new ≡ now ++ word ∷ [] → Adding code kind old new (at + 1)
-add_more code kind old now new at word a is e = record {
+pub add_more : {code : List Node} {kind : Kind} {old now new : List ℕ} {at : ℕ} (word : ℕ) → Adding code kind old now at → ((bit : ℕ) → bit < 64 → (bit_at word bit ≡ 1) ↔ IsOf code kind (at * 64 + bit)) → new ≡ now ++ word ∷ [] → Adding code kind old new (at + 1)
+add_more {code} {kind} {old} {now} {at} word a is e = record {
   size = let l = ap length e in let m = length-append now (word ∷ []) in let s = a.size in omega (arith, l, m, s);
   kept = λ n h. let s = a.size in ap (λ w. get_or w n 0) e ∙ get_or_append_left now (word ∷ []) 0 n (omega (arith, s, h)) ∙ a.kept n h;
   exact = λ number h. elim (cases_lt number (64 * at)) [
@@ -64,8 +41,8 @@ pub record Taking (code : List Node) (words : List ℕ) (byte : ℕ) : Type 0 wh
   pub size : length words ≡ byte * width code
   pub exact : (b : ℕ) → b < byte → IsMask code (Takes b) (b * width code) words
 
-pub take_more : (code : List Node) (old new : List ℕ) (byte : ℕ) → Taking code old byte → AddsMask code (Takes byte) old new → Taking code new (byte + 1)
-take_more code old new byte t a = record {
+pub take_more : {code : List Node} {old new : List ℕ} {byte : ℕ} → Taking code old byte → AddsMask code (Takes byte) old new → Taking code new (byte + 1)
+take_more {code} {old} {new} {byte} t a = record {
   size = let s = a.size in let l = t.size in let e : (byte + 1) * width code ≡ byte * width code + width code = grind arith in omega (arith, s, l, e);
   exact = λ b h number l. elim (cases_eq b byte) [
     | inl same ↦ subst (λ n. (bit_at (get_or new (n + number / 64) 0) (number % 64) ≡ 1) ↔ IsOf code (Takes b) number) (t.size ∙ ap (λ n. n * width code) (sym same))

@@ -24,21 +24,21 @@ use Rattle.scan_core.proofs.Walks.{at_at}
 
 -- Each walk to the end comes by a node beyond which no choice leads.
 
-step_near : (code : List Node) (line : List ℕ) (number : ℕ) (node : Node) (at place at' place' : ℕ) → IsPassed code number → At code at node → Leads node line at place at' place' → at < number → at' ≤ number
-step_near code line number (Take bytes) at place at' place' passed here led low = omega (arith, led.0, low)
-step_near code line number First at place at' place' passed here led low = omega (arith, led.0, low)
-step_near code line number Last at place at' place' passed here led low = omega (arith, led.0, low)
-step_near code line number (Choose skip) at place at' place' passed here led low = elim led.0 [
+step_near : (code : List Node) (line : List ℕ) (number : ℕ) (node : Node) {at : ℕ} (place : ℕ) {at' : ℕ} (place' : ℕ) → IsPassed code number → At code at node → Leads node line at place at' place' → at < number → at' ≤ number
+step_near code line number (Take bytes) place place' passed here led low = omega (arith, led.0, low)
+step_near code line number First place place' passed here led low = omega (arith, led.0, low)
+step_near code line number Last place place' passed here led low = omega (arith, led.0, low)
+step_near code line number (Choose skip) {at} place place' passed here led low = elim led.0 [
   | inl next ↦ omega (arith, next, low)
   | inr far ↦ let near = passed at skip low here in omega (arith, far, near)
 ]
-step_near code line number (Back by) at place at' place' passed here led low = omega (arith, led.0, low)
+step_near code line number (Back by) place place' passed here led low = omega (arith, led.0, low)
 
 come_by : (code : List Node) (line : List ℕ) (number : ℕ) → IsPassed code number → (count at place to stop : ℕ) → Walks code line count at place to stop → at ≤ number → number < to → (there : ℕ) × (rest : ℕ) × Walks code line rest number there to stop
 come_by code line number passed zero at place to stop w low high = absurd (omega (arith, w.0, low, high))
 come_by code line number passed (suc count) at place to stop w low high = elim (cases_eq at number) [
   | inl same ↦ (place, suc count, subst (λ n. Walks code line (suc count) n place to stop) same w)
-  | inr other ↦ come_by code line number passed count w.0 w.1 to stop w.3 (step_near code line number w.2.0 at place w.0 w.1 passed w.2.1 w.2.2 (omega (arith, low, other))) high
+  | inr other ↦ come_by code line number passed count w.0 w.1 to stop w.3 (step_near code line number w.2.0 place w.1 passed w.2.1 w.2.2 (omega (arith, low, other))) high
 ]
 
 -- A walk that goes on from nodes which take bytes takes one after another.
@@ -58,17 +58,17 @@ taken code line zero number place to stop (suc count) w high takes =
     let first = takes 0 (omega arith) in
     let here : number + 0 ≡ number = omega arith in
     let there : place ≡ place + 0 = omega arith in
-    let led = led_on code line count number place to stop first.0 w (at_at code (number + 0) number (Take first.0) here first.1) in (
+    let led = led_on code line count number place to stop first.0 w (at_at code (Take first.0) here first.1) in (
       omega (arith, led.0),
-      λ bytes at. subst (λ n. IsTrue (has bytes (slice_index line n))) there (led_on code line count number place to stop bytes w (at_at code (number + 0) number (Take bytes) here at)).1,
+      λ bytes at. subst (λ n. IsTrue (has bytes (slice_index line n))) there (led_on code line count number place to stop bytes w (at_at code (Take bytes) here at)).1,
     )
 taken code line (suc k) number place to stop (suc count) w high takes =
     let first = takes 0 (omega arith) in
-    let led = led_on code line count number place to stop first.0 w (at_at code (number + 0) number (Take first.0) (omega arith) first.1) in
-    let more = taken code line k (number + 1) (place + 1) to stop count led.2 (omega (arith, high)) (λ j low. let next = takes (suc j) (omega (arith, low)) in (next.0, at_at code (number + suc j) (number + 1 + j) (Take next.0) (omega arith) next.1)) in
+    let led = led_on code line count number place to stop first.0 w (at_at code (Take first.0) (omega arith) first.1) in
+    let more = taken code line k (number + 1) (place + 1) to stop count led.2 (omega (arith, high)) (λ j low. let next = takes (suc j) (omega (arith, low)) in (next.0, at_at code (Take next.0) (omega arith) next.1)) in
     let there : place + 1 + k ≡ place + suc k = omega arith in (
       omega (arith, more.0),
-      λ bytes at. subst (λ n. IsTrue (has bytes (slice_index line n))) there (more.1 bytes (at_at code (number + suc k) (number + 1 + k) (Take bytes) (omega arith) at)),
+      λ bytes at. subst (λ n. IsTrue (has bytes (slice_index line n))) there (more.1 bytes (at_at code (Take bytes) (omega arith) at)),
     )
 
 -- the walk of a line with a match, from such a node on
@@ -81,20 +81,20 @@ pub is_byte_needle : (code : List Node) (number : ℕ) (bytes : List Bool) (few 
 is_byte_needle code number bytes few passed here among line are ends =
     let walk = comes code line number passed (at_least code number (Take bytes) here) ends in
     let same : number ≡ number + 0 = omega arith in
-    let first : AreTakes code number 0 = λ k low. (bytes, at_at code number (number + k) (Take bytes) (omega (arith, low)) here) in
+    let first : AreTakes code number 0 = λ k low. (bytes, at_at code (Take bytes) (omega (arith, low)) here) in
     let t = taken code line 0 number walk.0 (length code) walk.2 walk.1 walk.3 (let low = at_least code number (Take bytes) here in omega (arith, low)) first in
-    (walk.0 + 0, t.0, among (slice_index line (walk.0 + 0)) (are (walk.0 + 0) t.0) (t.1 bytes (at_at code number (number + 0) (Take bytes) same here)))
+    (walk.0 + 0, t.0, among (slice_index line (walk.0 + 0)) (are (walk.0 + 0) t.0) (t.1 bytes (at_at code (Take bytes) same here)))
 
 -- a node that takes one byte alone takes bytes
-only_takes : (code : List Node) (number byte : ℕ) (node : Node) → At code number node → TakesOnly node byte → (bytes : List Bool) × At code number (Take bytes) × ((other : ℕ) → other < 256 → IsTrue (has bytes other) → other ≡ byte)
-only_takes code number byte (Take bytes) here only = (bytes, here, only)
-only_takes code number byte First here only = absurd only
-only_takes code number byte Last here only = absurd only
-only_takes code number byte (Choose skip) here only = absurd only
-only_takes code number byte (Back by) here only = absurd only
+only_takes : (code : List Node) (number : ℕ) {byte : ℕ} (node : Node) → At code number node → TakesOnly node byte → (bytes : List Bool) × At code number (Take bytes) × ((other : ℕ) → other < 256 → IsTrue (has bytes other) → other ≡ byte)
+only_takes code number (Take bytes) here only = (bytes, here, only)
+only_takes code number First here only = absurd only
+only_takes code number Last here only = absurd only
+only_takes code number (Choose skip) here only = absurd only
+only_takes code number (Back by) here only = absurd only
 
-pub is_text_needle : (code : List Node) (number : ℕ) (text needle : List ℕ) → IsPassed code number → IsLiteral code number text → needle ≡ text → 0 < length text → IsNeedle code (Text needle)
-is_text_needle code number text needle passed literal same some line are ends = (
+pub is_text_needle : (code : List Node) (number : ℕ) {text needle : List ℕ} → IsPassed code number → IsLiteral code number text → needle ≡ text → 0 < length text → IsNeedle code (Text needle)
+is_text_needle code number {text} passed literal same some line are ends = (
   walk.0,
   subst (λ those. OccursAt line those walk.0) (sym same) (record {
     fits = let last = each (length text - 1) (omega (arith, some)) in omega (arith, last.0, some);
@@ -103,7 +103,7 @@ is_text_needle code number text needle passed literal same some line are ends = 
 )
   where
     takes : (k : ℕ) → k < length text → (bytes : List Bool) × At code (number + k) (Take bytes) × ((other : ℕ) → other < 256 → IsTrue (has bytes other) → other ≡ slice_index text k)
-    takes k within = let one = literal k within in only_takes code (number + k) (slice_index text k) one.0 one.1 one.2
+    takes k within = let one = literal k within in only_takes code (number + k) one.0 one.1 one.2
 
     walk : (there : ℕ) × (rest : ℕ) × (stop : ℕ) × Walks code line rest number there (length code) stop
     walk = comes code line number passed (let one = takes 0 some in let low = at_least code (number + 0) (Take one.0) one.1 in omega (arith, low)) ends
@@ -151,34 +151,17 @@ clear_of pattern needle text place ordered are is lacks before line after all en
     by false same = refl
     by true same = absurd (lacks before line after all ends (is line (part_bytes before line after (subst AreBytes all are)) ((contained pattern line ordered).0 ((contains_tells pattern line).0 same))))
 
-pub clear_none : (pattern : Pattern) (text : List ℕ) → IsClear pattern text 0
-clear_none pattern text before line after all ends = absurd (omega (arith, ends))
-
 -- Choosing the rarest nodes
 
-pub other_node : (code : List Node) (number : ℕ) (node : Node) → At code number node → ((skip : ℕ) → node ≡ Choose skip → ⊥) → (skip : ℕ) → At code number (Choose skip) → ⊥
-other_node code number node here differs skip there = differs skip (at_once code number node (Choose skip) here there)
+pub other_node : (code : List Node) (number : ℕ) {node : Node} → At code number node → ((skip : ℕ) → node ≡ Choose skip → ⊥) → (skip : ℕ) → At code number (Choose skip) → ⊥
+other_node code number {node} here differs skip there = differs skip (at_once code number node (Choose skip) here there)
 
-pub same_choice : (code : List Node) (number one other : ℕ) → At code number (Choose one) → At code number (Choose other) → one ≡ other
-same_choice code number one other here there = let same = at_once code number (Choose one) (Choose other) here there in cc
-
-pub rarest_more : (code : List Node) (at : ℕ) (rarest : Rarest) (far : ℕ) → IsRarest code at rarest → rarest.far ≤ far → ((skip : ℕ) → At code at (Choose skip) → at + skip ≤ far)
-    → IsRarest code (at + 1) (record { far = far; run = at + 1; from = rarest.from; rank = rarest.rank })
-rarest_more code at rarest far so_far low choice = record {
-  near = λ number skip less here. elim (cases_eq number at) [
-    | inl same ↦ let f = choice skip (subst (λ n. At code n (Choose skip)) same here) in omega (arith, f, same)
-    | inr other ↦ let f = so_far.near number skip (omega (arith, less, other)) here in omega (arith, f, low)
-  ];
-  begun = omega arith;
-  passed = so_far.passed;
-}
-
-pub literal_more : (code : List Node) (from at byte : ℕ) (text : List ℕ) (node : Node) → from + length text ≡ at → IsLiteral code from text → At code at node → TakesOnly node byte → IsLiteral code from (text ++ byte ∷ [])
-literal_more code from at byte text node all literal here only k within = elim (cases_eq k (length text)) [
+pub literal_more : (code : List Node) (from : ℕ) {at : ℕ} (byte : ℕ) (text : List ℕ) (node : Node) → from + length text ≡ at → IsLiteral code from text → At code at node → TakesOnly node byte → IsLiteral code from (text ++ byte ∷ [])
+literal_more code from {at} byte text node all literal here only k within = elim (cases_eq k (length text)) [
   | inl same ↦
       let there : at ≡ from + k = omega (arith, all, same) in
       let last : byte ≡ slice_index (text ++ byte ∷ []) k = sym (ap (λ n. slice_index (text ++ byte ∷ []) n) same ∙ get_or-append_seam text byte [] _) in
-      (node, at_at code at (from + k) node there here, subst (TakesOnly node) last only)
+      (node, at_at code node there here, subst (TakesOnly node) last only)
   | inr other ↦
       let long : length (text ++ byte ∷ []) ≡ length text + 1 = length-append text (byte ∷ []) in
       let less : k < length text = omega (arith, within, long, other) in

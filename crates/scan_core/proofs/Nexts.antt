@@ -15,8 +15,8 @@ pub record Nexting (code : List Node) (at count nexts : ℕ) : Type 0 where
   pub leads : (bit : ℕ) → bit + 1 < 64 → bit_at nexts (bit + 1) ≡ 1 → Flows code false false (at * 64 + bit) (at * 64 + (bit + 1))
 
 -- the bit after another
-after : (bit to : ℕ) → to < 64 → bit_at (2 * 2 ^ bit % 2 ^ 64) to ≡ 1 → to ≡ bit + 1
-after bit to h is = elim (cases_lt to bit) [
+after : (bit : ℕ) {to : ℕ} → to < 64 → bit_at (2 * 2 ^ bit % 2 ^ 64) to ≡ 1 → to ≡ bit + 1
+after bit {to} h is = elim (cases_lt to bit) [
   | inl l ↦ let z = placed_below 2 bit to h l in absurd (omega (arith, z, is))
   | inr l ↦ elim (cases_eq (to - bit) 1) [
     | inl one ↦ omega (arith, one, l)
@@ -27,9 +27,9 @@ after bit to h is = elim (cases_lt to bit) [
   ]
 ]
 
-pub next_more : (code : List Node) (at count nexts led : ℕ) → Nexting code at count nexts → ((to : ℕ) → to < 64 → (bit_at led to ≡ 1) ↔ Flows code false false (at * 64 + count) (at * 64 + to)) → bit_and led (bit_not w64 (2 * 2 ^ count % 2 ^ 64)) ≡ 0
+pub next_more : {code : List Node} {at count nexts : ℕ} (led : ℕ) → Nexting code at count nexts → ((to : ℕ) → to < 64 → (bit_at led to ≡ 1) ↔ Flows code false false (at * 64 + count) (at * 64 + to)) → bit_and led (bit_not w64 (2 * 2 ^ count % 2 ^ 64)) ≡ 0
     → Nexting code at (count + 1) (bit_or nexts led)
-next_more code at count nexts led n is none = record {
+next_more {code} {at} {count} {nexts} led n is none = record {
   only = λ bit to h l f. elim (cases_eq bit count) [
     | inl same ↦
         let one = (is to l).1 (subst (λ b. Flows code false false (at * 64 + b) (at * 64 + to)) same f) in
@@ -47,7 +47,7 @@ next_more code at count nexts led n is none = record {
         let e = fresh_bit led (2 * 2 ^ count % 2 ^ 64) to (omega arith) h in
         let z = ap (λ x. bit_at x to) none ∙ bit_at-zero to in
         let l = bit_at-lt (2 * 2 ^ count % 2 ^ 64) to in
-        after count to h (omega (arith, e, z, l, one))
+        after count h (omega (arith, e, z, l, one))
 
 -- a bit of a word that is shifted up by one, among others
 next_bit : (word nexts bit : ℕ) → bit + 1 < 64 → bit_at (bit_and (word * 2 ^ 1 % 2 ^ 64) nexts) (bit + 1) ≡ min (bit_at word bit) (bit_at nexts (bit + 1))
@@ -57,8 +57,8 @@ next_bit word nexts bit h =
     let s : bit_at word (bit + 1 - 1) ≡ bit_at word bit = ap (bit_at word) (omega arith) in
     omega (arith, e, p, s)
 
-pub next_ends : (code : List Node) (at count nexts : ℕ) → Nexting code at count nexts → 64 ≤ count → bit_and (nexts * 2 ^ 1 % 2 ^ 64) nexts ≡ 0 → AreNexts code at nexts
-next_ends code at count nexts n all none = record {
+pub next_ends : {code : List Node} {at count nexts : ℕ} → Nexting code at count nexts → 64 ≤ count → bit_and (nexts * 2 ^ 1 % 2 ^ 64) nexts ≡ 0 → AreNexts code at nexts
+next_ends {nexts} n all none = record {
   only = λ bit to h l f.
       let o = n.only bit to (omega (arith, h, all)) l f in
       let t = o.0 in
@@ -70,8 +70,8 @@ next_ends code at count nexts n all none = record {
 }
 
 -- what a word leads to is in it, or stands next to one of its numbers
-pub close_nexts : (code : List Node) (at word nexts : ℕ) → AreNexts code at nexts → Closes code at word (bit_or word (bit_and (word * 2 ^ 1 % 2 ^ 64) nexts))
-close_nexts code at word nexts n = record {
+pub close_nexts : {code : List Node} {at word nexts : ℕ} → AreNexts code at nexts → Closes code at word (bit_or word (bit_and (word * 2 ^ 1 % 2 ^ 64) nexts))
+close_nexts {code} {at} {word} {nexts} n = record {
   kept = λ bit h is. left_bit word more bit is;
   from_chosen = λ number h is. elim (either_bit word more number is) [
     | inl old ↦ (number, h, old, (0, refl))

@@ -22,8 +22,8 @@ abbrev pub LedOrBase : List Node → ℕ → List ℕ → List ℕ → ℕ → T
 LedOrBase code byte base words number = Led code byte words number ⊎ IsIn base number
 
 -- the bits of a word that is shifted up by one, and of what comes in below
-shifted_low : (kept carry : ℕ) → carry < 2 → bit_at (bit_or (kept * 2 ^ 1 % 2 ^ 64) carry) 0 ≡ carry
-shifted_low kept carry h =
+shifted_low : (kept : ℕ) {carry : ℕ} → carry < 2 → bit_at (bit_or (kept * 2 ^ 1 % 2 ^ 64) carry) 0 ≡ carry
+shifted_low kept {carry} h =
     let e = bit_at_or (kept * 2 ^ 1 % 2 ^ 64) carry 0 in
     let a = bit_at_lowest (kept * 2 ^ 1 % 2 ^ 64) in
     let b = bit_at_lowest carry in
@@ -66,9 +66,9 @@ kept_bit code words takes byte from at bit m within small = (
         let i = m (at * 64 + bit) (omega (arith, within, small)) in
         (λ h. i.0 (e ∙ h), λ p. sym e ∙ i.1 p)
 
-pub set_elsewhere : (words : List ℕ) (at word number : ℕ) → (number / 64 ≡ at → ⊥) → IsIn (set words at word) number ↔ IsIn words number
+pub set_elsewhere : (words : List ℕ) {at : ℕ} (word number : ℕ) → (number / 64 ≡ at → ⊥) → IsIn (set words at word) number ↔ IsIn words number
 unfolding IsIn
-set_elsewhere words at word number differs =
+set_elsewhere words {at} word number differs =
     let e = ap (λ x. bit_at x (number % 64)) (get_or-set_other words at (number / 64) word 0 differs) in
     (λ k. sym e ∙ k, λ k. e ∙ k)
 
@@ -80,18 +80,9 @@ pub record Passing (code : List Node) (byte : ℕ) (base old now : List ℕ) (at
   pub bit : carry < 2
   pub over : (carry ≡ 1) ↔ Led code byte old (at * 64)
 
-pub passing_starts : (code : List Node) (byte : ℕ) (base old : List ℕ) → Passing code byte base old old 0 0
-passing_starts code byte base old = record {
-  size = refl;
-  past = λ number h. absurd (omega (arith, h));
-  rest = λ n h. refl;
-  bit = omega arith;
-  over = (λ h. absurd (omega (arith, h)), λ l. absurd (let e = l.2.3 in omega (arith, e)));
-}
-
-pub passing_more : (code : List Node) (byte : ℕ) (base old now new takes : List ℕ) (from at carry kept : ℕ) → Passing code byte base old now at carry → IsMask code (Takes byte) from takes → length old ≡ width code → at < length old
+pub passing_more : {code : List Node} {byte : ℕ} {base old now new : List ℕ} (takes : List ℕ) (from : ℕ) {at carry kept : ℕ} → Passing code byte base old now at carry → IsMask code (Takes byte) from takes → length old ≡ width code → at < length old
     → kept ≡ bit_and (get_or now at 0) (get_or takes (from + at) 0) → kept < 2 ^ 64 → new ≡ set now at (bit_or (bit_or (kept * 2 ^ 1 % 2 ^ 64) carry) (get_or base at 0)) → Passing code byte base old new (at + 1) (kept / 2 ^ 63)
-passing_more code byte base old now new takes from at carry kept p m size h ek fits en = record {
+passing_more {code} {byte} {base} {old} {now} {new} takes from {at} {carry} {kept} p m size h ek fits en = record {
   size = ap length en ∙ length-set now at (bit_or (bit_or (kept * 2 ^ 1 % 2 ^ 64) carry) (get_or base at 0)) ∙ p.size;
   past = λ number l. elim (cases_lt number (64 * at)) [
     | inl before ↦ subst (λ w. IsIn w number ↔ LedOrBase code byte base old number) (sym en) (earlier number before (p.past number before))
@@ -120,7 +111,7 @@ passing_more code byte base old now new takes from at carry kept p m size h ek f
 
     earlier : (number : ℕ) → number < 64 * at → IsIn now number ↔ LedOrBase code byte base old number → IsIn (set now at (bit_or (bit_or (kept * 2 ^ 1 % 2 ^ 64) carry) (get_or base at 0))) number ↔ LedOrBase code byte base old number
     earlier number l i =
-        let e = set_elsewhere now at (bit_or (bit_or (kept * 2 ^ 1 % 2 ^ 64) carry) (get_or base at 0)) number (λ q. omega (arith, q, l)) in
+        let e = set_elsewhere now (bit_or (bit_or (kept * 2 ^ 1 % 2 ^ 64) carry) (get_or base at 0)) number (λ q. omega (arith, q, l)) in
         (λ k. i.0 (e.0 k), λ k. e.1 (i.1 k))
 
     joined : (bit : ℕ) → bit < 64 → ((bit_at (bit_or (kept * 2 ^ 1 % 2 ^ 64) carry) bit ≡ 1) ↔ Led code byte old (at * 64 + bit)) → IsIn new (at * 64 + bit) ↔ LedOrBase code byte base old (at * 64 + bit)
@@ -137,7 +128,7 @@ passing_more code byte base old now new takes from at carry kept p m size h ek f
 
     inside : (bit : ℕ) → bit < 64 → (bit_at (bit_or (kept * 2 ^ 1 % 2 ^ 64) carry) bit ≡ 1) ↔ Led code byte old (at * 64 + bit)
     inside zero small =
-        let e = shifted_low kept carry p.bit in
+        let e = shifted_low kept p.bit in
         let z : at * 64 + 0 ≡ at * 64 = omega arith in (
           λ k. subst (Led code byte old) (sym z) (p.over.0 (sym e ∙ k)),
           λ k. e ∙ p.over.1 (subst (Led code byte old) z k),
@@ -150,15 +141,15 @@ passing_more code byte base old now new takes from at carry kept p m size h ek f
           λ led. e ∙ k.1 (subst (Led code byte old) (sym z) led),
         )
 
-pub passing_ends : (code : List Node) (byte : ℕ) (base old now : List ℕ) (at carry : ℕ) → Passing code byte base old now at carry → length old ≤ at → length old ≡ width code → length base ≡ width code → (number : ℕ) → IsIn now number ↔ LedOrBase code byte base old number
-passing_ends code byte base old now at carry p h size same number = (
+pub passing_ends : {code : List Node} {byte : ℕ} {base old now : List ℕ} {at carry : ℕ} → Passing code byte base old now at carry → length old ≤ at → length old ≡ width code → length base ≡ width code → (number : ℕ) → IsIn now number ↔ LedOrBase code byte base old number
+passing_ends {code} {byte} {base} {old} {now} {at} p h size same number = (
   λ k. let l = is_within now number k in let s = p.size in (p.past number (omega (arith, l, s, h))).0 k,
   λ k. (p.past number (within k)).1 k,
 )
   where
     within : LedOrBase code byte base old number → number < 64 * at
     within (inl k) =
-        let l = pass_least code k.0 byte number k.2 in
+        let l = pass_least code k.2 in
         let e = k.2.3 in
         omega (arith, l, e, size, h)
     within (inr front) = let l = is_within base number front in omega (arith, l, same, size, h)

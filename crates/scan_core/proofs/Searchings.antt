@@ -10,8 +10,9 @@ use Rattle.scan_core.specs.Counted.{AreSteps}
 use Rattle.scan_core.specs.Sets.{IsMarked, positions_among}
 use Rattle.scan_core.specs.inner.Sets.{FlowsOn, Passes, Came}
 use Rattle.scan_core.specs.Table.{IsOutcome}
+use Rattle.scan_core.specs.inner.Table.{IsCounted}
 use Rattle.scan_core.specs.inner.Words.{IsIn, width, flags_of, SpreadsOut}
-use Rattle.scan_core.proofs.Along.{IsPlace, closes_exact, came_exact, none_counted, one_counted, steps_more, steps_wider, steps_before}
+use Rattle.scan_core.proofs.Along.{IsPlace, closes_exact, came_exact, counted_starts, counted_more, counted_found, counted_ends, steps_more, steps_wider}
 use Rattle.scan_core.proofs.Countings.{flags_are}
 use Rattle.scan_core.proofs.Enterings.{positions_most, parts_anywhere, weight_length}
 use Rattle.scan_core.proofs.Visitings.{flows_join}
@@ -20,29 +21,12 @@ use Rattle.scan_core.proofs.Visitings.{flows_join}
 pub record Searched (code : List Node) (line : List ℕ) (place : ℕ) (words : List ℕ) (steps : ℕ) : Type 0 where
   pub size : length words ≡ width code
   pub came : (number : ℕ) → IsIn words number ↔ (Came code line place number ⊎ FlowsOn code false false 0 number)
-  pub none : (before : ℕ) → before < place → Entered code line (length code) before → ⊥
-  pub counted : AreSteps code line place steps
-  pub bound : steps ≤ place * (weight code + 1)
-
-pub search_starts : (code : List Node) (line : List ℕ) (base : Base) (words : List ℕ) → IsBase code base → words ≡ base.words.items → Searched code line 0 words 0
-search_starts code line base words b e = record {
-  size = ap length e ∙ b.size;
-  came = λ number. (
-    λ h. inr ((b.exact number).0 (subst (λ w. IsIn w number) e h)),
-    λ c. elim c [ inl k ↦ absurd (omega (arith, k.1)) | inr f ↦ subst (λ w. IsIn w number) (sym e) ((b.exact number).1 f) ],
-  );
-  none = λ before h. absurd (omega (arith, h));
-  counted = none_counted code line;
-  bound = omega arith;
-}
-
-pub begun : (code : List Node) (line : List ℕ) (base : Base) (place steps : ℕ) (words : List ℕ) → IsBase code base → Searched code line place words steps → (number : ℕ) → IsIn base.words.items number → IsIn words number
-begun code line base place steps words b s number h = (s.came number).1 (inr ((b.exact number).0 h))
+  pub so_far : IsCounted code line place steps
 
 -- what is entered at a place
-pub entered_here : (code : List Node) (line : List ℕ) (place steps : ℕ) (at_first at_last : Bool) (old new : List ℕ) → Searched code line place old steps → IsPlace line place at_first at_last → SpreadsOut code at_first at_last old new
+pub entered_here : {code : List Node} (line : List ℕ) {place steps : ℕ} {at_first at_last : Bool} {old new : List ℕ} → Searched code line place old steps → IsPlace line place at_first at_last → SpreadsOut code at_first at_last old new
     → (number : ℕ) → IsIn new number ↔ Entered code line number place
-entered_here code line place steps at_first at_last old new s p o = closes_exact code line place at_first at_last (Came code line place) (IsIn new) p (λ number. (λ h. h, λ h. h)) (λ number. (
+entered_here {code} line {place} {at_first} {at_last} {new} s p o = closes_exact code line (Came code line place) (IsIn new) p (λ number. (λ h. h, λ h. h)) (λ number. (
   λ h. let f = (o.exact number).0 h in elim ((s.came f.0).0 f.1) [
     | inl came ↦ (f.0, inl came, f.2)
     | inr on ↦ (0, inr refl, flows_join code at_first at_last f.2.0 0 f.0 number (on.0, parts_anywhere code at_first at_last on.0 0 f.0 on.1) f.2.1)
@@ -51,65 +35,52 @@ entered_here code line place steps at_first at_last old new s p o = closes_exact
 ))
 
 -- the set of a place has no more positions than the code
-pub few_positions : (code : List Node) (words : List ℕ) (positions : ℕ) → positions ≡ positions_among code (flags_of words) → positions ≤ weight code + 1
-few_positions code words positions e = let m = positions_most code (flags_of words) in omega (arith, m, e)
+pub few_positions : (code : List Node) (words : List ℕ) {positions : ℕ} → positions ≡ positions_among code (flags_of words) → positions ≤ weight code + 1
+few_positions code words e = let m = positions_most code (flags_of words) in omega (arith, m, e)
 
 -- the steps so far and those of one place more fit 128 bits
-pub search_fits : (code : List Node) (line : List ℕ) (place steps positions : ℕ) (old now : List ℕ) → Searched code line place old steps
+pub search_fits : {code : List Node} (line : List ℕ) {place steps positions : ℕ} {old : List ℕ} (now : List ℕ) → Searched code line place old steps
     → positions ≡ positions_among code (flags_of now) → length code < 9223372036854775808 → place ≤ 18446744073709551616
     → steps + positions < 340282366920938463463374607431768211456
-search_fits code line place steps positions old now s e few far =
+search_fits {code} line {place} now s e few far =
     let w = weight_length code in
-    let m = few_positions code now positions e in
+    let m = few_positions code now e in
     let size : weight code + 1 ≤ 9223372036854775808 = omega (arith, w, few) in
     let most : place * (weight code + 1) ≤ 18446744073709551616 * 9223372036854775808 = mul-le-mul far size in
-    omega (arith, s.bound, most, m, size)
+    omega (arith, s.so_far.bound, most, m, size)
 
 marked_here : (code : List Node) (line : List ℕ) (place : ℕ) (words : List ℕ) → ((number : ℕ) → IsIn words number ↔ Entered code line number place) → (number : ℕ) → IsMarked (flags_of words) number ↔ Entered code line number place
 marked_here code line place words here number = (λ h. (here number).0 ((flags_are words number).0 h), λ e. (flags_are words number).1 ((here number).1 e))
 
 -- one byte more
-pub search_more : (code : List Node) (line : List ℕ) (base : Base) (place byte steps positions : ℕ) (old now new : List ℕ) (found : Bool) → IsBase code base → Searched code line place old steps → ((number : ℕ) → IsIn now number ↔ Entered code line number place) → place < length line → byte ≡ slice_index line place → positions ≡ positions_among code (flags_of now)
-    → found ≡ false → (IsTrue found ↔ IsIn now (length code)) → length new ≡ width code → ((number : ℕ) → IsIn new number ↔ (((before : ℕ) × IsIn now before × Passes code byte before number) ⊎ IsIn base.words.items number)) → Searched code line (place + 1) new (steps + positions)
-search_more code line base place byte steps positions old now new found b s here h e p absent test size passed = record {
+pub search_more : {code : List Node} (line : List ℕ) {base : Base} {place byte steps positions : ℕ} {old : List ℕ} (now : List ℕ) {new : List ℕ} {found : Bool} → IsBase code base → Searched code line place old steps
+    → ((number : ℕ) → IsIn now number ↔ Entered code line number place) → place < length line → byte ≡ slice_index line place → positions ≡ positions_among code (flags_of now)
+    → found ≡ false → (IsTrue found ↔ IsIn now (length code)) → length new ≡ width code
+    → ((number : ℕ) → IsIn new number ↔ (((before : ℕ) × IsIn now before × Passes code byte before number) ⊎ IsIn base.words.items number)) → Searched code line (place + 1) new (steps + positions)
+search_more {code} line {place} {byte} {steps} now {new} b s here h e p absent test size passed = record {
   size = size;
   came = λ number.
       let one : suc place ≡ place + 1 = omega arith in
-      let c = came_exact code line place byte (IsIn now) here h e number in
+      let c = came_exact code line place (IsIn now) here h e number in
       subst (λ n. IsIn new number ↔ (Came code line n number ⊎ FlowsOn code false false 0 number)) one (
         λ k. elim ((passed number).0 k) [ inl led ↦ inl (c.0 led) | inr based ↦ inr ((b.exact number).0 based) ],
         λ k. elim k [ inl came ↦ (passed number).1 (inl (c.1 came)) | inr flows ↦ (passed number).1 (inr ((b.exact number).1 flows)) ],
       );
-  none = λ before l k. elim (cases_eq before place) [
-    | inl same ↦ absurd (false≢true (sym absent ∙ test.1 ((here (length code)).1 (subst (λ q. Entered code line (length code) q) same k))))
-    | inr other ↦ s.none before (omega (arith, l, other)) k
-  ];
-  counted = one_counted code line place steps (steps + positions) (flags_of now) s.counted (marked_here code line place now here) (ap (λ q. steps + q) p);
-  bound = steps_more place steps positions (weight code + 1) s.bound (few_positions code now positions p);
+  so_far = subst (λ q. IsCounted code line (place + 1) (steps + q)) (sym p)
+      (counted_more (flags_of now) s.so_far (marked_here code line place now here) (λ m. false≢true (sym absent ∙ test.1 ((flags_are now (length code)).0 m))));
 }
 
 -- the end is entered
-pub search_found : (code : List Node) (line : List ℕ) (place steps positions : ℕ) (old now : List ℕ) → Searched code line place old steps → ((number : ℕ) → IsIn now number ↔ Entered code line number place) → place < length line → positions ≡ positions_among code (flags_of now) → IsIn now (length code)
-    → IsOutcome code line (record { found = true; steps = steps + positions })
-search_found code line place steps positions old now s here h p is = record {
-  exact = (λ t. (place, omega (arith, h), (here (length code)).0 is), λ e. refl);
-  counted = λ f. absurd (false≢true (sym f));
-  least = λ t. steps_before code line place steps _ (omega (arith, h)) ((here (length code)).0 is) s.none s.counted (omega arith);
-  bound = steps_wider (place + 1) (length line + 1) (steps + positions) (weight code + 1) (steps_more place steps positions (weight code + 1) s.bound (few_positions code now positions p)) (omega (arith, h));
-}
+pub search_found : {code : List Node} (line : List ℕ) {place steps positions : ℕ} {old : List ℕ} (now : List ℕ) → Searched code line place old steps → ((number : ℕ) → IsIn now number ↔ Entered code line number place)
+    → place < length line → positions ≡ positions_among code (flags_of now) → IsIn now (length code) → IsOutcome code line (record { found = true; steps = steps + positions })
+search_found {code} line {place} {steps} {positions} now s here h p is =
+    counted_found s.so_far (omega (arith, h)) ((here (length code)).0 is) (omega arith)
+    (steps_wider (place + 1) (length line + 1) (steps + positions) (weight code + 1) (steps_more place steps positions (weight code + 1) s.so_far.bound (few_positions code now p)) (omega (arith, h)))
 
 -- the line's end
-pub search_ends : (code : List Node) (line : List ℕ) (place steps positions : ℕ) (old now : List ℕ) (found : Bool) → Searched code line place old steps → ((number : ℕ) → IsIn now number ↔ Entered code line number place) → place ≡ length line → positions ≡ positions_among code (flags_of now) → (IsTrue found ↔ IsIn now (length code))
-    → IsOutcome code line (record { found = found; steps = steps + positions })
-search_ends code line place steps positions old now found s here e p test = record {
-  exact = (
-    λ t. (place, omega (arith, e), (here (length code)).0 (test.0 t)),
-    λ k. elim (cases_eq k.0 place) [
-      | inl same ↦ test.1 ((here (length code)).1 (subst (λ q. Entered code line (length code) q) same k.2))
-      | inr other ↦ absurd (s.none k.0 (omega (arith, k.1, e, other)) k.2)
-    ],
-  );
-  least = λ t. steps_before code line place steps _ (omega (arith, e)) ((here (length code)).0 (test.0 t)) s.none s.counted (omega arith);
-  counted = λ absent. subst (λ n. AreSteps code line (n + 1) (steps + positions)) e (one_counted code line place steps (steps + positions) (flags_of now) s.counted (marked_here code line place now here) (ap (λ q. steps + q) p));
-  bound = steps_wider (place + 1) (length line + 1) (steps + positions) (weight code + 1) (steps_more place steps positions (weight code + 1) s.bound (few_positions code now positions p)) (omega (arith, e));
-}
+pub search_ends : {code : List Node} (line : List ℕ) {place steps positions : ℕ} {old : List ℕ} (now : List ℕ) {found : Bool} → Searched code line place old steps → ((number : ℕ) → IsIn now number ↔ Entered code line number place)
+    → place ≡ length line → positions ≡ positions_among code (flags_of now) → (IsTrue found ↔ IsIn now (length code)) → IsOutcome code line (record { found = found; steps = steps + positions })
+search_ends {code} line {place} {steps} now {found} s here e p test =
+    let f = flags_are now (length code) in
+    subst (λ q. IsOutcome code line (record { found = found; steps = steps + q })) (sym p)
+    (counted_ends (flags_of now) s.so_far (marked_here code line place now here) e (λ t. f.1 (test.0 t), λ m. test.1 (f.0 m)))

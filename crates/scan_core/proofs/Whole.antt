@@ -1,5 +1,5 @@
 -- The code of a pattern and the search for its end, together.
-use Rattle.std.proofs.Common.{◌≡◌, ◌↔◌, ℕ, ◌+◌, ◌*◌, ◌<◌, ◌≤◌, Bool, true, IsTrue, List, [], length, refl, ap, arith}
+use Rattle.std.proofs.Common.{◌≡◌, ◌↔◌, ℕ, ◌+◌, ◌*◌, ◌<◌, ◌≤◌, Bool, IsTrue, List, [], length, refl, ap, arith}
 use Rattle.bre_core.specs.Pattern.{Pattern, positions_of}
 use Rattle.bre_core.specs.Match.{Contains}
 use Rattle.bre_core.specs.Search.{contains}
@@ -12,14 +12,11 @@ use Rattle.scan_core.proofs.Along.{flow_goes}
 use Rattle.scan_core.proofs.Weights.{weight_is, length_most}
 
 pub is_code : (pattern : Pattern) → IsOrdered pattern → IsCode (code_of pattern)
-is_code pattern o = record {
-  ends = λ from to f. (code_exact pattern [] o).fits.ends from 0 to 0 (f.0, f.1, flow_goes f.0 [] 0 true true from to (record { within = omega arith; first = (λ t. refl, λ e. refl); last = (λ t. refl, λ e. refl) }) f.2);
-  begins = (code_exact pattern [] o).fits.begins;
-}
+is_code pattern o = (code_exact pattern [] o).fits
 
 -- what the search finds is what the line contains
-pub found_contains : (pattern : Pattern) (line : List ℕ) (found : Bool) → IsOrdered pattern → (IsTrue found ↔ EndsIn (code_of pattern) line) → found ≡ contains pattern line
-found_contains pattern line found o f =
+pub found_contains : (pattern : Pattern) (line : List ℕ) {found : Bool} → IsOrdered pattern → (IsTrue found ↔ EndsIn (code_of pattern) line) → found ≡ contains pattern line
+found_contains pattern line {found} o f =
     one_truth found (contains pattern line) (Contains pattern line) ((λ t. (contained pattern line o).1 (f.0 t), λ c. f.1 ((contained pattern line o).0 c))) (contains_tells pattern line)
 
 -- twice the positions are room enough

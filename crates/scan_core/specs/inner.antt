@@ -3,10 +3,12 @@ pub mod Base
 pub mod Built
 pub mod Closures
 pub mod Compiling
+pub mod Each
 pub mod Hops
 pub mod Landings
 pub mod Needles
 pub mod Sets
 pub mod Shifts
 pub mod Table
+pub mod Ways
 pub mod Words

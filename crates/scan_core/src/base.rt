@@ -2,10 +2,11 @@
 
 ghost use Rattle.std.specs.Prelude.{◌≡◌, ◌⊎◌, ◌↔◌, ◌<◌, ◌+◌, ◌*◌, ◌/◌, ℕ, Bool, false, IsTrue, IfOk, IfErr, [], length};
 ghost use Rattle.bre_core.specs.declared.fault.BreFault.TheVariants.{Memory};
-ghost use Rattle.scan_core.specs.inner.Base.{AreLeads, IsBase, IsLeading};
+ghost use Rattle.scan_core.specs.inner.Base.{IsBase, IsLeading};
 ghost use Rattle.scan_core.specs.inner.Closures.{AreClosures};
+ghost use Rattle.scan_core.specs.inner.Each.{AreEach};
 ghost use Rattle.scan_core.specs.inner.Hops.{AreHops};
-ghost use Rattle.scan_core.specs.inner.Landings.{AreLandings, AreOthers};
+ghost use Rattle.scan_core.specs.inner.Landings.{AreLandings, IsOther};
 ghost use Rattle.scan_core.specs.inner.Sets.{IsCode, Flows, FlowsOn};
 ghost use Rattle.scan_core.specs.inner.Words.{IsIn, width};
 
@@ -14,6 +15,7 @@ use crate::closures::Closures;
 use crate::hops::Hop;
 use crate::landing::{Landing, add_landings, others_of};
 use crate::node::Node;
+use crate::way::{When, way_of};
 use crate::words::{clear, enter, has};
 use bre_core::BreFault;
 use std::alloc::Global;
@@ -37,19 +39,15 @@ fn is_within(nodes: &[Node], words: &[u64], number: usize) -> bool
     requires size { length words.now ≡ width nodes.now }
     ensures { IsTrue result → (at_first at_last : Bool) (to : ℕ) → Flows nodes.now at_first at_last number to → IsIn words.now to }
 {
-    if number >= nodes.len() {
-        return true;
-    }
-    match &nodes[number] {
-        Node::Take(_) => true,
-        Node::First | Node::Last => has(words, number + 1),
-        Node::Choose(skip) => {
-            if !has(words, number + 1) {
+    let way = way_of(nodes, number);
+    match way.when {
+        When::Never => true,
+        When::AtFront | When::AtEnd | When::Always => {
+            if !has(words, way.one) {
                 return false;
             }
-            has(words, number + *skip)
+            has(words, way.other)
         }
-        Node::Back(by) => has(words, number - *by),
     }
 }
 
@@ -62,9 +60,7 @@ fn leading(nodes: &[Node], words: &[u64], at: usize) -> u64
 {
     let mut word: u64 = 0;
     for bit in 0..64usize {
-        if !is_within(nodes, words, at * 64 + bit) {
-            word |= 1u64 << bit;
-        }
+        word |= (!is_within(nodes, words, at * 64 + bit) as u64) << bit;
     }
     word
 }
@@ -73,7 +69,7 @@ fn leading(nodes: &[Node], words: &[u64], at: usize) -> u64
 fn leads_of(alloc: Global, nodes: &[Node], words: &[u64]) -> Result<Vec<u64>, BreFault>
     requires code { IsCode nodes.now }
     requires size { length words.now ≡ width nodes.now }
-    ensures ok { IfOk result (λ leads. AreLeads nodes.now words.now leads.items) }
+    ensures ok { IfOk result (λ leads. AreEach 0 (IsLeading nodes.now words.now) (width nodes.now) leads.items) }
     ensures err { IfErr result (λ fault. fault ≡ Memory) }
 {
     let mut leads = Vec::new(alloc);
@@ -92,11 +88,11 @@ fn land_all(
     landings: &mut Vec<Landing>,
 ) -> Result<Vec<u64>, BreFault>
     requires code { IsCode nodes.now }
-    requires hops { AreHops nodes.now (width nodes.now * 3) hops.now }
+    requires hops { AreHops nodes.now hops.now }
     requires size { length base.now ≡ width nodes.now }
     requires none { landings.old.items ≡ [] }
     ensures sound { IfOk result (λ _. AreLandings nodes.now landings.new.items) }
-    ensures ok { IfOk result (λ others. AreOthers nodes.now base.now landings.new.items others.items) }
+    ensures ok { IfOk result (λ others. AreEach 0 (IsOther nodes.now base.now landings.new.items) (width nodes.now) others.items) }
     ensures err { IfErr result (λ fault. fault ≡ Memory) }
 {
     let mut others = Vec::new(alloc);
@@ -108,17 +104,17 @@ fn land_all(
     Ok(others)
 }
 
-/// Makes a set what number 0 leads to without a byte.
-fn begin(words: &mut [u64], nodes: &[Node], closures: &Closures)
+/// Makes a set what number 0 leads to without a byte, at a line's front or elsewhere.
+pub fn begin(words: &mut [u64], nodes: &[Node], closures: &Closures, at_first: bool)
     requires code { IsCode nodes.now }
     requires size { length words.old ≡ width nodes.now }
     requires closures { AreClosures nodes.now closures.now }
     ensures size { length words.new ≡ length words.old }
-    ensures exact { (number : ℕ) → IsIn words.new number ↔ FlowsOn nodes.now false false 0 number }
+    ensures exact { (number : ℕ) → IsIn words.new number ↔ FlowsOn nodes.now at_first false 0 number }
 {
     clear(words);
     enter(words, 0, 0);
-    spread_all(words, nodes, closures, false, false);
+    spread_all(words, nodes, closures, at_first, false);
 }
 
 /// What is in each set of a code.
@@ -129,7 +125,7 @@ pub fn base_of(alloc: Global, nodes: &[Node], closures: &Closures) -> Result<Bas
     ensures err { IfErr result (λ fault. fault ≡ Memory) }
 {
     let mut words = vec![in alloc; 0u64; nodes.len() / 64 + 1]?;
-    begin(&mut words, nodes, closures);
+    begin(&mut words, nodes, closures, false);
     let leads = leads_of(alloc, nodes, &words)?;
     let mut landings = Vec::new(alloc);
     let others = land_all(alloc, nodes, &closures.hops, &words, &mut landings)?;

@@ -87,12 +87,13 @@ impl Bre {
     {
         let expression = Expression::read(alloc, text)?;
         let code = compile(alloc, &expression)?;
-        let masks = masks_of(alloc, &code)?;
-        let closures = closures_of(alloc, &code)?;
-        let base = base_of(alloc, &code, &closures)?;
-        let table = build(alloc, &code)?;
-        let shifts = shifts_of(alloc, &code, &table)?;
-        let needle = needle_of(alloc, &code)?;
+        let nodes = code.as_slice();
+        let masks = masks_of(alloc, nodes)?;
+        let closures = closures_of(alloc, nodes)?;
+        let base = base_of(alloc, nodes, &closures)?;
+        let table = build(alloc, nodes, &masks, &closures, &base)?;
+        let shifts = shifts_of(alloc, nodes, &table)?;
+        let needle = needle_of(alloc, nodes)?;
         Ok(Bre {
             expression,
             code,

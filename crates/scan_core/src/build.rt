@@ -4,13 +4,21 @@ ghost use Rattle.std.specs.Prelude.{◌≡◌, ◌↔◌, ◌<◌, ◌≤◌, �
 ghost use Rattle.bre_core.specs.declared.fault.BreFault.TheVariants.{Memory};
 ghost use Rattle.bre_core.specs.ByteSet.{has};
 ghost use Rattle.scan_core.specs.declared.node.Node.TheVariants.{Take};
-ghost use Rattle.scan_core.specs.inner.Built.{AreAlike, AreTwins, IsBuilding, IsFilling, LeadsTo, AreNoted};
+ghost use Rattle.scan_core.specs.inner.Base.{IsBase};
+ghost use Rattle.scan_core.specs.inner.Built.{AreAlike, IsBuilding, IsFilling, IsOpen, LeadsTo, Led};
+ghost use Rattle.scan_core.specs.inner.Closures.{AreClosures};
+ghost use Rattle.scan_core.specs.inner.Each.{AreEach};
 ghost use Rattle.scan_core.specs.inner.Sets.{IsCode};
-ghost use Rattle.scan_core.specs.inner.Table.{entry, Tells, IsState, IsTable};
+ghost use Rattle.scan_core.specs.inner.Table.{Next, entry, no_state, IsState, IsTable};
+ghost use Rattle.scan_core.specs.inner.Words.{IsIn, IsMasks, flags_of, width};
 
+use crate::base::{Base, begin};
+use crate::closing::{spread, spread_all};
+use crate::closures::Closures;
+use crate::masks::Masks;
 use crate::node::Node;
-use crate::reach::Reach;
 use crate::table::{STOP, State, Table, UNKNOWN};
+use crate::words::{has, pass, positions};
 use bre_core::BreFault;
 use std::alloc::Global;
 use std::marker::Model;
@@ -24,19 +32,20 @@ const MOST_SETS: usize = 4096;
 /// The most flags that the sets of a table may have together.
 const MOST_FLAGS: usize = 131_072;
 
-/// A set as flags, with a number in which most other sets differ from it: so few sets are compared flag by flag.
+/// A set as words, with a number in which most other sets differ from it: so few sets are compared word by word.
 #[derive(Drop)]
 pub struct Marks {
     key: u64,
-    flags: Vec<bool>,
+    words: Vec<u64>,
 }
 
 impl Model for Marks {
     ghost use Rattle.std.specs.Prelude.{List, Bool};
+    ghost use Rattle.scan_core.specs.inner.Words.{flags_of};
 
     ghost Value = { List Bool };
 
-    ghost view = { λ m. m.flags.items };
+    ghost view = { λ m. flags_of m.words.items };
 }
 
 /// A table that is being built.
@@ -44,21 +53,21 @@ impl Model for Marks {
 pub struct Building {
     sets: Vec<Marks>,
     rows: Vec<u16>,
-    now: Reach,
-    next: Reach,
+    /// Room for a set.
+    words: Vec<u64>,
 }
 
-/// The number of a set's flags.
-fn key_of(flags: &[bool]) -> u64 {
+/// The number of a set's words.
+fn key_of(words: &[u64]) -> u64 {
     let mut key: u64 = 0;
-    for flag in flags {
-        key = key.wrapping_mul(31).wrapping_add(u64::from(*flag));
+    for word in words {
+        key = key.wrapping_mul(31).wrapping_add(*word);
     }
     key
 }
 
 /// Whether two sets are the same.
-fn same(one: &[bool], other: &[bool]) -> bool
+fn same(one: &[u64], other: &[u64]) -> bool
     ensures { IsTrue result → one.now ≡ other.now }
 {
     if one.len() != other.len() {
@@ -73,13 +82,13 @@ fn same(one: &[bool], other: &[bool]) -> bool
 }
 
 /// Where a set is among others, if it is found.
-fn find(sets: &[Marks], key: u64, flags: &[bool]) -> Option<usize>
+fn find(sets: &[Marks], key: u64, words: &[u64]) -> Option<usize>
     ensures within { IfSome result (λ place. place < length sets.now) }
-    ensures exact { IfSome result (λ place. slice_index_or sets.now place [] ≡ flags.now) }
+    ensures exact { IfSome result (λ place. slice_index_or sets.now place [] ≡ flags_of words.now) }
 {
     for i in 0..sets.len() {
         let set = &sets[i];
-        if set.key == key && same(&set.flags, flags) {
+        if set.key == key && same(&set.words, words) {
             return Some(i);
         }
     }
@@ -90,29 +99,29 @@ fn find(sets: &[Marks], key: u64, flags: &[bool]) -> Option<usize>
 fn lead_to(
     alloc: Global,
     sets: &mut Vec<Marks>,
-    marks: &[bool],
+    words: &[u64],
     end: usize,
     most: usize,
 ) -> Result<u16, BreFault>
     requires most { most < 65534 }
     requires room { length sets.old.items ≤ most }
-    requires end { end < length marks.now }
-    ensures ok { IfOk result (LeadsTo end most marks.now sets.old.items sets.new.items) }
+    requires end { end < 64 * length words.now }
+    ensures ok { IfOk result (LeadsTo end most words.now sets.old.items sets.new.items) }
     ensures err { IfErr result (λ fault. fault ≡ Memory) }
 {
-    if marks[end] {
+    if has(words, end) {
         return Ok(STOP);
     }
-    let key = key_of(marks);
-    if let Some(place) = find(sets, key, marks) {
+    let key = key_of(words);
+    if let Some(place) = find(sets, key, words) {
         return Ok(place as u16);
     }
     if sets.len() >= most {
         return Ok(UNKNOWN);
     }
     let place = sets.len() as u16;
-    let flags = Vec::from_slice(alloc, marks)?;
-    sets.push(Marks { key, flags })?;
+    let words = Vec::from_slice(alloc, words)?;
+    sets.push(Marks { key, words })?;
     Ok(place)
 }
 
@@ -152,7 +161,7 @@ fn twin_of(nodes: &[Node], byte: u8) -> u8
 
 /// For each byte the first that each node treats alike.
 fn twins_of(alloc: Global, nodes: &[Node]) -> Result<Vec<u8>, BreFault>
-    ensures ok { IfOk result (λ twins. AreTwins nodes.now twins.items) }
+    ensures ok { IfOk result (λ twins. AreEach 0 (AreAlike nodes.now) 256 twins.items) }
     ensures err { IfErr result (λ fault. fault ≡ Memory) }
 {
     let mut twins = Vec::new(alloc);
@@ -175,39 +184,66 @@ fn is_fixed(rows: &[u16], state: usize) -> bool
     true
 }
 
+/// Makes of a set what a byte, and then none, leads to from it, the search having begun once more.
+fn advance(
+    words: &mut [u64],
+    nodes: &[Node],
+    masks: &Masks,
+    closures: &Closures,
+    base: &Base,
+    byte: u8,
+)
+    requires code { IsCode nodes.now }
+    requires masks { IsMasks nodes.now masks.now }
+    requires closures { AreClosures nodes.now closures.now }
+    requires base { IsBase nodes.now base.now }
+    requires size { length words.old ≡ width nodes.now }
+    ensures size { length words.new ≡ length words.old }
+    ensures exact { (number : ℕ) → IsIn words.new number ↔ Next nodes.now byte (IsIn words.old) number }
+{
+    let from = byte as usize * words.len();
+    pass(words, nodes, &base.words, &masks.takes, from, byte);
+    spread(words, nodes, base, closures, false, false);
+}
+
 impl Building {
     /// The set of the front of a line that isn't empty; none where the pattern's end is in it.
-    fn begin(alloc: Global, nodes: &[Node], most: usize) -> Result<Option<Building>, BreFault>
+    fn begin(
+        alloc: Global,
+        nodes: &[Node],
+        closures: &Closures,
+        most: usize,
+    ) -> Result<Option<Building>, BreFault>
         requires most { 0 < most }
         requires code { IsCode nodes.now }
+        requires closures { AreClosures nodes.now closures.now }
         ensures ok { IfOk result (λ begun. IfSome begun (IsBuilding nodes.now most 0)) }
         ensures err { IfErr result (λ fault. fault ≡ Memory) }
     {
-        let mut now = Reach::new(alloc, nodes.len() + 1)?;
-        let mut next = Reach::new(alloc, nodes.len() + 1)?;
-        next.clear(nodes);
-        now.clear(nodes);
-        now.open(nodes, true, false);
-        if now.has(nodes.len()) {
+        let mut words = vec![in alloc; 0u64; nodes.len() / 64 + 1]?;
+        begin(&mut words, nodes, closures, true);
+        if has(&words, nodes.len()) {
             return Ok(None);
         }
-        let key = key_of(now.marks());
-        let flags = Vec::from_slice(alloc, now.marks())?;
+        let key = key_of(&words);
+        let front = Vec::from_slice(alloc, &words)?;
         let mut sets = Vec::new(alloc);
-        sets.push(Marks { key, flags })?;
+        sets.push(Marks { key, words: front })?;
         Ok(Some(Building {
             sets,
             rows: Vec::new(alloc),
-            now,
-            next,
+            words,
         }))
     }
 
-    /// The entry of a state, whose set is `now`, for a byte: that of the byte's twin, or what the byte leads to.
+    /// The entry of a state for a byte: that of the byte's twin, or what the byte leads to.
     fn entry_of(
         &mut self,
         alloc: Global,
         nodes: &[Node],
+        masks: &Masks,
+        closures: &Closures,
+        base: &Base,
         twin: u8,
         state: usize,
         byte: u8,
@@ -217,15 +253,19 @@ impl Building {
         requires twin { AreAlike nodes.now byte twin }
         requires most { most < 65534 }
         requires code { IsCode nodes.now }
-        ensures filling { OnOk result (IsFilling nodes.now most state byte self.new) }
-        ensures tells { IfOk result (Tells nodes.now self.new.sets.items state byte) }
+        requires masks { IsMasks nodes.now masks.now }
+        requires closures { AreClosures nodes.now closures.now }
+        requires base { IsBase nodes.now base.now }
+        ensures ok { IfOk result (Led nodes.now most state byte self.new) }
         ensures err { IfErr result (λ fault. fault ≡ Memory) }
     {
         if twin < byte {
             return Ok(self.rows[state * 256 + twin as usize]);
         }
-        self.now.advance(nodes, byte, &mut self.next);
-        lead_to(alloc, &mut self.sets, self.next.marks(), nodes.len(), most)
+        let set = &self.sets[state];
+        self.words.copy_from_slice(&set.words);
+        advance(&mut self.words, nodes, masks, closures, base, byte);
+        lead_to(alloc, &mut self.sets, &self.words, nodes.len(), most)
     }
 
     /// Fills the row of a state.
@@ -233,81 +273,108 @@ impl Building {
         &mut self,
         alloc: Global,
         nodes: &[Node],
+        masks: &Masks,
+        closures: &Closures,
+        base: &Base,
         twins: &[u8],
         state: usize,
         most: usize,
     ) -> Result<(), BreFault>
-        requires so_far { IsBuilding nodes.now most (state * 256) self.old }
-        requires state { state < length self.old.sets.items }
-        requires twins { AreTwins nodes.now twins.now }
+        requires so_far { IsFilling nodes.now most state 0 self.old }
+        requires twins { AreEach 0 (AreAlike nodes.now) 256 twins.now }
         requires most { most < 65534 }
         requires code { IsCode nodes.now }
+        requires masks { IsMasks nodes.now masks.now }
+        requires closures { AreClosures nodes.now closures.now }
+        requires base { IsBase nodes.now base.now }
         ensures ok { OnOk result (IsFilling nodes.now most state 256 self.new) }
         ensures err { IfErr result (λ fault. fault ≡ Memory) }
     {
-        let set = &self.sets[state];
-        self.now.load(nodes, &set.flags);
         for byte in 0..256usize {
-            let read = self.entry_of(alloc, nodes, twins[byte], state, byte as u8, most)?;
+            let twin = twins[byte];
+            let read = self.entry_of(
+                alloc, nodes, masks, closures, base, twin, state, byte as u8, most,
+            )?;
             self.rows.push(read)?;
         }
         Ok(())
     }
+}
 
-    /// What is noted of a state.
-    fn state_of(&mut self, nodes: &[Node], most: usize, entries: usize, state: usize) -> State
-        requires so_far { IsBuilding nodes.now most entries self.old }
-        requires state { state < length self.old.sets.items }
-        requires row { state * 256 + 256 ≤ entries }
-        requires code { IsCode nodes.now }
-        ensures noted { IsState nodes.now self.new.sets.items self.new.rows.items state result }
-        ensures so_far { IsBuilding nodes.now most entries self.new }
-        ensures sets { self.new.sets ≡ self.old.sets }
-        ensures rows { self.new.rows ≡ self.old.rows }
-    {
-        let set = &self.sets[state];
-        self.now.load(nodes, &set.flags);
-        let positions = self.now.positions();
-        let is_fixed = is_fixed(&self.rows, state);
-        self.now.spread(nodes, false, true);
-        State {
-            positions,
-            last_positions: self.now.positions(),
-            ends: self.now.has(nodes.len()),
-            is_fixed,
-        }
-    }
-
-    /// What is noted of each state.
-    fn states_of(
-        &mut self,
-        alloc: Global,
-        nodes: &[Node],
-        most: usize,
-    ) -> Result<Vec<State>, BreFault>
-        requires so_far { IsBuilding nodes.now most (length self.old.sets.items * 256) self.old }
-        requires code { IsCode nodes.now }
-        ensures noted { IfOk result (λ states. AreNoted nodes.now self.old.sets.items self.old.rows.items states.items
-            × (length states.items ≡ length self.old.sets.items)) }
-        ensures sets { OnOk result (self.new.sets ≡ self.old.sets) }
-        ensures rows { OnOk result (self.new.rows ≡ self.old.rows) }
-        ensures err { IfErr result (λ fault. fault ≡ Memory) }
-    {
-        let count = self.sets.len();
-        let mut states = Vec::new(alloc);
-        for state in 0..count {
-            let noted = self.state_of(nodes, most, count * 256, state);
-            states.push(noted)?;
-        }
-        Ok(states)
+/// What is noted of a state. `words` is room for a set.
+fn state_of(
+    words: &mut [u64],
+    sets: &[Marks],
+    rows: &[u16],
+    nodes: &[Node],
+    masks: &Masks,
+    closures: &Closures,
+    state: usize,
+) -> State
+    requires size { length words.old ≡ width nodes.now }
+    requires sets { AreEach [] (λ _. IsOpen nodes.now) (length sets.now) sets.now }
+    requires state { state < length sets.now }
+    requires rows { state * 256 + 256 ≤ length rows.now }
+    requires code { IsCode nodes.now }
+    requires masks { IsMasks nodes.now masks.now }
+    requires closures { AreClosures nodes.now closures.now }
+    ensures size { length words.new ≡ length words.old }
+    ensures noted { IsState nodes.now sets.now rows.now state result }
+{
+    let set = &sets[state];
+    words.copy_from_slice(&set.words);
+    let count = positions(words, nodes, &masks.counts);
+    spread_all(words, nodes, closures, false, true);
+    State {
+        positions: count,
+        last_positions: positions(words, nodes, &masks.counts),
+        ends: has(words, nodes.len()),
+        is_fixed: is_fixed(rows, state),
     }
 }
 
-/// The table of a code: none where the pattern's end is entered at the front of each line, or where the code is long.
+/// What is noted of each state. `words` is room for a set.
+fn states_of(
+    alloc: Global,
+    words: &mut [u64],
+    sets: &[Marks],
+    rows: &[u16],
+    nodes: &[Node],
+    masks: &Masks,
+    closures: &Closures,
+) -> Result<Vec<State>, BreFault>
+    requires size { length words.old ≡ width nodes.now }
+    requires sets { AreEach [] (λ _. IsOpen nodes.now) (length sets.now) sets.now }
+    requires rows { length rows.now ≡ length sets.now * 256 }
+    requires code { IsCode nodes.now }
+    requires masks { IsMasks nodes.now masks.now }
+    requires closures { AreClosures nodes.now closures.now }
+    ensures ok { IfOk result (λ states. AreEach no_state (IsState nodes.now sets.now rows.now) (length sets.now) states.items) }
+    ensures err { IfErr result (λ fault. fault ≡ Memory) }
+{
+    let mut states = Vec::new(alloc);
+    for state in 0..sets.len() {
+        let noted = state_of(words, sets, rows, nodes, masks, closures, state);
+        states.push(noted)?;
+    }
+    Ok(states)
+}
+
+/// The table of a code: none where the pattern's end is entered at the front of each line, or where the code is long. The
+/// masks, closures and base are those of these nodes.
 ///
 /// It has up to 4,096 sets, and fewer where the code is long, with 512 bytes of entries for each, and its state.
-pub fn build(alloc: Global, nodes: &[Node]) -> Result<Option<Table>, BreFault>
-    requires { IsCode nodes.now }
+pub fn build(
+    alloc: Global,
+    nodes: &[Node],
+    masks: &Masks,
+    closures: &Closures,
+    base: &Base,
+) -> Result<Option<Table>, BreFault>
+    requires code { IsCode nodes.now }
+    requires masks { IsMasks nodes.now masks.now }
+    requires closures { AreClosures nodes.now closures.now }
+    requires base { IsBase nodes.now base.now }
     ensures ok { IfOk result (λ made. IfSome made (IsTable nodes.now)) }
     ensures err { IfErr result (λ fault. fault ≡ Memory) }
 {
@@ -316,16 +383,24 @@ pub fn build(alloc: Global, nodes: &[Node]) -> Result<Option<Table>, BreFault>
     }
     let most = MOST_SETS.min(MOST_FLAGS / (nodes.len() + 1));
     let twins = twins_of(alloc, nodes)?;
-    let Some(mut building) = Building::begin(alloc, nodes, most)? else {
+    let Some(mut building) = Building::begin(alloc, nodes, closures, most)? else {
         return Ok(None);
     };
     for state in 0..most {
         if state >= building.sets.len() {
             break;
         }
-        building.fill(alloc, nodes, &twins, state, most)?;
+        building.fill(alloc, nodes, masks, closures, base, &twins, state, most)?;
     }
-    let states = building.states_of(alloc, nodes, most)?;
+    let states = states_of(
+        alloc,
+        &mut building.words,
+        &building.sets,
+        &building.rows,
+        nodes,
+        masks,
+        closures,
+    )?;
     let rows = building.rows;
     Ok(Some(Table { rows, states }))
 }

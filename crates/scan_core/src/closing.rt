@@ -43,7 +43,7 @@ fn hop(
 ) -> usize
     requires size { length words.old ≡ width nodes.now }
     requires within { at < width nodes.now }
-    requires hops { AreHops nodes.now (width nodes.now * 3) hops.now }
+    requires hops { AreHops nodes.now hops.now }
     ensures { Grows (Hopped hops.now at word 3) words.old words.new before result }
 {
     let mut on = before;

@@ -1,15 +1,17 @@
 //! What follows without a byte, ready to be looked up: within a word for eight numbers at once, or for all by a shift.
 
-ghost use Rattle.std.specs.Prelude.{◌≡◌, ◌⊎◌, ◌↔◌, ◌<◌, ◌≤◌, ◌+◌, ◌*◌, ◌/◌, ◌%◌, ◌^◌, ℕ, Bool, false, IsTrue, IfOk, IfErr, IfSome, length};
+ghost use Rattle.std.specs.Prelude.{◌≡◌, ◌⊎◌, ◌↔◌, ◌<◌, ◌≤◌, ◌+◌, ◌*◌, ◌/◌, ◌%◌, ◌^◌, ℕ, Bool, false, IsTrue, IfOk, IfErr, IfSome, None, length};
 ghost use Rattle.std.specs.Int.{bit_at};
 ghost use Rattle.bre_core.specs.declared.fault.BreFault.TheVariants.{Memory};
-ghost use Rattle.scan_core.specs.inner.Closures.{AreAllNexts, AreAllPeers, AreClosures, AreInside, AreLeaves, AreNexts, ArePeers, Closes, IsLeaving, Stays, chosen_at};
+ghost use Rattle.scan_core.specs.inner.Closures.{AreClosures, AreNexts, ArePeers, Closes, IsInside, IsLeaving, Stays};
+ghost use Rattle.scan_core.specs.inner.Each.{AreEach};
 ghost use Rattle.scan_core.specs.inner.Hops.{HopsTo};
 ghost use Rattle.scan_core.specs.inner.Sets.{IsCode, Flows};
 ghost use Rattle.scan_core.specs.inner.Words.{width};
 
 use crate::hops::{Hop, hops_of, is_hop};
 use crate::node::Node;
+use crate::way::{When, is_open, way_of};
 use bre_core::BreFault;
 use std::alloc::Global;
 
@@ -49,20 +51,16 @@ fn stays(nodes: &[Node], hops: &[Hop], at: usize, bit: usize) -> bool
     ensures { IsTrue result → (at_first at_last : Bool) (to : ℕ) → Flows nodes.now at_first at_last (at * 64 + bit) to
         → Stays nodes.now (at * 64 + bit) to ⊎ HopsTo hops.now at bit to }
 {
-    let number = at * 64 + bit;
-    if number >= nodes.len() {
-        return true;
-    }
-    match &nodes[number] {
-        Node::Take(_) => true,
-        Node::First | Node::Last => false,
-        Node::Choose(skip) => {
-            if !is_met(hops, at, bit, number + 1) {
+    let way = way_of(nodes, at * 64 + bit);
+    match way.when {
+        When::Never => true,
+        When::AtFront | When::AtEnd => false,
+        When::Always => {
+            if !is_met(hops, at, bit, way.one) {
                 return false;
             }
-            is_met(hops, at, bit, number + *skip)
+            is_met(hops, at, bit, way.other)
         }
-        Node::Back(by) => is_met(hops, at, bit, number - *by),
     }
 }
 
@@ -76,22 +74,18 @@ fn is_peer(nodes: &[Node], number: usize, other: usize) -> bool
     if number == other {
         return true;
     }
-    if number >= nodes.len() {
+    let way = way_of(nodes, number);
+    let peer = way_of(nodes, other);
+    if !is_open(way.when, false, false) {
         return false;
     }
-    if other >= nodes.len() {
-        return false;
-    }
-    let Node::Choose(skip) = &nodes[number] else {
+    let When::Always = peer.when else {
         return false;
     };
-    let Node::Choose(more) = &nodes[other] else {
-        return false;
-    };
-    if (other + 1) / 64 != other / 64 {
+    if peer.one / 64 != other / 64 {
         return false;
     }
-    number + *skip == other + *more
+    way.other == peer.other
 }
 
 /// The numbers of a word whose nodes lead out of it otherwise than by its hops.
@@ -103,9 +97,7 @@ fn leaving(nodes: &[Node], hops: &[Hop], at: usize) -> u64
 {
     let mut word: u64 = 0;
     for bit in 0..64usize {
-        if !stays(nodes, hops, at, bit) {
-            word |= 1u64 << bit;
-        }
+        word |= (!stays(nodes, hops, at, bit) as u64) << bit;
     }
     word
 }
@@ -118,9 +110,7 @@ fn peers_of(nodes: &[Node], number: usize) -> u64
 {
     let mut word: u64 = 0;
     for bit in 0..64usize {
-        if is_peer(nodes, number, number / 64 * 64 + bit) {
-            word |= 1u64 << bit;
-        }
+        word |= (is_peer(nodes, number, number / 64 * 64 + bit) as u64) << bit;
     }
     word
 }
@@ -143,15 +133,11 @@ fn targets(nodes: &[Node], at: usize, bit: usize) -> u64
     requires at { at < width nodes.now }
     ensures { (to : ℕ) → to < 64 → (bit_at result to ≡ 1) ↔ Flows nodes.now false false (at * 64 + bit) (at * 64 + to) }
 {
-    let number = at * 64 + bit;
-    if number >= nodes.len() {
+    let way = way_of(nodes, at * 64 + bit);
+    if !is_open(way.when, false, false) {
         return 0;
     }
-    match &nodes[number] {
-        Node::Take(_) | Node::First | Node::Last => 0,
-        Node::Choose(skip) => bit_in(at, number + 1) | bit_in(at, number + *skip),
-        Node::Back(by) => bit_in(at, number - *by),
-    }
+    bit_in(at, way.one) | bit_in(at, way.other)
 }
 
 /// What some numbers of a word lead to in it, without a byte.
@@ -195,7 +181,7 @@ fn nexts_in(nodes: &[Node], at: usize) -> Option<u64>
 /// What the numbers of a word lead to in it, looked up for eight of them at once.
 #[inline(always)]
 pub fn looked_up(inside: &[u64], nodes: &[Node], at: usize, word: u64) -> u64
-    requires inside { AreInside nodes.now (width nodes.now * 2048) inside.now }
+    requires inside { AreEach 0 (IsInside nodes.now) (width nodes.now * 2048) inside.now }
     requires at { at < width nodes.now }
     ensures { Closes nodes.now at word result }
 {
@@ -223,10 +209,10 @@ pub fn closed(closures: &Closures, nodes: &[Node], at: usize, word: u64) -> u64
 /// What one choice from eight numbers leads to in their word: what its lower and its higher four lead to is in the table
 /// before it, if there are both.
 fn inside_at(inside: &[u64], nodes: &[Node], place: usize) -> u64
-    requires inside { AreInside nodes.now place inside.now }
+    requires inside { AreEach 0 (IsInside nodes.now) place inside.now }
     requires code { IsCode nodes.now }
     requires place { place < width nodes.now * 2048 }
-    ensures { Closes nodes.now (place / 2048) (chosen_at place) result }
+    ensures { IsInside nodes.now place result }
 {
     let low = place % 16;
     let high = place / 16 % 16 * 16;
@@ -243,7 +229,7 @@ fn inside_at(inside: &[u64], nodes: &[Node], place: usize) -> u64
 /// What each choice from each eight numbers leads to in their word.
 fn insides_of(alloc: Global, nodes: &[Node]) -> Result<Vec<u64>, BreFault>
     requires { IsCode nodes.now }
-    ensures ok { IfOk result (λ inside. AreInside nodes.now (width nodes.now * 2048) inside.items) }
+    ensures ok { IfOk result (λ inside. AreEach 0 (IsInside nodes.now) (width nodes.now * 2048) inside.items) }
     ensures err { IfErr result (λ fault. fault ≡ Memory) }
 {
     let mut inside = Vec::new(alloc);
@@ -258,7 +244,7 @@ fn insides_of(alloc: Global, nodes: &[Node]) -> Result<Vec<u64>, BreFault>
 fn leaves_of(alloc: Global, nodes: &[Node], hops: &[Hop]) -> Result<Vec<u64>, BreFault>
     requires code { IsCode nodes.now }
     requires hops { length hops.now ≡ width nodes.now * 3 }
-    ensures ok { IfOk result (λ leaves. AreLeaves nodes.now hops.now leaves.items) }
+    ensures ok { IfOk result (λ leaves. AreEach 0 (IsLeaving nodes.now hops.now) (width nodes.now) leaves.items) }
     ensures err { IfErr result (λ fault. fault ≡ Memory) }
 {
     let mut leaves = Vec::new(alloc);
@@ -272,7 +258,7 @@ fn leaves_of(alloc: Global, nodes: &[Node], hops: &[Hop]) -> Result<Vec<u64>, Br
 fn all_peers(alloc: Global, nodes: &[Node]) -> Result<Vec<u64>, BreFault>
     requires code { IsCode nodes.now }
     requires short { length nodes.now < 2 ^ 32 }
-    ensures ok { IfOk result (λ peers. AreAllPeers nodes.now peers.items) }
+    ensures ok { IfOk result (λ peers. AreEach 0 (ArePeers nodes.now) (width nodes.now * 64) peers.items) }
     ensures err { IfErr result (λ fault. fault ≡ Memory) }
 {
     let mut peers = Vec::new(alloc);
@@ -285,7 +271,7 @@ fn all_peers(alloc: Global, nodes: &[Node]) -> Result<Vec<u64>, BreFault>
 /// The numbers that are led to in each word, as `nexts_in` finds them.
 fn all_nexts(alloc: Global, nodes: &[Node]) -> Result<Vec<Option<u64>>, BreFault>
     requires { IsCode nodes.now }
-    ensures ok { IfOk result (λ nexts. AreAllNexts nodes.now nexts.items) }
+    ensures ok { IfOk result (λ nexts. AreEach None (λ at nexts. IfSome nexts (AreNexts nodes.now at)) (width nodes.now) nexts.items) }
     ensures err { IfErr result (λ fault. fault ≡ Memory) }
 {
     let mut nexts = Vec::new(alloc);

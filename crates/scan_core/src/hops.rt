@@ -8,6 +8,7 @@ ghost use Rattle.scan_core.specs.inner.Sets.{IsCode, Flows};
 ghost use Rattle.scan_core.specs.inner.Words.{width};
 
 use crate::node::Node;
+use crate::way::{When, is_open, way_of};
 use bre_core::BreFault;
 use std::alloc::Global;
 
@@ -32,19 +33,14 @@ fn leads_to(nodes: &[Node], number: usize, to: usize) -> bool
     requires { IsCode nodes.now }
     ensures { IsTrue result → Flows nodes.now false false number to }
 {
-    if number >= nodes.len() {
+    let way = way_of(nodes, number);
+    if !is_open(way.when, false, false) {
         return false;
     }
-    match &nodes[number] {
-        Node::Take(_) | Node::First | Node::Last => false,
-        Node::Choose(skip) => {
-            if to == number + 1 {
-                return true;
-            }
-            to == number + *skip
-        }
-        Node::Back(by) => to == number - *by,
+    if to == way.one {
+        return true;
     }
+    to == way.other
 }
 
 /// The numbers of a word that lead to a number.
@@ -55,9 +51,7 @@ fn from_of(nodes: &[Node], at: usize, to: usize) -> u64
 {
     let mut word: u64 = 0;
     for bit in 0..64usize {
-        if leads_to(nodes, at * 64 + bit, to) {
-            word |= 1u64 << bit;
-        }
+        word |= (leads_to(nodes, at * 64 + bit, to) as u64) << bit;
     }
     word
 }
@@ -75,24 +69,22 @@ fn is_missed(hops: &[Hop], at: usize, to: usize) -> bool {
     true
 }
 
-/// What a node leads to: of two numbers the one that its word has no hop to.
+/// What a number of a word leads to, at any place of a line: of two numbers the one that the word has no hop to. Else the
+/// word's own first.
 fn target_of(nodes: &[Node], hops: &[Hop], at: usize, number: usize) -> usize
     requires code { IsCode nodes.now }
-    requires number { number < 64 * width nodes.now }
+    requires at { at < width nodes.now }
     ensures { result ≤ length nodes.now }
 {
-    if number >= nodes.len() {
-        return nodes.len();
-    }
-    match &nodes[number] {
-        Node::Take(_) | Node::First | Node::Last => number,
-        Node::Choose(skip) => {
-            if is_missed(hops, at, number + *skip) {
-                return number + *skip;
+    let way = way_of(nodes, number);
+    match way.when {
+        When::Never | When::AtFront | When::AtEnd => at * 64,
+        When::Always => {
+            if is_missed(hops, at, way.other) {
+                return way.other;
             }
-            number + 1
+            way.one
         }
-        Node::Back(by) => number - *by,
     }
 }
 
@@ -134,7 +126,7 @@ fn hop_of(nodes: &[Node], hops: &[Hop], at: usize) -> Hop
 /// The hops of each word.
 pub fn hops_of(alloc: Global, nodes: &[Node]) -> Result<Vec<Hop>, BreFault>
     requires { IsCode nodes.now }
-    ensures ok { IfOk result (λ hops. AreHops nodes.now (width nodes.now * 3) hops.items) }
+    ensures ok { IfOk result (λ hops. AreHops nodes.now hops.items) }
     ensures err { IfErr result (λ fault. fault ≡ Memory) }
 {
     let mut hops = Vec::new(alloc);

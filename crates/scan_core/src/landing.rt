@@ -1,14 +1,16 @@
 //! Landings: hops to numbers that lead nowhere without a byte, so that nothing more follows once they are entered.
 
-ghost use Rattle.std.specs.Prelude.{◌≡◌, ◌⊎◌, ◌↔◌, ◌<◌, ◌≤◌, ◌+◌, ◌*◌, ◌/◌, ℕ, Bool, false, IsTrue, OnOk, IfErr, length, slice_index_or};
+ghost use Rattle.std.specs.Prelude.{◌≡◌, ◌⊎◌, ◌↔◌, ◌<◌, ◌≤◌, ◌+◌, ◌*◌, ◌/◌, ℕ, Bool, false, IsTrue, OnOk, IfErr, List, ◌++◌, length};
 ghost use Rattle.bre_core.specs.declared.fault.BreFault.TheVariants.{Memory};
+ghost use Rattle.scan_core.specs.declared.landing.Landing.{Landing};
 ghost use Rattle.scan_core.specs.inner.Hops.{AreHops};
-ghost use Rattle.scan_core.specs.inner.Landings.{AreLandings, Ends, HasLanded, IsOther, Lands, LandsOn, no_landing};
+ghost use Rattle.scan_core.specs.inner.Landings.{AreLandings, Ends, HasLanded, IsOther, Lands, LandsOn};
 ghost use Rattle.scan_core.specs.inner.Sets.{IsCode, Flows};
 ghost use Rattle.scan_core.specs.inner.Words.{IsIn, width};
 
 use crate::hops::{HOPS, Hop};
 use crate::node::Node;
+use crate::way::{When, way_of};
 use crate::words::{enter_if, has};
 use bre_core::BreFault;
 
@@ -25,19 +27,18 @@ pub struct Landing {
 
 /// Whether a number leads nowhere without a byte.
 fn ends(nodes: &[Node], number: usize) -> bool
+    requires { IsCode nodes.now }
     ensures { IsTrue result → Ends nodes.now number }
 {
-    if number >= nodes.len() {
-        return true;
-    }
-    match &nodes[number] {
-        Node::Take(_) => true,
-        Node::First | Node::Last | Node::Choose(_) | Node::Back(_) => false,
+    match way_of(nodes, number).when {
+        When::Never => true,
+        When::AtFront | When::AtEnd | When::Always => false,
     }
 }
 
 /// Whether a hop is a landing: to a number that leads nowhere, and that isn't in each set anyway.
 fn is_landing(nodes: &[Node], base: &[u64], hop: &Hop) -> bool
+    requires code { IsCode nodes.now }
     requires size { length base.now ≡ width nodes.now }
     requires within { hop.now.to ≤ length nodes.now }
     ensures { IsTrue result → Ends nodes.now hop.now.to }
@@ -59,14 +60,13 @@ pub fn add_landings(
     base: &[u64],
     at: usize,
 ) -> Result<(), BreFault>
-    requires hops { AreHops nodes.now (width nodes.now * 3) hops.now }
+    requires code { IsCode nodes.now }
+    requires hops { AreHops nodes.now hops.now }
     requires size { length base.now ≡ width nodes.now }
     requires at { at < width nodes.now }
     requires sound { AreLandings nodes.now landings.old.items }
     ensures sound { OnOk result (AreLandings nodes.now landings.new.items) }
-    ensures longer { OnOk result (length landings.old.items ≤ length landings.new.items) }
-    ensures front { OnOk result ((place : ℕ) → place < length landings.old.items
-        → slice_index_or landings.new.items place no_landing ≡ slice_index_or landings.old.items place no_landing) }
+    ensures grown { OnOk result ((more : List Landing) × (landings.new.items ≡ landings.old.items ++ more)) }
     ensures err { IfErr result (λ fault. fault ≡ Memory) }
 {
     for which in 0..HOPS {
@@ -138,20 +138,16 @@ fn is_settled(
     ensures { IsTrue result → (at_first at_last : Bool) (to : ℕ) → Flows nodes.now at_first at_last (at * 64 + bit) to
         → Flows nodes.now false false (at * 64 + bit) to × Lands base.now landings.now at bit to }
 {
-    let number = at * 64 + bit;
-    if number >= nodes.len() {
-        return true;
-    }
-    match &nodes[number] {
-        Node::Take(_) => true,
-        Node::First | Node::Last => false,
-        Node::Choose(skip) => {
-            if !is_reached(landings, base, start, at, bit, number + 1) {
+    let way = way_of(nodes, at * 64 + bit);
+    match way.when {
+        When::Never => true,
+        When::AtFront | When::AtEnd => false,
+        When::Always => {
+            if !is_reached(landings, base, start, at, bit, way.one) {
                 return false;
             }
-            is_reached(landings, base, start, at, bit, number + *skip)
+            is_reached(landings, base, start, at, bit, way.other)
         }
-        Node::Back(by) => is_reached(landings, base, start, at, bit, number - *by),
     }
 }
 
@@ -164,9 +160,7 @@ pub fn others_of(nodes: &[Node], base: &[u64], landings: &[Landing], start: usiz
 {
     let mut word: u64 = 0;
     for bit in 0..64usize {
-        if !is_settled(nodes, base, landings, start, at, bit) {
-            word |= 1u64 << bit;
-        }
+        word |= (!is_settled(nodes, base, landings, start, at, bit) as u64) << bit;
     }
     word
 }

@@ -21,7 +21,6 @@ mod masks;
 mod needle;
 mod node;
 mod rarest;
-mod reach;
 mod scan;
 mod search;
 mod shift_find;
@@ -29,6 +28,7 @@ mod shift_table;
 mod shift_walk;
 mod table;
 mod walk;
+mod way;
 mod words;
 
 pub use bre::Bre;

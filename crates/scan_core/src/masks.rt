@@ -4,10 +4,10 @@ ghost use Rattle.std.specs.Prelude.{◌≡◌, ◌↔◌, ◌<◌, ◌+◌, ◌^
 ghost use Rattle.std.specs.Int.{bit_at};
 ghost use Rattle.bre_core.specs.declared.fault.BreFault.TheVariants.{Memory};
 ghost use Rattle.scan_core.specs.declared.masks.Kind.TheVariants.{Counts};
+ghost use Rattle.scan_core.specs.inner.Sets.{Passes};
 ghost use Rattle.scan_core.specs.inner.Words.{AddsMask, IsMasks, IsOf};
 
 use crate::node::Node;
-use crate::reach::passes;
 use bre_core::BreFault;
 use std::alloc::Global;
 
@@ -27,6 +27,21 @@ pub struct Masks {
     pub takes: Vec<u64>,
     /// Those that are positions.
     pub counts: Vec<u64>,
+}
+
+/// Whether a byte leads on from a number.
+fn passes(nodes: &[Node], number: usize, byte: u8) -> bool
+    ensures yes { IsTrue result → Passes nodes.now byte number (number + 1) }
+    ensures no { (to : ℕ) → Passes nodes.now byte number to → IsTrue result }
+{
+    if number < nodes.len() {
+        match &nodes[number] {
+            Node::Take(set) => set.contains(byte),
+            Node::First | Node::Last | Node::Choose(_) | Node::Back(_) => false,
+        }
+    } else {
+        false
+    }
 }
 
 /// Whether a number is a position.
@@ -57,9 +72,7 @@ fn word_of(nodes: &[Node], kind: Kind, from: usize) -> u64
 {
     let mut word: u64 = 0;
     for bit in 0..64usize {
-        if is_of(nodes, kind, from + bit) {
-            word |= 1u64 << bit;
-        }
+        word |= (is_of(nodes, kind, from + bit) as u64) << bit;
     }
     word
 }

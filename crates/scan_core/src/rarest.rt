@@ -10,6 +10,7 @@ ghost use Rattle.scan_core.specs.inner.Sets.{IsCode};
 use crate::few_bytes::{COMMON, FewBytes};
 use crate::needle::Needle;
 use crate::node::Node;
+use crate::way::way_of;
 use bre_core::BreFault;
 use memchr::memmem::Finder;
 use std::alloc::Global;
@@ -68,18 +69,12 @@ impl Rarest {
 
     /// The number beyond which no choice leads of those that were looked at and the node at a number.
     fn far_after(self, nodes: &[Node], at: usize) -> usize
-        requires within { at < length nodes.now }
-        requires code { IsCode nodes.now }
+        requires { IsCode nodes.now }
         ensures low { self.far ≤ result }
         ensures choice { (skip : ℕ) → At nodes.now at (Choose skip) → at + skip ≤ result }
     {
-        match &nodes[at] {
-            Node::Choose(skip) => self.far.max(at + *skip),
-            Node::Take(_) => self.far,
-            Node::First => self.far,
-            Node::Last => self.far,
-            Node::Back(_) => self.far,
-        }
+        let way = way_of(nodes, at);
+        self.far.max(way.one).max(way.other)
     }
 
     /// With the node at a number.

@@ -2,7 +2,8 @@
 
 ghost use Rattle.std.specs.Prelude.{◌≡◌, ◌<◌, ◌≤◌, ◌*◌, ◌%◌, ℕ, IsTrue, IfOk, IfErr, IfSome, length};
 ghost use Rattle.bre_core.specs.declared.fault.BreFault.TheVariants.{Memory};
-ghost use Rattle.scan_core.specs.inner.Shifts.{AreLight, AreWeights, AreWords, IsComplete, IsOffset, IsShiftTable, IsWeight, IsWord};
+ghost use Rattle.scan_core.specs.inner.Each.{AreEach};
+ghost use Rattle.scan_core.specs.inner.Shifts.{AreLight, IsComplete, IsOffset, IsShiftTable, IsWeight, IsWord};
 ghost use Rattle.scan_core.specs.inner.Table.{IsTable};
 
 use crate::node::Node;
@@ -77,7 +78,7 @@ fn word_of(rows: &[u16], count: usize, byte: usize) -> u64
 fn words_of(alloc: Global, rows: &[u16], count: usize) -> Result<Vec<u64>, BreFault>
     requires rows { length rows.now ≡ count * 256 }
     requires count { count ≤ 9 }
-    ensures ok { IfOk result (λ words. AreWords rows.now count words.items) }
+    ensures ok { IfOk result (λ words. AreEach 0 (IsWord rows.now count) 256 words.items) }
     ensures err { IfErr result (λ fault. fault ≡ Memory) }
 {
     let mut words = Vec::new(alloc);
@@ -102,7 +103,7 @@ fn weight_of(states: &[State], low: usize) -> u64
 /// The positions of each state.
 fn weights_of(alloc: Global, states: &[State]) -> Result<Vec<u64>, BreFault>
     requires { AreLight states.now }
-    ensures ok { IfOk result (λ weights. AreWeights states.now weights.items) }
+    ensures ok { IfOk result (λ weights. AreEach 0 (λ low. IsWeight states.now (low % 64)) 256 weights.items) }
     ensures err { IfErr result (λ fault. fault ≡ Memory) }
 {
     let mut weights = Vec::new(alloc);

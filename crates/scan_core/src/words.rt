@@ -7,6 +7,7 @@ ghost use Rattle.scan_core.specs.Sets.{positions_among};
 ghost use Rattle.scan_core.specs.inner.Words.{Grows, IsIn, IsMask, flags_of, width};
 
 use crate::node::Node;
+use crate::way::{is_open, way_of};
 
 /// Whether a number is in a set.
 #[inline(always)]
@@ -54,31 +55,12 @@ pub fn lead(
     requires room { length nodes.now < 64 * length words.old }
     ensures { Grows (Flows nodes.now at_first at_last number) words.old words.new on result }
 {
-    if number >= nodes.len() {
+    let way = way_of(nodes, number);
+    if !is_open(way.when, at_first, at_last) {
         return on;
     }
-    match &nodes[number] {
-        Node::Take(_) => on,
-        Node::First => {
-            if at_first {
-                enter(words, number + 1, on)
-            } else {
-                on
-            }
-        }
-        Node::Last => {
-            if at_last {
-                enter(words, number + 1, on)
-            } else {
-                on
-            }
-        }
-        Node::Choose(skip) => {
-            let on = enter(words, number + 1, on);
-            enter(words, number + *skip, on)
-        }
-        Node::Back(by) => enter(words, number - *by, on),
-    }
+    let on = enter(words, way.one, on);
+    enter(words, way.other, on)
 }
 
 /// Takes all out.

@@ -27,16 +27,16 @@ pub most_one : (delim : ℕ) (x : List ℕ) (i one : ℕ) → one ≡ bool_byte 
 most_one delim x i one is = omega (arith, at_most_one (eqb (get_or x i 0) delim))
 
 -- the delimiters from a byte on
-pub count_back : (delim : ℕ) (x : List ℕ) (i n one : ℕ) → i < length x → n ≡ delimiters delim (drop (i + 1) x) → one ≡ bool_byte (eqb (get_or x i 0) delim) → n + one ≡ delimiters delim (drop i x)
-count_back delim x i n one here so_far is =
+pub count_back : (delim : ℕ) (x : List ℕ) (i : ℕ) {n : ℕ} (one : ℕ) → i < length x → n ≡ delimiters delim (drop (i + 1) x) → one ≡ bool_byte (eqb (get_or x i 0) delim) → n + one ≡ delimiters delim (drop i x)
+count_back delim x i one here so_far is =
     let parts : drop i x ≡ (get_or x i 0 ∷ []) ++ drop (i + 1) x = drop-cons x i 0 here ∙ ap (λ k. get_or x i 0 ∷ drop k x) (sym (add-one i)) in
     let all = ap (delimiters delim) parts ∙ delimiters-append delim (get_or x i 0 ∷ []) (drop (i + 1) x) in
     let this = added delim (get_or x i 0) one is in
     omega arith
 
 -- the byte that brings the count to n is a delimiter
-pub begins_after : (delim : ℕ) (x : List ℕ) (i n seen one : ℕ) → i < length x → seen ≡ delimiters delim (drop (i + 1) x) → one ≡ bool_byte (eqb (get_or x i 0) delim) → seen < n → seen + one ≡ n → BeginsAt delim n x (i + 1)
-begins_after delim x i n seen one here so_far is fewer full =
+pub begins_after : {delim : ℕ} {x : List ℕ} (i : ℕ) {n seen : ℕ} (one : ℕ) → i < length x → seen ≡ delimiters delim (drop (i + 1) x) → one ≡ bool_byte (eqb (get_or x i 0) delim) → seen < n → seen + one ≡ n → BeginsAt delim n x (i + 1)
+begins_after {delim} {x} i one here so_far is fewer full =
     let most = at_most_one (eqb (get_or x i 0) delim) in
     let yes_it_is : eqb (get_or x i 0) delim ≡ true = is_one (eqb (get_or x i 0) delim) (omega arith) in
     record {
@@ -46,8 +46,8 @@ begins_after delim x i n seen one here so_far is fewer full =
     }
 
 -- the delimiters of a stretch that ends at `end`, and those after it
-pub stretch_back : (delim : ℕ) (x : List ℕ) (end width n more : ℕ) → width ≤ end → n ≡ delimiters delim (drop end x) → more ≡ delimiters delim (take (end - (end - width)) (drop (end - width) x)) → n + more ≡ delimiters delim (drop (end - width) x)
-stretch_back delim x end width n more fits so_far is =
+pub stretch_back : (delim : ℕ) (x : List ℕ) (end width : ℕ) {n : ℕ} (more : ℕ) → width ≤ end → n ≡ delimiters delim (drop end x) → more ≡ delimiters delim (take (end - (end - width)) (drop (end - width) x)) → n + more ≡ delimiters delim (drop (end - width) x)
+stretch_back delim x end width more fits so_far is =
     let all : end - (end - width) ≡ width = omega arith in
     let at : end - width + width ≡ end = omega arith in
     let here = is ∙ ap (λ k. delimiters delim (take k (drop (end - width) x))) all in

@@ -15,8 +15,7 @@ use Rattle.seg_core.proofs.FrontLines.{last_lines-front, length-after_lines-le}
 
 pub text_of-append : (front back : List BlockState) → text_of (front ++ back) ≡ text_of front ++ text_of back
 text_of-append [] back = refl
-text_of-append (block ∷ front) back =
-    ap (λ x. block.bytes ++ x) (text_of-append front back) ∙ sym (append_assoc block.bytes (text_of front) (text_of back))
+text_of-append (block ∷ front) back = ap (λ x. block.bytes ++ x) (text_of-append front back) ∙ sym (append_assoc block.bytes (text_of front) (text_of back))
 
 pub count_of-append : (front back : List BlockState) → count_of (front ++ back) ≡ count_of front + count_of back
 count_of-append [] back = omega arith
@@ -27,54 +26,52 @@ pub text_push : (blocks : List BlockState) (block : BlockState) (rest : List ℕ
 text_push blocks block rest = simp (text_of-append, append-nil, append_assoc)
 
 -- bytes appended to those of the last block
-pub text_set : (blocks : List BlockState) (n : ℕ) (last new : BlockState) (part : List ℕ) → n + 1 ≡ length blocks → last ≡ get_or blocks n last → new.bytes ≡ last.bytes ++ part → text_of (set blocks n new) ≡ text_of blocks ++ part
-text_set (block ∷ []) zero last new part is was now = cc (append-nil new.bytes, append-nil block.bytes)
-text_set (block ∷ next ∷ blocks) (suc n) last new part is was now =
-    ap (λ x. block.bytes ++ x) (text_set (next ∷ blocks) n last new part (omega arith) was now)
-    ∙ sym (append_assoc block.bytes (text_of (next ∷ blocks)) part)
-text_set blocks n last new part is was now = absurd (omega arith)
+pub text_set : (blocks : List BlockState) (n : ℕ) {last : BlockState} (new : BlockState) (part : List ℕ) → n + 1 ≡ length blocks → last ≡ get_or blocks n last → new.bytes ≡ last.bytes ++ part → text_of (set blocks n new) ≡ text_of blocks ++ part
+text_set (block ∷ []) zero new part is was now = cc (append-nil new.bytes, append-nil block.bytes)
+text_set (block ∷ next ∷ blocks) (suc n) new part is was now =
+    ap (λ x. block.bytes ++ x) (text_set (next ∷ blocks) n new part (omega arith) was now) ∙ sym (append_assoc block.bytes (text_of (next ∷ blocks)) part)
+text_set blocks n new part is was now = absurd (omega arith)
 
 -- from the i-th block on
 pub text_from : (blocks : List BlockState) (i : ℕ) (block : BlockState) → i < length blocks → block ≡ get_or blocks i block → text_of (drop i blocks) ≡ block.bytes ++ text_of (drop (i + 1) blocks)
 text_from blocks i block here is =
-    ap text_of (drop-cons blocks i block here)
-    ∙ ap (λ (b : BlockState). b.bytes ++ text_of (drop (suc i) blocks)) (sym is)
+    ap text_of (drop-cons blocks i block here) ∙ ap (λ (b : BlockState). b.bytes ++ text_of (drop (suc i) blocks)) (sym is)
     ∙ ap (λ k. block.bytes ++ text_of (drop k blocks)) (sym (add-one i))
 
 -- where nothing stands after the i-th block, and this isn't empty, the text ends as it does
-pub ends_in : (delim : ℕ) (blocks : List BlockState) (i : ℕ) (block : BlockState) → i < length blocks → block ≡ get_or blocks i block → text_of (drop (i + 1) blocks) ≡ [] → 0 < length block.bytes → ends_with delim (text_of blocks) ≡ ends_with delim block.bytes
-ends_in delim blocks i block here is none some =
+pub ends_in : (delim : ℕ) (blocks : List BlockState) (i : ℕ) {block : BlockState} → i < length blocks → block ≡ get_or blocks i block → text_of (drop (i + 1) blocks) ≡ [] → 0 < length block.bytes → ends_with delim (text_of blocks) ≡ ends_with delim block.bytes
+ends_in delim blocks i {block} here is none some =
     let last : text_of (drop i blocks) ≡ block.bytes = text_from blocks i block here is ∙ ap (λ x. block.bytes ++ x) none ∙ append-nil block.bytes in
     let whole : text_of blocks ≡ text_of (take i blocks) ++ block.bytes =
     ap text_of (sym (take-append-drop i blocks)) ∙ text_of-append (take i blocks) (drop i blocks) ∙ ap (λ x. text_of (take i blocks) ++ x) last in
     ap (ends_with delim) whole ∙ ends_with-append delim (text_of (take i blocks)) block.bytes some
 
 -- the count of the i-th block
-pub counted_at : (delim : ℕ) (blocks : List BlockState) (i : ℕ) (block : BlockState) → i < length blocks → block ≡ get_or blocks i block → HaveCounts delim blocks → block.count ≡ delimiters delim block.bytes
-counted_at delim blocks i block here is each = subst (HasCount delim) (sym is) (All-get_or (HasCount delim) blocks i block here each)
+pub counted_at : (delim : ℕ) (blocks : List BlockState) (i : ℕ) {block : BlockState} → i < length blocks → block ≡ get_or blocks i block → HaveCounts delim blocks → block.count ≡ delimiters delim block.bytes
+counted_at delim blocks i {block} here is each = subst (HasCount delim) (sym is) (All-get_or (HasCount delim) blocks i block here each)
 
 -- the count of all blocks
 pub all_counted : (delim : ℕ) (blocks : List BlockState) → HaveCounts delim blocks → count_of blocks ≡ delimiters delim (text_of blocks)
 all_counted delim [] each = refl
 all_counted delim (block ∷ blocks) each =
-    let here = counted_at delim (block ∷ blocks) 0 block (omega arith) refl each in
+    let here = counted_at delim (block ∷ blocks) 0 (omega arith) refl each in
     let rest = all_counted delim blocks (All-drop (HasCount delim) 1 (block ∷ blocks) each) in
     let both = delimiters-append delim block.bytes (text_of blocks) in
     omega arith
 
 -- the counts stay right, once bytes went at the front of the first block, and once some came to the last
-pub dropped_counts : (delim n gone : ℕ) (blocks : List BlockState) (first new : BlockState) → 0 < length blocks → first ≡ get_or blocks 0 first → new ≡ record { bytes = drop n first.bytes; count = first.count - gone } → gone ≡ delimiters delim (take n first.bytes) → HaveCounts delim blocks
+pub dropped_counts : (delim n : ℕ) {gone : ℕ} (blocks : List BlockState) {first new : BlockState} → 0 < length blocks → first ≡ get_or blocks 0 first → new ≡ record { bytes = drop n first.bytes; count = first.count - gone } → gone ≡ delimiters delim (take n first.bytes) → HaveCounts delim blocks
     → HaveCounts delim (set blocks 0 new)
-dropped_counts delim n gone blocks first new some is now of each =
-    let here = counted_at delim blocks 0 first some is each in
+dropped_counts delim n {gone} blocks {first} {new} some is now of each =
+    let here = counted_at delim blocks 0 some is each in
     let cut = delimiters-take-drop delim n first.bytes in
     let left : first.count - gone ≡ delimiters delim (drop n first.bytes) = omega arith in
     All-set (HasCount delim) blocks 0 new (subst (HasCount delim) (sym now) left) each
 
-pub grown_counts : (delim n more : ℕ) (blocks : List BlockState) (last new : BlockState) (part : List ℕ) → n + 1 ≡ length blocks → last ≡ get_or blocks n last → new ≡ record { bytes = last.bytes ++ part; count = last.count + more } → more ≡ delimiters delim part → HaveCounts delim blocks
+pub grown_counts : (delim n more : ℕ) (blocks : List BlockState) {last new : BlockState} (part : List ℕ) → n + 1 ≡ length blocks → last ≡ get_or blocks n last → new ≡ record { bytes = last.bytes ++ part; count = last.count + more } → more ≡ delimiters delim part → HaveCounts delim blocks
     → HaveCounts delim (set blocks n new)
-grown_counts delim n more blocks last new part at is now of each =
-    let here = counted_at delim blocks n last (omega arith) is each in
+grown_counts delim n more blocks {last} {new} part at is now of each =
+    let here = counted_at delim blocks n (omega arith) is each in
     let both = delimiters-append delim last.bytes part in
     let all : last.count + more ≡ delimiters delim (last.bytes ++ part) = omega arith in
     All-set (HasCount delim) blocks n new (subst (HasCount delim) (sym now) all) each
@@ -86,11 +83,11 @@ lines_pass delim n block rest fewer =
     ∙ length-append block (first_lines delim (n - delimiters delim block) rest)
 
 -- the first block goes too
-pub first_goes : (n : ℕ) (blocks : List BlockState) (first : BlockState) (left rest : List BlockState) (bytes count long more : ℕ) → 0 < length left
+pub first_goes : {n : ℕ} {blocks : List BlockState} {first : BlockState} (left : List BlockState) {rest : List BlockState} {bytes count : ℕ} (long more : ℕ) → 0 < length left
     → first ≡ get_or left 0 first → length first.bytes ≤ bytes → Gone n blocks left bytes count
     → rest ≡ drop 1 left → long ≡ length first.bytes → more ≡ first.count → Gone n blocks rest (bytes - long) (count + more)
-first_goes n blocks first [] rest bytes count long more some is fits so_far after long_is more_is = absurd (omega arith)
-first_goes n blocks first (block ∷ left) rest bytes count long more some is fits so_far after long_is more_is =
+first_goes [] long more some is fits so_far after long_is more_is = absurd (omega arith)
+first_goes {first} (block ∷ left) long more some is fits so_far after long_is more_is =
     let gone = so_far.gone in
     let both = ap length (text_of-append gone (first ∷ []) ∙ ap (λ x. text_of gone ++ x) (append-nil first.bytes)) ∙ length-append (text_of gone) first.bytes in
     let all = count_of-append gone (first ∷ []) in
@@ -101,39 +98,39 @@ first_goes n blocks first (block ∷ left) rest bytes count long more some is fi
       counted = omega arith;
     }
 
-first_few : (blocks : List BlockState) (first : BlockState) → 0 < length blocks → first ≡ get_or blocks 0 first → first.count ≤ count_of blocks
-first_few [] first some is = absurd (omega arith)
-first_few (block ∷ blocks) first some is = let same = ap (λ (b : BlockState). b.count) is in omega arith
+first_few : (blocks : List BlockState) {first : BlockState} → 0 < length blocks → first ≡ get_or blocks 0 first → first.count ≤ count_of blocks
+first_few [] some is = absurd (omega arith)
+first_few (block ∷ blocks) some is = let same = ap (λ (b : BlockState). b.count) is in omega arith
 
 -- the count so far and that of the first block are no more than that of all blocks
-pub gone_fits : (n : ℕ) (blocks : List BlockState) (first : BlockState) (left : List BlockState) (bytes count : ℕ) → 0 < length left → first ≡ get_or left 0 first → Gone n blocks left bytes count → count + first.count ≤ count_of blocks
-gone_fits n blocks first left bytes count some is so_far =
+pub gone_fits : {n : ℕ} {blocks : List BlockState} {first : BlockState} {left : List BlockState} {bytes count : ℕ} → 0 < length left → first ≡ get_or left 0 first → Gone n blocks left bytes count → count + first.count ≤ count_of blocks
+gone_fits {left} some is so_far =
     let all = ap count_of so_far.whole ∙ count_of-append so_far.gone left in
-    let few = first_few left first some is in
+    let few = first_few left some is in
     omega arith
 
-text_whole : (n : ℕ) (blocks left : List BlockState) (bytes count : ℕ) (so_far : Gone n blocks left bytes count) → text_of blocks ≡ text_of so_far.gone ++ text_of left
-text_whole n blocks left bytes count so_far = ap text_of so_far.whole ∙ text_of-append so_far.gone left
+text_whole : {n : ℕ} {blocks left : List BlockState} {bytes count : ℕ} (so_far : Gone n blocks left bytes count) → text_of blocks ≡ text_of so_far.gone ++ text_of left
+text_whole {left} so_far = ap text_of so_far.whole ∙ text_of-append so_far.gone left
 
 -- what is left once the rest of the n bytes goes too
-pub rest_goes : (n : ℕ) (blocks left : List BlockState) (bytes count : ℕ) → Gone n blocks left bytes count → drop bytes (text_of left) ≡ drop n (text_of blocks)
-rest_goes n blocks left bytes count so_far =
+pub rest_goes : {n : ℕ} {blocks left : List BlockState} {bytes count : ℕ} → Gone n blocks left bytes count → drop bytes (text_of left) ≡ drop n (text_of blocks)
+rest_goes {n} {left} {bytes} so_far =
     let gone = text_of so_far.gone in
-    sym (ap (drop n) (text_whole n blocks left bytes count so_far) ∙ ap (λ k. drop k (gone ++ text_of left)) so_far.long ∙ drop-append-add gone (text_of left) bytes)
+    sym (ap (drop n) (text_whole so_far) ∙ ap (λ k. drop k (gone ++ text_of left)) so_far.long ∙ drop-append-add gone (text_of left) bytes)
 
 -- the blocks that are left have their counts
-pub rest_have_counts : (delim n : ℕ) (blocks left : List BlockState) (bytes count : ℕ) → Gone n blocks left bytes count → HaveCounts delim blocks → HaveCounts delim left
-rest_have_counts delim n blocks left bytes count so_far each =
+pub rest_have_counts : (delim : ℕ) {n : ℕ} {blocks left : List BlockState} {bytes count : ℕ} → Gone n blocks left bytes count → HaveCounts delim blocks → HaveCounts delim left
+rest_have_counts delim {left} so_far each =
     let gone = so_far.gone in
     subst (HaveCounts delim) (drop_at gone left (length gone) refl)
     (All-drop (HasCount delim) (length gone) (gone ++ left) (subst (HaveCounts delim) so_far.whole each))
 
-pub rest_counted : (delim n : ℕ) (blocks left : List BlockState) (bytes count : ℕ) → Gone n blocks left bytes count → HaveCounts delim blocks → count + delimiters delim (take bytes (text_of left)) ≡ delimiters delim (take n (text_of blocks))
-rest_counted delim n blocks left bytes count so_far each =
+pub rest_counted : (delim : ℕ) {n : ℕ} {blocks left : List BlockState} {bytes count : ℕ} → Gone n blocks left bytes count → HaveCounts delim blocks → count + delimiters delim (take bytes (text_of left)) ≡ delimiters delim (take n (text_of blocks))
+rest_counted delim {n} {blocks} {left} {bytes} so_far each =
     let gone = so_far.gone in
     let text = text_of gone in
     let front : take n (text_of blocks) ≡ text ++ take bytes (text_of left) =
-    ap (take n) (text_whole n blocks left bytes count so_far) ∙ ap (λ k. take k (text ++ text_of left)) so_far.long ∙ take-append-add text (text_of left) bytes in
+    ap (take n) (text_whole so_far) ∙ ap (λ k. take k (text ++ text_of left)) so_far.long ∙ take-append-add text (text_of left) bytes in
     let all = ap (delimiters delim) front ∙ delimiters-append delim text (take bytes (text_of left)) in
     let counts : HaveCounts delim gone = subst (HaveCounts delim) (take_at gone left (length gone) refl)
     (All-take (HasCount delim) (length gone) (gone ++ left) (subst (HaveCounts delim) so_far.whole each)) in
@@ -141,25 +138,25 @@ rest_counted delim n blocks left bytes count so_far each =
     omega arith
 
 -- delimiters of a part that begins at `start`, and of what follows it
-pub part_counted : (delim : ℕ) (x : List ℕ) (start n count part : ℕ) → count ≡ delimiters delim (drop start x) → part ≡ delimiters delim (take n (drop start x)) → part + delimiters delim (drop (start + n) x) ≡ count
-part_counted delim x start n count part is of =
+pub part_counted : (delim : ℕ) (x : List ℕ) (start n : ℕ) {count part : ℕ} → count ≡ delimiters delim (drop start x) → part ≡ delimiters delim (take n (drop start x)) → part + delimiters delim (drop (start + n) x) ≡ count
+part_counted delim x start n is of =
     let cut = delimiters-take-drop delim n (drop start x) in
     let rest = ap (delimiters delim) (drop-drop n start x) in
     omega arith
 
 -- bytes after those of a block of which the front has left
-pub block_grows : (x part new : List ℕ) (start count more : ℕ) → start ≤ length x → count ≤ length (drop start x) → more ≤ length part → new ≡ x ++ part
+pub block_grows : (x part : List ℕ) {new : List ℕ} (start count more : ℕ) → start ≤ length x → count ≤ length (drop start x) → more ≤ length part → new ≡ x ++ part
     → (start ≤ length new) × (count + more ≤ length (drop start new))
-block_grows x part new start count more within few no_more grown =
+block_grows x part {new} start count more within few no_more grown =
     let long = ap length grown ∙ length-append x part in
     let old = length-drop start x in
     let all = length-drop start new in
     (omega arith, omega arith)
 
 -- what a window knows of its blocks, once bytes go at the front
-pub counted_drop : (delim most n : ℕ) (blocks new : List BlockState) (len count gone : ℕ) → IsCounted delim most blocks len count → n ≤ length (text_of blocks) → text_of new ≡ drop n (text_of blocks) → gone ≡ delimiters delim (take n (text_of blocks)) → HaveCounts delim new
+pub counted_drop : {delim most : ℕ} (n : ℕ) {blocks new : List BlockState} {len count gone : ℕ} → IsCounted delim most blocks len count → n ≤ length (text_of blocks) → text_of new ≡ drop n (text_of blocks) → gone ≡ delimiters delim (take n (text_of blocks)) → HaveCounts delim new
     → IsCounted delim most new (len - n) (count - gone)
-counted_drop delim most n blocks new len count gone so_far within left is each =
+counted_drop {delim} n {blocks} so_far within left is each =
     let text = text_of blocks in
     let fewer = line_count-drop delim n text in
     let same = ap (line_count delim) left in
@@ -169,9 +166,9 @@ counted_drop delim most n blocks new len count gone so_far within left is each =
     record { few = omega arith; fits = omega arith; long = omega arith; counted = omega arith; each = each }
 
 -- and once a piece is appended
-pub counted_put : (delim most : ℕ) (blocks new : List BlockState) (piece : List ℕ) (len count more : ℕ) → IsCounted delim most blocks len count → len + length piece < 2 ^ 63 → but_last_lines delim most (text_of blocks ++ piece) ≡ [] → text_of new ≡ text_of blocks ++ piece → more ≡ delimiters delim piece → HaveCounts delim new
+pub counted_put : {delim most : ℕ} {blocks new : List BlockState} (piece : List ℕ) {len count : ℕ} (more : ℕ) → IsCounted delim most blocks len count → len + length piece < 2 ^ 63 → but_last_lines delim most (text_of blocks ++ piece) ≡ [] → text_of new ≡ text_of blocks ++ piece → more ≡ delimiters delim piece → HaveCounts delim new
     → IsCounted delim most new (len + length piece) (count + more)
-counted_put delim most blocks new piece len count more so_far fits within grown is each =
+counted_put {delim} {most} {blocks} piece more so_far fits within grown is each =
     let text = text_of blocks in
     let few = few_from_nothing delim most (text ++ piece) within in
     let same = ap (line_count delim) grown in
@@ -180,12 +177,11 @@ counted_put delim most blocks new piece len count more so_far fits within grown 
     record { few = omega arith; fits = omega arith; long = omega arith; counted = omega arith; each = each }
 
 -- and once what is left of a block of bytes is put at the front
-pub counted_front : (delim most : ℕ) (blocks new : List BlockState) (front : BlockState) (bytes : List ℕ) (len count long more : ℕ)
+pub counted_front : {delim most : ℕ} {blocks new : List BlockState} (front : BlockState) (bytes : List ℕ) {len count : ℕ} (long more : ℕ)
     → IsCounted delim most blocks len count → len + length bytes < 2 ^ 63
     → front.bytes ≡ after_lines delim (line_count delim (bytes ++ text_of blocks) - most) bytes → front.count ≡ delimiters delim front.bytes
-    → new ≡ front ∷ blocks → long ≡ length front.bytes → more ≡ front.count
-    → IsCounted delim most new (len + long) (count + more)
-counted_front delim most blocks new front bytes len count long more so_far fits left is now long_is more_is =
+    → new ≡ front ∷ blocks → long ≡ length front.bytes → more ≡ front.count → IsCounted delim most new (len + long) (count + more)
+counted_front {delim} {most} {blocks} front bytes {len} {count} long more so_far fits left is now long_is more_is =
     let text = text_of blocks in
     let over = line_count delim (bytes ++ text) - most in
     let last : front.bytes ++ text ≡ last_lines delim most (bytes ++ text) = ap (λ x. x ++ text) left ∙ sym (last_lines-front delim most bytes text so_far.few) in
@@ -199,15 +195,15 @@ counted_front delim most blocks new front bytes len count long more so_far fits 
     (record { few = omega arith; fits = omega arith; long = omega arith; counted = omega arith; each = All-cons (HasCount delim) front blocks is so_far.each })
 
 -- fresh blocks after those of which the last was filled
-pub extended : (old mid filled fresh new : List BlockState) (near far piece : List ℕ) → new ≡ filled ++ fresh → text_of filled ≡ text_of mid ++ near → text_of fresh ≡ far → mid ≡ old → piece ≡ near ++ far
+pub extended : {old mid : List BlockState} (filled fresh : List BlockState) {new : List BlockState} (near : List ℕ) {far piece : List ℕ} → new ≡ filled ++ fresh → text_of filled ≡ text_of mid ++ near → text_of fresh ≡ far → mid ≡ old → piece ≡ near ++ far
     → text_of new ≡ text_of old ++ piece
-extended old mid filled fresh new near far piece all fill_is of same split = cc (text_of-append filled fresh, append_assoc (text_of old) near far)
+extended {old} filled fresh near {far} all fill_is of same split = cc (text_of-append filled fresh, append_assoc (text_of old) near far)
 
 -- the delimiters of a text in two parts
-pub split_counted : (delim : ℕ) (text near far : List ℕ) (count : ℕ) → count ≡ delimiters delim text → text ≡ near ++ far → count ≡ delimiters delim near + delimiters delim far
-split_counted delim text near far count is split = is ∙ ap (delimiters delim) split ∙ delimiters-append delim near far
+pub split_counted : (delim : ℕ) {text : List ℕ} (near far : List ℕ) {count : ℕ} → count ≡ delimiters delim text → text ≡ near ++ far → count ≡ delimiters delim near + delimiters delim far
+split_counted delim near far is split = is ∙ ap (delimiters delim) split ∙ delimiters-append delim near far
 
 -- all of a text is in blocks
-pub none_left : (held left text : List ℕ) → length left ≡ 0 → held ++ left ≡ text → held ≡ text
-none_left held [] text none whole = sym (append-nil held) ∙ whole
-none_left held (byte ∷ left) text none whole = absurd (omega arith)
+pub none_left : {held : List ℕ} (left : List ℕ) {text : List ℕ} → length left ≡ 0 → held ++ left ≡ text → held ≡ text
+none_left {held} [] none whole = sym (append-nil held) ∙ whole
+none_left (byte ∷ left) none whole = absurd (omega arith)

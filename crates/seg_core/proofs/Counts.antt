@@ -11,9 +11,9 @@ use Rattle.seg_core.specs.declared.count.Sign.{Sign}
 use Rattle.seg_core.specs.declared.count.CountFault.TheVariants.{NoDigits, TooLarge}
 use Rattle.seg_core.specs.Count.{value_of, factor_of, leading_digits, greatest, sign_of, after_sign, sized, scaled, unsigned, count_of, digits_of}
 
-pub count_of-parts : (text : List ℕ) (sign : Sign) (rest : List ℕ) → sign ≡ sign_of text → rest ≡ after_sign text → count_of text ≡ unsigned sign rest
+pub count_of-parts : (text : List ℕ) {sign : Sign} {rest : List ℕ} → sign ≡ sign_of text → rest ≡ after_sign text → count_of text ≡ unsigned sign rest
 unfolding count_of
-count_of-parts text sign rest a b = sym (ap (λ s. unsigned s rest) a ∙ ap (unsigned (sign_of text)) b)
+count_of-parts text {rest} a b = sym (ap (λ s. unsigned s rest) a ∙ ap (unsigned (sign_of text)) b)
 
 pub unsigned-none : (sign : Sign) (rest : List ℕ) (end : ℕ) → end ≡ prefix_len is_ascii_digit rest → end ≡ 0 → unsigned sign rest ≡ Err NoDigits
 unsigned-none sign rest end is none =
@@ -27,39 +27,37 @@ unsigned-some sign rest end is some =
     ∙ ap (λ n. scaled sign (take n rest) (factor_of (drop n rest))) (sym is)
 
 -- a count with digits, whose suffix was looked up in the table
-pub count_of-scaled : (text : List ℕ) (sign : Sign) (rest : List ℕ) (end : ℕ) (found : Option ℕ)
+pub count_of-scaled : (text : List ℕ) {sign : Sign} {rest : List ℕ} (end : ℕ) {found : Option ℕ}
     → sign ≡ sign_of text → rest ≡ after_sign text → end ≡ prefix_len is_ascii_digit rest → (end ≡ 0 → ⊥) → found ≡ factor_of (take (length rest - end) (drop end rest))
     → count_of text ≡ scaled sign (take end rest) found
-count_of-scaled text sign rest end found a b is some looked_up =
-    count_of-parts text sign rest a b
-    ∙ unsigned-some sign rest end is some
-    ∙ ap (λ suffix. scaled sign (take end rest) (factor_of suffix)) (sym (take_rest rest end))
+count_of-scaled text {sign} {rest} end a b is some looked_up =
+    count_of-parts text a b ∙ unsigned-some sign rest end is some ∙ ap (λ suffix. scaled sign (take end rest) (factor_of suffix)) (sym (take_rest rest end))
     ∙ ap (scaled sign (take end rest)) (sym looked_up)
 
 -- what the code reads: the value and the amount held at the greatest u64
-pub sized-ok : (sign : Sign) (value factor held amount : ℕ) → held ≡ min value (2 ^ 64 - 1) → amount ≡ min (held * factor) (2 ^ 64 - 1) → 1 ≤ factor → amount ≤ greatest
+pub sized-ok : {sign : Sign} (value factor : ℕ) {held amount : ℕ} → held ≡ min value (2 ^ 64 - 1) → amount ≡ min (held * factor) (2 ^ 64 - 1) → 1 ≤ factor → amount ≤ greatest
     → sized sign (value * factor) ≡ Ok (record { sign = sign; amount = amount })
-sized-ok sign value factor held amount h a some fits =
+sized-ok {sign} value factor {held} {amount} h a some fits =
     let grows : held * 1 ≤ held * factor = mul-le-mul_left held some in
     let exact : held ≡ value = omega arith in
     let same : value * factor ≡ amount = ap (λ n. n * factor) (sym exact) ∙ omega arith in
     ap (sized sign) same ∙ ap (λ (c : Bool). cond c (Ok (record { sign = sign; amount = amount })) (Err TooLarge)) (le-leb amount greatest fits)
 
-pub sized-too_large : (sign : Sign) (value factor held amount : ℕ) → held ≡ min value (2 ^ 64 - 1) → amount ≡ min (held * factor) (2 ^ 64 - 1) → greatest < amount
+pub sized-too_large : (sign : Sign) (value factor : ℕ) {held amount : ℕ} → held ≡ min value (2 ^ 64 - 1) → amount ≡ min (held * factor) (2 ^ 64 - 1) → greatest < amount
     → sized sign (value * factor) ≡ Err TooLarge
-sized-too_large sign value factor held amount h a above =
+sized-too_large sign value factor {held} {amount} h a above =
     let low : held ≤ value = omega arith in
     let grows : held * factor ≤ value * factor = mul-le-mul_right factor low in
     let over : greatest < value * factor = omega arith in
     ap (λ (c : Bool). cond c (Ok (record { sign = sign; amount = value * factor })) (Err TooLarge)) (lt-leb (value * factor) greatest over)
 
-all_step : (is_digit rest : Bool) (n m : ℕ) → (n ≡ m → rest ≡ true) → cond is_digit (1 + n) 0 ≡ suc m → (is_digit && rest) ≡ true
-all_step true rest n m later same = later (omega arith)
-all_step false rest n m later same = absurd (omega arith)
+all_step : (is_digit : Bool) {rest : Bool} {n m : ℕ} → (n ≡ m → rest ≡ true) → cond is_digit (1 + n) 0 ≡ suc m → (is_digit && rest) ≡ true
+all_step true later same = later (omega arith)
+all_step false later same = absurd (omega arith)
 
 all_digits : (text : List ℕ) → prefix_len is_ascii_digit text ≡ length text → list_all is_ascii_digit text ≡ true
 all_digits [] same = refl
-all_digits (byte ∷ text) same = all_step (is_ascii_digit byte) (list_all is_ascii_digit text) (prefix_len is_ascii_digit text) (length text) (all_digits text) same
+all_digits (byte ∷ text) same = all_step (is_ascii_digit byte) (all_digits text) same
 
 -- the text doesn't begin with a digit, or its digits aren't all of it
 pub digits_of-none : (text : List ℕ) (end : ℕ) → end ≡ prefix_len is_ascii_digit text → (end ≡ 0) ⊎ (end < length text) → digits_of text ≡ Err NoDigits
@@ -80,22 +78,20 @@ digits_of-some text end is some whole =
     ap (λ (c : Bool). cond c (cond (leb (value_of text) greatest) (Ok (value_of text)) (Err TooLarge)) (Err NoDigits))
     (and_from (ltb 0 (length text)) (list_all is_ascii_digit text) (lt-ltb 0 (length text) long) (all_digits text all))
 
-held_whole : (text : List ℕ) (end held : ℕ) → length text ≤ end → held ≡ min (value_of (take end text)) (2 ^ 64 - 1) → held ≡ min (value_of text) (2 ^ 64 - 1)
-held_whole text end held whole h = h ∙ ap (λ x. min (value_of x) (2 ^ 64 - 1)) (take_all end text whole)
+held_whole : (text : List ℕ) (end : ℕ) {held : ℕ} → length text ≤ end → held ≡ min (value_of (take end text)) (2 ^ 64 - 1) → held ≡ min (value_of text) (2 ^ 64 - 1)
+held_whole text end whole h = h ∙ ap (λ x. min (value_of x) (2 ^ 64 - 1)) (take_all end text whole)
 
-pub digits_of-ok : (text : List ℕ) (end held : ℕ) → end ≡ prefix_len is_ascii_digit text → (end ≡ 0 → ⊥) → length text ≤ end → held ≡ min (value_of (take end text)) (2 ^ 64 - 1) → held ≤ greatest
+pub digits_of-ok : (text : List ℕ) (end : ℕ) {held : ℕ} → end ≡ prefix_len is_ascii_digit text → (end ≡ 0 → ⊥) → length text ≤ end → held ≡ min (value_of (take end text)) (2 ^ 64 - 1) → held ≤ greatest
     → digits_of text ≡ Ok held
-digits_of-ok text end held is some whole h fits =
-    let all = held_whole text end held whole h in
+digits_of-ok text end {held} is some whole h fits =
+    let all = held_whole text end whole h in
     let exact : value_of text ≡ held = omega arith in
-    digits_of-some text end is some whole
-    ∙ ap (λ n. cond (leb n greatest) (Ok n) (Err TooLarge)) exact
+    digits_of-some text end is some whole ∙ ap (λ n. cond (leb n greatest) (Ok n) (Err TooLarge)) exact
     ∙ ap (λ (c : Bool). cond c (Ok held) (Err TooLarge)) (le-leb held greatest fits)
 
-pub digits_of-too_large : (text : List ℕ) (end held : ℕ) → end ≡ prefix_len is_ascii_digit text → (end ≡ 0 → ⊥) → length text ≤ end → held ≡ min (value_of (take end text)) (2 ^ 64 - 1) → greatest < held
+pub digits_of-too_large : (text : List ℕ) (end : ℕ) {held : ℕ} → end ≡ prefix_len is_ascii_digit text → (end ≡ 0 → ⊥) → length text ≤ end → held ≡ min (value_of (take end text)) (2 ^ 64 - 1) → greatest < held
     → digits_of text ≡ Err TooLarge
-digits_of-too_large text end held is some whole h above =
-    let all = held_whole text end held whole h in
+digits_of-too_large text end is some whole h above =
+    let all = held_whole text end whole h in
     let over : greatest < value_of text = omega arith in
-    digits_of-some text end is some whole
-    ∙ ap (λ (c : Bool). cond c (Ok (value_of text)) (Err TooLarge)) (lt-leb (value_of text) greatest over)
+    digits_of-some text end is some whole ∙ ap (λ (c : Bool). cond c (Ok (value_of text)) (Err TooLarge)) (lt-leb (value_of text) greatest over)

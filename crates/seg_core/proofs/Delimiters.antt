@@ -5,13 +5,13 @@ use Rattle.std.proofs.Math.Seq.{take-add}
 use Rattle.std.proofs.lemmas.Bool.{eq-eqb, ne_eqb}
 use Rattle.seg_core.specs.Line.{delimiters}
 
-append_step : (is_delim : Bool) (m n k : ℕ) → k ≡ m + n → cond is_delim (k + 1) k ≡ cond is_delim (m + 1) m + n
-append_step true m n k e = omega arith
-append_step false m n k e = e
+append_step : (is_delim : Bool) (m n : ℕ) {k : ℕ} → k ≡ m + n → cond is_delim (k + 1) k ≡ cond is_delim (m + 1) m + n
+append_step true m n e = omega arith
+append_step false m n e = e
 
 pub delimiters-append : (delim : ℕ) (x y : List ℕ) → delimiters delim (x ++ y) ≡ delimiters delim x + delimiters delim y
 delimiters-append delim [] y = omega arith
-delimiters-append delim (byte ∷ x) y = append_step (eqb byte delim) (delimiters delim x) (delimiters delim y) (delimiters delim (x ++ y)) (delimiters-append delim x y)
+delimiters-append delim (byte ∷ x) y = append_step (eqb byte delim) (delimiters delim x) (delimiters delim y) (delimiters-append delim x y)
 
 length_step : (is_delim : Bool) (n m : ℕ) → n ≤ m → cond is_delim (n + 1) n ≤ m + 1
 length_step true n m h = omega arith
@@ -40,21 +40,21 @@ pub delimiters-take-add : (delim i k : ℕ) (x : List ℕ) → delimiters delim 
 delimiters-take-add delim i k x = ap (delimiters delim) (take-add i k x) ∙ delimiters-append delim (take i x) (take k (drop i x))
 
 -- a count that goes on by a stretch
-pub count_stretch : (delim : ℕ) (x : List ℕ) (at width n more : ℕ) → n ≡ delimiters delim (take at x) → more ≡ delimiters delim (take (at + width - at) (drop at x)) → n + more ≡ delimiters delim (take (at + width) x)
-count_stretch delim x at width n more so_far is =
+pub count_stretch : (delim : ℕ) (x : List ℕ) (at width : ℕ) {n : ℕ} (more : ℕ) → n ≡ delimiters delim (take at x) → more ≡ delimiters delim (take (at + width - at) (drop at x)) → n + more ≡ delimiters delim (take (at + width) x)
+count_stretch delim x at width more so_far is =
     let all : at + width - at ≡ width = omega arith in
     let here = is ∙ ap (λ k. delimiters delim (take k (drop at x))) all in
     let both = delimiters-take-add delim at width x in
     omega arith
 
 -- a count that goes on by one byte
-pub count_more : (delim : ℕ) (x : List ℕ) (i n one : ℕ) → n ≡ delimiters delim (take i x) → i < length x → one ≡ delimiters delim (get_or x i 0 ∷ []) → n + one ≡ delimiters delim (take (i + 1) x)
-count_more delim x i n one so_far h here = let more = delimiters_more delim x i h in omega arith
+pub count_more : (delim : ℕ) (x : List ℕ) (i : ℕ) {n : ℕ} (one : ℕ) → n ≡ delimiters delim (take i x) → i < length x → one ≡ delimiters delim (get_or x i 0 ∷ []) → n + one ≡ delimiters delim (take (i + 1) x)
+count_more delim x i one so_far h here = let more = delimiters_more delim x i h in omega arith
 
 -- a count that goes on byte by byte
-pub count_yes : (delim : ℕ) (x : List ℕ) (i n : ℕ) → n ≡ delimiters delim (take i x) → i < length x → get_or x i 0 ≡ delim → n + 1 ≡ delimiters delim (take (i + 1) x)
-count_yes delim x i n so_far h here = count_more delim x i n 1 so_far h (sym (delimiters-one_yes delim (get_or x i 0) (eq-eqb (get_or x i 0) delim here)))
+pub count_yes : {delim : ℕ} (x : List ℕ) (i : ℕ) {n : ℕ} → n ≡ delimiters delim (take i x) → i < length x → get_or x i 0 ≡ delim → n + 1 ≡ delimiters delim (take (i + 1) x)
+count_yes {delim} x i so_far h here = count_more delim x i 1 so_far h (sym (delimiters-one_yes delim (get_or x i 0) (eq-eqb (get_or x i 0) delim here)))
 
-pub count_no : (delim : ℕ) (x : List ℕ) (i n : ℕ) → n ≡ delimiters delim (take i x) → i < length x → get_or x i 0 ≢ delim → n ≡ delimiters delim (take (i + 1) x)
-count_no delim x i n so_far h here =
-    omega (arith, count_more delim x i n 0 so_far h (sym (delimiters-one_no delim (get_or x i 0) (ne_eqb (get_or x i 0) delim here))))
+pub count_no : (delim : ℕ) (x : List ℕ) (i : ℕ) {n : ℕ} → n ≡ delimiters delim (take i x) → i < length x → get_or x i 0 ≢ delim → n ≡ delimiters delim (take (i + 1) x)
+count_no delim x i so_far h here =
+    omega (arith, count_more delim x i 0 so_far h (sym (delimiters-one_no delim (get_or x i 0) (ne_eqb (get_or x i 0) delim here))))

@@ -19,13 +19,13 @@ pub delimiters-after : (delim k : ℕ) (x : List ℕ) → Nowhere (Passes (is_by
 delimiters-after delim k x none = delimiters-none delim (drop k x) (HasNone-drop delim k x none)
 
 -- a delimiter after which there is no other
-pub last_ends : (delim : ℕ) (x : List ℕ) (k : ℕ) → k < length x → eqb (get_or x k 0) delim ≡ true → Nowhere (Passes (is_byte delim) x) (k + 1) (length x) → LastEndsAt delim x (k + 1)
-last_ends delim x k here is none =
+pub last_ends : {delim : ℕ} {x : List ℕ} (k : ℕ) → k < length x → eqb (get_or x k 0) delim ≡ true → Nowhere (Passes (is_byte delim) x) (k + 1) (length x) → LastEndsAt delim x (k + 1)
+last_ends {delim} {x} k here is none =
     let none_after = delimiters-after delim (k + 1) x none in
     let one = delimiters-one_yes delim (get_or x k 0) is in
     let more = delimiters_more delim x k here in
     let all = delimiters-take-drop delim (k + 1) x in
-    let ends = EndsAt_counted delim (delimiters delim x) x k here (omega arith) (omega arith) in
+    let ends = EndsAt_counted k here (omega arith) (omega arith) in
     record {
       some = omega arith;
       within = omega arith;

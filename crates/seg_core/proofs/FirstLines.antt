@@ -16,8 +16,7 @@ pub first_lines-zero : (delim : ℕ) (x : List ℕ) → first_lines delim 0 x �
 first_lines-zero delim x = refl
 
 -- what is left of the first lines after a byte, which may be a delimiter
-cut : (is_delim : Bool) (byte n : ℕ) (lines : List (List ℕ))
-    → joined (take (suc n) (cond is_delim ((byte ∷ []) ∷ lines) (onto_first byte lines)))
+cut : (is_delim : Bool) (byte n : ℕ) (lines : List (List ℕ)) → joined (take (suc n) (cond is_delim ((byte ∷ []) ∷ lines) (onto_first byte lines)))
     ≡ byte ∷ cond is_delim (joined (take n lines)) (joined (take (suc n) lines))
 cut true byte n lines = refl
 cut false byte n [] = ap (λ (x : List (List ℕ)). byte ∷ joined x) (take-nil n)
@@ -50,40 +49,34 @@ first_lines-append delim (suc n) (byte ∷ x) y =
     ∙ ap (λ z. z ++ first_lines delim (suc n - delimiters delim (byte ∷ x)) y) (sym (first_lines-cons delim byte n x))
 
 -- a text has no more than its lines
-pub first_lines-all : (delim n : ℕ) (x : List ℕ) → line_count delim x ≤ n → first_lines delim n x ≡ x
-first_lines-all delim n x h = ap joined (take_all n (lines_of delim x) h) ∙ joined-lines_of delim x
+pub first_lines-all : (delim n : ℕ) {x : List ℕ} → line_count delim x ≤ n → first_lines delim n x ≡ x
+first_lines-all delim n {x} h = ap joined (take_all n (lines_of delim x) h) ∙ joined-lines_of delim x
 
 -- a text with fewer delimiters than n has no more than n lines
 pub first_lines-short : (delim n : ℕ) (x : List ℕ) → delimiters delim x < n → first_lines delim n x ≡ x
-first_lines-short delim n x h = first_lines-all delim n x (omega (arith, (line_count_near delim x).1))
+first_lines-short delim n x h = first_lines-all delim n (omega (arith, (line_count_near delim x).1))
 
 -- once n lines are complete, what follows adds nothing
 pub first_lines-full : (delim n : ℕ) (x y : List ℕ) → n ≤ delimiters delim x → first_lines delim n (x ++ y) ≡ first_lines delim n x
 first_lines-full delim n x y h =
     let none : n - delimiters delim x ≡ 0 = omega arith in
-    first_lines-append delim n x y
-    ∙ ap (λ k. first_lines delim n x ++ first_lines delim k y) none
-    ∙ append-nil (first_lines delim n x)
+    first_lines-append delim n x y ∙ ap (λ k. first_lines delim n x ++ first_lines delim k y) none ∙ append-nil (first_lines delim n x)
 
 -- while n lines aren't complete, the next byte belongs to them
 pub first_lines-more : (delim n : ℕ) (x : List ℕ) (byte : ℕ) → delimiters delim x < n → first_lines delim n (x ++ byte ∷ []) ≡ x ++ byte ∷ []
 first_lines-more delim n x byte h =
     let one = line_count-le-length delim (byte ∷ []) in
-    first_lines-append delim n x (byte ∷ [])
-    ∙ ap (λ z. z ++ first_lines delim (n - delimiters delim x) (byte ∷ [])) (first_lines-short delim n x h)
-    ∙ ap (λ z. x ++ z) (first_lines-all delim (n - delimiters delim x) (byte ∷ []) (omega arith))
+    first_lines-append delim n x (byte ∷ []) ∙ ap (λ z. z ++ first_lines delim (n - delimiters delim x) (byte ∷ [])) (first_lines-short delim n x h)
+    ∙ ap (λ z. x ++ z) (first_lines-all delim (n - delimiters delim x) (omega arith))
 
 pub joined-append : (front back : List (List ℕ)) → joined (front ++ back) ≡ joined front ++ joined back
 joined-append [] back = refl
-joined-append (line ∷ front) back =
-    ap (λ x. line ++ x) (joined-append front back) ∙ sym (append_assoc line (joined front) (joined back))
+joined-append (line ∷ front) back = ap (λ x. line ++ x) (joined-append front back) ∙ sym (append_assoc line (joined front) (joined back))
 
 -- the first lines are the beginning of the text
 pub first_lines_then_rest : (delim n : ℕ) (x : List ℕ) → first_lines delim n x ++ joined (drop n (lines_of delim x)) ≡ x
 first_lines_then_rest delim n x =
-    sym (joined-append (take n (lines_of delim x)) (drop n (lines_of delim x)))
-    ∙ ap joined (take-append-drop n (lines_of delim x))
-    ∙ joined-lines_of delim x
+    sym (joined-append (take n (lines_of delim x)) (drop n (lines_of delim x))) ∙ ap joined (take-append-drop n (lines_of delim x)) ∙ joined-lines_of delim x
 
 pub length-first_lines-le : (delim n : ℕ) (x : List ℕ) → length (first_lines delim n x) ≤ length x
 length-first_lines-le delim n x =
@@ -101,31 +94,28 @@ after_lines-is_drop delim n x =
     sym (drop_at (first_lines delim n x) (after_lines delim n x) (length (first_lines delim n x)) refl)
     ∙ ap (drop (length (first_lines delim n x))) (first_lines_then_rest delim n x)
 
-full_step : (delim : ℕ) (is_delim : Bool) (n : ℕ) (x : List ℕ) → suc n ≤ cond is_delim (delimiters delim x + 1) (delimiters delim x)
+full_step : (delim : ℕ) (is_delim : Bool) {n : ℕ} (x : List ℕ) → suc n ≤ cond is_delim (delimiters delim x + 1) (delimiters delim x)
     → (n ≤ delimiters delim x → delimiters delim (first_lines delim n x) ≡ n) → (suc n ≤ delimiters delim x → delimiters delim (first_lines delim (suc n) x) ≡ suc n)
     → cond is_delim (delimiters delim (cond is_delim (first_lines delim n x) (first_lines delim (suc n) x)) + 1) (delimiters delim (cond is_delim (first_lines delim n x) (first_lines delim (suc n) x))) ≡ suc n
-full_step delim true n x h here there = let e = here (omega arith) in omega arith
-full_step delim false n x h here there = there h
+full_step delim true x h here there = let e = here (omega arith) in omega arith
+full_step delim false x h here there = there h
 
 pub delimiters-first_lines : (delim n : ℕ) (x : List ℕ) → n ≤ delimiters delim x → delimiters delim (first_lines delim n x) ≡ n
 delimiters-first_lines delim zero x h = refl
 delimiters-first_lines delim (suc n) [] h = absurd (omega arith)
 delimiters-first_lines delim (suc n) (byte ∷ x) h =
     ap (delimiters delim) (first_lines-cons delim byte n x)
-    ∙ full_step delim (eqb byte delim) n x h (delimiters-first_lines delim n x) (delimiters-first_lines delim (suc n) x)
+    ∙ full_step delim (eqb byte delim) x h (delimiters-first_lines delim n x) (delimiters-first_lines delim (suc n) x)
 
 -- where a byte brings the count to n, the n lines end after it
-pub EndsAt_counted : (delim n : ℕ) (x : List ℕ) (i : ℕ) → i < length x → delimiters delim (take i x) < n → delimiters delim (take (i + 1) x) ≡ n → EndsAt delim n x (i + 1)
-EndsAt_counted delim n x i h few counted =
+pub EndsAt_counted : {delim n : ℕ} {x : List ℕ} (i : ℕ) → i < length x → delimiters delim (take i x) < n → delimiters delim (take (i + 1) x) ≡ n → EndsAt delim n x (i + 1)
+EndsAt_counted {delim} {n} {x} i h few counted =
     let enough : n ≤ delimiters delim (take (i + 1) x) = omega arith in
     record {
       within = omega arith;
       lines = sym (
-          ap (first_lines delim n) (sym (take-append-drop (i + 1) x))
-          ∙ first_lines-full delim n (take (i + 1) x) (drop (i + 1) x) enough
-          ∙ ap (first_lines delim n) (take_more x i 0 h)
-          ∙ first_lines-more delim n (take i x) (get_or x i 0) few
-          ∙ sym (take_more x i 0 h)
+          ap (first_lines delim n) (sym (take-append-drop (i + 1) x)) ∙ first_lines-full delim n (take (i + 1) x) (drop (i + 1) x) enough
+          ∙ ap (first_lines delim n) (take_more x i 0 h) ∙ first_lines-more delim n (take i x) (get_or x i 0) few ∙ sym (take_more x i 0 h)
           );
       complete = counted;
     }

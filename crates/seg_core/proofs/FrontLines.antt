@@ -14,13 +14,13 @@ pub length-after_lines-le : (delim n : ℕ) (x : List ℕ) → length (after_lin
 length-after_lines-le delim n x = omega (arith, sym (length-append (first_lines delim n x) (after_lines delim n x)) ∙ ap length (first_lines_then_rest delim n x))
 
 -- two texts have no more delimiters than bytes
-pub delimiters_fit : (here there : ℕ) (block held : List ℕ) (more count bound : ℕ) → more ≡ delimiters here block → count ≡ delimiters there held → length block + length held < bound → count + more < bound
-delimiters_fit here there block held more count bound of_block of_held fits = omega (arith, delimiters-le-length here block, delimiters-le-length there held)
+pub delimiters_fit : (here there : ℕ) (block held : List ℕ) (more : ℕ) {count : ℕ} (bound : ℕ) → more ≡ delimiters here block → count ≡ delimiters there held → length block + length held < bound → count + more < bound
+delimiters_fit here there block held more bound of_block of_held fits = omega (arith, delimiters-le-length here block, delimiters-le-length there held)
 
 -- and so has a block with the text after it
-pub line_count-both : (delim : ℕ) (block held : List ℕ) (closed : Bool) (count more one : ℕ) → 0 < length block → count ≡ delimiters delim held → more ≡ delimiters delim block → closed ≡ ends_with delim (block ++ held) → one ≡ bool_byte (not closed)
+pub line_count-both : (delim : ℕ) (block held : List ℕ) (closed : Bool) {count : ℕ} (more one : ℕ) → 0 < length block → count ≡ delimiters delim held → more ≡ delimiters delim block → closed ≡ ends_with delim (block ++ held) → one ≡ bool_byte (not closed)
     → count + more + one ≡ line_count delim (block ++ held)
-line_count-both delim block held closed count more one some of_held of_block is open_end =
+line_count-both delim block held closed more one some of_held of_block is open_end =
     let long : 0 < length (block ++ held) = omega (arith, length-append block held) in
     let lines = line_count-by_end delim (block ++ held) closed long is in
     let both = delimiters-append delim block held in

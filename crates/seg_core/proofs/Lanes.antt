@@ -15,8 +15,8 @@ chosen p (byte ∷ x) zero one none long = absurd (omega arith)
 chosen p (byte ∷ x) (suc n) one none long = ap (λ z. cond (p byte) one none ∷ z) (chosen p x n one none (omega arith))
 
 -- what is chosen by the comparison with a delimiter
-pub chosen_flags : (delim : ℕ) (x : List ℕ) (n : ℕ) → length x ≡ n → sel_l {A = ℕ} (map (top 7) (zip2 (λ a b. cond (eqb a b) 255 0) x (replicate n delim))) (replicate n 1) (replicate n 0) ≡ flags_of delim x
-chosen_flags delim x n long =
+pub chosen_flags : (delim : ℕ) (x : List ℕ) {n : ℕ} → length x ≡ n → sel_l {A = ℕ} (map (top 7) (zip2 (λ a b. cond (eqb a b) 255 0) x (replicate n delim))) (replicate n 1) (replicate n 0) ≡ flags_of delim x
+chosen_flags delim x {n} long =
     ap (λ m. sel_l {A = ℕ} m (replicate n 1) (replicate n 0)) (tops_compared w8 eqb x (replicate n delim) ∙ zip2_splat eqb x n delim long)
     ∙ chosen (λ byte. eqb byte delim) x n 1 0 long
 
@@ -52,9 +52,7 @@ more_few lanes step left some few small =
 -- the lanes in fours, and these summed
 pub sum-fours : (lanes : List ℕ) → length lanes ≡ STEP → sum_l (dots lanes (replicate STEP 1)) ≡ sum_l lanes
 sum-fours lanes long =
-    (sum_dots 16 lanes (replicate STEP 1) long refl).0
-    ∙ ap (λ n. sum_l (products lanes (replicate n 1))) (sym long)
-    ∙ sum_by-ones lanes
+    (sum_dots 16 lanes (replicate STEP 1) long refl).0 ∙ ap (λ n. sum_l (products lanes (replicate n 1))) (sym long) ∙ sum_by-ones lanes
 
 pub fours_fit : (lanes : List ℕ) → length lanes ≡ STEP → Each1 (Fits w8) lanes → Steps (λ s x. Fits w32 (s + x)) (λ s x. s + x) 0 (dots lanes (replicate STEP 1))
 fours_fit lanes long fit =

@@ -13,8 +13,8 @@ but_last_then_last delim n x = first_lines_then_rest delim (line_count delim x -
 pub but_last_lines-few : (delim n : ℕ) (x : List ℕ) → line_count delim x ≤ n → but_last_lines delim n x ≡ []
 but_last_lines-few delim n x few = let none : line_count delim x - n ≡ 0 = omega arith in ap (λ k. first_lines delim k x) none
 
-pub but_last_lines-zero : (delim : ℕ) (x : List ℕ) → but_last_lines delim 0 x ≡ x
-but_last_lines-zero delim x = first_lines-all delim (line_count delim x - 0) x (omega arith)
+pub but_last_lines-zero : (delim : ℕ) {x : List ℕ} → but_last_lines delim 0 x ≡ x
+but_last_lines-zero delim {x} = first_lines-all delim (line_count delim x - 0) (omega arith)
 
 first_lines-some : (delim n : ℕ) (x : List ℕ) → 0 < n → 0 < length x → 0 < length (first_lines delim n x)
 first_lines-some delim zero x one some = absurd (omega arith)
@@ -35,13 +35,12 @@ few_from_nothing delim n x none = few_step delim n (line_count delim x - n) x re
 
 -- complete lines, and what follows
 pub first_lines-whole : (delim : ℕ) (x y : List ℕ) (n : ℕ) → ends_with delim x ≡ true → n ≡ delimiters delim x → first_lines delim n (x ++ y) ≡ x
-first_lines-whole delim x y n ends is =
-    first_lines-full delim n x y (omega arith) ∙ first_lines-all delim n x (omega (arith, line_count-closed delim x ends))
+first_lines-whole delim x y n ends is = first_lines-full delim n x y (omega arith) ∙ first_lines-all delim n (omega (arith, line_count-closed delim x ends))
 
 -- the piece has the last n lines by itself; `front` is the piece without its last delimiter
-pub over_begins : (delim n : ℕ) (held piece front : List ℕ) (at : ℕ) → front ≡ take (length front) piece → line_count delim (held ++ piece) ≡ delimiters delim held + delimiters delim front + 1 → BeginsAt delim n front at
+pub over_begins : {delim n : ℕ} (held piece front : List ℕ) {at : ℕ} → front ≡ take (length front) piece → line_count delim (held ++ piece) ≡ delimiters delim held + delimiters delim front + 1 → BeginsAt delim n front at
     → length held + at ≡ length (but_last_lines delim n (held ++ piece))
-over_begins delim n held piece front at is lines begins =
+over_begins {delim} {n} held piece front {at} is lines begins =
     let some : 0 < length (take at front) = ends_with-some delim (take at front) begins.after in
     let same : take at front ≡ take at piece = ap (take at) is ∙ take-take at (length front) piece begins.within in
     let split : held ++ piece ≡ (held ++ take at front) ++ drop at piece =
@@ -53,24 +52,22 @@ over_begins delim n held piece front at is lines begins =
     sym (
     ap (λ x. length (first_lines delim (line_count delim (held ++ piece) - n) x)) split
     ∙ ap length (first_lines-whole delim (held ++ take at front) (drop at piece) (line_count delim (held ++ piece) - n) ends count)
-    ∙ length-append held (take at front)
-    ∙ ap (λ k. length held + k) (length-take-le at front begins.within)
+    ∙ length-append held (take at front) ∙ ap (λ k. length held + k) (length-take-le at front begins.within)
     )
 
 -- the piece has fewer lines: the lines that go are complete in what is held
-pub over_short : (delim n : ℕ) (held piece : List ℕ) (lines : ℕ) → line_count delim (held ++ piece) ≡ lines → lines - n ≤ delimiters delim held
+pub over_short : (delim n : ℕ) (held piece : List ℕ) {lines : ℕ} → line_count delim (held ++ piece) ≡ lines → lines - n ≤ delimiters delim held
     → length (first_lines delim (lines - n) held) ≡ length (but_last_lines delim n (held ++ piece))
-over_short delim n held piece lines is enough =
+over_short delim n held piece {lines} is enough =
     sym (ap (λ k. length (first_lines delim (k - n) (held ++ piece))) is ∙ ap length (first_lines-full delim (lines - n) held piece enough))
 
 -- what stands after the last delimiters of a text, by the number of lines before it
-pub begins_first : (delim n lines : ℕ) (x : List ℕ) (at : ℕ) → n + lines ≡ delimiters delim x + 1 → BeginsAt delim n x at → at ≡ length (first_lines delim lines x)
-begins_first delim n lines x at is begins =
+pub begins_first : {delim n : ℕ} (lines : ℕ) {x : List ℕ} {at : ℕ} → n + lines ≡ delimiters delim x + 1 → BeginsAt delim n x at → at ≡ length (first_lines delim lines x)
+begins_first {delim} lines {x} {at} is begins =
     let cut = delimiters-take-drop delim at x in
     let after = begins.counted in
     let count : lines ≡ delimiters delim (take at x) = omega arith in
     sym (
     ap (λ y. length (first_lines delim lines y)) (sym (take-append-drop at x))
-    ∙ ap length (first_lines-whole delim (take at x) (drop at x) lines begins.after count)
-    ∙ length-take-le at x begins.within
+    ∙ ap length (first_lines-whole delim (take at x) (drop at x) lines begins.after count) ∙ length-take-le at x begins.within
     )

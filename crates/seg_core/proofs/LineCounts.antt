@@ -46,8 +46,7 @@ pub line_count-closed : (delim : ℕ) (x : List ℕ) → ends_with delim x ≡ t
 line_count-closed delim [] ends = absurd (false≢true ends)
 line_count-closed delim (byte ∷ []) ends = one_line (eqb byte delim) byte ∙ sym (delimiters-one_yes delim byte ends)
 line_count-closed delim (byte ∷ next ∷ x) ends =
-    line_count-cons delim byte (next ∷ x) (omega arith)
-    ∙ ap (λ n. cond (eqb byte delim) (n + 1) n) (line_count-closed delim (next ∷ x) ends)
+    line_count-cons delim byte (next ∷ x) (omega arith) ∙ ap (λ n. cond (eqb byte delim) (n + 1) n) (line_count-closed delim (next ∷ x) ends)
 
 open_step : (is_delim : Bool) (n : ℕ) → cond is_delim (n + 1 + 1) (n + 1) ≡ cond is_delim (n + 1) n + 1
 open_step true n = refl
@@ -56,11 +55,9 @@ open_step false n = refl
 -- a text with an open last line has one line more
 pub line_count-open : (delim : ℕ) (x : List ℕ) → 0 < length x → ends_with delim x ≡ false → line_count delim x ≡ delimiters delim x + 1
 line_count-open delim [] some open_end = absurd (omega arith)
-line_count-open delim (byte ∷ []) some open_end =
-    one_line (eqb byte delim) byte ∙ sym (ap (λ (c : Bool). cond c (0 + 1) 0 + 1) open_end)
+line_count-open delim (byte ∷ []) some open_end = one_line (eqb byte delim) byte ∙ sym (ap (λ (c : Bool). cond c (0 + 1) 0 + 1) open_end)
 line_count-open delim (byte ∷ next ∷ x) some open_end =
-    line_count-cons delim byte (next ∷ x) (omega arith)
-    ∙ ap (λ n. cond (eqb byte delim) (n + 1) n) (line_count-open delim (next ∷ x) (omega arith) open_end)
+    line_count-cons delim byte (next ∷ x) (omega arith) ∙ ap (λ n. cond (eqb byte delim) (n + 1) n) (line_count-open delim (next ∷ x) (omega arith) open_end)
     ∙ open_step (eqb byte delim) (delimiters delim (next ∷ x))
 
 -- how a text ends
@@ -109,8 +106,8 @@ line_count-front delim block x some =
     omega arith
 
 -- without its last delimiter a text has one delimiter less
-pub closed_delimiters : (delim : ℕ) (x : List ℕ) (n : ℕ) → n + 1 ≡ length x → get_or x n 0 ≡ delim → delimiters delim x ≡ delimiters delim (take n x) + (length x - length (take n x))
-closed_delimiters delim x n last is =
+pub closed_delimiters : {delim : ℕ} (x : List ℕ) (n : ℕ) → n + 1 ≡ length x → get_or x n 0 ≡ delim → delimiters delim x ≡ delimiters delim (take n x) + (length x - length (take n x))
+closed_delimiters {delim} x n last is =
     let one = delimiters-one_yes delim (get_or x n 0) (eq-eqb (get_or x n 0) delim is) in
     let more = delimiters_more delim x n (omega arith) in
     let whole : delimiters delim (take (n + 1) x) ≡ delimiters delim x = ap (delimiters delim) (take_all (n + 1) x (omega arith)) in
@@ -118,11 +115,11 @@ closed_delimiters delim x n last is =
     omega arith
 
 -- the lines of a text that goes on, by what stands before its last delimiter
-pub closed_text : (delim : ℕ) (before x : List ℕ) (n : ℕ) → n + 1 ≡ length x → get_or x n 0 ≡ delim → line_count delim (before ++ x) ≡ delimiters delim before + delimiters delim (take n x) + 1
-closed_text delim before x n last is =
+pub closed_text : {delim : ℕ} (before x : List ℕ) (n : ℕ) → n + 1 ≡ length x → get_or x n 0 ≡ delim → line_count delim (before ++ x) ≡ delimiters delim before + delimiters delim (take n x) + 1
+closed_text {delim} before x n last is =
     let ends : ends_with delim (before ++ x) ≡ true =
     ends_with-append delim before x (omega arith) ∙ ends_with-last delim x n last ∙ eq-eqb (get_or x n 0) delim is in
-    let here = closed_delimiters delim x n last is in
+    let here = closed_delimiters x n last is in
     let short = length-take-le n x (omega arith) in
     let both = delimiters-append delim before x in
     line_count-closed delim (before ++ x) ends ∙ omega arith

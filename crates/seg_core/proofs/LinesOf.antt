@@ -5,30 +5,30 @@ use Rattle.std.proofs.lemmas.Bool.{ne_eqb, cases_eq, eqb-true, false≢true, eq-
 use Rattle.std.proofs.lemmas.List.{append-nil}
 use Rattle.seg_core.specs.Line.{ends_with, joined, HasNone, IsComplete, AreLines, IsLines, lines_of}
 
-joined_step : (is_delim : Bool) (byte : ℕ) (lines : List (List ℕ)) → joined (cond is_delim ((byte ∷ []) ∷ lines) (onto_first byte lines)) ≡ byte ∷ joined lines
-joined_step true byte lines = refl
-joined_step false byte [] = refl
-joined_step false byte (line ∷ lines) = refl
+joined_step : (is_delim : Bool) {byte : ℕ} (lines : List (List ℕ)) → joined (cond is_delim ((byte ∷ []) ∷ lines) (onto_first byte lines)) ≡ byte ∷ joined lines
+joined_step true lines = refl
+joined_step false [] = refl
+joined_step false (line ∷ lines) = refl
 
 pub joined-lines_of : (delim : ℕ) (x : List ℕ) → joined (lines_of delim x) ≡ x
 joined-lines_of delim [] = refl
-joined-lines_of delim (byte ∷ x) = joined_step (eqb byte delim) byte (lines_of delim x) ∙ ap (λ z. byte ∷ z) (joined-lines_of delim x)
+joined-lines_of delim (byte ∷ x) = joined_step (eqb byte delim) (lines_of delim x) ∙ ap (λ z. byte ∷ z) (joined-lines_of delim x)
 
 complete_first : (delim : ℕ) (lines : List (List ℕ)) → AreLines delim lines → AreLines delim ((delim ∷ []) ∷ lines)
 complete_first delim [] each = inl ([], refl, tt)
 complete_first delim (line ∷ lines) each = (([], refl, tt), each)
 
-complete_cons : (delim byte : ℕ) (line : List ℕ) → byte ≢ delim → IsComplete delim line → IsComplete delim (byte ∷ line)
-complete_cons delim byte line other (text, whole, none) = (byte ∷ text, ap (λ z. byte ∷ z) whole, (other, none))
+complete_cons : {delim byte : ℕ} (line : List ℕ) → byte ≢ delim → IsComplete delim line → IsComplete delim (byte ∷ line)
+complete_cons {byte} line other (text, whole, none) = (byte ∷ text, ap (λ z. byte ∷ z) whole, (other, none))
 
 other_first : (delim byte : ℕ) (lines : List (List ℕ)) → byte ≢ delim → AreLines delim lines → AreLines delim (onto_first byte lines)
 other_first delim byte [] other each = inr (omega arith, (other, tt))
-other_first delim byte (line ∷ []) other (inl complete) = inl (complete_cons delim byte line other complete)
+other_first delim byte (line ∷ []) other (inl complete) = inl (complete_cons line other complete)
 other_first delim byte (line ∷ []) other (inr (some, none)) = inr (omega arith, (other, none))
-other_first delim byte (line ∷ next ∷ lines) other (complete, each) = (complete_cons delim byte line other complete, each)
+other_first delim byte (line ∷ next ∷ lines) other (complete, each) = (complete_cons line other complete, each)
 
-lines_of-delimiter : (delim byte : ℕ) (x : List ℕ) → byte ≡ delim → lines_of delim (byte ∷ x) ≡ (byte ∷ []) ∷ lines_of delim x
-lines_of-delimiter delim byte x e = ap (λ (c : Bool). cond c ((byte ∷ []) ∷ lines_of delim x) (onto_first byte (lines_of delim x))) (eq-eqb byte delim e)
+lines_of-delimiter : {delim byte : ℕ} (x : List ℕ) → byte ≡ delim → lines_of delim (byte ∷ x) ≡ (byte ∷ []) ∷ lines_of delim x
+lines_of-delimiter {delim} {byte} x e = ap (λ (c : Bool). cond c ((byte ∷ []) ∷ lines_of delim x) (onto_first byte (lines_of delim x))) (eq-eqb byte delim e)
 
 lines_of-other : (delim byte : ℕ) (x : List ℕ) → byte ≢ delim → lines_of delim (byte ∷ x) ≡ onto_first byte (lines_of delim x)
 lines_of-other delim byte x other = ap (λ (c : Bool). cond c ((byte ∷ []) ∷ lines_of delim x) (onto_first byte (lines_of delim x))) (ne_eqb byte delim other)
@@ -36,16 +36,16 @@ lines_of-other delim byte x other = ap (λ (c : Bool). cond c ((byte ∷ []) ∷
 pub AreLines-lines_of : (delim : ℕ) (x : List ℕ) → AreLines delim (lines_of delim x)
 AreLines-lines_of delim [] = tt
 AreLines-lines_of delim (byte ∷ x) = elim (cases_eq byte delim) [
-  | inl e ↦ subst (AreLines delim) (sym (lines_of-delimiter delim byte x e)) (subst (λ b. AreLines delim ((b ∷ []) ∷ lines_of delim x)) (sym e) (complete_first delim (lines_of delim x) (AreLines-lines_of delim x)))
+  | inl e ↦ subst (AreLines delim) (sym (lines_of-delimiter x e)) (subst (λ b. AreLines delim ((b ∷ []) ∷ lines_of delim x)) (sym e) (complete_first delim (lines_of delim x) (AreLines-lines_of delim x)))
   | inr other ↦ subst (AreLines delim) (sym (lines_of-other delim byte x other)) (other_first delim byte (lines_of delim x) other (AreLines-lines_of delim x))
 ]
 
-pub IsLines-lines_of : (delim : ℕ) (x : List ℕ) → IsLines delim x (lines_of delim x)
-IsLines-lines_of delim x = record { whole = joined-lines_of delim x; each = AreLines-lines_of delim x }
+pub IsLines-lines_of : {delim : ℕ} {x : List ℕ} → IsLines delim x (lines_of delim x)
+IsLines-lines_of {delim} {x} = record { whole = joined-lines_of delim x; each = AreLines-lines_of delim x }
 
 -- the text begins with a complete line
 pub lines_of-complete : (delim : ℕ) (text rest : List ℕ) → HasNone delim text → lines_of delim ((text ++ delim ∷ []) ++ rest) ≡ (text ++ delim ∷ []) ∷ lines_of delim rest
-lines_of-complete delim [] rest none = lines_of-delimiter delim delim rest refl
+lines_of-complete delim [] rest none = lines_of-delimiter rest refl
 lines_of-complete delim (byte ∷ text) rest (other, none) =
     lines_of-other delim byte ((text ++ delim ∷ []) ++ rest) other ∙ ap (onto_first byte) (lines_of-complete delim text rest none)
 
@@ -56,32 +56,32 @@ lines_of-open delim (byte ∷ []) some (other, none) = lines_of-other delim byte
 lines_of-open delim (byte ∷ next ∷ line) some (other, none) =
     lines_of-other delim byte (next ∷ line) other ∙ ap (onto_first byte) (lines_of-open delim (next ∷ line) (omega arith) none)
 
-line_first : (delim : ℕ) (line rest : List ℕ) → IsComplete delim line → lines_of delim (line ++ rest) ≡ line ∷ lines_of delim rest
-line_first delim line rest (text, whole, none) =
+line_first : {delim : ℕ} (line rest : List ℕ) → IsComplete delim line → lines_of delim (line ++ rest) ≡ line ∷ lines_of delim rest
+line_first {delim} line rest (text, whole, none) =
     subst (λ l. lines_of delim (l ++ rest) ≡ l ∷ lines_of delim rest) (sym whole) (lines_of-complete delim text rest none)
 
 pub lines_of-joined : (delim : ℕ) (lines : List (List ℕ)) → AreLines delim lines → lines_of delim (joined lines) ≡ lines
 lines_of-joined delim [] each = refl
-lines_of-joined delim (line ∷ []) (inl complete) = line_first delim line [] complete
+lines_of-joined delim (line ∷ []) (inl complete) = line_first line [] complete
 lines_of-joined delim (line ∷ []) (inr (some, none)) = ap (lines_of delim) (append-nil line) ∙ lines_of-open delim line some none
 lines_of-joined delim (line ∷ next ∷ lines) (complete, each) =
-    line_first delim line (joined (next ∷ lines)) complete ∙ ap (λ ls. line ∷ ls) (lines_of-joined delim (next ∷ lines) each)
+    line_first line (joined (next ∷ lines)) complete ∙ ap (λ ls. line ∷ ls) (lines_of-joined delim (next ∷ lines) each)
 
-pub lines_of-only : (delim : ℕ) (x : List ℕ) (lines : List (List ℕ)) → IsLines delim x lines → lines ≡ lines_of delim x
-lines_of-only delim x lines are = sym (lines_of-joined delim lines are.each) ∙ ap (lines_of delim) are.whole
+pub lines_of-only : {delim : ℕ} {x : List ℕ} (lines : List (List ℕ)) → IsLines delim x lines → lines ≡ lines_of delim x
+lines_of-only {delim} lines are = sym (lines_of-joined delim lines are.each) ∙ ap (lines_of delim) are.whole
 
-append_step : (is_delim : Bool) (byte next : ℕ) (rest : List ℕ) (front back : List (List ℕ)) → joined front ≡ next ∷ rest
+append_step : (is_delim : Bool) (byte : ℕ) {next : ℕ} {rest : List ℕ} (front back : List (List ℕ)) → joined front ≡ next ∷ rest
     → cond is_delim ((byte ∷ []) ∷ (front ++ back)) (onto_first byte (front ++ back)) ≡ cond is_delim ((byte ∷ []) ∷ front) (onto_first byte front) ++ back
-append_step true byte next rest front back some = refl
-append_step false byte next rest [] back some = absurd (cc)
-append_step false byte next rest (line ∷ front) back some = refl
+append_step true byte front back some = refl
+append_step false byte [] back some = absurd (cc)
+append_step false byte (line ∷ front) back some = refl
 
 -- a text that ends with a delimiter and goes on: its lines, and those of what follows
 pub lines_of-append : (delim : ℕ) (x y : List ℕ) → ends_with delim x ≡ true → lines_of delim (x ++ y) ≡ lines_of delim x ++ lines_of delim y
 lines_of-append delim [] y ends = absurd (false≢true ends)
 lines_of-append delim (byte ∷ []) y ends =
     let here = eqb-true byte delim ends in
-    lines_of-delimiter delim byte y here ∙ sym (ap (λ ls. ls ++ lines_of delim y) (lines_of-delimiter delim byte [] here))
+    lines_of-delimiter y here ∙ sym (ap (λ ls. ls ++ lines_of delim y) (lines_of-delimiter [] here))
 lines_of-append delim (byte ∷ next ∷ x) y ends =
     ap (λ ls. cond (eqb byte delim) ((byte ∷ []) ∷ ls) (onto_first byte ls)) (lines_of-append delim (next ∷ x) y ends)
-    ∙ append_step (eqb byte delim) byte next x (lines_of delim (next ∷ x)) (lines_of delim y) (joined-lines_of delim (next ∷ x))
+    ∙ append_step (eqb byte delim) byte (lines_of delim (next ∷ x)) (lines_of delim y) (joined-lines_of delim (next ∷ x))

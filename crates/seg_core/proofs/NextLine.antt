@@ -33,8 +33,8 @@ ends-none delim [] none = refl
 ends-none delim (byte ∷ []) (other, none) = ne_eqb byte delim other
 ends-none delim (byte ∷ next ∷ x) (other, none) = ends-none delim (next ∷ x) none
 
-complete_cut : (delim : ℕ) (text rest : List ℕ) → HasNone delim text → IsCutFrom delim ((text ++ delim ∷ []) ++ rest) (text ++ delim ∷ []) rest
-complete_cut delim text rest none =
+complete_cut : {delim : ℕ} (text : List ℕ) {rest : List ℕ} → HasNone delim text → IsCutFrom delim ((text ++ delim ∷ []) ++ rest) (text ++ delim ∷ []) rest
+complete_cut {delim} text {rest} none =
     let counted : delimiters delim ((text ++ delim ∷ []) ++ rest) ≡ delimiters delim rest + 1 =
     omega (arith, delimiters-append delim (text ++ delim ∷ []) rest, delimiters-append delim text (delim ∷ []), delimiters-one_yes delim delim (eq-eqb delim delim refl), delimiters-none delim text none) in
     record {
@@ -44,26 +44,25 @@ complete_cut delim text rest none =
       last = λ no. absurd (false≢true (sym no ∙ ends-complete delim text));
     }
 
-open_cut : (delim : ℕ) (x : List ℕ) → HasNone delim x → IsCutFrom delim x x []
-open_cut delim x none = record {
+open_cut : {delim : ℕ} {x : List ℕ} → HasNone delim x → IsCutFrom delim x x []
+open_cut {delim} {x} none = record {
   first = λ some. lines_of-open delim x some none;
   some = λ some. some;
   count = delimiters-none delim x none ∙ sym (ap (λ (c : Bool). cond c (delimiters delim [] + 1) (delimiters delim [])) (ends-none delim x none));
   last = λ no. refl;
 }
 
-pub cut_after : (delim : ℕ) (x : List ℕ) (k : ℕ) (line rest : List ℕ) → k < length x → Passes (is_byte delim) x k → Nowhere (Passes (is_byte delim) x) 0 k
-    → line ≡ take (k + 1) x → rest ≡ drop (k + 1) x
-    → IsCutFrom delim x line rest
-cut_after delim x k line rest h here none front back =
+pub cut_after : {delim : ℕ} {x : List ℕ} {k : ℕ} (line : List ℕ) {rest : List ℕ} → k < length x → Passes (is_byte delim) x k → Nowhere (Passes (is_byte delim) x) 0 k
+    → line ≡ take (k + 1) x → rest ≡ drop (k + 1) x → IsCutFrom delim x line rest
+cut_after {delim} {x} {k} line {rest} h here none front back =
     let ends : line ≡ take k x ++ delim ∷ [] = front ∙ take_more x k 0 h ∙ ap (λ byte. take k x ++ byte ∷ []) (eqb-true (get_or x k 0) delim here) in
     let whole : (take k x ++ delim ∷ []) ++ rest ≡ x = let all = take-append-drop (k + 1) x in cc in
-    let cut = complete_cut delim (take k x) rest (HasNone-take delim k x (omega arith) none) in
+    let cut = complete_cut (take k x) (HasNone-take delim k x (omega arith) none) in
     subst (λ l. IsCutFrom delim x l rest) (sym ends) (subst (λ z. IsCutFrom delim z (take k x ++ delim ∷ []) rest) whole cut)
 
-pub cut_at_end : (delim : ℕ) (x line rest : List ℕ) → Nowhere (Passes (is_byte delim) x) 0 (length x) → line ≡ take (length x) x → rest ≡ drop (length x) x
+pub cut_at_end : {delim : ℕ} {x : List ℕ} (line : List ℕ) {rest : List ℕ} → Nowhere (Passes (is_byte delim) x) 0 (length x) → line ≡ take (length x) x → rest ≡ drop (length x) x
     → IsCutFrom delim x line rest
-cut_at_end delim x line rest none front back =
+cut_at_end {delim} {x} line {rest} none front back =
     let whole = take_all (length x) x (omega arith) in
-    let cut = open_cut delim x (subst (HasNone delim) whole (HasNone-take delim (length x) x (omega arith) none)) in
+    let cut = open_cut (subst (HasNone delim) whole (HasNone-take delim (length x) x (omega arith) none)) in
     subst (λ l. IsCutFrom delim x l rest) (sym (front ∙ whole)) (subst (IsCutFrom delim x x) (sym (back ∙ drop_all (length x) x (omega arith))) cut)

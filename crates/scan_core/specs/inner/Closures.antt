@@ -4,6 +4,7 @@ use Rattle.std.specs.Int.{bit_at}
 use Rattle.scan_core.specs.declared.closures.Closures.{Closures}
 use Rattle.scan_core.specs.declared.node.Node.{Node}
 use Rattle.scan_core.specs.declared.hops.Hop.{Hop}
+use Rattle.scan_core.specs.inner.Each.{AreEach}
 use Rattle.scan_core.specs.inner.Hops.{AreHops, HopsTo}
 use Rattle.scan_core.specs.inner.Sets.{Flows, FlowsOn}
 use Rattle.scan_core.specs.inner.Words.{width}
@@ -45,26 +46,12 @@ pub record AreNexts (code : List Node) (at nexts : ℕ) : Type 0 where
 abbrev pub chosen_at : ℕ → ℕ
 chosen_at place = place % 256 * 2 ^ (place / 256 % 8 * 8) % 2 ^ 64
 
--- the first entries of the table
-pub record AreInside (code : List Node) (count : ℕ) (inside : List ℕ) : Type 0 where
-  pub size : length inside ≡ count
-  pub each : (place : ℕ) → place < count → Closes code (place / 2048) (chosen_at place) (slice_index_or inside place 0)
-
-pub record AreAllNexts (code : List Node) (nexts : List (Option ℕ)) : Type 0 where
-  pub size : length nexts ≡ width code
-  pub each : (at : ℕ) → at < width code → IfSome (slice_index_or nexts at None) (AreNexts code at)
-
-pub record AreLeaves (code : List Node) (hops : List Hop) (leaves : List ℕ) : Type 0 where
-  pub size : length leaves ≡ width code
-  pub each : (at : ℕ) → at < width code → IsLeaving code hops at (slice_index_or leaves at 0)
-
-pub record AreAllPeers (code : List Node) (peers : List ℕ) : Type 0 where
-  pub size : length peers ≡ width code * 64
-  pub each : (number : ℕ) → number < width code * 64 → ArePeers code number (slice_index_or peers number 0)
+abbrev pub IsInside : List Node → ℕ → ℕ → Type 0
+IsInside code place entry = Closes code (place / 2048) (chosen_at place) entry
 
 pub record AreClosures (code : List Node) (closures : Closures) : Type 0 where
-  pub inside : AreInside code (width code * 2048) closures.inside.items
-  pub nexts : AreAllNexts code closures.nexts.items
-  pub hops : AreHops code (width code * 3) closures.hops.items
-  pub leaves : AreLeaves code closures.hops.items closures.leaves.items
-  pub peers : AreAllPeers code closures.peers.items
+  pub inside : AreEach 0 (IsInside code) (width code * 2048) closures.inside.items
+  pub nexts : AreEach None (λ at nexts. IfSome nexts (AreNexts code at)) (width code) closures.nexts.items
+  pub hops : AreHops code closures.hops.items
+  pub leaves : AreEach 0 (IsLeaving code closures.hops.items) (width code) closures.leaves.items
+  pub peers : AreEach 0 (ArePeers code) (width code * 64) closures.peers.items

@@ -3,7 +3,9 @@ use Rattle.std.specs.Prelude.{◌≡◌, ℕ, ◌+◌, ◌*◌, ◌/◌, ◌%◌
 use Rattle.std.specs.Int.{bit_at}
 use Rattle.scan_core.specs.declared.hops.Hop.{Hop}
 use Rattle.scan_core.specs.declared.node.Node.{Node}
+use Rattle.scan_core.specs.inner.Each.{AreEach}
 use Rattle.scan_core.specs.inner.Sets.{Flows}
+use Rattle.scan_core.specs.inner.Words.{width}
 
 abbrev pub no_hop : Hop
 no_hop = record { from = 0; to = 0; word = 0; bit = 0 }
@@ -15,10 +17,9 @@ pub record IsHop (code : List Node) (at : ℕ) (hop : Hop) : Type 0 where
   pub bit : hop.bit ≡ 1 * 2 ^ (hop.to % 64) % 2 ^ 64
   pub leads : (bit : ℕ) → bit < 64 → bit_at hop.from bit ≡ 1 → Flows code false false (at * 64 + bit) hop.to
 
--- the first hops, three for each word
-pub record AreHops (code : List Node) (count : ℕ) (hops : List Hop) : Type 0 where
-  pub size : length hops ≡ count
-  pub each : (place : ℕ) → place < count → IsHop code (place / 3) (slice_index_or hops place no_hop)
+-- three for each word
+abbrev pub AreHops : List Node → List Hop → Type 0
+AreHops code hops = AreEach no_hop (λ place. IsHop code (place / 3)) (width code * 3) hops
 
 -- one of a word's hops leads from one of its numbers to another number
 abbrev pub HopsTo : List Hop → ℕ → ℕ → ℕ → Type 0

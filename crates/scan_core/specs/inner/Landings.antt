@@ -3,8 +3,9 @@ use Rattle.std.specs.Prelude.{◌≡◌, ◌⊎◌, ℕ, ◌+◌, ◌*◌, ◌/�
 use Rattle.std.specs.Int.{bit_at}
 use Rattle.scan_core.specs.declared.landing.Landing.{Landing}
 use Rattle.scan_core.specs.declared.node.Node.{Node}
+use Rattle.scan_core.specs.inner.Each.{AreEach}
 use Rattle.scan_core.specs.inner.Sets.{Flows, FlowsOn}
-use Rattle.scan_core.specs.inner.Words.{IsIn, width}
+use Rattle.scan_core.specs.inner.Words.{Adds, IsIn, width}
 
 abbrev pub no_landing : Landing
 no_landing = record { at = 0; from = 0; to = 0 }
@@ -22,8 +23,7 @@ pub record IsLanding (code : List Node) (landing : Landing) : Type 0 where
   pub ends : Ends code landing.to
 
 abbrev pub AreLandings : List Node → List Landing → Type 0
-AreLandings code landings = (place : ℕ) → place < length landings
-    → IsLanding code (slice_index_or landings place no_landing)
+AreLandings code landings = AreEach no_landing (λ _. IsLanding code) (length landings) landings
 
 -- one of the landings leads from a number of a word to another number
 abbrev pub LandsOn : List Landing → ℕ → ℕ → ℕ → Type 0
@@ -42,22 +42,14 @@ IsOther code base landings at word = (bit : ℕ) (at_first at_last : Bool) (to :
     → Flows code at_first at_last (at * 64 + bit) to
     → (bit_at word bit ≡ 1) ⊎ (Flows code false false (at * 64 + bit) to × Lands base landings at bit to)
 
-pub record AreOthers (code : List Node) (base : List ℕ) (landings : List Landing) (others : List ℕ) : Type 0 where
-  pub size : length others ≡ width code
-  pub each : (at : ℕ) → at < width code → IsOther code base landings at (slice_index_or others at 0)
-
 -- what the landings lead to was entered
 pub record HasLanded (code : List Node) (landings : List Landing) (old new : List ℕ) : Type 0 where
-  pub size : length new ≡ length old
-  pub kept : (number : ℕ) → IsIn old number → IsIn new number
-  pub from : (number : ℕ) → IsIn new number → IsIn old number
-      ⊎ (Ends code number × ((start : ℕ) × IsIn old start × Flows code false false start number))
+  pub adds : Adds code false false old new
+  pub over : (number : ℕ) → IsIn new number → IsIn old number ⊎ Ends code number
   pub led : (at bit to : ℕ) → bit < 64 → IsIn old (at * 64 + bit) → LandsOn landings at bit to → IsIn new to
 
 -- each word was closed; if no bit is left over, only what the landings lead to is missing
 pub record ClosesWords (code : List Node) (landings : List Landing) (old new : List ℕ) (over : ℕ) : Type 0 where
-  pub size : length new ≡ length old
-  pub kept : (number : ℕ) → IsIn old number → IsIn new number
-  pub from : (number : ℕ) → IsIn new number → (start : ℕ) × IsIn old start × FlowsOn code false false start number
+  pub adds : Adds code false false old new
   pub done : over ≡ 0 → (start to : ℕ) (at_first at_last : Bool) → IsIn new start → Flows code at_first at_last start to
       → IsIn new to ⊎ LandsOn landings (start / 64) (start % 64) to

@@ -6,6 +6,7 @@ use Rattle.scan_core.specs.declared.table.State.{State}
 use Rattle.scan_core.specs.declared.table.Table.{Table}
 use Rattle.scan_core.specs.Code.{weight}
 use Rattle.scan_core.specs.Counted.{HasStepsBefore}
+use Rattle.scan_core.specs.inner.Each.{AreEach}
 use Rattle.scan_core.specs.inner.Table.{entry, no_state, IsTable, IsTableOf, Walked}
 
 -- no entry is unknown
@@ -24,10 +25,6 @@ six_bits word state = word / 2 ^ (6 * state) % 64
 abbrev pub IsWord : List ℕ → ℕ → ℕ → ℕ → Type 0
 IsWord rows count byte word = (state : ℕ) → state ≤ count → IsOffset rows count state byte (six_bits word state)
 
-pub record AreWords (rows : List ℕ) (count : ℕ) (words : List ℕ) : Type 0 where
-  pub all : length words ≡ 256
-  pub each : (byte : ℕ) → byte < 256 → IsWord rows count byte (slice_index_or words byte 0)
-
 -- no state has more positions than the largest pattern
 abbrev pub AreLight : List State → Type 0
 AreLight states = (state : ℕ) → state < length states → (slice_index_or states state no_state).positions ≤ 65537
@@ -37,10 +34,6 @@ pub record IsWeight (states : List State) (offset weight : ℕ) : Type 0 where
   pub exact : (state : ℕ) → state < length states → offset ≡ 6 * state
       → weight ≡ (slice_index_or states state no_state).positions
   pub stop : offset ≡ 6 * length states → weight ≡ 0
-
-pub record AreWeights (states : List State) (weights : List ℕ) : Type 0 where
-  pub all : length weights ≡ 256
-  pub each : (low : ℕ) → low < 256 → IsWeight states (low % 64) (slice_index_or weights low 0)
 
 -- what reads need
 pub record IsSized (shifts : ShiftTable) : Type 0 where
@@ -52,8 +45,8 @@ pub record IsSized (shifts : ShiftTable) : Type 0 where
 pub record IsShifted (table : Table) (shifts : ShiftTable) : Type 0 where
   pub few : length table.states.items ≤ 9
   pub complete : IsComplete table.rows.items
-  pub words : AreWords table.rows.items (length table.states.items) shifts.words.items
-  pub weights : AreWeights table.states.items shifts.weights.items
+  pub words : AreEach 0 (IsWord table.rows.items (length table.states.items)) 256 shifts.words.items
+  pub weights : AreEach 0 (λ low. IsWeight table.states.items (low % 64)) 256 shifts.weights.items
   pub states : shifts.states.items ≡ table.states.items
   pub stop : shifts.stop ≡ 6 * length table.states.items
 

@@ -62,11 +62,15 @@ pub record IsTableOf (code : List Node) (sets : List (List Bool)) (table : Table
 abbrev pub IsTable : List Node → Table → Type 0
 IsTable code table = (sets : List (List Bool)) × IsTableOf code sets table
 
+-- no match ended before a place, and the positions of the places before it were counted
+pub record IsCounted (code : List Node) (line : List ℕ) (place steps : ℕ) : Type 0 where
+  pub none : (before : ℕ) → before < place → Entered code line (length code) before → ⊥
+  pub counted : AreSteps code line place steps
+  pub bound : steps ≤ place * (weight code + 1)
+
 -- the line was read up to a place with the table
 pub record Walked (code : List Node) (sets : List (List Bool)) (line : List ℕ) (place state steps : ℕ) : Type 0 where
   pub within : place ≤ length line
   pub known : state < length sets
   pub exact : (number : ℕ) → InSets sets state number ↔ Inner code line place number
-  pub none : (before : ℕ) → before < place → Entered code line (length code) before → ⊥
-  pub counted : AreSteps code line place steps
-  pub bound : steps ≤ place * (weight code + 1)
+  pub so_far : IsCounted code line place steps

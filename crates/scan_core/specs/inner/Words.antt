@@ -29,14 +29,24 @@ abbrev pub unset : List ℕ → ℕ
 unset [] = 0
 unset (word ∷ words) = (2 ^ 64 - word) + unset words
 
--- numbers were added; none below the word to go on with, which is an earlier one only where some were
-pub record Grows (Added : ℕ → Type 0) (old new : List ℕ) (before on : ℕ) : Type 0 where
-  pub size : length new ≡ length old
-  pub exact : (number : ℕ) → IsIn new number ↔ (IsIn old number ⊎ Added number)
+-- no number was added below the word to go on with, which is an earlier one only where some were
+pub record GoesOn (old new : List ℕ) (before on : ℕ) : Type 0 where
   pub low : on ≤ before
   pub under : (number : ℕ) → number < 64 * on → IsIn new number → IsIn old number
   pub fuller : unset new ≤ unset old
   pub less : on < before → unset new < unset old
+
+-- numbers were added
+pub record Grows (Added : ℕ → Type 0) (old new : List ℕ) (before on : ℕ) : Type 0 where
+  pub size : length new ≡ length old
+  pub exact : (number : ℕ) → IsIn new number ↔ (IsIn old number ⊎ Added number)
+  pub goes : GoesOn old new before on
+
+-- numbers were added that the old ones lead to without a byte
+pub record Adds (code : List Node) (at_first at_last : Bool) (old new : List ℕ) : Type 0 where
+  pub size : length new ≡ length old
+  pub kept : (number : ℕ) → IsIn old number → IsIn new number
+  pub from : (number : ℕ) → IsIn new number → (start : ℕ) × IsIn old start × FlowsOn code at_first at_last start number
 
 -- a number's positions: none beyond the end
 abbrev pub counted_at : List Node → ℕ → ℕ
@@ -69,9 +79,7 @@ pub record AddsMask (code : List Node) (kind : Kind) (old new : List ℕ) : Type
 -- what the nodes of a word lead to was entered, if the word to go on with is the next; in earlier words none was, up to
 -- that
 pub record Visits (code : List Node) (at_first at_last : Bool) (at : ℕ) (old new : List ℕ) (on : ℕ) : Type 0 where
-  pub size : length new ≡ length old
-  pub kept : (number : ℕ) → IsIn old number → IsIn new number
-  pub from : (number : ℕ) → IsIn new number → (start : ℕ) × IsIn old start × FlowsOn code at_first at_last start number
+  pub adds : Adds code at_first at_last old new
   pub low : on ≤ at + 1
   pub under : (number : ℕ) → number < 64 * on → number < 64 * at → IsIn new number → IsIn old number
   pub fuller : unset new ≤ unset old

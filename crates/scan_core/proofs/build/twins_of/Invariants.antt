@@ -1,9 +1,6 @@
-use Rattle.std.proofs.Common.{◌≡◌, ◌<◌, ℕ, length, slice_index_or}
+use Rattle.scan_core.specs.inner.Each.{AreEach}
 use Rattle.scan_core.specs.inner.Built.{AreAlike}
 use Rattle.scan_core.proofs.build.twins_of.Given as goal
 
 abbrev pub invariant-loop-byte : goal.invariant-loop-byte
-invariant-loop-byte l = record {
-  all : length l.twins.items ≡ l.byte;
-  alike : (at : ℕ) → at < l.byte → AreAlike l.nodes at (slice_index_or l.twins.items at 0);
-}
+invariant-loop-byte l = AreEach 0 (AreAlike l.nodes) l.byte l.twins.items

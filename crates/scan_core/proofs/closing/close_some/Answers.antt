@@ -11,7 +11,7 @@ pub returns-then-word-index-eq0 : goal.returns-then-word-index-eq0
 returns-then-word-index-eq0 c =
     let leads = c.args.base.now.leads.items in
     let e = c.index.ensures ∙ get_or_default leads c.args.at _ 0 (let s = c.requires.base.leads.size in omega (arith, s, c.requires.within)) in
-    close_none c.args.nodes.now c.args.base.now c.args.at_first c.args.at_last c.args.at c.args.words.now c.requires.base c.requires.begun c.requires.within (ap (bit_and (get_or c.args.words.now c.args.at 0)) (sym e) ∙ c.if-word-index-eq0.true)
+    close_none c.requires.base c.requires.begun c.requires.within (ap (bit_and (get_or c.args.words.now c.args.at 0)) (sym e) ∙ c.if-word-index-eq0.true)
 
 pub returns : goal.returns
 returns c =
@@ -21,12 +21,11 @@ returns c =
     let all : ℕ = bit_or (get_or before at 0) c.looked_up.result in
     let now : List ℕ = set before at all in
     let inside : at < length before = omega (arith, c.requires.size, c.requires.within) in
-    let closed = close_word c.args.nodes.now at _ c.looked_up.result before _ inside refl c.looked_up.ensures refl in
+    let closed = close_word c.looked_up.result inside refl c.looked_up.ensures refl in
     let sets = c.requires.closures in
     let hopped = subst (λ hops. Grows (Hopped hops at all 3) now c.hop.new.words (at + 1) c.hop.result) c.deref-2.ensures.value c.hop.ensures in
     let same : all ≡ get_or now at 0 = sym (get_or-set_same before at all 0 inside) in
     let e = c.index-2.ensures ∙ get_or_default leaves at _ 0 (let s = sets.leaves.size in omega (arith, s, c.requires.within)) in
     let none : bit_and (get_or now at 0) (get_or leaves at 0) ≡ 0 = ap (λ w. bit_and w (get_or leaves at 0)) (sym same) ∙ ap (bit_and all) (sym e) ∙ c.if-all-index-ne0.false in
-    close_ends c.args.nodes.now c.args.closures.now.hops.items c.args.at_first c.args.at_last at (bit_and (get_or now at 0) (get_or leaves at 0)) (get_or leaves at 0) before now now c.hop.new.words (at + 1) c.hop.result closed
-    (visit_starts c.args.nodes.now c.args.at_first c.args.at_last at (bit_and (get_or now at 0) (get_or leaves at 0)) now) none (sets.leaves.each at c.requires.within) sets.hops c.requires.within
+    close_ends (get_or leaves at 0) closed (visit_starts) none (sets.leaves.each at c.requires.within) sets.hops c.requires.within
     (subst (λ word. Grows (Hopped c.args.closures.now.hops.items at word 3) now c.hop.new.words (at + 1) c.hop.result) same hopped)

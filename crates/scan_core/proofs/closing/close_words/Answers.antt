@@ -2,12 +2,9 @@ use Rattle.std.proofs.Common.{◌+◌, ◌<◌, get_or, refl, sym, ap, ◌∙◌
 use Rattle.std.proofs.lemmas.List.{get_or_default}
 use Rattle.std.specs.Prelude.{bit_and, bit_or}
 use Rattle.scan_core.specs.inner.Words.{width}
-use Rattle.scan_core.proofs.Apart.{Apart, apart_starts, apart_skip, apart_more, apart_ends}
+use Rattle.scan_core.proofs.Apart.{Apart, apart_skip, apart_more, apart_ends}
 use Rattle.scan_core.proofs.closing.close_words.Goals as goal
 use Rattle.scan_core.proofs.closing.close_words.Goals.{then-word-index-ne0, else-word-index-ne0}
-
-pub loop-at-init : goal.loop-at-init
-loop-at-init c = apart_starts c.args.nodes.now c.args.base.now.landings.items c.args.words.now
 
 pub loop-at-preserved : goal.loop-at-preserved
 loop-at-preserved c =
@@ -22,13 +19,13 @@ loop-at-preserved c =
       | then-word-index-ne0 w ↦
           let others = w.index-then-word-index-ne0.ensures ∙ get_or_default base.others.items at _ 0 (let s = c.requires.base.others.size in omega (arith, s, inside)) in
           subst (λ words. Apart nodes base.landings.items before words (at + 1) c.if-word-index-ne0.over) (sym w.words-is)
-          (apart_more nodes base before now _ at c.loop-at.over c.if-word-index-ne0.over w.closed.result c.loop-at.invariant c.requires.base c.requires.begun inside c.requires.size w.closed.ensures refl
+          (apart_more c.loop-at.over w.closed.result c.loop-at.invariant c.requires.base c.requires.begun inside c.requires.size w.closed.ensures refl
           (w.over-is ∙ ap (λ word. bit_or c.loop-at.over (bit_and (bit_or (get_or now at 0) w.closed.result) word)) others))
       | else-word-index-ne0 w ↦
           subst (λ words. Apart nodes base.landings.items before words (at + 1) c.if-word-index-ne0.over) (sym w.words-is)
           (subst (λ over. Apart nodes base.landings.items before now (at + 1) over) (sym w.over-is)
-          (apart_skip nodes base before now at c.loop-at.over c.loop-at.invariant c.requires.base c.requires.begun inside (ap (bit_and (get_or now at 0)) (sym leads) ∙ w.if-word-index-ne0.false)))
+          (apart_skip c.loop-at.over c.loop-at.invariant c.requires.base c.requires.begun inside (ap (bit_and (get_or now at 0)) (sym leads) ∙ w.if-word-index-ne0.false)))
     ]
 
 pub returns : goal.returns
-returns c = apart_ends c.args.nodes.now c.args.base.now.landings.items c.args.words.now c.loop-at.words c.loop-at.at c.loop-at.over c.loop-at.invariant (omega arith)
+returns c = apart_ends c.loop-at.over c.loop-at.invariant (omega arith)

@@ -6,11 +6,11 @@ pub returns-then-word-hop-ne0 : goal.returns-then-word-hop-ne0
 returns-then-word-hop-ne0 c =
     let hop = c.args.hop.now in
     let f : get_or c.args.words.now hop.word 0 < 2 ^ 64 = search rules in
-    follow_old c.args.words.now hop.to hop.word hop.bit c.args.on c.requires.word c.requires.bit f c.if-word-hop-ne0.true
+    follow_old hop.to c.requires.word c.requires.bit f c.if-word-hop-ne0.true
 
 pub returns : goal.returns
 returns c =
     let hop = c.args.hop.now in
     let m : c.min.result ≡ min c.args.on hop.word = search rules in
     let f : get_or c.args.words.now hop.word 0 < 2 ^ 64 = search rules in
-    follow_new c.args.words.now _ hop.to hop.word hop.bit c.args.on c.min.result c.requires.room c.requires.word c.requires.bit f c.if-word-hop-ne0.false refl m
+    follow_new hop.to c.requires.room c.requires.word c.requires.bit f c.if-word-hop-ne0.false refl m

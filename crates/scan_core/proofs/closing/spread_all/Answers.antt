@@ -3,10 +3,10 @@ use Rattle.scan_core.proofs.Visitings.{spreading_more, spreading_ends, visits_sm
 use Rattle.scan_core.proofs.closing.spread_all.Goals as goal
 
 pub words-smaller : goal.words-smaller
-words-smaller c = visits_smaller c.args.nodes.now c.args.at_first c.args.at_last c.words.at c.words.words _ _ c.close-at.ensures (omega arith)
+words-smaller c = visits_smaller c.close-at.ensures (omega arith)
 
 pub words-preserved : goal.words-preserved
-words-preserved c = spreading_more c.args.nodes.now c.args.at_first c.args.at_last c.args.words.now c.words.words c.close-at.new.words c.words.at c.close-at.result c.words.invariant c.close-at.ensures
+words-preserved c = spreading_more c.words.invariant c.close-at.ensures
 
 pub returns : goal.returns
-returns c = spreading_ends c.args.nodes.now c.args.at_first c.args.at_last c.args.words.now c.words.words c.words.at c.words.invariant (omega arith)
+returns c = spreading_ends c.words.invariant (omega arith)

@@ -9,4 +9,4 @@ returns-then-over-eq0 c =
     (subst (λ landings. HasLanded c.args.nodes.now landings c.close_words-over.new.words c.land.new.words) c.deref.ensures.value c.land.ensures)
 
 pub returns : goal.returns
-returns c = spread_after c.args.nodes.now c.args.base.now.landings.items c.args.at_first c.args.at_last c.args.words.now c.close_words-over.new.words c.spread_words.new.words c.close_words-over.result c.close_words-over.ensures c.spread_words.ensures
+returns c = spread_after c.close_words-over.result c.close_words-over.ensures c.spread_words.ensures

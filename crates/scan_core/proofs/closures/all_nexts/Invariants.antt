@@ -1,9 +1,7 @@
-use Rattle.std.proofs.Common.{◌≡◌, ◌<◌, ℕ, None, IfSome, length, get_or}
+use Rattle.std.proofs.Common.{IfSome, None}
 use Rattle.scan_core.specs.inner.Closures.{AreNexts}
+use Rattle.scan_core.specs.inner.Each.{AreEach}
 use Rattle.scan_core.proofs.closures.all_nexts.Given as goal
 
 abbrev pub invariant-loop-at : goal.invariant-loop-at
-invariant-loop-at l = record {
-  size : length l.nexts.items ≡ l.at;
-  each : (at : ℕ) → at < l.at → IfSome (get_or l.nexts.items at None) (AreNexts l.nodes at);
-}
+invariant-loop-at l = AreEach None (λ at nexts. IfSome nexts (AreNexts l.nodes at)) l.at l.nexts.items

@@ -1,8 +1,5 @@
-use Rattle.scan_core.proofs.Insides.{bit_is, no_bit_is}
+use Rattle.scan_core.proofs.Insides.{bit_is}
 use Rattle.scan_core.proofs.closures.bit_in.Goals as goal
 
 pub returns-then-number-at : goal.returns-then-number-at
-returns-then-number-at c = λ bit h. bit_is c.args.at c.args.number bit c.if-number-at.true h
-
-pub returns-else-number-at : goal.returns-else-number-at
-returns-else-number-at c = λ bit h. no_bit_is c.args.at c.args.number bit c.if-number-at.false h
+returns-then-number-at c = λ bit h. bit_is c.args.number bit c.if-number-at.true h

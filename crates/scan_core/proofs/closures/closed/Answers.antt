@@ -8,4 +8,4 @@ pub returns-in-Some : goal.returns-in-Some
 returns-in-Some c =
     let nexts = c.requires.closures.nexts in
     let e = c.index.ensures ∙ get_or_default c.args.closures.now.nexts.items c.args.at _ None (let s = nexts.size in omega (arith, s, c.requires.at)) in
-    close_nexts c.args.nodes.now c.args.at c.args.word c.in-Some.nexts (subst (λ found. IfSome found (AreNexts c.args.nodes.now c.args.at)) (sym e ∙ c.in-Some.is) (nexts.each c.args.at c.requires.at))
+    close_nexts (subst (λ found. IfSome found (AreNexts c.args.nodes.now c.args.at)) (sym e ∙ c.in-Some.is) (nexts.each c.args.at c.requires.at))

@@ -3,4 +3,4 @@ use Rattle.scan_core.proofs.Insides.{entry_of_halves}
 use Rattle.scan_core.proofs.closures.inside_at.Goals as goal
 
 pub returns : goal.returns
-returns c = entry_of_halves c.args.nodes.now c.args.inside.now c.args.place c.requires.inside (omega (arith, c.if-low-eq0.false)) (omega (arith, c.if-high-eq0.false))
+returns c = entry_of_halves c.requires.inside (omega (arith, c.if-low-eq0.false)) (omega (arith, c.if-high-eq0.false))

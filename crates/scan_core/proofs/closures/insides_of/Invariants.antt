@@ -1,5 +1,6 @@
-use Rattle.scan_core.specs.inner.Closures.{AreInside}
+use Rattle.scan_core.specs.inner.Closures.{IsInside}
+use Rattle.scan_core.specs.inner.Each.{AreEach}
 use Rattle.scan_core.proofs.closures.insides_of.Given as goal
 
 abbrev pub invariant-loop-place : goal.invariant-loop-place
-invariant-loop-place l = AreInside l.nodes l.place l.inside.items
+invariant-loop-place l = AreEach 0 (IsInside l.nodes) l.place l.inside.items

@@ -1,11 +1,10 @@
-use Rattle.std.proofs.Common.{◌+◌, sym, ◌∙◌, subst}
-use Rattle.std.proofs.lemmas.Bool.{false≢true}
-use Rattle.scan_core.proofs.Insides.{Peering, peer_more, peer_skip}
+use Rattle.std.proofs.Common.{◌%◌, ◌<◌, ℕ, refl, arith}
+use Rattle.scan_core.proofs.Bits.{bits_more, flag_one}
 use Rattle.scan_core.proofs.closures.peers_of.Goals as goal
-use Rattle.scan_core.proofs.closures.peers_of.Goals.{then-is_peer, else-is_peer}
 
 pub loop-bit-preserved : goal.loop-bit-preserved
-loop-bit-preserved c = elim c.if-is_peer.branch [
-  | then-is_peer w ↦ subst (Peering c.args.nodes.now c.args.number (c.loop-bit.bit + 1)) (sym w.word-is) (peer_more c.args.nodes.now c.args.number c.loop-bit.bit c.loop-bit.word c.loop-bit.invariant c.loop-bit-test.true (c.is_peer.ensures.yes w.if-is_peer.true))
-  | else-is_peer w ↦ subst (Peering c.args.nodes.now c.args.number (c.loop-bit.bit + 1)) (sym w.word-is) (peer_skip c.args.nodes.now c.args.number c.loop-bit.bit c.loop-bit.word c.loop-bit.invariant (λ e. false≢true (sym w.if-is_peer.false ∙ c.is_peer.ensures.own e)) c.loop-bit-test.true)
-]
+loop-bit-preserved c = bits_more _ c.loop-bit.invariant c.loop-bit-test.true (λ e. (flag_one _).1 (c.is_peer.ensures.own (omega (arith, e))), λ e. c.is_peer.ensures.yes ((flag_one _).0 e))
+
+pub returns : goal.returns
+returns c = let past = λ (bit : ℕ) (h : bit < 64). c.loop-bit.invariant.past bit (omega (arith, h, c.loop-bit-test.false)) in
+    record { own = (past (c.args.number % 64) (omega arith)).0 refl; others = λ bit at_first at_last to h is f. (past bit h).1 is at_first at_last to f }

@@ -1,26 +1,13 @@
-use Rattle.std.proofs.Common.{rules, ◌+◌, ◌*◌, arith}
-use Rattle.scan_core.proofs.Enterings.{node_here, target_in, at_least, flows_of}
-use Rattle.scan_core.proofs.Insides.{choose_stays, back_stays}
+use Rattle.std.proofs.Common.{◌≡◌, ◌⊎◌, ◌/◌}
+use Rattle.scan_core.specs.inner.Hops.{HopsTo}
+use Rattle.scan_core.proofs.Insides.{stays_or_hops}
+use Rattle.scan_core.proofs.Ways.{led_anywhere, led_by, led_never}
 use Rattle.scan_core.proofs.closures.stays.Goals as goal
 
-pub returns-then-number-nodes : goal.returns-then-number-nodes
-returns-then-number-nodes c = λ t at_first at_last to f. let l = at_least c.args.nodes.now (c.args.at * 64 + c.args.bit) f.0 f.1 in absurd (omega (arith, l, c.if-number-nodes.true))
-
-pub overflow_add-number-in-Choose-2 : goal.overflow_add-number-in-Choose-2
-overflow_add-number-in-Choose-2 c =
-    let t = target_in c.args.nodes.now (c.args.at * 64 + c.args.bit) c.in-Choose.skip c.requires.code (node_here c.args.nodes.now (c.args.at * 64 + c.args.bit) _ _ c.if-number-nodes.false c.in-Choose.is c.index-nodes-number.is) in
-    search (rules, t)
-
-pub overflow_sub-number : goal.overflow_sub-number
-overflow_sub-number c = c.requires.code.begins (c.args.at * 64 + c.args.bit) c.in-Back.by (node_here c.args.nodes.now (c.args.at * 64 + c.args.bit) _ _ c.if-number-nodes.false c.in-Back.is c.index-nodes-number.is)
-
-pub returns-in-Take : goal.returns-in-Take
-returns-in-Take c = λ t at_first at_last to f. absurd (flows_of c.args.nodes.now (c.args.at * 64 + c.args.bit) _ at_first at_last to (node_here c.args.nodes.now (c.args.at * 64 + c.args.bit) _ _ c.if-number-nodes.false c.in-Take.is c.index-nodes-number.is) f)
+pub returns-in-Never : goal.returns-in-Never
+returns-in-Never c = λ t at_first at_last to f. absurd (led_never c.way_of-way.ensures c.in-Never.is f)
 
 pub returns-else-not-is_met : goal.returns-else-not-is_met
-returns-else-not-is_met c = λ t at_first at_last to f.
-    choose_stays c.args.nodes.now c.args.hops.now c.args.at c.args.bit c.in-Choose.skip at_first at_last to (node_here c.args.nodes.now (c.args.at * 64 + c.args.bit) _ _ c.if-number-nodes.false c.in-Choose.is c.index-nodes-number.is) c.requires.bit (c.is_met.ensures c.if-not-is_met.false) (c.is_met-in-Choose.ensures t) f
-
-pub returns-in-Back : goal.returns-in-Back
-returns-in-Back c = λ t at_first at_last to f.
-    back_stays c.args.nodes.now c.args.hops.now c.args.at c.args.bit c.in-Back.by at_first at_last to (node_here c.args.nodes.now (c.args.at * 64 + c.args.bit) _ _ c.if-number-nodes.false c.in-Back.is c.index-nodes-number.is) c.requires.bit (c.is_met-in-Back.ensures t) f
+returns-else-not-is_met c = λ t at_first at_last to f. let w = c.way_of-way.ensures in
+    let met = led_by (λ to. (to / 64 ≡ c.args.at) ⊎ HopsTo c.args.hops.now c.args.at c.args.bit to) w (c.is_met.ensures c.if-not-is_met.false) (c.is_met-in-Always.ensures t) f in
+    stays_or_hops _ _ _ _ _ c.requires.bit (led_anywhere w c.in-Always.is f) met

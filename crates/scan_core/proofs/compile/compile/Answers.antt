@@ -18,7 +18,7 @@ loop-place-init c = record {
 
 pub take-requires-clause-order : goal.take-requires-clause-order
 take-requires-clause-order c =
-    bounded_at c.tokens-tokens.result.now (c.loop-place.place - 1) c.index-tokens-place.result c.tokens-tokens.ensures.order (omega (arith, c.loop-place.auto, c.loop-place-test.true)) c.index-tokens-place.is
+    bounded_at c.tokens-tokens.result.now (c.loop-place.place - 1) c.tokens-tokens.ensures.order (omega (arith, c.loop-place.auto, c.loop-place-test.true)) c.index-tokens-place.is
 
 pub loop-place-preserved : goal.loop-place-preserved
 loop-place-preserved c = let w = c.loop-place.invariant.way in record {
@@ -27,7 +27,7 @@ loop-place-preserved c = let w = c.loop-place.invariant.way in record {
   way = (
     w.0,
     w.1,
-    way_more c.tokens-tokens.result.now c.loop-place.place (c.loop-place.place - 1) c.index-tokens-place.result w.0 c.loop-place.compiling c.take.new.self (omega (arith, c.loop-place-test.true))
+    way_more c.tokens-tokens.result.now (c.loop-place.place - 1) w.0 c.loop-place.compiling c.take.new.self (omega (arith, c.loop-place-test.true))
         (omega (arith, c.loop-place.auto, c.loop-place-test.true)) c.index-tokens-place.is w.2 c.in_ok-take.ensures.ok,
   );
 }
@@ -36,7 +36,7 @@ pub returns-clause-ok : goal.returns-clause-ok
 returns-clause-ok c =
     let w = c.loop-place.invariant.way in
     let front : c.loop-place.place ≡ 0 = omega (arith, c.loop-place-test.false) in
-    c.reverse.ensures.items ∙ compiled c.args.expression.now c.tokens-tokens.result.now w.0 c.loop-place.compiling c.tokens-tokens.ensures.written c.tokens-tokens.ensures.order w.1
+    c.reverse.ensures.items ∙ compiled c.args.expression.now c.loop-place.compiling c.tokens-tokens.ensures.written c.tokens-tokens.ensures.order w.1
     (subst (λ n. Steps Takes w.0 (reverse (drop n c.tokens-tokens.result.now)) c.loop-place.compiling) front w.2)
 
 pub returns-clause-order : goal.returns-clause-order

@@ -10,5 +10,5 @@ index-requires c =
 
 pub loop-k-preserved : goal.loop-k-preserved
 loop-k-preserved c =
-    stretch_more _ c.loop-k.nodes.items _ c.args.from c.loop-k.k c.index.result.now c.loop-k.invariant (omega (arith, c.requires, c.loop-k-test.true)) c.index.ensures
+    stretch_more _ c.args.from c.loop-k.k c.loop-k.invariant (omega (arith, c.requires, c.loop-k-test.true)) c.index.ensures
     (c.in_ok-keep.ensures.ok ∙ ap (λ n. c.loop-k.nodes.items ++ n ∷ []) c.copied-node.ensures)

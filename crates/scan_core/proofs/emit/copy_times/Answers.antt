@@ -11,5 +11,4 @@ copy-requires c =
     omega (arith, e, l, c.requires)
 
 pub loop-done-preserved : goal.loop-done-preserved
-loop-done-preserved c =
-    copies_more c.args.nodes.now.items c.loop-done.nodes.items _ c.args.from c.args.size c.loop-done._done c.loop-done.invariant c.requires c.in_ok-copy.ensures.ok
+loop-done-preserved c = copies_more c.args.nodes.now.items c.args.from c.args.size c.loop-done._done c.loop-done.invariant c.requires c.in_ok-copy.ensures.ok

@@ -7,7 +7,7 @@ use Rattle.scan_core.proofs.emit.write_bounded.Goals as goal
 
 pub returns-then-low-high-clause-ok : goal.returns-then-low-high-clause-ok
 returns-then-low-high-clause-ok c = on_ok_weaker c.copy_times.result
-    (λ e before code b n. exact_out c.args.nodes.now.items _ before code c.args.start _ c.args.low c.args.high b n (omega (arith, c.len.ensures)) c.if-low-high.true c.requires.some e) c.copy_times.ensures.ok
+    (λ e before code b n. exact_out before code b n (omega (arith, c.len.ensures)) c.if-low-high.true c.requires.some e) c.copy_times.ensures.ok
 
 pub copy-requires : goal.copy-requires
 copy-requires c =
@@ -19,13 +19,13 @@ copy-requires c =
 pub loop-more-init : goal.loop-more-init
 loop-more-init c = record {
   grown = (Choose _ ∷ [], c.in_ok-choose.ensures.ok);
-  written = λ before code b n. optional_first c.args.nodes.now.items _ before code c.args.start b n c.in_ok-choose.ensures.ok;
+  written = λ before code b n. optional_first before code b n c.in_ok-choose.ensures.ok;
 }
 
 pub loop-more-preserved : goal.loop-more-preserved
 loop-more-preserved c = let g = c.loop-more.invariant.grown in record {
-  grown = grown_on c.args.nodes.now.items c.loop-more.nodes.items c.copy.new.nodes.items _ g.0 _ _ g.1 c.in_ok-copy.ensures.ok c.in_ok-choose-2.ensures.ok;
-  written = λ before code b n. optional_more c.args.nodes.now.items c.loop-more.nodes.items c.copy.new.nodes.items _ g.0 before code c.args.start _ c.loop-more._more b n (omega (arith, c.len.ensures)) g.1
+  grown = grown_on c.args.nodes.now.items g.0 _ _ g.1 c.in_ok-copy.ensures.ok c.in_ok-choose-2.ensures.ok;
+  written = λ before code b n. optional_more g.0 before code c.loop-more._more b n (omega (arith, c.len.ensures)) g.1
       (c.loop-more.invariant.written before code b n) c.in_ok-copy.ensures.ok c.in_ok-choose-2.ensures.ok;
 }
 
@@ -38,7 +38,7 @@ copy_times-requires-2 c =
 
 pub returns-clause-ok : goal.returns-clause-ok
 returns-clause-ok c = let g = c.loop-more.invariant.grown in on_ok_weaker c.copy_times-2.result
-    (λ e before code b n. bounded_out c.args.nodes.now.items c.loop-more.nodes.items _ g.0 before code c.args.start _ c.args.low c.args.high c.loop-more._more b n (omega (arith, c.len.ensures)) g.1
+    (λ e before code b n. bounded_out g.0 before code c.args.low c.args.high b n (omega (arith, c.len.ensures)) g.1
     (c.loop-more.invariant.written before code b n) (omega (arith, c.loop-more-test.false, c.loop-more.auto, c.requires.order, c.if-low-high.false)) e) c.copy_times-2.ensures.ok
 
 pub choose-requires-in-loop-more : goal.choose-requires-in-loop-more

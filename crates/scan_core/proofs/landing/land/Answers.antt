@@ -1,15 +1,9 @@
 use Rattle.std.proofs.Common.{rules, ◌-◌, ◌^◌, ◌<◌, get_or, length, refl, arith}
 use Rattle.scan_core.specs.inner.Landings.{no_landing}
-use Rattle.scan_core.proofs.Landed.{land_starts, land_more, land_ends, not_zero, is_not_zero}
+use Rattle.scan_core.proofs.Landed.{land_more, not_zero, is_not_zero}
 use Rattle.scan_core.proofs.landing.land.Goals as goal
-
-pub loop-place-init : goal.loop-place-init
-loop-place-init c = land_starts c.args.nodes.now c.args.landings.now c.args.words.now
 
 pub loop-place-preserved : goal.loop-place-preserved
 loop-place-preserved c =
     let fits : get_or c.loop-place.words (get_or c.args.landings.now (length c.args.landings.now - 1 - c.loop-place.place) no_landing).at 0 < 2 ^ 64 = search rules in
-    land_more c.args.nodes.now c.args.landings.now c.args.words.now c.loop-place.words c.enter_if.new.words c.loop-place.place (get_or c.args.landings.now (length c.args.landings.now - 1 - c.loop-place.place) no_landing) _ c.loop-place.invariant c.requires.landings c.loop-place-test.true refl fits (not_zero _) (is_not_zero _) c.enter_if.ensures.size c.enter_if.ensures.exact
-
-pub returns : goal.returns
-returns c = land_ends c.args.nodes.now c.args.landings.now c.args.words.now c.loop-place.words c.loop-place.place c.loop-place.invariant (omega arith)
+    land_more c.loop-place.invariant c.requires.landings c.loop-place-test.true refl fits (not_zero _) (is_not_zero) c.enter_if.ensures.size c.enter_if.ensures.exact

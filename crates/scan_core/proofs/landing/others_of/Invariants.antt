@@ -1,8 +1,8 @@
 use Rattle.std.proofs.Common.{◌+◌, ◌*◌, false}
-use Rattle.scan_core.proofs.Bits.{Marking}
-use Rattle.scan_core.specs.inner.Sets.{Flows}
 use Rattle.scan_core.specs.inner.Landings.{Lands}
+use Rattle.scan_core.specs.inner.Sets.{Flows}
+use Rattle.scan_core.proofs.Bits.{AreBits, Unless}
 use Rattle.scan_core.proofs.landing.others_of.Given as goal
 
 abbrev pub invariant-loop-bit : goal.invariant-loop-bit
-invariant-loop-bit l = Marking l.nodes (λ bit to. Flows l.nodes false false (l.at * 64 + bit) to × Lands l.base l.landings l.at bit to) l.at l.bit l.word
+invariant-loop-bit l = AreBits (Unless l.nodes (λ bit to. Flows l.nodes false false (l.at * 64 + bit) to × Lands l.base l.landings l.at bit to) l.at) l.bit l.word

@@ -2,4 +2,4 @@ use Rattle.scan_core.proofs.Masking.{add_more}
 use Rattle.scan_core.proofs.masks.add.Goals as goal
 
 pub loop-at-preserved : goal.loop-at-preserved
-loop-at-preserved c = add_more c.args.nodes.now c.args.kind c.args.words.now.items c.loop-at.words.items _ c.loop-at.at c.word_of.result c.loop-at.invariant c.word_of.ensures c.in_ok-push.ensures.items
+loop-at-preserved c = add_more c.word_of.result c.loop-at.invariant c.word_of.ensures c.in_ok-push.ensures.items

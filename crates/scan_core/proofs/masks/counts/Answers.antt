@@ -5,7 +5,7 @@ use Rattle.scan_core.proofs.masks.counts.Goals as goal
 
 pub returns-then-number-nodes : goal.returns-then-number-nodes
 returns-then-number-nodes c =
-    let e = c.weight.ensures ∙ counted_in c.args.nodes.now c.args.number c.index-nodes-number.result (node_here c.args.nodes.now c.args.number _ c.index-nodes-number.result c.if-number-nodes.true refl c.index-nodes-number.is) in
+    let e = c.weight.ensures ∙ counted_in c.args.nodes.now c.args.number c.index-nodes-number.result (node_here c.args.nodes.now c.if-number-nodes.true refl c.index-nodes-number.is) in
     (λ h. sym e ∙ eqb-true _ 1 h, λ h. eq-eqb _ 1 (e ∙ h))
 
 pub returns-else-number-nodes : goal.returns-else-number-nodes

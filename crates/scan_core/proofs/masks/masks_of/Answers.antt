@@ -5,7 +5,7 @@ use Rattle.scan_core.proofs.Masking.{take_more}
 use Rattle.scan_core.proofs.masks.masks_of.Goals as goal
 
 pub loop-byte-preserved : goal.loop-byte-preserved
-loop-byte-preserved c = take_more c.args.nodes.now c.loop-byte.takes.items c.add.new.words.items c.loop-byte.byte c.loop-byte.invariant c.in_ok-add.ensures.ok
+loop-byte-preserved c = take_more c.loop-byte.invariant c.in_ok-add.ensures.ok
 
 pub returns-clause-ok : goal.returns-clause-ok
 returns-clause-ok c =

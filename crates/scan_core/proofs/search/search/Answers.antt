@@ -1,54 +1,37 @@
-use Rattle.std.proofs.Common.{rules, ◌≡◌, ◌⊎◌, ◌↔◌, ℕ, ◌<◌, length, slice_index, true, false, refl, sym, ◌∙◌, subst, arith}
+use Rattle.std.proofs.Common.{rules, ◌≡◌, ◌⊎◌, ◌↔◌, ℕ, ◌<◌, length, slice_index, refl, sym, ◌∙◌, subst, arith}
 use Rattle.scan_core.specs.declared.masks.Kind.TheVariants.{Counts}
 use Rattle.scan_core.specs.inner.Sets.{Passes}
 use Rattle.scan_core.specs.inner.Words.{IsIn, IsMask}
 use Rattle.scan_core.proofs.Along.{inner, final}
-use Rattle.scan_core.proofs.Searchings.{begun, entered_here, search_more, search_found, search_ends, search_starts, search_fits}
+use Rattle.scan_core.proofs.Searchings.{entered_here, search_more, search_found, search_ends, search_fits}
 use Rattle.scan_core.proofs.search.search.Goals as goal
 
 pub overflow_add-steps : goal.overflow_add-steps
 overflow_add-steps c =
     let n : length c.args.nodes.now < 9223372036854775808 = search rules in
-    let f = search_fits c.args.nodes.now c.args.line.now c.loop-place.place c.loop-place.steps c.positions.result _
-    c.spread.new.words c.loop-place.invariant c.positions.ensures n (omega (arith, c.loop-place-test.true)) in
+    let f = search_fits c.args.line.now c.spread.new.words c.loop-place.invariant c.positions.ensures n (omega (arith, c.loop-place-test.true)) in
     search (rules, f)
 
 pub overflow_add-steps-2 : goal.overflow_add-steps-2
 overflow_add-steps-2 c =
     let n : length c.args.nodes.now < 9223372036854775808 = search rules in
-    let f = search_fits c.args.nodes.now c.args.line.now c.loop-place.place c.loop-place.steps c.positions-2.result _
-    c.spread-2.new.words c.loop-place.invariant c.positions-2.ensures n (omega arith) in
+    let f = search_fits c.args.line.now c.spread-2.new.words c.loop-place.invariant c.positions-2.ensures n (omega arith) in
     search (rules, f)
 
 pub returns-then-has-clause-outcome : goal.returns-then-has-clause-outcome
 returns-then-has-clause-outcome c =
-    let here = entered_here c.args.nodes.now c.args.line.now c.loop-place.place c.loop-place.steps _ false _ _ c.loop-place.invariant (inner c.args.line.now c.loop-place.place _ c.loop-place-test.true refl) c.spread.ensures in
-    search_found c.args.nodes.now c.args.line.now c.loop-place.place c.loop-place.steps c.positions.result c.loop-place.words c.spread.new.words c.loop-place.invariant here c.loop-place-test.true c.positions.ensures (c.has.ensures.0 c.if-has.true)
+    let here = entered_here c.args.line.now c.loop-place.invariant (inner c.args.line.now c.loop-place-test.true refl) c.spread.ensures in
+    search_found c.args.line.now c.spread.new.words c.loop-place.invariant here c.loop-place-test.true c.positions.ensures (c.has.ensures.0 c.if-has.true)
 
 pub loop-place-preserved : goal.loop-place-preserved
 loop-place-preserved c =
-    let here = entered_here c.args.nodes.now c.args.line.now c.loop-place.place c.loop-place.steps _ false _ _ c.loop-place.invariant (inner c.args.line.now c.loop-place.place _ c.loop-place-test.true refl) c.spread.ensures in
-    search_more c.args.nodes.now c.args.line.now c.args.base.now c.loop-place.place _ c.loop-place.steps c.positions.result c.loop-place.words c.spread.new.words c.pass.new.words c.has.result c.requires.base c.loop-place.invariant here c.loop-place-test.true refl c.positions.ensures
+    let here = entered_here c.args.line.now c.loop-place.invariant (inner c.args.line.now c.loop-place-test.true refl) c.spread.ensures in
+    search_more c.args.line.now c.spread.new.words c.requires.base c.loop-place.invariant here c.loop-place-test.true refl c.positions.ensures
     c.if-has.false c.has.ensures (c.pass.ensures.size ∙ c.spread.ensures.size ∙ c.loop-place.invariant.size)
     (subst (λ base. (number : ℕ) → IsIn c.pass.new.words number ↔ (((before : ℕ) × IsIn c.spread.new.words before × Passes c.args.nodes.now (slice_index c.args.line.now c.loop-place.place) before number) ⊎ IsIn base number)) c.deref-in-loop-place-2.ensures.value c.pass.ensures.exact)
 
 pub returns-clause-outcome : goal.returns-clause-outcome
 returns-clause-outcome c =
     let e : c.loop-place.place ≡ length c.args.line.now = omega arith in
-    let here = entered_here c.args.nodes.now c.args.line.now c.loop-place.place c.loop-place.steps _ true _ _ c.loop-place.invariant (final c.args.line.now c.loop-place.place c.is_empty.result e c.is_empty.ensures) c.spread-2.ensures in
-    search_ends c.args.nodes.now c.args.line.now c.loop-place.place c.loop-place.steps c.positions-2.result c.loop-place.words c.spread-2.new.words c.has-2.result c.loop-place.invariant here e c.positions-2.ensures c.has-2.ensures
-
-pub loop-place-init : goal.loop-place-init
-loop-place-init c = search_starts c.args.nodes.now c.args.line.now c.args.base.now c.copy_from_slice.new.self c.requires.base (c.copy_from_slice.ensures.after ∙ c.deref.ensures.value)
-
-pub spread-requires-clause-begun : goal.spread-requires-clause-begun
-spread-requires-clause-begun c = begun c.args.nodes.now c.args.line.now c.args.base.now c.loop-place.place c.loop-place.steps c.loop-place.words c.requires.base c.loop-place.invariant
-
-pub spread-requires-2-clause-begun : goal.spread-requires-2-clause-begun
-spread-requires-2-clause-begun c = begun c.args.nodes.now c.args.line.now c.args.base.now c.loop-place.place c.loop-place.steps c.loop-place.words c.requires.base c.loop-place.invariant
-
-pub positions-requires-clause-counts : goal.positions-requires-clause-counts
-positions-requires-clause-counts c = subst (IsMask c.args.nodes.now Counts 0) (sym c.deref-in-loop-place.ensures.value) c.requires.masks.counts
-
-pub positions-requires-2-clause-counts : goal.positions-requires-2-clause-counts
-positions-requires-2-clause-counts c = subst (IsMask c.args.nodes.now Counts 0) (sym c.deref-2.ensures.value) c.requires.masks.counts
+    let here = entered_here c.args.line.now c.loop-place.invariant (final c.args.line.now e c.is_empty.ensures) c.spread-2.ensures in
+    search_ends c.args.line.now c.spread-2.new.words c.loop-place.invariant here e c.positions-2.ensures c.has-2.ensures

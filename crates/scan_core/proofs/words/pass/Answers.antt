@@ -1,18 +1,13 @@
 use Rattle.std.proofs.Common.{rules, ◌+◌, ◌<◌, ◌^◌, refl, arith, slice_index_or}
 use Rattle.std.proofs.lemmas.Nat.{and_le_l}
-use Rattle.std.specs.Prelude.{bit_and}
-use Rattle.scan_core.proofs.Passings.{passing_starts, passing_more, passing_ends}
+use Rattle.scan_core.proofs.Passings.{passing_more, passing_ends}
 use Rattle.scan_core.proofs.words.pass.Goals as goal
-
-pub loop-at-init : goal.loop-at-init
-loop-at-init c = passing_starts c.args.nodes.now c.args.byte c.args.base.now c.args.words.now
 
 pub loop-at-preserved : goal.loop-at-preserved
 loop-at-preserved c =
     let f : slice_index_or c.loop-at.words c.loop-at.at 0 < 2 ^ 64 = search rules in
     let l = and_le_l (slice_index_or c.loop-at.words c.loop-at.at 0) (slice_index_or c.args.takes.now (c.args.from + c.loop-at.at) 0) in
-    passing_more c.args.nodes.now c.args.byte c.args.base.now c.args.words.now c.loop-at.words _ c.args.takes.now c.args.from c.loop-at.at c.loop-at.carry (bit_and (slice_index_or c.loop-at.words c.loop-at.at 0) (slice_index_or c.args.takes.now (c.args.from + c.loop-at.at) 0))
-    c.loop-at.invariant c.requires.takes c.requires.size (omega arith) refl (omega (arith, f, l)) refl
+    passing_more c.args.takes.now c.args.from c.loop-at.invariant c.requires.takes c.requires.size (omega arith) refl (omega (arith, f, l)) refl
 
 pub returns-clause-exact : goal.returns-clause-exact
-returns-clause-exact c = passing_ends c.args.nodes.now c.args.byte c.args.base.now c.args.words.now c.loop-at.words c.loop-at.at c.loop-at.carry c.loop-at.invariant (omega arith) c.requires.size c.requires.base
+returns-clause-exact c = passing_ends c.loop-at.invariant (omega arith) c.requires.size c.requires.base

@@ -13,7 +13,7 @@ returns-then-not-is_ascii_digit-clause-digits c =
 pub loop-place-preserved : goal.loop-place-preserved
 loop-place-preserved c =
     let so_far = value_of (take c.loop-place.place c.args.text.now) in
-    let next = held_step (2 ^ 64 - 1) so_far c.loop-place.value c.saturating_mul.result c.saturating_add-value.result c.from.result c.loop-place.invariant.held c.saturating_mul.ensures c.saturating_add-value.ensures in
+    let next = held_step (2 ^ 64 - 1) so_far c.from.result c.loop-place.invariant.held c.saturating_mul.ensures c.saturating_add-value.ensures in
     record {
       held = next ∙ ap (λ digit. min (so_far * 10 + digit) (2 ^ 64 - 1)) c.from.ensures ∙ ap (λ n. min n (2 ^ 64 - 1)) (sym (value_of_more c.args.text.now c.loop-place.place c.loop-place-test.true));
       digits = below_more _ _ c.loop-place.invariant.digits (sym c.if-not-is_ascii_digit.ensures.value);

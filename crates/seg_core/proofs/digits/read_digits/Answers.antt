@@ -14,9 +14,9 @@ returns-then-end-eq0 c =
 pub returns-then-value-le-GREATEST : goal.returns-then-value-le-GREATEST
 returns-then-value-le-GREATEST c =
     let number = c.leading_number-value in
-    sym (digits_of-ok c.args.text.now number.result.1 number.result.0 number.ensures.digits c.if-end-eq0.false c.if-end-text.false number.ensures.value c.if-value-le-GREATEST.true)
+    sym (digits_of-ok c.args.text.now number.result.1 number.ensures.digits c.if-end-eq0.false c.if-end-text.false number.ensures.value c.if-value-le-GREATEST.true)
 
 pub returns-else-value-le-GREATEST : goal.returns-else-value-le-GREATEST
 returns-else-value-le-GREATEST c =
     let number = c.leading_number-value in
-    sym (digits_of-too_large c.args.text.now number.result.1 number.result.0 number.ensures.digits c.if-end-eq0.false c.if-end-text.false number.ensures.value c.if-value-le-GREATEST.false)
+    sym (digits_of-too_large c.args.text.now number.result.1 number.ensures.digits c.if-end-eq0.false c.if-end-text.false number.ensures.value c.if-value-le-GREATEST.false)

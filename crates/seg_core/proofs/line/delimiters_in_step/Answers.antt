@@ -10,14 +10,14 @@ pub returns-clause-long : goal.returns-clause-long
 returns-clause-long c =
     let lanes = take STEP c.args.bytes.now in
     let long = length-take-le STEP c.args.bytes.now c.requires in
-    ap length (chosen_flags c.args.delim lanes STEP long) ∙ length-map lanes _ ∙ long
+    ap length (chosen_flags c.args.delim lanes long) ∙ length-map lanes _ ∙ long
 
 pub returns-clause-each : goal.returns-clause-each
 returns-clause-each c =
     let lanes = take STEP c.args.bytes.now in
-    subst (Each1 (λ lane. lane ≤ 1)) (sym (chosen_flags c.args.delim lanes STEP (length-take-le STEP c.args.bytes.now c.requires))) (flags_small c.args.delim lanes)
+    subst (Each1 (λ lane. lane ≤ 1)) (sym (chosen_flags c.args.delim lanes (length-take-le STEP c.args.bytes.now c.requires))) (flags_small c.args.delim lanes)
 
 pub returns-clause-sum : goal.returns-clause-sum
 returns-clause-sum c =
     let lanes = take STEP c.args.bytes.now in
-    ap sum_l (chosen_flags c.args.delim lanes STEP (length-take-le STEP c.args.bytes.now c.requires)) ∙ sum-flags c.args.delim lanes
+    ap sum_l (chosen_flags c.args.delim lanes (length-take-le STEP c.args.bytes.now c.requires)) ∙ sum-flags c.args.delim lanes

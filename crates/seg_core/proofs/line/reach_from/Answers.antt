@@ -8,14 +8,14 @@ pub returns-then-seen-lines : goal.returns-then-seen-lines
 returns-then-seen-lines c =
     let byte = get_or c.args.bytes.now c.loop-i.i 0 in
     let one = added c.args.delim byte c.from-seen.result c.from-seen.ensures in
-    let more = count_more c.args.delim c.args.bytes.now c.loop-i.i c.loop-i.seen c.from-seen.result c.loop-i.invariant.counted c.loop-i-test.true one in
-    EndsAt_counted c.args.delim c.args.lines c.args.bytes.now c.loop-i.i c.loop-i-test.true (omega arith) (sym more ∙ c.if-seen-lines.true)
+    let more = count_more c.args.delim c.args.bytes.now c.loop-i.i c.from-seen.result c.loop-i.invariant.counted c.loop-i-test.true one in
+    EndsAt_counted c.loop-i.i c.loop-i-test.true (omega arith) (sym more ∙ c.if-seen-lines.true)
 
 pub loop-i-preserved : goal.loop-i-preserved
 loop-i-preserved c =
     let byte = get_or c.args.bytes.now c.loop-i.i 0 in
     let one = added c.args.delim byte c.from-seen.result c.from-seen.ensures in
     record {
-      counted = count_more c.args.delim c.args.bytes.now c.loop-i.i c.loop-i.seen c.from-seen.result c.loop-i.invariant.counted c.loop-i-test.true one;
+      counted = count_more c.args.delim c.args.bytes.now c.loop-i.i c.from-seen.result c.loop-i.invariant.counted c.loop-i-test.true one;
       fewer = let few = delimiters-le-length c.args.delim (byte ∷ []) in omega arith;
     }

@@ -8,4 +8,4 @@ returns-in_err-memrchr-clause-none c =
     subst (λ found. IfNone found (delimiters c.args.delim c.args.bytes.now ≡ 0)) (sym c.from_residual.ensures) (delimiters-after c.args.delim 0 c.args.bytes.now c.in_err-memrchr.ensures)
 
 pub returns-clause-some : goal.returns-clause-some
-returns-clause-some c = let found = c.in_ok-memrchr.ensures in last_ends c.args.delim c.args.bytes.now c.in_ok-memrchr.field-0 found.0.high found.1 found.0.after
+returns-clause-some c = let found = c.in_ok-memrchr.ensures in last_ends c.in_ok-memrchr.field-0 found.0.high found.1 found.0.after

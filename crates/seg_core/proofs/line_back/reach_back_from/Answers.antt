@@ -7,13 +7,12 @@ pub returns-then-seen-wanted : goal.returns-then-seen-wanted
 returns-then-seen-wanted c =
     let x = c.args.bytes.now in
     let at : c.loop-at.at - 1 + 1 ≡ c.loop-at.at = let some = c.loop-at-test.true in omega arith in
-    subst (λ k. BeginsAt c.args.delim c.args.wanted x k) at
-    (begins_after c.args.delim x (c.loop-at.at - 1) c.args.wanted c.loop-at.seen c.from-seen.result (omega arith)
+    subst (λ k. BeginsAt c.args.delim c.args.wanted x k) at (begins_after (c.loop-at.at - 1) c.from-seen.result (omega arith)
     (c.loop-at.invariant.counted ∙ ap (λ k. delimiters c.args.delim (drop k x)) (omega arith)) c.from-seen.ensures c.loop-at.invariant.fewer c.if-seen-wanted.true)
 
 pub loop-at-preserved : goal.loop-at-preserved
 loop-at-preserved c =
     let x = c.args.bytes.now in
     let at : c.loop-at.at ≡ c.loop-at.at - 1 + 1 = let some = c.loop-at-test.true in omega arith in
-    let more = count_back c.args.delim x (c.loop-at.at - 1) c.loop-at.seen c.from-seen.result (omega arith) (c.loop-at.invariant.counted ∙ ap (λ k. delimiters c.args.delim (drop k x)) at) c.from-seen.ensures in
+    let more = count_back c.args.delim x (c.loop-at.at - 1) c.from-seen.result (omega arith) (c.loop-at.invariant.counted ∙ ap (λ k. delimiters c.args.delim (drop k x)) at) c.from-seen.ensures in
     record { within = omega arith; counted = more; fewer = let other = c.if-seen-wanted.false in let few = most_one c.args.delim c.args.bytes.now (c.loop-at.at - 1) c.from-seen.result c.from-seen.ensures in let so_far = c.loop-at.invariant.fewer in omega arith }

@@ -11,20 +11,20 @@ drop_whole-left-requires c =
     omega (arith, all_counted c.args.delim items c.requires.each)
 
 pub drop_within-requires-clause-each : goal.drop_within-requires-clause-each
-drop_within-requires-clause-each c = rest_have_counts c.args.delim c.args.n c.args.queue.now.items _ _ _ c.drop_whole-left.ensures.gone c.requires.each
+drop_within-requires-clause-each c = rest_have_counts c.args.delim c.drop_whole-left.ensures.gone c.requires.each
 
 pub returns-clause-left : goal.returns-clause-left
-returns-clause-left c = c.drop_within.ensures.left ∙ rest_goes c.args.n c.args.queue.now.items _ _ _ c.drop_whole-left.ensures.gone
+returns-clause-left c = c.drop_within.ensures.left ∙ rest_goes c.drop_whole-left.ensures.gone
 
 pub returns-clause-delimiters : goal.returns-clause-delimiters
 returns-clause-delimiters c =
     ap (λ k. c.drop_whole-left.result.delimiters + k) c.drop_within.ensures.delimiters
-    ∙ rest_counted c.args.delim c.args.n c.args.queue.now.items _ _ _ c.drop_whole-left.ensures.gone c.requires.each
+    ∙ rest_counted c.args.delim c.drop_whole-left.ensures.gone c.requires.each
 
 pub overflow_add-result : goal.overflow_add-result
 overflow_add-result c =
     let text = text_of c.args.queue.now.items in
-    let all = rest_counted c.args.delim c.args.n c.args.queue.now.items _ _ _ c.drop_whole-left.ensures.gone c.requires.each in
+    let all = rest_counted c.args.delim c.drop_whole-left.ensures.gone c.requires.each in
     let part = delimiters-take-le c.args.delim c.args.n text in
     let few = delimiters-le-length c.args.delim text in
     omega arith

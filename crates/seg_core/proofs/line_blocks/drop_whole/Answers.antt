@@ -1,4 +1,4 @@
-use Rattle.std.proofs.Common.{◌-◌, ◌<◌, length, refl, arith}
+use Rattle.std.proofs.Common.{◌<◌, length, refl, arith}
 use Rattle.seg_core.proofs.BlockLemmas.{gone_fits, first_goes}
 use Rattle.seg_core.proofs.line_blocks.drop_whole.Goals as goal
 
@@ -6,12 +6,10 @@ pub overflow_add-left : goal.overflow_add-left
 overflow_add-left c =
     let items = c.loop-first.queue.items in
     let some : 0 < length items = let v = c.in-Some.ensures.variant.0 refl in let o = c.loop-first.queue.ok in omega arith in
-    omega (arith, gone_fits c.args.n c.args.queue.now.items c.in-Some.first.now items c.loop-first.left.bytes c.loop-first.left.delimiters some c.in-Some.ensures.lookup c.loop-first.invariant)
+    omega (arith, gone_fits some c.in-Some.ensures.lookup c.loop-first.invariant)
 
 pub loop-first-preserved-else-left-len : goal.loop-first-preserved-else-left-len
 loop-first-preserved-else-left-len c =
     let items = c.loop-first.queue.items in
     let some : 0 < length items = let v = c.in-Some.ensures.variant.0 refl in let o = c.loop-first.queue.ok in omega arith in
-    first_goes c.args.n c.args.queue.now.items c.in-Some.first.now items _ c.loop-first.left.bytes c.loop-first.left.delimiters _ _ some
-    c.in-Some.ensures.lookup (omega arith) c.loop-first.invariant
-    c.pop_front.ensures.rest c.len-in-Some.ensures c.delimiters.ensures
+    first_goes items _ _ some c.in-Some.ensures.lookup (omega arith) c.loop-first.invariant c.pop_front.ensures.rest c.len-in-Some.ensures c.delimiters.ensures

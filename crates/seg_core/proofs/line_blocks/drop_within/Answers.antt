@@ -10,4 +10,4 @@ pub returns-in-Some-clause-each : goal.returns-in-Some-clause-each
 returns-in-Some-clause-each c =
     let blocks = c.args.queue.now in
     let some : 0 < length blocks.items = let v = c.in-Some.ensures.variant.0 refl in let o = blocks.ok in omega arith in
-    dropped_counts c.args.delim c.args.n c.drop_front.result blocks.items c.in-Some.first.now c.drop_front.new.self some c.in-Some.ensures.value c.drop_front.ensures.left c.drop_front.ensures.delimiters c.requires.each
+    dropped_counts c.args.delim c.args.n blocks.items some c.in-Some.ensures.value c.drop_front.ensures.left c.drop_front.ensures.delimiters c.requires.each

@@ -10,7 +10,7 @@ returns-in-Some-clause-ok c =
     let blocks = c.args.queue.now in
     let last : deque_len blocks - 1 + 1 ≡ length blocks.items = let v = c.in-Some.ensures.variant.0 refl in let o = blocks.ok in omega arith in
     on_ok_weaker c.append.result
-    (λ grown. text_set blocks.items (deque_len blocks - 1) c.in-Some.last.now c.append.new.self c.args.part.now last c.in-Some.ensures.value (ap (λ (b : BlockState). b.bytes) grown))
+    (λ grown. text_set blocks.items (deque_len blocks - 1) c.append.new.self c.args.part.now last c.in-Some.ensures.value (ap (λ (b : BlockState). b.bytes) grown))
     c.append.ensures.ok
 
 pub returns-in-Some-clause-each : goal.returns-in-Some-clause-each
@@ -18,5 +18,5 @@ returns-in-Some-clause-each c =
     let blocks = c.args.queue.now in
     let last : deque_len blocks - 1 + 1 ≡ length blocks.items = let v = c.in-Some.ensures.variant.0 refl in let o = blocks.ok in omega arith in
     on_ok_weaker c.append.result
-    (λ grown (delim : ℕ) counted each. grown_counts delim (deque_len blocks - 1) c.args.count blocks.items c.in-Some.last.now c.append.new.self c.args.part.now last c.in-Some.ensures.value grown counted each)
+    (λ grown (delim : ℕ) counted each. grown_counts delim (deque_len blocks - 1) c.args.count blocks.items c.args.part.now last c.in-Some.ensures.value grown counted each)
     c.append.ensures.ok

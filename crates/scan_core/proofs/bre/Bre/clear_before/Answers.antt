@@ -1,7 +1,7 @@
 use Rattle.std.proofs.Common.{rules, IfSome, subst}
 use Rattle.scan_core.specs.Clear.{IsClear}
 use Rattle.scan_core.specs.inner.Needles.{AreBytes, IsNeedle}
-use Rattle.scan_core.proofs.Needles.{clear_of, clear_none}
+use Rattle.scan_core.proofs.Needles.{clear_of}
 use Rattle.scan_core.proofs.bre.Bre.clear_before.Goals as goal
 
 pub returns-in-Some-clause-clear : goal.returns-in-Some-clause-clear
@@ -10,6 +10,3 @@ returns-in-Some-clause-clear c =
     let needle = subst (λ code. IsNeedle code c.in-Some.needle) c.self.invariant.0 (subst (λ needle. IfSome needle (IsNeedle c.self.inside.code.items)) c.in-Some.is c.self.invariant.8) in
     subst (λ pattern. IsClear pattern c.args.text.now c.find.result) c.self.view_is
     (clear_of c.self.inside.expression c.in-Some.needle c.args.text.now c.find.result c.self.invariant.1 bytes needle c.find.ensures.lacks)
-
-pub returns-in-None-clause-clear : goal.returns-in-None-clause-clear
-returns-in-None-clause-clear c = clear_none _ c.args.text.now

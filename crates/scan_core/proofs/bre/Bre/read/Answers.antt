@@ -1,8 +1,9 @@
-use Rattle.std.proofs.Common.{IfSome, Ok, Err, IsErrOf, length, sym, ap, ◌∙◌, subst, arith}
+use Rattle.std.proofs.Common.{◌≡◌, ◌≤◌, IfSome, Ok, Err, IsErrOf, length, sym, ap, ◌∙◌, subst, arith}
 use Rattle.std.proofs.lemmas.Result.{err_from_is_err_and}
 use Rattle.bre_core.specs.declared.fault.BreFault.{BreFault}
 use Rattle.bre_core.specs.declared.fault.BreFault.TheVariants.{Memory, TooLarge}
-use Rattle.bre_core.specs.Pattern.{Pattern}
+use Rattle.bre_core.specs.Pattern.{Pattern, positions_of}
+use Rattle.scan_core.specs.Code.{code_of, IsOrdered}
 use Rattle.scan_core.specs.inner.Base.{IsBase}
 use Rattle.scan_core.specs.inner.Closures.{AreClosures}
 use Rattle.scan_core.specs.inner.Needles.{IsNeedle}
@@ -13,45 +14,43 @@ use Rattle.scan_core.specs.inner.Words.{IsMasks}
 use Rattle.scan_core.proofs.Whole.{is_code, enough_room}
 use Rattle.scan_core.proofs.bre.Bre.read.Goals as goal
 
-no_fault : (bre : Pattern) → IsErrOf {T = Pattern} {E = BreFault} (Ok bre) TooLarge → ⊥
-no_fault bre e = cc
+no_fault : {bre : Pattern} → IsErrOf {T = Pattern} {E = BreFault} (Ok bre) TooLarge → ⊥
+no_fault e = cc
 
 other_fault : IsErrOf {T = Pattern} {E = BreFault} (Err Memory) TooLarge → ⊥
 other_fault e = cc
 
-pub closures_of-requires-clause-code : goal.closures_of-requires-clause-code
-closures_of-requires-clause-code c = subst IsCode (sym (c.deref-2.ensures.value ∙ c.in_ok-code.ensures.ok)) (is_code c.in_ok-expression.expression c.in_ok-code.ensures.order)
-
-pub closures_of-requires-clause-short : goal.closures_of-requires-clause-short
-closures_of-requires-clause-short c =
-    let l = ap length (c.deref-2.ensures.value ∙ c.in_ok-code.ensures.ok) in
-    let r = enough_room c.in_ok-expression.expression c.in_ok-code.ensures.order in
-    omega (arith, l, r, c.in_ok-expression.ensures.size)
+pub closures_of-requires : goal.closures_of-requires
+closures_of-requires c =
+    let o = c.in_ok-code.ensures.order in
+    let e = c.as_slice-nodes.ensures.value ∙ c.in_ok-code.ensures.ok in
+    record { code = subst IsCode (sym e) (is_code _ o); short = let l = ap length e in let r = enough_room _ o in omega (arith, l, r, c.in_ok-expression.ensures.size) }
 
 pub base_of-requires-clause-code : goal.base_of-requires-clause-code
-base_of-requires-clause-code c = subst IsCode (sym (c.deref-3.ensures.value ∙ c.in_ok-code.ensures.ok)) (is_code c.in_ok-expression.expression c.in_ok-code.ensures.order)
+base_of-requires-clause-code c = subst IsCode (sym (c.as_slice-nodes.ensures.value ∙ c.in_ok-code.ensures.ok)) (is_code _ c.in_ok-code.ensures.order)
 
-pub base_of-requires-clause-closures : goal.base_of-requires-clause-closures
-base_of-requires-clause-closures c = subst (λ code. AreClosures code c.in_ok-closures.closures) (c.deref-2.ensures.value ∙ sym c.deref-3.ensures.value) c.in_ok-closures.ensures.ok
-
-pub build-requires : goal.build-requires
-build-requires c = subst IsCode (sym (c.deref-4.ensures.value ∙ c.in_ok-code.ensures.ok)) (is_code c.in_ok-expression.expression c.in_ok-code.ensures.order)
+pub build-requires-clause-code : goal.build-requires-clause-code
+build-requires-clause-code c = subst IsCode (sym (c.as_slice-nodes.ensures.value ∙ c.in_ok-code.ensures.ok)) (is_code _ c.in_ok-code.ensures.order)
 
 pub needle_of-requires : goal.needle_of-requires
-needle_of-requires c = subst IsCode (sym (c.deref-6.ensures.value ∙ c.in_ok-code.ensures.ok)) (is_code c.in_ok-expression.expression c.in_ok-code.ensures.order)
+needle_of-requires c = subst IsCode (sym (c.as_slice-nodes.ensures.value ∙ c.in_ok-code.ensures.ok)) (is_code _ c.in_ok-code.ensures.order)
 
 pub invariant_of-result : goal.invariant_of-result
-invariant_of-result c = (
-  c.in_ok-code.ensures.ok,
-  c.in_ok-code.ensures.order,
-  c.in_ok-expression.ensures.size,
-  subst (λ code. IsMasks code c.in_ok-masks.masks) c.deref.ensures.value c.in_ok-masks.ensures.ok,
-  subst (λ code. IfSome c.in_ok-table.table (IsTable code)) c.deref-4.ensures.value c.in_ok-table.ensures.ok,
-  subst (λ code. IfSome c.in_ok-shifts.shifts (IsShiftTable code)) c.deref-5.ensures.value c.in_ok-shifts.ensures.ok,
-  subst (λ code. AreClosures code c.in_ok-closures.closures) c.deref-2.ensures.value c.in_ok-closures.ensures.ok,
-  subst (λ code. IsBase code c.in_ok-base.base) c.deref-3.ensures.value c.in_ok-base.ensures.ok,
-  subst (λ code. IfSome c.in_ok-needle.needle (IsNeedle code)) c.deref-6.ensures.value c.in_ok-needle.ensures.ok,
-)
+invariant_of-result c =
+    let bre = c.in_ok-expression.expression in
+    let e = c.as_slice-nodes.ensures.value in
+    subst (λ code. (code ≡ code_of bre) × IsOrdered bre × (positions_of bre ≤ 65535) × IsMasks code c.in_ok-masks.masks × IfSome c.in_ok-table.table (IsTable code)
+    × IfSome c.in_ok-shifts.shifts (IsShiftTable code) × AreClosures code c.in_ok-closures.closures × IsBase code c.in_ok-base.base × IfSome c.in_ok-needle.needle (IsNeedle code)) e (
+      e ∙ c.in_ok-code.ensures.ok,
+      c.in_ok-code.ensures.order,
+      c.in_ok-expression.ensures.size,
+      c.in_ok-masks.ensures.ok,
+      c.in_ok-table.ensures.ok,
+      c.in_ok-shifts.ensures.ok,
+      c.in_ok-closures.ensures.ok,
+      c.in_ok-base.ensures.ok,
+      c.in_ok-needle.ensures.ok,
+    )
 
 pub returns-in_err-shifts : goal.returns-in_err-shifts
 returns-in_err-shifts c =
@@ -62,12 +61,3 @@ pub returns-in_err-needle : goal.returns-in_err-needle
 returns-in_err-needle c =
     let p = err_from_is_err_and c.from_residual-in_err-needle.result c.from_residual-in_err-needle.ensures.1 in
     rw (p.1, p.2, c.in_err-needle.ensures.err) (record { reads = tt; groups = tt; size = tt; refused = λ h. absurd h; large = λ e. absurd (other_fault e) })
-
-pub returns : goal.returns
-returns c = record {
-  reads = c.in_ok-expression.ensures.reads;
-  groups = c.in_ok-expression.ensures.groups;
-  size = c.in_ok-expression.ensures.size;
-  refused = tt;
-  large = λ e. absurd (no_fault _ e);
-}

@@ -1,22 +1,34 @@
-use Rattle.std.proofs.Common.{refl, arith}
+use Rattle.std.proofs.Common.{◌≡◌, [], refl, ap, subst, ◌∙◌, length, arith}
+use Rattle.std.proofs.lemmas.List.{get_or_default, with_items_is}
+use Rattle.std.specs.Vec.{with_items}
 use Rattle.std.proofs.lemmas.Result.{IfOk-weaker}
-use Rattle.scan_core.specs.inner.Built.{IsFilling}
-use Rattle.scan_core.specs.inner.Table.{Tells}
-use Rattle.scan_core.proofs.Tables.{twin_entry, led_on}
+use Rattle.scan_core.specs.Counted.{set_at}
+use Rattle.scan_core.specs.declared.build.Building.{Building}
+use Rattle.scan_core.specs.inner.Built.{LeadsTo, Led}
+use Rattle.scan_core.specs.inner.Words.{flags_of}
+use Rattle.scan_core.proofs.Tables.{twin_entry, led_on, set_size}
 use Rattle.scan_core.proofs.build.Building.entry_of.Goals as goal
 
-pub returns-then-twin-byte-clause-tells : goal.returns-then-twin-byte-clause-tells
-returns-then-twin-byte-clause-tells c =
-    twin_entry c.args.nodes.now c.args.most c.args.state c.args.byte c.args.twin c.index.result.now _ c.args.self.now c.requires.filling c.requires.twin c.if-twin-byte.true (omega arith) c.index.ensures
+pub returns-then-twin-byte-clause-ok : goal.returns-then-twin-byte-clause-ok
+returns-then-twin-byte-clause-ok c = record { filling = c.requires.filling; tells = twin_entry _ c.requires.filling c.requires.twin c.if-twin-byte.true (omega arith) c.index.ensures }
 
-pub returns-clause-filling : goal.returns-clause-filling
-returns-clause-filling c =
-    IfOk-weaker c.lead_to.result _ (λ _. IsFilling c.args.nodes.now c.args.most c.args.state c.args.byte (record { sets = c.lead_to.new.sets; rows = c.args.self.now.rows; now = c.args.self.now.now; next = c.advance.new.next }))
-    (λ read l. (led_on c.args.nodes.now c.args.most c.args.state c.args.byte read c.args.self.now (record { sets = c.lead_to.new.sets; rows = c.args.self.now.rows; now = c.args.self.now.now; next = c.advance.new.next }) c.marks.result.now
-    c.requires.filling (omega arith) c.advance.ensures c.marks.ensures l refl refl).filling) c.lead_to.ensures.ok
+pub copy_from_slice-requires : goal.copy_from_slice-requires
+copy_from_slice-requires c =
+    let f = c.requires.filling in
+    let set = c.set.view_is ∙ c.index-set.ensures ∙ get_or_default c.args.self.now.sets.items c.args.state c.index-set.result.now [] f.known in
+    let size = set_size _ f.so_far.built.going f.known set in
+    let l = ap length c.deref.ensures.value in
+    omega (arith, size, l, f.so_far.size, c.args.self.now.words.ok.0)
 
-pub returns-clause-tells : goal.returns-clause-tells
-returns-clause-tells c =
-    IfOk-weaker c.lead_to.result _ (Tells c.args.nodes.now c.lead_to.new.sets.items c.args.state c.args.byte)
-    (λ read l. (led_on c.args.nodes.now c.args.most c.args.state c.args.byte read c.args.self.now (record { sets = c.lead_to.new.sets; rows = c.args.self.now.rows; now = c.args.self.now.now; next = c.advance.new.next }) c.marks.result.now
-    c.requires.filling (omega arith) c.advance.ensures c.marks.ensures l refl refl).tells) c.lead_to.ensures.ok
+pub returns-clause-ok : goal.returns-clause-ok
+returns-clause-ok c =
+    let f = c.requires.filling in
+    let set : flags_of c.set.inside.words.items ≡ set_at c.args.self.now.sets.items c.args.state =
+    c.set.view_is ∙ c.index-set.ensures ∙ get_or_default c.args.self.now.sets.items c.args.state c.index-set.result.now [] f.known in
+    let before : c.deref_mut.result.now ≡ c.set.inside.words.items = c.deref_mut.ensures.value ∙ c.copy_from_slice.ensures.items ∙ c.deref.ensures.value in
+    let whole = with_items_is c.copy_from_slice.new.self c.advance.new.words (c.advance.ensures.size ∙ c.deref_mut.ensures.len) in
+    let new : Building = record { sets = c.lead_to.new.sets; rows = c.args.self.now.rows; words = with_items c.copy_from_slice.new.self c.advance.new.words } in
+    let size = c.advance.ensures.size ∙ ap length before ∙ set_size _ f.so_far.built.going f.known set in
+    IfOk-weaker c.lead_to.result _ (Led c.args.nodes.now c.args.most c.args.state c.args.byte new)
+    (λ read l. led_on _ f (omega arith) (ap flags_of before ∙ set) size c.advance.ensures.exact
+    (subst (λ words. LeadsTo (length c.args.nodes.now) c.args.most words c.args.self.now.sets.items c.lead_to.new.sets.items read) (c.deref-2.ensures.value ∙ whole) l) refl whole) c.lead_to.ensures.ok

@@ -10,9 +10,8 @@ write_out-requires c =
 
 pub loop-duplication-preserved : goal.loop-duplication-preserved
 loop-duplication-preserved c = record {
-  so_far = λ final f. c.loop-duplication.invariant.so_far final
-      (subst (λ n. Finishes n c.loop-duplication.self.pending.items final) c.in-Some.ensures.0
-      (finish_more c.next_duplication.new.self.nodes.items c.write_out.new.nodes.items c.loop-duplication.self.pending.items c.next_duplication.new.self.pending.items c.in-Some.duplication final c.in-Some.ensures.2 c.in_ok-write_out.ensures.ok f));
+  so_far = λ final f. c.loop-duplication.invariant.so_far final (subst (λ n. Finishes n c.loop-duplication.self.pending.items final) c.in-Some.ensures.0
+      (finish_more c.next_duplication.new.self.nodes.items c.write_out.new.nodes.items c.next_duplication.new.self.pending.items c.in-Some.duplication final c.in-Some.ensures.2 c.in_ok-write_out.ensures.ok f));
   begun = are_begun_wider c.next_duplication.new.self.pending.items _ _ c.in_ok-write_out.ensures.more
       (are_begun_parts (length c.next_duplication.new.self.nodes.items) c.next_duplication.new.self.pending.items _
       (subst (AreBegun (length c.next_duplication.new.self.nodes.items)) c.in-Some.ensures.2 (subst (λ n. AreBegun (length n) c.loop-duplication.self.pending.items) (sym c.in-Some.ensures.0) c.loop-duplication.invariant.begun))).0;
@@ -24,4 +23,4 @@ returns-clause-ok c =
     let h = c.in_default.ensures in
     let same = h.0 in
     c.loop-duplication.invariant.so_far c.next_duplication.new.self
-    (finish_ends c.loop-duplication.self.nodes.items c.loop-duplication.self.pending.items c.next_duplication.new.self h.1 (ap (λ s. s.nodes.items) same) (ap (λ s. s.pending.items) same) (ap (λ s. s.passing) same ∙ c.loop-duplication.invariant.passing))
+    (finish_ends c.next_duplication.new.self h.1 (ap (λ s. s.nodes.items) same) (ap (λ s. s.pending.items) same) (ap (λ s. s.passing) same ∙ c.loop-duplication.invariant.passing))

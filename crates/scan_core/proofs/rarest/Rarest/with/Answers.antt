@@ -1,11 +1,8 @@
 use Rattle.scan_core.proofs.Enterings.{node_here}
-use Rattle.scan_core.proofs.Needles.{other_node, rarest_more}
+use Rattle.scan_core.proofs.Needles.{other_node}
 use Rattle.scan_core.proofs.rarest.Rarest.with.Goals as goal
 
 pub with_bytes-requires-clause-takes : goal.with_bytes-requires-clause-takes
 with_bytes-requires-clause-takes c =
-    let here = node_here c.args.nodes.now c.args.at _ _ c.requires.within c.in-Take.is c.index-nodes-at.is in
-    other_node c.args.nodes.now c.args.at _ here (λ skip same. cc)
-
-pub returns : goal.returns
-returns c = rarest_more c.args.nodes.now c.args.at c.args.self c.far_after.result c.requires.so_far c.far_after.ensures.low c.far_after.ensures.choice
+    let here = node_here c.args.nodes.now c.requires.within c.in-Take.is c.index-nodes-at.is in
+    other_node c.args.nodes.now c.args.at here (λ skip same. cc)

@@ -14,4 +14,4 @@ overflow_add-self c =
     omega arith
 
 pub invariant_of-self-2 : goal.invariant_of-self-2
-invariant_of-self-2 c = block_grows c.self.inside.bytes.items c.args.part.now c.extend_from_slice.new.self.items c.self.inside.start c.self.inside.count c.args.count c.self.invariant.0 c.self.invariant.1 c.requires c.in_ok-extend_from_slice.ensures.items
+invariant_of-self-2 c = block_grows c.self.inside.bytes.items c.args.part.now c.self.inside.start c.self.inside.count c.args.count c.self.invariant.0 c.self.invariant.1 c.requires c.in_ok-extend_from_slice.ensures.items

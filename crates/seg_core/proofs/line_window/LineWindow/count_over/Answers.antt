@@ -13,14 +13,14 @@ returns-then-self-eq0-clause-bytes c =
     let text = text_of c.self.inside.blocks.items ++ c.args.piece.now in
     c.uncounted-then-self-eq0.ensures.bytes ∙ subst (λ (w : Window). c.self.inside.len + length c.args.piece.now ≡ length (but_last_lines w.delim w.most (w.held ++ c.args.piece.now))) c.self.view_is
     (ap (λ n. n + length c.args.piece.now) c.self.invariant.long ∙ sym (length-append (text_of c.self.inside.blocks.items) c.args.piece.now)
-    ∙ sym (ap (λ n. length (but_last_lines c.self.inside.delim n text)) c.if-self-eq0.true ∙ ap length (but_last_lines-zero c.self.inside.delim text)))
+    ∙ sym (ap (λ n. length (but_last_lines c.self.inside.delim n text)) c.if-self-eq0.true ∙ ap length (but_last_lines-zero c.self.inside.delim)))
 
 pub returns-in-Begins-clause-bytes : goal.returns-in-Begins-clause-bytes
 returns-in-Begins-clause-bytes c =
     let held = text_of c.self.inside.blocks.items in
     c.uncounted-in-Begins.ensures.bytes ∙ subst (λ (w : Window). c.self.inside.len + c.in-Begins.at ≡ length (but_last_lines w.delim w.most (w.held ++ c.args.piece.now))) c.self.view_is
     (ap (λ n. n + c.in-Begins.at) c.self.invariant.long
-    ∙ over_begins c.self.inside.delim c.self.inside.most held c.args.piece.now c.last_delimiter_off-text.result.now c.in-Begins.at c.last_delimiter_off-text.ensures.front (c.last_delimiter_off-text.ensures.count held) c.in-Begins.ensures)
+    ∙ over_begins held c.args.piece.now c.last_delimiter_off-text.result.now c.last_delimiter_off-text.ensures.front (c.last_delimiter_off-text.ensures.count held) c.in-Begins.ensures)
 
 pub overflow_add-lines-in-Short : goal.overflow_add-lines-in-Short
 overflow_add-lines-in-Short c =
@@ -54,7 +54,7 @@ returns-in-Short-clause-bytes c =
     subst (λ (w : Window). c.end_of_first.result ≡ length (but_last_lines w.delim w.most (w.held ++ c.args.piece.now))) c.self.view_is
     (subst (λ (w : Window). c.end_of_first.result ≡ length (first_lines w.delim c.saturating_sub.result w.held)) (sym c.self.view_is) c.end_of_first.ensures.end
     ∙ ap (λ (k : ℕ). length (first_lines c.self.inside.delim k held)) c.saturating_sub.ensures
-    ∙ over_short c.self.inside.delim most held c.args.piece.now lines is enough)
+    ∙ over_short c.self.inside.delim most held c.args.piece.now is enough)
 
 pub overflow_add-result : goal.overflow_add-result
 overflow_add-result c =

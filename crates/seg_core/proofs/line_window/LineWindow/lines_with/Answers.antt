@@ -9,14 +9,14 @@ use Rattle.seg_core.proofs.line_window.LineWindow.lines_with.Goals as goal
 use Rattle.seg_core.proofs.line_window.LineWindow.lines_with.Goals.{then-self-eq0, else-self-eq0}
 
 pub overflow_add-result : goal.overflow_add-result
-overflow_add-result c = omega (arith, delimiters_fit _ _ c.args.block.now (text_of c.self.inside.blocks.items) _ _ (2 ^ 63) c.requires.counted c.self.invariant.counted (omega (arith, c.requires.fits, ap (λ (w : Window). length w.held) c.self.view_is)))
+overflow_add-result c = omega (arith, delimiters_fit _ _ c.args.block.now (text_of c.self.inside.blocks.items) _ (2 ^ 63) c.requires.counted c.self.invariant.counted (omega (arith, c.requires.fits, ap (λ (w : Window). length w.held) c.self.view_is)))
 
 pub overflow_add-result-2 : goal.overflow_add-result-2
 overflow_add-result-2 c = omega (
   arith,
   c.from.ensures,
   at_most_one (not c.if-self-eq0.is_closed),
-  delimiters_fit _ _ c.args.block.now (text_of c.self.inside.blocks.items) _ _ (2 ^ 63) c.requires.counted c.self.invariant.counted (omega (arith, c.requires.fits, ap (λ (w : Window). length w.held) c.self.view_is)),
+  delimiters_fit _ _ c.args.block.now (text_of c.self.inside.blocks.items) _ (2 ^ 63) c.requires.counted c.self.invariant.counted (omega (arith, c.requires.fits, ap (λ (w : Window). length w.held) c.self.view_is)),
 )
 
 pub returns : goal.returns
@@ -31,4 +31,4 @@ returns c =
     ] in
     let more = subst (λ (w : Window). c.args.count ≡ delimiters w.delim block) (sym c.self.view_is) c.requires.counted in
     subst (λ (w : Window). inside.delimiters + c.args.count + c.from.result ≡ line_count w.delim (block ++ w.held)) c.self.view_is
-    (line_count-both inside.delim block held c.if-self-eq0.is_closed inside.delimiters c.args.count c.from.result c.requires.some c.self.invariant.counted more is c.from.ensures)
+    (line_count-both inside.delim block held c.if-self-eq0.is_closed c.args.count c.from.result c.requires.some c.self.invariant.counted more is c.from.ensures)

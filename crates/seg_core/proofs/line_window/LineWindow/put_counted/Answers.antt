@@ -17,7 +17,6 @@ overflow_add-self-2 c =
 pub invariant_of-self-2 : goal.invariant_of-self-2
 invariant_of-self-2 c =
     let counted = subst (λ (w : Window). c.args.count ≡ delimiters w.delim c.args.piece.now) (sym c.self.view_is) c.requires.counted in
-    counted_put c.self.inside.delim c.self.inside.most c.self.inside.blocks.items c.extend.new.queue.items c.args.piece.now c.self.inside.len c.self.inside.delimiters c.args.count
-    c.self.invariant (omega arith)
+    counted_put c.args.piece.now c.args.count c.self.invariant (omega arith)
     (subst (λ (w : Window). but_last_lines w.delim w.most (w.held ++ c.args.piece.now) ≡ []) (sym c.self.view_is) c.requires.within)
     c.in-Ok.ensures.ok counted c.in-Ok.ensures.each

@@ -30,8 +30,7 @@ invariant_of-self-2 c =
     let fits : inside.len + length bytes < 2 ^ 63 = omega arith in
     let left = subst (λ (w : Window). front.bytes ≡ after_lines w.delim (line_count w.delim (bytes ++ w.held) - w.most) bytes) (sym c.self.view_is) c.needed_of-block.ensures.left in
     let counted = subst (λ (w : Window). front.count ≡ delimiters w.delim front.bytes) (sym c.self.view_is) c.needed_of-block.ensures.counted in
-    counted_front inside.delim inside.most inside.blocks.items _ c.needed_of-block.result bytes inside.len inside.delimiters _ _ c.self.invariant fits
-    left counted c.in-Ok.ensures.items c.len-len.ensures c.delimiters-delimiters.ensures
+    counted_front c.needed_of-block.result bytes _ _ c.self.invariant fits left counted c.in-Ok.ensures.items c.len-len.ensures c.delimiters-delimiters.ensures
 
 pub returns-clause-ok : goal.returns-clause-ok
 returns-clause-ok c =

@@ -14,12 +14,12 @@ loop-at-preserved c =
     let long = ap length next ∙ length-append c.front.result.now c.front.ensures.front.0 in
     let left = length-drop at held in
     let fits : count ≤ length c.front.result.now = omega arith in
-    let size = same_size held c.args.out.now c.loop-at.out at was.there was.within was.out in
+    let size = same_size held c.args.out.now at was.there was.within was.out in
     record {
       most = ap (λ (w : Window). w.most) c.drop_front.ensures ∙ was.most;
       delim = ap (λ (w : Window). w.delim) c.drop_front.ensures ∙ was.delim;
       within = omega arith;
       there = omega arith;
       held = ap (λ (w : Window). w.held) c.drop_front.ensures ∙ ap (drop count) was.held ∙ drop-drop count at held;
-      out = c.copy_front-count.ensures.copied ∙ taken_more held c.front.result.now c.front.ensures.front.0 c.args.out.now c.loop-at.out at count was.there next fits was.out;
+      out = c.copy_front-count.ensures.copied ∙ taken_more held c.front.result.now c.front.ensures.front.0 c.args.out.now at count was.there next fits was.out;
     }

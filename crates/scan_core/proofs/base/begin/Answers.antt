@@ -1,5 +1,0 @@
-use Rattle.scan_core.proofs.Bases.{begins_exact}
-use Rattle.scan_core.proofs.base.begin.Goals as goal
-
-pub returns-clause-exact : goal.returns-clause-exact
-returns-clause-exact c = begins_exact c.args.nodes.now c.clear.new.words c.enter.new.words c.spread_all.new.words 0 c.enter.result c.clear.ensures.none c.enter.ensures c.spread_all.ensures

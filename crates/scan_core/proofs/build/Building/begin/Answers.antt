@@ -1,0 +1,21 @@
+use Rattle.std.proofs.Common.{◌≡◌, [], ◌∷◌, ◌++◌, length, sym, ap, subst, ◌∙◌, arith}
+use Rattle.std.proofs.lemmas.Bool.{false≢true}
+use Rattle.std.proofs.lemmas.List.{with_items_is}
+use Rattle.scan_core.specs.inner.Built.{Built}
+use Rattle.scan_core.specs.inner.Words.{IsIn, flags_of, width}
+use Rattle.scan_core.proofs.Tables.{front_built}
+use Rattle.scan_core.proofs.build.Building.begin.Goals as goal
+
+pub returns-clause-ok : goal.returns-clause-ok
+returns-clause-ok c =
+    let whole = with_items_is c.in_ok-words.words c.begin.new.words (c.begin.ensures.size ∙ c.deref_mut.ensures.len) in
+    let size : length c.begin.new.words ≡ width c.args.nodes.now = omega (arith, c.begin.ensures.size, c.deref_mut.ensures.len, c.in_ok-words.ensures.len) in
+    let sets = c.in_ok-push.ensures.items ∙ ap (λ l. l ++ flags_of c.in_ok-front.front.items ∷ []) c.new-sets.ensures.items
+    ∙ ap (λ w. flags_of w ∷ []) (c.in_ok-front.ensures.items ∙ c.deref-3.ensures.value ∙ whole) in
+    let none : IsIn c.begin.new.words (length c.args.nodes.now) → ⊥ = λ h.
+    false≢true (sym c.if-has.false ∙ c.has.ensures.1 (subst (λ w. IsIn w (length c.args.nodes.now)) (sym (c.deref.ensures.value ∙ whole)) h)) in
+    record {
+      built = subst (Built c.args.nodes.now 0 c.push.new.self.items) (sym c.new.ensures.items) (front_built c.begin.new.words size c.begin.ensures.exact none sets);
+      room = let l = ap length sets in omega (arith, l, c.requires.most);
+      size = ap length whole ∙ size;
+    }

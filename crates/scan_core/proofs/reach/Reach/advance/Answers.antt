@@ -1,5 +1,0 @@
-use Rattle.scan_core.proofs.Spreadings.{advanced}
-use Rattle.scan_core.proofs.reach.Reach.advance.Goals as goal
-
-pub returns : goal.returns
-returns c = advanced _ _ _ _ _ _ _ c.clear.ensures c.pass.ensures c.open.ensures
