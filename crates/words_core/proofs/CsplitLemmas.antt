@@ -34,22 +34,20 @@ pub lacks_operand : (given : Given) (all : List Operand) → map operand_seen al
     → csplit_asked given ≡ Err (Usage MissingOperand 0)
 lacks_operand given all these few = ap (asked_of (style_of given.options)) (sym these) ∙ too_few (style_of given.options) all few
 
-refused : (meant : Result CsplitAsked Fault) (one : CsplitAsked) (result : Result CsplitAsked Fault) → meant ≡ Ok one
+refused : {meant : Result CsplitAsked Fault} (one : CsplitAsked) (result : Result CsplitAsked Fault) → meant ≡ Ok one
     → IfErr result (λ fault. (fault ≡ Memory) ⊎ HasBadOperand one fault) → IfErr result (IsRefused HasBadOperand meant)
-refused meant one (Ok settings) is bad = tt
-refused meant one (Err fault) is (inl memory) = inl memory
-refused meant one (Err fault) is (inr bad) = inr (inr (one, is, bad))
+refused one (Ok settings) is bad = tt
+refused one (Err fault) is (inl memory) = inl memory
+refused one (Err fault) is (inr bad) = inr (inr (one, is, bad))
 
 -- what a call returns for the style of these options and for these operands is what is asked, or why it is refused
-pub settled : (given : Given) (options : List Chosen) (none : Operand) (all : List Operand) (style : Style) (result : Result CsplitAsked Fault)
+pub settled : (given : Given) (options : List Chosen) (none : Operand) (all : List Operand) {style : Style} (result : Result CsplitAsked Fault)
     → map option_seen options ≡ given.options → map operand_seen all ≡ given.operands → style ≡ style_of (map option_seen options)
-    → 1 ≤ length all → 1 ≤ length (take (length all - 1) (drop 1 all))
-    → IfOk result (λ settings. settings ≡ asked_first style none all)
+    → 1 ≤ length all → 1 ≤ length (take (length all - 1) (drop 1 all)) → IfOk result (λ settings. settings ≡ asked_first style none all)
     → IfErr result (λ fault. (fault ≡ Memory) ⊎ HasBadOperand (asked_first style none all) fault)
     → IfOk result (λ settings. csplit_asked given ≡ Ok settings) × IfErr result (IsRefused HasBadOperand (csplit_asked given))
-settled given options none all style result are these is some more equal bad =
+settled given options none all {style} result are these is some more equal bad =
     let asked : csplit_asked given ≡ Ok (asked_first style none all) =
     ap (λ operands. asked_of (style_of given.options) operands) (sym these)
-    ∙ ap (λ style. asked_of style (map operand_seen all)) (ap style_of (sym are) ∙ sym is)
-    ∙ file_first style none all some more in
-    (IfOk-weaker result _ _ (λ settings is. asked ∙ ap (λ those. Ok those) (sym is)) equal, refused (csplit_asked given) _ result asked bad)
+    ∙ ap (λ style. asked_of style (map operand_seen all)) (ap style_of (sym are) ∙ sym is) ∙ file_first style none all some more in
+    (IfOk-weaker result _ _ (λ settings is. asked ∙ ap (λ those. Ok those) (sym is)) equal, refused _ result asked bad)

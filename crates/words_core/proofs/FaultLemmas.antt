@@ -94,32 +94,32 @@ awaits_later least place (Awaiting choice kind option) within awaits = omega (ar
 awaits_later least place state within awaits = tt
 
 module _ (rows : List OptionRow) (kind : UsageKind) (word : ℕ) where
-  goes_after : (least place : ℕ) (rest : State → Result Given Fault) (meant : Result Meaning Fault) → least ≤ place → Stands place meant → ((state : State) → Awaits least state → rest state ≡ Err (Usage kind word) → least ≤ word)
+  goes_after : (least : ℕ) {place : ℕ} (rest : State → Result Given Fault) (meant : Result Meaning Fault) → least ≤ place → Stands place meant → ((state : State) → Awaits least state → rest state ≡ Err (Usage kind word) → least ≤ word)
       → onward rest meant ≡ Err (Usage kind word) → least ≤ word
-  goes_after least place rest (Ok meaning) within stands later is = later meaning.next (awaits_later least place meaning.next within stands) (of_more meaning.given (rest meaning.next) (Usage kind word) is)
-  goes_after least place rest (Err (Usage other at)) within stands later is = let same : at ≡ word = cc in omega (arith, within, stands, same)
-  goes_after least place rest (Err fault) within stands later is = absurd (cc)
+  goes_after least {place} rest (Ok meaning) within stands later is = later meaning.next (awaits_later least place meaning.next within stands) (of_more meaning.given (rest meaning.next) is)
+  goes_after least rest (Err (Usage other at)) within stands later is = let same : at ≡ word = cc in omega (arith, within, stands, same)
+  goes_after least rest (Err fault) within stands later is = absurd (cc)
 
   fault_after : (words : List (List ℕ)) (least place : ℕ) (state : State) → least ≤ place → Awaits least state → spelled rows words place state ≡ Err (Usage kind word) → least ≤ word
   fault_after [] least place state within awaits is = ends_after least state kind word awaits is
   fault_after (front ∷ words) least place state within awaits is =
-      goes_after least place (spelled rows words (place + 1)) (meaning_of rows state place front) within (stands_there rows state place front)
+      goes_after least (spelled rows words (place + 1)) (meaning_of rows state place front) within (stands_there rows state place front)
       (λ next awaited. fault_after words least (place + 1) next (omega (arith, within)) awaited) is
 
-  well_end : (state : State) (given : Given) (least : ℕ) → ended state ≡ Ok given → Awaits least state
-  well_end (Awaiting choice awaited option) given least is = absurd (cc)
-  well_end state given least is = tt
+  well_end : (state : State) {given : Given} (least : ℕ) → ended state ≡ Ok given → Awaits least state
+  well_end (Awaiting choice awaited option) least is = absurd (cc)
+  well_end state least is = tt
 
-  later_by : (first more : List (List ℕ)) (place : ℕ) (given : Given) (meant : Result Meaning Fault)
+  later_by : (first more : List (List ℕ)) (place : ℕ) {given : Given} (meant : Result Meaning Fault)
       → ((state : State) (rest : Given) → spelled rows first (place + 1) state ≡ Ok rest → spelled rows (first ++ more) (place + 1) state ≡ Err (Usage kind word) → place + 1 + length first ≤ word)
       → onward (spelled rows first (place + 1)) meant ≡ Ok given → onward (spelled rows (first ++ more) (place + 1)) meant ≡ Err (Usage kind word) → place + 1 + length first ≤ word
-  later_by first more place given (Ok meaning) later well is =
+  later_by first more place {given} (Ok meaning) later well is =
       let rest = well_more meaning.given given (spelled rows first (place + 1) meaning.next) well in
-      later meaning.next rest.0 rest.1 (of_more meaning.given (spelled rows (first ++ more) (place + 1) meaning.next) (Usage kind word) is)
-  later_by first more place given (Err fault) later well is = absurd (cc)
+      later meaning.next rest.0 rest.1 (of_more meaning.given (spelled rows (first ++ more) (place + 1) meaning.next) is)
+  later_by first more place (Err fault) later well is = absurd (cc)
 
   -- where the first words are well, a fault stands after them
   pub stands_later : (first more : List (List ℕ)) (place : ℕ) (state : State) (given : Given) → spelled rows first place state ≡ Ok given → spelled rows (first ++ more) place state ≡ Err (Usage kind word) → place + length first ≤ word
-  stands_later [] more place state given well is = let least = fault_after more place place state (omega arith) (well_end state given place well) is in omega (arith, least)
+  stands_later [] more place state given well is = let least = fault_after more place place state (omega arith) (well_end state place well) is in omega (arith, least)
   stands_later (front ∷ first) more place state given well is =
-      let least = later_by first more place given (meaning_of rows state place front) (λ next rest. stands_later first more (place + 1) next rest) well is in omega (arith, least)
+      let least = later_by first more place (meaning_of rows state place front) (λ next rest. stands_later first more (place + 1) next rest) well is in omega (arith, least)

@@ -175,19 +175,19 @@ meaning-gives rows OnlyOperands place word = (tt, inr refl)
 abbrev GivesAmong : ℕ → List (List ℕ) → Result Given Fault → Type 0
 GivesAmong place words given = IfOk given (λ given. AreSound given.options × AreAmong given.operands place words)
 
-before-among : (place : ℕ) (word : List ℕ) (words : List (List ℕ)) (front : Given) (rest : Result Given Fault)
+before-among : {place : ℕ} {word : List ℕ} (words : List (List ℕ)) (front : Given) (rest : Result Given Fault)
     → AreSound front.options × ((front.operands ≡ []) ⊎ (front.operands ≡ record { text = word; word = place } ∷ [])) → GivesAmong (place + 1) words rest → GivesAmong place (word ∷ words) (given_before front rest)
-before-among place word words front (Ok more) (sound, inl is) among =
+before-among {place} {word} words front (Ok more) (sound, inl is) among =
     let P : List GivenOperand → Type 0 = λ operands. AreAmong (operands ++ more.operands) place (word ∷ words) in
     (sound-append front.options more.options sound among.0, subst P (sym is) (passed more.operands place word words among.1))
-before-among place word words front (Ok more) (sound, inr is) among =
+before-among {place} {word} words front (Ok more) (sound, inr is) among =
     let P : List GivenOperand → Type 0 = λ operands. AreAmong (operands ++ more.operands) place (word ∷ words) in
     (sound-append front.options more.options sound among.0, subst P (sym is) (taken more.operands place word words among.1))
-before-among place word words front (Err fault) is among = tt
+before-among words front (Err fault) is among = tt
 
 onward-among : (place : ℕ) (word : List ℕ) (words : List (List ℕ)) (rest : State → Result Given Fault) (meant : Result Meaning Fault)
     → GivesItself place word meant → ((next : State) → GivesAmong (place + 1) words (rest next)) → GivesAmong place (word ∷ words) (onward rest meant)
-onward-among place word words rest (Ok meaning) is among = before-among place word words meaning.given (rest meaning.next) is (among meaning.next)
+onward-among place word words rest (Ok meaning) is among = before-among words meaning.given (rest meaning.next) is (among meaning.next)
 onward-among place word words rest (Err fault) is among = tt
 
 spelled-gives : (rows : List OptionRow) (words : List (List ℕ)) (place : ℕ) (state : State) → GivesAmong place words (spelled rows words place state)

@@ -17,7 +17,7 @@ returns-then-is_empty-clause-err c =
 pub returns : goal.returns
 returns c =
     let there =
-    settled c.args.spelled.now c.deref.result.now _ c.as_slice.result.now c.in_ok-style.style c.read_settings.result
+    settled c.args.spelled.now c.deref.result.now _ c.as_slice.result.now c.read_settings.result
     (ap (map option_seen) c.deref.ensures.value ∙ ap (λ (given : Given). given.options) c.spelled.view_is)
     (ap (map operand_seen) c.as_slice.ensures.value ∙ ap (λ (given : Given). given.operands) c.spelled.view_is)
     c.in_ok-style.ensures.ok c.in-len1-up.len_at_least (grind (arith, nat_tests)) c.read_settings.ensures.ok c.read_settings.ensures.err in
