@@ -37,30 +37,30 @@ tee_undecided names x = record {
 
 -- spots are right
 
-each_goes : (place : ℕ) (names : List (List ℕ)) (i : ℕ) (at : Spot) → GoesTo at (spots_each place names i) → (at.offset ≡ i) × (place ≤ at.place) × (at.place < place + length names)
-each_goes place [] i at goes = absurd goes
-each_goes place (name ∷ names) i at (inl is) = (ap (λ those. those.offset) is, (let e : at.place ≡ place = ap (λ those. those.place) is in omega (arith, e)), (let e : at.place ≡ place = ap (λ those. those.place) is in omega (arith, e)))
-each_goes place (name ∷ names) i at (inr goes) = (let rest = each_goes (place + 1) names i at goes in (rest.0, (let less = rest.1 in omega (arith, less)), (let less = rest.2 in omega (arith, less))))
+each_goes : (place : ℕ) (names : List (List ℕ)) {i : ℕ} (at : Spot) → GoesTo at (spots_each place names i) → (at.offset ≡ i) × (place ≤ at.place) × (at.place < place + length names)
+each_goes place [] at goes = absurd goes
+each_goes place (name ∷ names) at (inl is) = (ap (λ those. those.offset) is, (let e : at.place ≡ place = ap (λ those. those.place) is in omega (arith, e)), (let e : at.place ≡ place = ap (λ those. those.place) is in omega (arith, e)))
+each_goes place (name ∷ names) at (inr goes) = (let rest = each_goes (place + 1) names at goes in (rest.0, (let less = rest.1 in omega (arith, less)), (let less = rest.2 in omega (arith, less))))
 
-all_go : (names : List (List ℕ)) (i : ℕ) (at : Spot) → GoesTo at (spot 0 i ∷ spots_each 1 names i) → (at.offset ≡ i) × (at.place < 1 + length names)
-all_go names i at (inl is) = (ap (λ those. those.offset) is, (let e : at.place ≡ 0 = ap (λ those. those.place) is in omega (arith, e)))
-all_go names i at (inr goes) = (let rest = each_goes 1 names i at goes in (rest.0, rest.2))
+all_go : (names : List (List ℕ)) {i : ℕ} (at : Spot) → GoesTo at (spot 0 i ∷ spots_each 1 names i) → (at.offset ≡ i) × (at.place < 1 + length names)
+all_go names at (inl is) = (ap (λ those. those.offset) is, (let e : at.place ≡ 0 = ap (λ those. those.place) is in omega (arith, e)))
+all_go names at (inr goes) = (let rest = each_goes 1 names at goes in (rest.0, rest.2))
 
-tee_goes_by : (names : List (List ℕ)) (x : List ℕ) (i : ℕ) (at : Spot) (less : Bool) → nat_lt i (length x) ≡ less → GoesTo at (cond less (spot 0 i ∷ spots_each 1 names i) []) → (at.offset ≡ i) × (at.place < 1 + length names)
-tee_goes_by names x i at true is goes = all_go names i at goes
-tee_goes_by names x i at false is goes = absurd goes
+tee_goes_by : (names : List (List ℕ)) (x : List ℕ) {i : ℕ} (at : Spot) (less : Bool) → nat_lt i (length x) ≡ less → GoesTo at (cond less (spot 0 i ∷ spots_each 1 names i) []) → (at.offset ≡ i) × (at.place < 1 + length names)
+tee_goes_by names x at true is goes = all_go names at goes
+tee_goes_by names x at false is goes = absurd goes
 
-tee_goes : (names : List (List ℕ)) (x : List ℕ) (i : ℕ) (at : Spot) → GoesTo at (tee_spots names x i) → (at.offset ≡ i) × (at.place < 1 + length names)
-tee_goes names x i at goes = tee_goes_by names x i at (nat_lt i (length x)) refl goes
+tee_goes : (names : List (List ℕ)) (x : List ℕ) {i : ℕ} (at : Spot) → GoesTo at (tee_spots names x i) → (at.offset ≡ i) × (at.place < 1 + length names)
+tee_goes names x {i} at goes = tee_goes_by names x at (nat_lt i (length x)) refl goes
 
-file_has : (mode : Mode) (names : List (List ℕ)) (x : List ℕ) (place : ℕ) → place < length names → get_or (map (λ (file : File). file.bytes) (map (copy_in mode Closed x) names)) place [] ≡ x
-file_has mode [] x place less = absurd (omega (arith, less))
-file_has mode (name ∷ names) x zero less = refl
-file_has mode (name ∷ names) x (suc place) less = file_has mode names x place (omega (arith, less))
+file_has : (mode : Mode) (names : List (List ℕ)) {x : List ℕ} (place : ℕ) → place < length names → get_or (map (λ (file : File). file.bytes) (map (copy_in mode Closed x) names)) place [] ≡ x
+file_has mode [] place less = absurd (omega (arith, less))
+file_has mode (name ∷ names) zero less = refl
+file_has mode (name ∷ names) (suc place) less = file_has mode names place (omega (arith, less))
 
-output_has : (mode : Mode) (names : List (List ℕ)) (x : List ℕ) (place : ℕ) → place < 1 + length names → output_at ((tee_work mode names).whole x) place ≡ x
-output_has mode names x zero less = refl
-output_has mode names x (suc place) less = file_has mode names x place (omega (arith, less))
+output_has : (mode : Mode) (names : List (List ℕ)) {x : List ℕ} (place : ℕ) → place < 1 + length names → output_at ((tee_work mode names).whole x) place ≡ x
+output_has mode names zero less = refl
+output_has mode names (suc place) less = file_has mode names place (omega (arith, less))
 
 no_output : (mode : Mode) (names : List (List ℕ)) (x : List ℕ) (place offset : ℕ) → offset < length (get_or (map (λ (file : File). file.bytes) (map (copy_in mode Closed x) names)) place []) → place < length names
 no_output mode [] x place offset less = absurd (omega (arith, less))
@@ -76,7 +76,7 @@ tee_filled : (mode : Mode) (names : List (List ℕ)) (x : List ℕ) (place offse
 tee_filled mode names x zero offset less = (offset, less, subst (λ within. GoesTo (spot 0 offset) (cond within (spot 0 offset ∷ spots_each 1 names offset) [])) (sym (lt-ltb offset (length x) less)) (inl refl))
 tee_filled mode names x (suc place) offset less =
     let there = no_output mode names x place offset less in
-    let within : offset < length x = subst (λ those. offset < length those) (file_has mode names x place there) less in (
+    let within : offset < length x = subst (λ those. offset < length those) (file_has mode names place there) less in (
       offset,
       within,
       subst (λ is. GoesTo (spot (suc place) offset) (cond is (spot 0 offset ∷ spots_each 1 names offset) [])) (sym (lt-ltb offset (length x) within))
@@ -85,10 +85,10 @@ tee_filled mode names x (suc place) offset less =
 
 pub tee_placed : (mode : Mode) (names : List (List ℕ)) → ArePlaced (tee_work mode names) (tee_spots names)
 tee_placed mode names = record {
-  stands = λ x i at less goes. (let one = tee_goes names x i at goes in let has = output_has mode names x at.place one.1 in
+  stands = λ x i at less goes. (let one = tee_goes names x at goes in let has = output_has mode names at.place one.1 in
       (subst (λ those. at.offset < length those) (sym has) (let e = one.0 in omega (arith, less, e)), ap (λ those. get_or those at.offset 0) has ∙ ap (λ k. get_or x k 0) one.0));
   filled = λ x at less. tee_filled mode names x at.place at.offset less;
-  apart = λ x i j at goes also. sym (tee_goes names x i at goes).0 ∙ (tee_goes names x j at also).0;
+  apart = λ x i j at goes also. sym (tee_goes names x at goes).0 ∙ (tee_goes names x at also).0;
 }
 
 -- the outputs of a run in which nothing breaks

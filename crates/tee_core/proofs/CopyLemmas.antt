@@ -26,11 +26,11 @@ pub record Marks (call : ℕ) (before after : Option ℕ) (was now : Bool) : Typ
   pub then_is : broke_before call after ≡ was
   pub now_is : broke_before (suc call) after ≡ now
 
-pub marked_none : (call : ℕ) → Marks call None None false false
-marked_none call = record { said = refl; older = λ other less. refl; sooner = λ other within. refl; then_is = refl; now_is = refl }
+pub marked_none : {call : ℕ} → Marks call None None false false
+marked_none = record { said = refl; older = λ other less. refl; sooner = λ other within. refl; then_is = refl; now_is = refl }
 
-pub marked_now : (call : ℕ) → Marks call None (Some call) false true
-marked_now call = record {
+pub marked_now : {call : ℕ} → Marks call None (Some call) false true
+marked_now {call} = record {
   said = eq-eqb call call refl;
   older = λ other less. ne_eqb call other (λ is. omega (arith, is, less));
   sooner = λ other within. le-ltb call other within;
@@ -38,8 +38,8 @@ marked_now call = record {
   now_is = lt-ltb call (suc call) (omega arith);
 }
 
-pub marked_before : (call earlier : ℕ) → earlier < call → Marks call (Some earlier) (Some earlier) true true
-marked_before call earlier less = record {
+pub marked_before : {call earlier : ℕ} → earlier < call → Marks call (Some earlier) (Some earlier) true true
+marked_before {call} {earlier} less = record {
   said = ne_eqb earlier call (λ is. omega (arith, is, less));
   older = λ other before. refl;
   sooner = λ other within. refl;
@@ -51,42 +51,42 @@ pub data AllMark (call : ℕ) : List (Option ℕ) → List (Option ℕ) → List
   none_marked : AllMark call [] [] [] []
   all_marked : (before after : Option ℕ) (was now : Bool) (befores afters : List (Option ℕ)) (known broken : List Bool) → Marks call before after was now → AllMark call befores afters known broken → AllMark call (before ∷ befores) (after ∷ afters) (was ∷ known) (now ∷ broken)
 
-pub said_marked : (call : ℕ) (names : List (List ℕ)) (befores afters : List (Option ℕ)) (known broken : List Bool) → AllMark call befores afters known broken → said_in call names afters ≡ said_since (fault_in call) names known broken
-said_marked call [] _ _ _ _ marked = refl
-said_marked call (name ∷ names) _ _ _ _ none_marked = refl
-said_marked call (name ∷ names) _ _ _ _ (all_marked before after was now befores afters known broken one rest) =
+pub said_marked : {call : ℕ} (names : List (List ℕ)) {befores afters : List (Option ℕ)} {known broken : List Bool} → AllMark call befores afters known broken → said_in call names afters ≡ said_since (fault_in call) names known broken
+said_marked [] marked = refl
+said_marked (name ∷ names) none_marked = refl
+said_marked {call} (name ∷ names) (all_marked before after was now befores afters known broken one rest) =
     ap (λ (flag : Bool). if flag then message_of Tee (fault_in call) name ∷ said_in call names afters else said_in call names afters) one.said
-    ∙ ap (λ texts. if not was && now then message_of Tee (fault_in call) name ∷ texts else texts) (said_marked call names befores afters known broken rest)
+    ∙ ap (λ texts. if not was && now then message_of Tee (fault_in call) name ∷ texts else texts) (said_marked names rest)
 
-said_older : (call other : ℕ) (names : List (List ℕ)) (befores afters : List (Option ℕ)) (known broken : List Bool) → other < call → AllMark call befores afters known broken → said_in other names afters ≡ said_in other names befores
-said_older call other [] _ _ _ _ less marked = refl
-said_older call other (name ∷ names) _ _ _ _ less none_marked = refl
-said_older call other (name ∷ names) _ _ _ _ less (all_marked before after was now befores afters known broken one rest) =
+said_older : {call : ℕ} (other : ℕ) (names : List (List ℕ)) {befores afters : List (Option ℕ)} {known broken : List Bool} → other < call → AllMark call befores afters known broken → said_in other names afters ≡ said_in other names befores
+said_older other [] less marked = refl
+said_older other (name ∷ names) less none_marked = refl
+said_older other (name ∷ names) less (all_marked before after was now befores afters known broken one rest) =
     ap (λ (flag : Bool). if flag then message_of Tee (fault_in other) name ∷ said_in other names afters else said_in other names afters) (one.older other less)
-    ∙ ap (λ texts. if broke_in other before then message_of Tee (fault_in other) name ∷ texts else texts) (said_older call other names befores afters known broken less rest)
+    ∙ ap (λ texts. if broke_in other before then message_of Tee (fault_in other) name ∷ texts else texts) (said_older other names less rest)
 
-pub all_older : (call end : ℕ) (names : List (List ℕ)) (befores afters : List (Option ℕ)) (known broken : List Bool) → end ≤ call → AllMark call befores afters known broken → said_before end names afters ≡ said_before end names befores
-all_older call zero names befores afters known broken past marked = refl
-all_older call (suc end) names befores afters known broken past marked =
-    ap (λ texts. texts ++ said_in end names afters) (all_older call end names befores afters known broken (omega arith) marked)
-    ∙ ap (λ texts. said_before end names befores ++ texts) (said_older call end names befores afters known broken (omega arith) marked)
+pub all_older : {call : ℕ} (end : ℕ) (names : List (List ℕ)) {befores afters : List (Option ℕ)} {known broken : List Bool} → end ≤ call → AllMark call befores afters known broken → said_before end names afters ≡ said_before end names befores
+all_older zero names past marked = refl
+all_older (suc end) names {befores} {afters} past marked =
+    ap (λ texts. texts ++ said_in end names afters) (all_older end names (omega arith) marked)
+    ∙ ap (λ texts. said_before end names befores ++ texts) (said_older end names (omega arith) marked)
 
 -- whether no output is left
 
-pub none_sooner : (call other : ℕ) (befores afters : List (Option ℕ)) (known broken : List Bool) → other ≤ call → AllMark call befores afters known broken → none_left other afters ≡ none_left other befores
-none_sooner call other _ _ _ _ within none_marked = refl
-none_sooner call other _ _ _ _ within (all_marked before after was now befores afters known broken one rest) =
-    ap (λ (flag : Bool). flag && none_left other afters) (one.sooner other within) ∙ ap (λ (flag : Bool). broke_before other before && flag) (none_sooner call other befores afters known broken within rest)
+pub none_sooner : {call : ℕ} (other : ℕ) {befores afters : List (Option ℕ)} {known broken : List Bool} → other ≤ call → AllMark call befores afters known broken → none_left other afters ≡ none_left other befores
+none_sooner other within none_marked = refl
+none_sooner other within (all_marked before after was now befores afters known broken one rest) =
+    ap (λ (flag : Bool). flag && none_left other afters) (one.sooner other within) ∙ ap (λ (flag : Bool). broke_before other before && flag) (none_sooner other within rest)
 
-none_then : (call : ℕ) (befores afters : List (Option ℕ)) (known broken : List Bool) → AllMark call befores afters known broken → none_left call afters ≡ all_of known
-none_then call _ _ _ _ none_marked = refl
-none_then call _ _ _ _ (all_marked before after was now befores afters known broken one rest) =
-    ap (λ (flag : Bool). flag && none_left call afters) one.then_is ∙ ap (λ (flag : Bool). was && flag) (none_then call befores afters known broken rest)
+none_then : {call : ℕ} {befores afters : List (Option ℕ)} {known broken : List Bool} → AllMark call befores afters known broken → none_left call afters ≡ all_of known
+none_then none_marked = refl
+none_then {call} (all_marked before after was now befores afters known broken one rest) =
+    ap (λ (flag : Bool). flag && none_left call afters) one.then_is ∙ ap (λ (flag : Bool). was && flag) (none_then rest)
 
-pub none_now : (call : ℕ) (befores afters : List (Option ℕ)) (known broken : List Bool) → AllMark call befores afters known broken → none_left (suc call) afters ≡ all_of broken
-none_now call _ _ _ _ none_marked = refl
-none_now call _ _ _ _ (all_marked before after was now befores afters known broken one rest) =
-    ap (λ (flag : Bool). flag && none_left (suc call) afters) one.now_is ∙ ap (λ (flag : Bool). now && flag) (none_now call befores afters known broken rest)
+pub none_now : {call : ℕ} {befores afters : List (Option ℕ)} {known broken : List Bool} → AllMark call befores afters known broken → none_left (suc call) afters ≡ all_of broken
+none_now none_marked = refl
+none_now {call} (all_marked before after was now befores afters known broken one rest) =
+    ap (λ (flag : Bool). flag && none_left (suc call) afters) one.now_is ∙ ap (λ (flag : Bool). now && flag) (none_now rest)
 
 -- one output
 
@@ -99,43 +99,43 @@ whole_now told pieces piece start = adds_both told (concat pieces) piece start �
 begun_now : (told : Bool) (pieces : List (List ℕ)) (piece : List ℕ) (n : ℕ) (start : Slot) → breaks (adds (told_of told (take n piece)) (adds (told_of told (concat pieces)) start)) ≡ breaks (adds (told_of told (concat pieces ++ take n piece)) start)
 begun_now told pieces piece n start = ap breaks (adds_both told (concat pieces) (take n piece) start)
 
-still_there : (pieces before after : List (List ℕ)) (piece more : List ℕ) → pieces ≡ before ++ piece ∷ after → pieces ++ more ∷ [] ≡ before ++ piece ∷ (after ++ more ∷ [])
-still_there pieces before after piece more is = ap (λ those. those ++ more ∷ []) is ∙ append_assoc before (piece ∷ after) (more ∷ [])
+still_there : {pieces : List (List ℕ)} (before after : List (List ℕ)) (piece more : List ℕ) → pieces ≡ before ++ piece ∷ after → pieces ++ more ∷ [] ≡ before ++ piece ∷ (after ++ more ∷ [])
+still_there before after piece more is = ap (λ those. those ++ more ∷ []) is ∙ append_assoc before (piece ∷ after) (more ∷ [])
 
 -- a piece was fed in a call before those that follow
-pub call_before : (pieces before after : List (List ℕ)) (piece : List ℕ) → pieces ≡ before ++ piece ∷ after → suc (length before) < suc (length pieces)
-call_before pieces before after piece is = let size : length (before ++ piece ∷ after) ≡ length before + length (piece ∷ after) = length-append before (piece ∷ after) in omega (arith, ap length is, size)
+pub call_before : {pieces : List (List ℕ)} (before after : List (List ℕ)) (piece : List ℕ) → pieces ≡ before ++ piece ∷ after → suc (length before) < suc (length pieces)
+call_before before after piece is = let size : length (before ++ piece ∷ after) ≡ length before + length (piece ∷ after) = length-append before (piece ∷ after) in omega (arith, ap length is, size)
 
 abbrev pub OutputMore : Bool → List (List ℕ) → List ℕ → Option ℕ → Slot → Slot → Type 0
 OutputMore told pieces piece first old new = (after : Option ℕ) × OutputLeft told (pieces ++ piece ∷ []) after new × Marks (suc (length pieces)) first after old.is_broken new.is_broken
 
-output_more : (told : Bool) (pieces : List (List ℕ)) (piece : List ℕ) (first : Option ℕ) (old new : Slot) → OutputLeft told pieces first old → Gets told piece old new → OutputMore told pieces piece first old new
-output_more told pieces piece _ _ _ output_whole (gets_all sound) =
-    (None, subst (OutputLeft told (pieces ++ piece ∷ []) None) (sym (whole_now told pieces piece standard_output)) output_whole, marked_none (suc (length pieces)))
-output_more told pieces piece _ _ _ output_whole (breaks_off sound n within) =
-    (Some (suc (length pieces)), subst (OutputLeft told (pieces ++ piece ∷ []) (Some (suc (length pieces)))) (sym (begun_now told pieces piece n standard_output)) (output_cut pieces piece [] n refl within), marked_now (suc (length pieces)))
-output_more told pieces piece _ _ _ output_whole (gets_none broken) = absurd (false≢true broken)
-output_more told pieces piece _ _ _ (output_cut before that after n is within) (gets_all again) = absurd (false≢true (sym again))
-output_more told pieces piece _ _ _ (output_cut before that after n is within) (breaks_off again m less) = absurd (false≢true (sym again))
-output_more told pieces piece _ _ _ (output_cut before that after n is within) (gets_none broken) =
-    (Some (suc (length before)), output_cut before that (after ++ piece ∷ []) n (still_there pieces before after that piece is) within, marked_before (suc (length pieces)) (suc (length before)) (call_before pieces before after that is))
+output_more : (told : Bool) {pieces : List (List ℕ)} {piece : List ℕ} {first : Option ℕ} {old new : Slot} → OutputLeft told pieces first old → Gets told piece old new → OutputMore told pieces piece first old new
+output_more told {pieces} {piece} output_whole (gets_all sound) =
+    (None, subst (OutputLeft told (pieces ++ piece ∷ []) None) (sym (whole_now told pieces piece standard_output)) output_whole, marked_none)
+output_more told {pieces} {piece} output_whole (breaks_off sound n within) =
+    (Some (suc (length pieces)), subst (OutputLeft told (pieces ++ piece ∷ []) (Some (suc (length pieces)))) (sym (begun_now told pieces piece n standard_output)) (output_cut pieces piece [] n refl within), marked_now)
+output_more told output_whole (gets_none broken) = absurd (false≢true broken)
+output_more told (output_cut before that after n is within) (gets_all again) = absurd (false≢true (sym again))
+output_more told (output_cut before that after n is within) (breaks_off again m less) = absurd (false≢true (sym again))
+output_more told {piece} (output_cut before that after n is within) (gets_none broken) =
+    (Some (suc (length before)), output_cut before that (after ++ piece ∷ []) n (still_there before after that piece is) within, marked_before (call_before before after that is))
 
 abbrev pub FileMore : Bool → Mode → List (List ℕ) → List ℕ → List ℕ → Option ℕ → Slot → Slot → Type 0
 FileMore told mode pieces piece name first old new = (after : Option ℕ) × FileHas told mode (pieces ++ piece ∷ []) name after new × Marks (suc (length pieces)) first after old.is_broken new.is_broken
 
-file_more : (told : Bool) (mode : Mode) (pieces : List (List ℕ)) (piece : List ℕ) (name : List ℕ) (first : Option ℕ) (old new : Slot) → FileHas told mode pieces name first old → Gets told piece old new → FileMore told mode pieces piece name first old new
-file_more told mode pieces piece name _ _ _ has_all (gets_all sound) =
-    (None, subst (FileHas told mode (pieces ++ piece ∷ []) name None) (sym (whole_now told pieces piece (opened name mode))) has_all, marked_none (suc (length pieces)))
-file_more told mode pieces piece name _ _ _ has_all (breaks_off sound n within) =
-    (Some (suc (length pieces)), subst (FileHas told mode (pieces ++ piece ∷ []) name (Some (suc (length pieces)))) (sym (begun_now told pieces piece n (opened name mode))) (has_begun pieces piece [] n refl within), marked_now (suc (length pieces)))
-file_more told mode pieces piece name _ _ _ has_all (gets_none broken) = absurd (false≢true broken)
-file_more told mode pieces piece name _ _ _ (has_none kept named) (gets_all again) = absurd (false≢true (sym again))
-file_more told mode pieces piece name _ _ _ (has_none kept named) (breaks_off again m less) = absurd (false≢true (sym again))
-file_more told mode pieces piece name _ _ _ (has_none kept named) (gets_none broken) = (Some 0, has_none kept named, marked_before (suc (length pieces)) 0 (omega arith))
-file_more told mode pieces piece name _ _ _ (has_begun before that after n is within) (gets_all again) = absurd (false≢true (sym again))
-file_more told mode pieces piece name _ _ _ (has_begun before that after n is within) (breaks_off again m less) = absurd (false≢true (sym again))
-file_more told mode pieces piece name _ _ _ (has_begun before that after n is within) (gets_none broken) =
-    (Some (suc (length before)), has_begun before that (after ++ piece ∷ []) n (still_there pieces before after that piece is) within, marked_before (suc (length pieces)) (suc (length before)) (call_before pieces before after that is))
+file_more : (told : Bool) {mode : Mode} {pieces : List (List ℕ)} {piece : List ℕ} {name : List ℕ} {first : Option ℕ} {old new : Slot} → FileHas told mode pieces name first old → Gets told piece old new → FileMore told mode pieces piece name first old new
+file_more told {mode} {pieces} {piece} {name} has_all (gets_all sound) =
+    (None, subst (FileHas told mode (pieces ++ piece ∷ []) name None) (sym (whole_now told pieces piece (opened name mode))) has_all, marked_none)
+file_more told {mode} {pieces} {piece} {name} has_all (breaks_off sound n within) =
+    (Some (suc (length pieces)), subst (FileHas told mode (pieces ++ piece ∷ []) name (Some (suc (length pieces)))) (sym (begun_now told pieces piece n (opened name mode))) (has_begun pieces piece [] n refl within), marked_now)
+file_more told has_all (gets_none broken) = absurd (false≢true broken)
+file_more told (has_none kept named) (gets_all again) = absurd (false≢true (sym again))
+file_more told (has_none kept named) (breaks_off again m less) = absurd (false≢true (sym again))
+file_more told (has_none kept named) (gets_none broken) = (Some 0, has_none kept named, marked_before (omega arith))
+file_more told (has_begun before that after n is within) (gets_all again) = absurd (false≢true (sym again))
+file_more told (has_begun before that after n is within) (breaks_off again m less) = absurd (false≢true (sym again))
+file_more told {piece} (has_begun before that after n is within) (gets_none broken) =
+    (Some (suc (length before)), has_begun before that (after ++ piece ∷ []) n (still_there before after that piece is) within, marked_before (call_before before after that is))
 
 -- the files
 
@@ -143,58 +143,58 @@ abbrev pub FilesMore : Bool → Mode → List (List ℕ) → List ℕ → List (
 FilesMore told mode pieces piece names broke olds news =
     (after : List (Option ℕ)) × FilesHave told mode (pieces ++ piece ∷ []) names after news × AllMark (suc (length pieces)) broke after (map (λ (file : Slot). file.is_broken) olds) (map (λ (file : Slot). file.is_broken) news)
 
-files_more : (told : Bool) (mode : Mode) (pieces : List (List ℕ)) (piece : List ℕ) (names : List (List ℕ)) (broke : List (Option ℕ)) (olds news : List Slot) → length news ≡ length olds → ((n : ℕ) → n < length olds → Gets told piece (slot_at olds n) (slot_at news n))
+files_more : (told : Bool) {mode : Mode} {pieces : List (List ℕ)} {piece : List ℕ} {names : List (List ℕ)} {broke : List (Option ℕ)} {olds : List Slot} (news : List Slot) → length news ≡ length olds → ((n : ℕ) → n < length olds → Gets told piece (slot_at olds n) (slot_at news n))
     → FilesHave told mode pieces names broke olds → FilesMore told mode pieces piece names broke olds news
-files_more told mode pieces piece _ _ _ [] many gets no_more = ([], no_more, none_marked)
-files_more told mode pieces piece _ _ _ (new ∷ news) many gets no_more = absurd (omega (arith, many))
-files_more told mode pieces piece _ _ _ [] many gets (one_more name names first broke old olds one rest) = absurd (omega (arith, many))
-files_more told mode pieces piece _ _ _ (new ∷ news) many gets (one_more name names first broke old olds one rest) =
-    let here = file_more told mode pieces piece name first old new one (gets 0 (omega arith)) in
-    let there = files_more told mode pieces piece names broke olds news (omega (arith, many)) (λ n within. gets (suc n) (omega arith)) rest in
+files_more told [] many gets no_more = ([], no_more, none_marked)
+files_more told (new ∷ news) many gets no_more = absurd (omega (arith, many))
+files_more told [] many gets (one_more name names first broke old olds one rest) = absurd (omega (arith, many))
+files_more told (new ∷ news) many gets (one_more name names first broke old olds one rest) =
+    let here = file_more told one (gets 0 (omega arith)) in
+    let there = files_more told news (omega (arith, many)) (λ n within. gets (suc n) (omega arith)) rest in
     (here.0 ∷ there.0, one_more name names here.0 there.0 new news here.1 there.1, all_marked first here.0 old.is_broken new.is_broken broke there.0 _ _ here.2 there.2)
 
 -- the outputs of a run
 
-pub length-files : (told : Bool) (mode : Mode) (pieces : List (List ℕ)) (names : List (List ℕ)) (broke : List (Option ℕ)) (files : List Slot) → FilesHave told mode pieces names broke files → length files ≡ length names
-length-files told mode pieces _ _ _ no_more = refl
-length-files told mode pieces _ _ _ (one_more name names first broke file files one rest) = ap suc (length-files told mode pieces names broke files rest)
+pub length-files : (told : Bool) {mode : Mode} {pieces : List (List ℕ)} {names : List (List ℕ)} {broke : List (Option ℕ)} {files : List Slot} → FilesHave told mode pieces names broke files → length files ≡ length names
+length-files told no_more = refl
+length-files told (one_more name names first broke file files one rest) = ap suc (length-files told rest)
 
-output_usable : (told : Bool) (pieces : List (List ℕ)) (first : Option ℕ) (output : Slot) → OutputLeft told pieces first output → IsUsable output
-output_usable told pieces _ _ output_whole = λ sound. refl
-output_usable told pieces _ _ (output_cut before that after n is within) = λ sound. refl
+output_usable : (told : Bool) {pieces : List (List ℕ)} {first : Option ℕ} {output : Slot} → OutputLeft told pieces first output → IsUsable output
+output_usable told output_whole = λ sound. refl
+output_usable told (output_cut before that after n is within) = λ sound. refl
 
-file_usable : (told : Bool) (mode : Mode) (pieces : List (List ℕ)) (name : List ℕ) (first : Option ℕ) (file : Slot) → FileHas told mode pieces name first file → IsUsable file
-file_usable told mode pieces name _ _ has_all = λ sound. refl
-file_usable told mode pieces name _ _ (has_none kept named) = λ sound. absurd (false≢true (sym sound))
-file_usable told mode pieces name _ _ (has_begun before that after n is within) = λ sound. refl
+file_usable : (told : Bool) {mode : Mode} {pieces : List (List ℕ)} {name : List ℕ} {first : Option ℕ} {file : Slot} → FileHas told mode pieces name first file → IsUsable file
+file_usable told has_all = λ sound. refl
+file_usable told (has_none kept named) = λ sound. absurd (false≢true (sym sound))
+file_usable told (has_begun before that after n is within) = λ sound. refl
 
-files_usable : (told : Bool) (mode : Mode) (pieces : List (List ℕ)) (names : List (List ℕ)) (broke : List (Option ℕ)) (files : List Slot) (n : ℕ) → n < length files → FilesHave told mode pieces names broke files → IsUsable (slot_at files n)
-files_usable told mode pieces _ _ _ n within no_more = absurd (omega arith)
-files_usable told mode pieces _ _ _ zero within (one_more name names first broke file files one rest) = file_usable told mode pieces name first file one
-files_usable told mode pieces _ _ _ (suc n) within (one_more name names first broke file files one rest) = files_usable told mode pieces names broke files n (omega arith) rest
+files_usable : (told : Bool) {mode : Mode} {pieces : List (List ℕ)} {names : List (List ℕ)} {broke : List (Option ℕ)} {files : List Slot} (n : ℕ) → n < length files → FilesHave told mode pieces names broke files → IsUsable (slot_at files n)
+files_usable told n within no_more = absurd (omega arith)
+files_usable told zero within (one_more name names first broke file files one rest) = file_usable told one
+files_usable told (suc n) within (one_more name names first broke file files one rest) = files_usable told n (omega arith) rest
 
 -- a file's place, counted from the first file
-pub file_place : (names : List (List ℕ)) (tee : TeeState) (place : ℕ) → IsTeeOf names tee → IsFile tee place → (n : ℕ) × (place ≡ suc (suc n)) × (n < length names)
-file_place names tee zero is file = absurd (let first : tee.first ≡ 2 = is.first (omega (arith, file.0, file.1)) in omega (arith, file.0, first))
-file_place names tee (suc zero) is file = absurd (let first : tee.first ≡ 2 = is.first (omega (arith, file.0, file.1)) in omega (arith, file.0, first))
-file_place names tee (suc (suc n)) is file = let first : tee.first ≡ 2 = is.first (omega (arith, file.0, file.1)) in let count : tee.count ≡ length names = is.count in (n, refl, omega (arith, file.1, first, count))
+pub file_place : {names : List (List ℕ)} {tee : TeeState} (place : ℕ) → IsTeeOf names tee → IsFile tee place → (n : ℕ) × (place ≡ suc (suc n)) × (n < length names)
+file_place {tee} zero is file = absurd (let first : tee.first ≡ 2 = is.first (omega (arith, file.0, file.1)) in omega (arith, file.0, first))
+file_place {tee} (suc zero) is file = absurd (let first : tee.first ≡ 2 = is.first (omega (arith, file.0, file.1)) in omega (arith, file.0, first))
+file_place {names} {tee} (suc (suc n)) is file = let first : tee.first ≡ 2 = is.first (omega (arith, file.0, file.1)) in let count : tee.count ≡ length names = is.count in (n, refl, omega (arith, file.1, first, count))
 
-pub place_file : (names : List (List ℕ)) (tee : TeeState) (n : ℕ) → IsTeeOf names tee → n < length names → IsFile tee (suc (suc n))
-place_file names tee n is within = let count : tee.count ≡ length names = is.count in let first : tee.first ≡ 2 = is.first (omega (arith, within, count)) in (omega (arith, first), omega (arith, first, count, within))
+pub place_file : {names : List (List ℕ)} {tee : TeeState} (n : ℕ) → IsTeeOf names tee → n < length names → IsFile tee (suc (suc n))
+place_file {names} {tee} n is within = let count : tee.count ≡ length names = is.count in let first : tee.first ≡ 2 = is.first (omega (arith, within, count)) in (omega (arith, first), omega (arith, first, count, within))
 
-pub error_no_output : (names : List (List ℕ)) (tee : TeeState) → IsTeeOf names tee → IsOutput tee 1 → ⊥
-error_no_output names tee is (inl here) = omega (arith, here)
-error_no_output names tee is (inr file) = let there = file_place names tee 1 is file in omega (arith, there.1)
+pub error_no_output : {names : List (List ℕ)} {tee : TeeState} → IsTeeOf names tee → IsOutput tee 1 → ⊥
+error_no_output is (inl here) = omega (arith, here)
+error_no_output is (inr file) = let there = file_place 1 is file in omega (arith, there.1)
 
 module _ (told : Bool) (mode : Mode) (names : List (List ℕ)) where
-  pub copies_ready : (pieces : List (List ℕ)) (messages : List (List ℕ)) (slots : List Slot) (known : List Bool) (tee : TeeState) → IsTeeOf names tee → Copies told mode names pieces messages slots known → IsReady tee slots
-  copies_ready pieces messages slots known tee is copies place output = subst (λ those. IsUsable (slot_at those place)) (sym copies.are) (by output) where
+  pub copies_ready : {pieces : List (List ℕ)} {messages : List (List ℕ)} {slots : List Slot} {known : List Bool} {tee : TeeState} → IsTeeOf names tee → Copies told mode names pieces messages slots known → IsReady tee slots
+  copies_ready {tee} is copies place output = subst (λ those. IsUsable (slot_at those place)) (sym copies.are) (by output) where
     by : IsOutput tee place → IsUsable (slot_at (copies.output ∷ copies.error ∷ copies.files) place)
-    by (inl here) = subst (λ at. IsUsable (slot_at (copies.output ∷ copies.error ∷ copies.files) at)) (sym here) (output_usable told pieces copies.first copies.output copies.output_has)
+    by (inl here) = subst (λ at. IsUsable (slot_at (copies.output ∷ copies.error ∷ copies.files) at)) (sym here) (output_usable told copies.output_has)
     by (inr file) =
-        let there = file_place names tee place is file in
+        let there = file_place place is file in
         subst (λ at. IsUsable (slot_at (copies.output ∷ copies.error ∷ copies.files) at)) (sym there.1)
-        (files_usable told mode pieces names copies.broke copies.files there.0 (omega (arith, there.2, length-files told mode pieces names copies.broke copies.files copies.files_have)) copies.files_have)
+        (files_usable told there.0 (omega (arith, there.2, length-files told copies.files_have)) copies.files_have)
 
   -- the outputs once a piece was fed, before anything is said of it
   pub record Next (pieces : List (List ℕ)) (piece : List ℕ) (messages : List (List ℕ)) (old mid : List Slot) (known : List Bool) (copies : Copies told mode names pieces messages old known) : Type 0 where
@@ -207,18 +207,18 @@ module _ (told : Bool) (mode : Mode) (names : List (List ℕ)) where
     pub files_have : FilesHave told mode (pieces ++ piece ∷ []) names broke files
     pub marked : AllMark (suc (length pieces)) (copies.first ∷ copies.broke) (first ∷ broke) (broken_of old) (broken_of mid)
 
-  pub fed_next : (pieces : List (List ℕ)) (piece : List ℕ) (messages : List (List ℕ)) (old mid : List Slot) (known : List Bool) (tee : TeeState) → IsTeeOf names tee → (copies : Copies told mode names pieces messages old known) → ChangesEach (Gets told piece) (IsOutput tee) old mid → Next pieces piece messages old mid known copies
-  fed_next pieces piece messages old mid known tee is copies gets = by mid refl where
+  pub fed_next : (pieces : List (List ℕ)) {piece : List ℕ} (messages : List (List ℕ)) {old mid : List Slot} (known : List Bool) {tee : TeeState} → IsTeeOf names tee → (copies : Copies told mode names pieces messages old known) → ChangesEach (Gets told piece) (IsOutput tee) old mid → Next pieces piece messages old mid known copies
+  fed_next pieces {piece} messages {old} {mid} known is copies gets = by mid refl where
     by : (those : List Slot) → mid ≡ those → Next pieces piece messages old mid known copies
     by [] short = absurd (omega (arith, ap length short, gets.count, ap length copies.are))
     by (output ∷ []) short = absurd (omega (arith, ap length short, gets.count, ap length copies.are))
     by (output ∷ error ∷ files) are =
         let here : Gets told piece copies.output output = subst (λ slot. Gets told piece copies.output slot) (ap (λ those. slot_at those 0) are) (subst (λ slot. Gets told piece slot (slot_at mid 0)) (ap (λ those. slot_at those 0) copies.are) (gets.each 0 (inl refl))) in
-        let same : error ≡ copies.error = sym (ap (λ those. slot_at those 1) are) ∙ gets.others 1 (error_no_output names tee is) ∙ ap (λ those. slot_at those 1) copies.are in
-        let one = output_more told pieces piece copies.first copies.output output copies.output_has here in
-        let many : length copies.files ≡ length names = length-files told mode pieces names copies.broke copies.files copies.files_have in
-        let rest = files_more told mode pieces piece names copies.broke copies.files files (omega (arith, ap length are, gets.count, ap length copies.are))
-        (λ n within. subst (λ slot. Gets told piece (slot_at copies.files n) slot) (ap (λ those. slot_at those (suc (suc n))) are) (subst (λ slot. Gets told piece slot (slot_at mid (suc (suc n)))) (ap (λ those. slot_at those (suc (suc n))) copies.are) (gets.each (suc (suc n)) (inr (place_file names tee n is (omega (arith, within, many))))))) copies.files_have in
+        let same : error ≡ copies.error = sym (ap (λ those. slot_at those 1) are) ∙ gets.others 1 (error_no_output is) ∙ ap (λ those. slot_at those 1) copies.are in
+        let one = output_more told copies.output_has here in
+        let many : length copies.files ≡ length names = length-files told copies.files_have in
+        let rest = files_more told files (omega (arith, ap length are, gets.count, ap length copies.are))
+        (λ n within. subst (λ slot. Gets told piece (slot_at copies.files n) slot) (ap (λ those. slot_at those (suc (suc n))) are) (subst (λ slot. Gets told piece slot (slot_at mid (suc (suc n)))) (ap (λ those. slot_at those (suc (suc n))) copies.are) (gets.each (suc (suc n)) (inr (place_file n is (omega (arith, within, many))))))) copies.files_have in
         record {
           output = output;
           files = files;
@@ -233,9 +233,9 @@ module _ (told : Bool) (mode : Mode) (names : List (List ℕ)) where
         }
 
   -- the message for it was said
-  pub piece_said : (pieces : List (List ℕ)) (piece : List ℕ) (old mid new : List Slot) (known now : List Bool) → all_of known ≡ false → (copies : Copies told mode names pieces [] old known) → Next pieces piece [] old mid known copies → SaysTo told (said_since (fault_in (suc (length pieces))) (output_names names) known (broken_of mid)) mid new → now ≡ broken_of mid
+  pub piece_said : {pieces : List (List ℕ)} {piece : List ℕ} {old mid new : List Slot} {known now : List Bool} → all_of known ≡ false → (copies : Copies told mode names pieces [] old known) → Next pieces piece [] old mid known copies → SaysTo told (said_since (fault_in (suc (length pieces))) (output_names names) known (broken_of mid)) mid new → now ≡ broken_of mid
       → Copies told mode names (pieces ++ piece ∷ []) [] new now
-  piece_said pieces piece old mid new known now some copies next says flags = record {
+  piece_said {pieces} {piece} {mid} {new} {known} some copies next says flags = record {
     output = next.output;
     error = says.0;
     files = next.files;
@@ -247,8 +247,8 @@ module _ (told : Bool) (mode : Mode) (names : List (List ℕ)) where
     said = subst (λ texts. SaysAll told Tee texts standard_error says.0) messages
         (says_after told Tee (said_before (suc (length pieces)) (output_names names) (copies.first ∷ copies.broke) ++ []) _ standard_error copies.error says.0 copies.said (subst (λ slot. SaysAll told Tee (said_since (fault_in (suc (length pieces))) (output_names names) known (broken_of mid)) slot says.0) (ap (λ those. slot_at those 1) next.are) says.1));
     known_are = flags ∙ ap broken_of next.are ∙ sym (ap broken_of new_is);
-    some_left = ap (λ call. none_left call (next.first ∷ next.broke)) (sym one_more_call) ∙ none_then (suc (length pieces)) _ _ _ _ next.marked ∙ ap all_of (sym copies.known_are) ∙ some;
-    is_vain = ap (λ call. none_left (suc call) (next.first ∷ next.broke)) (sym one_more_call) ∙ none_now (suc (length pieces)) _ _ _ _ next.marked ∙ ap all_of (sym flags);
+    some_left = ap (λ call. none_left call (next.first ∷ next.broke)) (sym one_more_call) ∙ none_then next.marked ∙ ap all_of (sym copies.known_are) ∙ some;
+    is_vain = ap (λ call. none_left (suc call) (next.first ∷ next.broke)) (sym one_more_call) ∙ none_now next.marked ∙ ap all_of (sym flags);
   } where
     one_more_call : suc (length pieces) ≡ length (pieces ++ piece ∷ [])
     one_more_call = omega (arith, length-append pieces (piece ∷ []))
@@ -259,8 +259,8 @@ module _ (told : Bool) (mode : Mode) (names : List (List ℕ)) where
     messages : (said_before (suc (length pieces)) (output_names names) (copies.first ∷ copies.broke) ++ []) ++ said_since (fault_in (suc (length pieces))) (output_names names) known (broken_of mid) ≡ said_before (suc (length (pieces ++ piece ∷ []))) (output_names names) (next.first ∷ next.broke) ++ []
     messages = ap (λ texts. texts ++ said_since (fault_in (suc (length pieces))) (output_names names) known (broken_of mid)) (append-nil _)
         ∙ ap (λ texts. said_before (suc (length pieces)) (output_names names) (copies.first ∷ copies.broke) ++ texts)
-        (ap (λ flags. said_since (fault_in (suc (length pieces))) (output_names names) flags (broken_of mid)) copies.known_are ∙ sym (said_marked (suc (length pieces)) (output_names names) _ _ _ _ next.marked))
-        ∙ ap (λ texts. texts ++ said_in (suc (length pieces)) (output_names names) (next.first ∷ next.broke)) (sym (all_older (suc (length pieces)) (suc (length pieces)) (output_names names) _ _ _ _ (omega arith) next.marked))
+        (ap (λ flags. said_since (fault_in (suc (length pieces))) (output_names names) flags (broken_of mid)) copies.known_are ∙ sym (said_marked (output_names names) next.marked))
+        ∙ ap (λ texts. texts ++ said_in (suc (length pieces)) (output_names names) (next.first ∷ next.broke)) (sym (all_older (suc (length pieces)) (output_names names) (omega arith) next.marked))
         ∙ sym (append-nil _) ∙ ap (λ call. said_before (suc call) (output_names names) (next.first ∷ next.broke) ++ []) one_more_call
 
   -- both streams are there, whatever became of the other outputs
@@ -276,16 +276,14 @@ module _ (told : Bool) (mode : Mode) (names : List (List ℕ)) where
     files_are = many;
   }
 
-  pub copies_streams : (pieces : List (List ℕ)) (messages : List (List ℕ)) (slots : List Slot) (known : List Bool)
+  pub copies_streams : {pieces : List (List ℕ)} {messages : List (List ℕ)} {slots : List Slot} {known : List Bool}
       → Copies told mode names pieces messages slots known → HasStreams slots (length names)
-  copies_streams pieces messages slots known copies =
-      streams_after copies copies.are (length-files told mode pieces names copies.broke copies.files copies.files_have)
+  copies_streams copies = streams_after copies copies.are (length-files told copies.files_have)
 
   pub next_streams : (pieces : List (List ℕ)) (piece : List ℕ) (messages : List (List ℕ)) (old mid : List Slot) (known : List Bool) (tee : TeeState) → IsTeeOf names tee → Copies told mode names pieces messages old known → ChangesEach (Gets told piece) (IsOutput tee) old mid → HasStreams mid (length names)
   next_streams pieces piece messages old mid known tee is copies gets =
-      let next = fed_next pieces piece messages old mid known tee is copies gets in
-      streams_after copies next.are (length-files told mode (pieces ++ piece ∷ []) names next.broke next.files next.files_have)
+      let next = fed_next pieces {piece = piece} messages {old = old} {mid = mid} known {tee = tee} is copies gets in
+      streams_after copies next.are (length-files told {mode = mode} {pieces = pieces ++ piece ∷ []} {names = names} {broke = next.broke} {files = next.files} next.files_have)
 
-  pub known_many : (pieces : List (List ℕ)) (messages : List (List ℕ)) (slots : List Slot) (known : List Bool) → Copies told mode names pieces messages slots known → length known ≡ length names + 1
-  known_many pieces messages slots known copies =
-      ap length copies.known_are ∙ count_broken slots (length names) (copies_streams pieces messages slots known copies)
+  pub known_many : {pieces : List (List ℕ)} {messages : List (List ℕ)} {slots : List Slot} {known : List Bool} → Copies told mode names pieces messages slots known → length known ≡ length names + 1
+  known_many copies = ap length copies.known_are ∙ count_broken (copies_streams copies)

@@ -14,89 +14,89 @@ use Rattle.tee_core.proofs.ChangeLemmas.{InTurn, Turns, is_between, next_in_turn
 
 -- one output
 
-pub gets_more : (told : Bool) (x y : List ℕ) (old mid new : Slot) → Gets told x old mid → Gets told y mid new → Gets told (x ++ y) old new
-gets_more told x y old _ _ (gets_all sound) (gets_all again) = subst (Gets told (x ++ y) old) (sym (adds_both told x y old)) (gets_all sound)
-gets_more told x y old _ _ (gets_all sound) (breaks_off again n within) =
+pub gets_more : (told : Bool) {x y : List ℕ} {old mid new : Slot} → Gets told x old mid → Gets told y mid new → Gets told (x ++ y) old new
+gets_more told {x} {y} {old} (gets_all sound) (gets_all again) = subst (Gets told (x ++ y) old) (sym (adds_both told x y old)) (gets_all sound)
+gets_more told {x} {y} {old} (gets_all sound) (breaks_off again n within) =
     subst (Gets told (x ++ y) old) (ap (λ bytes. breaks (adds (told_of told bytes) old)) (take-append-add x y n) ∙ sym (ap breaks (adds_both told x (take n y) old)))
     (breaks_off sound (length x + n) (omega (arith, within, length-append x y)))
-gets_more told x y old _ _ (gets_all sound) (gets_none broken) = absurd (false≢true (sym sound ∙ broken))
-gets_more told x y old _ _ (breaks_off sound n within) (gets_all again) = absurd (false≢true (sym again))
-gets_more told x y old _ _ (breaks_off sound n within) (breaks_off again m less) = absurd (false≢true (sym again))
-gets_more told x y old _ _ (breaks_off sound n within) (gets_none broken) =
+gets_more told (gets_all sound) (gets_none broken) = absurd (false≢true (sym sound ∙ broken))
+gets_more told (breaks_off sound n within) (gets_all again) = absurd (false≢true (sym again))
+gets_more told (breaks_off sound n within) (breaks_off again m less) = absurd (false≢true (sym again))
+gets_more told {x} {y} {old} (breaks_off sound n within) (gets_none broken) =
     subst (Gets told (x ++ y) old) (ap (λ bytes. breaks (adds (told_of told bytes) old)) (take-append-le n x y (omega (arith, within))))
     (breaks_off sound n (omega (arith, within, length-append x y)))
-gets_more told x y old _ _ (gets_none broken) (gets_all again) = absurd (false≢true (sym again ∙ broken))
-gets_more told x y old _ _ (gets_none broken) (breaks_off again m less) = absurd (false≢true (sym again ∙ broken))
-gets_more told x y old _ _ (gets_none broken) (gets_none again) = gets_none broken
+gets_more told (gets_none broken) (gets_all again) = absurd (false≢true (sym again ∙ broken))
+gets_more told (gets_none broken) (breaks_off again m less) = absurd (false≢true (sym again ∙ broken))
+gets_more told (gets_none broken) (gets_none again) = gets_none broken
 
-pub still_broken : (told : Bool) (bytes : List ℕ) (old new : Slot) → Gets told bytes old new → old.is_broken ≡ true → new.is_broken ≡ true
-still_broken told bytes old _ (gets_all sound) broken = broken
-still_broken told bytes old _ (breaks_off sound n within) broken = refl
-still_broken told bytes old _ (gets_none was) broken = broken
+pub still_broken : (told : Bool) {bytes : List ℕ} (old new : Slot) → Gets told bytes old new → old.is_broken ≡ true → new.is_broken ≡ true
+still_broken told old _ (gets_all sound) broken = broken
+still_broken told old _ (breaks_off sound n within) broken = refl
+still_broken told old _ (gets_none was) broken = broken
 
 pub closed_broken : (old new : Slot) → Closes old new → old.is_broken ≡ true → new.is_broken ≡ true
 closed_broken old _ (is_closed sound) broken = broken
 closed_broken old _ (fails_to_close sound) broken = refl
 closed_broken old _ (was_broken was) broken = broken
 
-still_usable : (told : Bool) (bytes : List ℕ) (old new : Slot) → Gets told bytes old new → IsUsable old → IsUsable new
-still_usable told bytes old _ (gets_all sound) usable = usable
-still_usable told bytes old _ (breaks_off sound n within) usable = λ sound. absurd (false≢true (sym sound))
-still_usable told bytes old _ (gets_none was) usable = usable
+still_usable : (told : Bool) {bytes : List ℕ} {old new : Slot} → Gets told bytes old new → IsUsable old → IsUsable new
+still_usable told (gets_all sound) usable = usable
+still_usable told (breaks_off sound n within) usable = λ sound. absurd (false≢true (sym sound))
+still_usable told (gets_none was) usable = usable
 
 -- an output that is sound after it got all
-pub sound_gets : (told : Bool) (bytes : List ℕ) (old new : Slot) → Gets told bytes old new → new.is_broken ≡ false → new ≡ adds (told_of told bytes) old
-sound_gets told bytes old _ (gets_all sound) still = refl
-sound_gets told bytes old _ (breaks_off sound n within) still = absurd (false≢true (sym still))
-sound_gets told bytes old _ (gets_none broken) still = absurd (false≢true (sym still ∙ broken))
+pub sound_gets : (told : Bool) {bytes : List ℕ} {old new : Slot} → Gets told bytes old new → new.is_broken ≡ false → new ≡ adds (told_of told bytes) old
+sound_gets told (gets_all sound) still = refl
+sound_gets told (breaks_off sound n within) still = absurd (false≢true (sym still))
+sound_gets told (gets_none broken) still = absurd (false≢true (sym still ∙ broken))
 
 -- the outputs of a tee
 
-pub all_get_more : {IsOne : ℕ → Type 0} (told : Bool) (x y : List ℕ) (old mid new : List Slot) → ChangesEach (Gets told x) IsOne old mid → ChangesEach (Gets told y) IsOne mid new → ChangesEach (Gets told (x ++ y)) IsOne old new
-all_get_more told x y old mid new first second = record {
+pub all_get_more : {IsOne : ℕ → Type 0} (told : Bool) {x y : List ℕ} {old mid new : List Slot} → ChangesEach (Gets told x) IsOne old mid → ChangesEach (Gets told y) IsOne mid new → ChangesEach (Gets told (x ++ y)) IsOne old new
+all_get_more told first second = record {
   count = second.count ∙ first.count;
-  each = λ place is. gets_more told x y _ _ _ (first.each place is) (second.each place is);
+  each = λ place is. gets_more told (first.each place is) (second.each place is);
   others = λ place differs. second.others place differs ∙ first.others place differs;
 }
 
-pub all_still_usable : {IsOne : ℕ → Type 0} (told : Bool) (bytes : List ℕ) (old new : List Slot) → ChangesEach (Gets told bytes) IsOne old new → ((place : ℕ) → IsOne place → IsUsable (slot_at old place)) → (place : ℕ) → IsOne place → IsUsable (slot_at new place)
-all_still_usable told bytes old new gets usable place is = still_usable told bytes _ _ (gets.each place is) (usable place is)
+pub all_still_usable : {IsOne : ℕ → Type 0} (told : Bool) {bytes : List ℕ} {old new : List Slot} → ChangesEach (Gets told bytes) IsOne old new → ((place : ℕ) → IsOne place → IsUsable (slot_at old place)) → (place : ℕ) → IsOne place → IsUsable (slot_at new place)
+all_still_usable told gets usable place is = still_usable told (gets.each place is) (usable place is)
 
 -- one output's turn
 
-pub left_out : (told : Bool) (piece : List ℕ) (place : ℕ) (slots : List Slot) → (slot_at slots place).is_broken ≡ true → Turns (Gets told piece) (λ other. other ≡ place) slots slots 0
-left_out told piece place slots broken = turned_same place slots (gets_none broken)
+pub left_out : (told : Bool) {piece : List ℕ} {place : ℕ} {slots : List Slot} → (slot_at slots place).is_broken ≡ true → Turns (Gets told piece) (λ other. other ≡ place) slots slots 0
+left_out told {place} broken = turned_same place (gets_none broken)
 
-pub written_whole : (told : Bool) (piece : List ℕ) (place : ℕ) (old new : List Slot) → IsUsable (slot_at old place) → (slot_at old place).is_broken ≡ false → new ≡ with_written place (told_of told piece) old → Turns (Gets told piece) (λ other. other ≡ place) old new 0
-written_whole told piece place old new usable sound is =
-    turned_one place (adds (told_of told piece)) false old new (open_within old place (usable sound)) sound sound (gets_all sound) is
+pub written_whole : (told : Bool) {piece : List ℕ} {place : ℕ} {old new : List Slot} → IsUsable (slot_at old place) → (slot_at old place).is_broken ≡ false → new ≡ with_written place (told_of told piece) old → Turns (Gets told piece) (λ other. other ≡ place) old new 0
+written_whole told {piece} {place} {old} usable sound is =
+    turned_one place (adds (told_of told piece)) (open_within old place (usable sound)) sound sound (gets_all sound) is
 
-pub written_short : (told : Bool) (piece : List ℕ) (place n : ℕ) (old new : List Slot) → IsUsable (slot_at old place) → (slot_at old place).is_broken ≡ false → BrokeAfter told old new place piece n → Turns (Gets told piece) (λ other. other ≡ place) old new 1
-written_short told piece place n old new usable sound broke =
-    turned_one place (λ slot. breaks (adds (told_of told (take n piece)) slot)) true old new (open_within old place (usable sound)) sound refl (breaks_off sound n broke.within)
+pub written_short : (told : Bool) {piece : List ℕ} {place n : ℕ} {old new : List Slot} → IsUsable (slot_at old place) → (slot_at old place).is_broken ≡ false → BrokeAfter told old new place piece n → Turns (Gets told piece) (λ other. other ≡ place) old new 1
+written_short told {piece} {place} {n} {old} usable sound broke =
+    turned_one place (λ slot. breaks (adds (told_of told (take n piece)) slot)) (open_within old place (usable sound)) sound refl (breaks_off sound n broke.within)
     (broke.slots ∙ changed_at-again place (adds (told_of told (take n piece))) breaks old)
 
-pub not_closed : (place : ℕ) (slots : List Slot) → (slot_at slots place).is_broken ≡ true → Turns Closes (λ other. other ≡ place) slots slots 0
-not_closed place slots broken = turned_same place slots (was_broken broken)
+pub not_closed : {place : ℕ} {slots : List Slot} → (slot_at slots place).is_broken ≡ true → Turns Closes (λ other. other ≡ place) slots slots 0
+not_closed {place} broken = turned_same place (was_broken broken)
 
-pub closed_whole : (place : ℕ) (old new : List Slot) → IsUsable (slot_at old place) → (slot_at old place).is_broken ≡ false → new ≡ changed_at place closes old → Turns Closes (λ other. other ≡ place) old new 0
-closed_whole place old new usable sound is = turned_one place closes false old new (open_within old place (usable sound)) sound sound (is_closed sound) is
+pub closed_whole : {place : ℕ} {old new : List Slot} → IsUsable (slot_at old place) → (slot_at old place).is_broken ≡ false → new ≡ changed_at place closes old → Turns Closes (λ other. other ≡ place) old new 0
+closed_whole {place} {old} usable sound is = turned_one place closes (open_within old place (usable sound)) sound sound (is_closed sound) is
 
-pub closed_short : (place : ℕ) (old new : List Slot) → IsUsable (slot_at old place) → (slot_at old place).is_broken ≡ false → new ≡ with_broken place (changed_at place closes old) → Turns Closes (λ other. other ≡ place) old new 1
-closed_short place old new usable sound is =
-    turned_one place (λ slot. breaks (closes slot)) true old new (open_within old place (usable sound)) sound refl (fails_to_close sound) (is ∙ changed_at-again place closes breaks old)
+pub closed_short : {place : ℕ} {old new : List Slot} → IsUsable (slot_at old place) → (slot_at old place).is_broken ≡ false → new ≡ with_broken place (changed_at place closes old) → Turns Closes (λ other. other ≡ place) old new 1
+closed_short {place} {old} usable sound is =
+    turned_one place (λ slot. breaks (closes slot)) (open_within old place (usable sound)) sound refl (fails_to_close sound) (is ∙ changed_at-again place closes breaks old)
 
 -- all of them, one after another
 
-pub gets_next : (told : Bool) (piece : List ℕ) (first n broke more : ℕ) (old now new : List Slot) → InTurn (Gets told piece) first n old now broke → ChangesEach (Gets told piece) (λ place. place ≡ first + n) now new → more ≡ newly_broken now new → more ≤ 1 → InTurn (Gets told piece) first (n + 1) old new (broke + more)
-gets_next told piece first n broke more old now new so_far gets are one = next_in_turn first n broke more old now new (still_broken told piece) so_far gets are one
+pub gets_next : (told : Bool) {piece : List ℕ} {first n : ℕ} (broke more : ℕ) {old now new : List Slot} → InTurn (Gets told piece) first n old now broke → ChangesEach (Gets told piece) (λ place. place ≡ first + n) now new → more ≡ newly_broken now new → more ≤ 1 → InTurn (Gets told piece) first (n + 1) old new (broke + more)
+gets_next told {first} {n} broke more {old} {now} {new} so_far gets are one = next_in_turn first n broke more old now new (still_broken told) so_far gets are one
 
 pub closes_next : (first n broke more : ℕ) (old now new : List Slot) → InTurn Closes first n old now broke → ChangesEach Closes (λ place. place ≡ first + n) now new → more ≡ newly_broken now new → more ≤ 1 → InTurn Closes first (n + 1) old new (broke + more)
 closes_next first n broke more old now new so_far closes are one = next_in_turn first n broke more old now new closed_broken so_far closes are one
 
 -- standard output, and then the files
-pub fed : (told : Bool) (piece : List ℕ) (tee : TeeState) (broke more : ℕ) (old mid new : List Slot) → (0 < tee.count → 2 ≤ tee.first) → ChangesEach (Gets told piece) (λ place. place ≡ 0) old mid → broke ≡ newly_broken old mid → ChangesEach (Gets told piece) (IsFile tee) mid new → more ≡ newly_broken mid new → Turns (Gets told piece) (IsOutput tee) old new (broke + more)
-fed told piece tee broke more old mid new streams first are second more_are =
-    turned_both old mid new broke more (still_broken told piece) (λ place. cases_eq place 0) (is_between tee.first (tee.first + tee.count))
+pub fed : (told : Bool) {piece : List ℕ} (tee : TeeState) (broke more : ℕ) {old mid new : List Slot} → (0 < tee.count → 2 ≤ tee.first) → ChangesEach (Gets told piece) (λ place. place ≡ 0) old mid → broke ≡ newly_broken old mid → ChangesEach (Gets told piece) (IsFile tee) mid new → more ≡ newly_broken mid new → Turns (Gets told piece) (IsOutput tee) old new (broke + more)
+fed told tee broke more streams first are second more_are =
+    turned_both broke more (still_broken told) (λ place. cases_eq place 0) (is_between tee.first (tee.first + tee.count))
     (λ place is file. let past : 2 ≤ tee.first = streams (omega (arith, file.0, file.1)) in omega (arith, is, past, file.0))
     (λ place is. is) (λ place is. is) (record { changes = first; broke_are = are }) (record { changes = second; broke_are = more_are })

@@ -12,38 +12,38 @@ use Rattle.tee_core.specs.TeeState.{TeeState}
 
 -- one file
 
-pub opened_one : (mode : Mode) (name : List ℕ) (old new : List Slot) → new ≡ old ++ opened name mode ∷ [] → OpensOne mode name old new
-opened_one mode name old new is = record { slot = opened name mode; opens = is_opened; slots = is }
+pub opened_one : {mode : Mode} {name : List ℕ} {old new : List Slot} → new ≡ old ++ opened name mode ∷ [] → OpensOne mode name old new
+opened_one {mode} {name} is = record { slot = opened name mode; opens = is_opened; slots = is }
 
-pub in_vain : (mode : Mode) (name : List ℕ) (old new : List Slot) (slot : ℕ) → FailsToOpen old name new (fault.Open slot)
+pub in_vain : {mode : Mode} {name : List ℕ} {old new : List Slot} {slot : ℕ} → FailsToOpen old name new (fault.Open slot)
     → (slot ≡ length old) × OpensOne mode name old new
-in_vain mode name old new slot (broke _ kept is named made) = (is, record { slot = unopened kept; opens = is_unopened kept named; slots = made })
+in_vain {slot} (broke _ kept is named made) = (is, record { slot = unopened kept; opens = is_unopened kept named; slots = made })
 
 -- one after another
 
-pub opens_none : (mode : Mode) (slots : List Slot) → Opens mode [] slots slots
-opens_none mode slots = record { since = []; each = no_more; slots = sym (append-nil slots) }
+pub opens_none : {mode : Mode} {slots : List Slot} → Opens mode [] slots slots
+opens_none {slots} = record { since = []; each = no_more; slots = sym (append-nil slots) }
 
-pub opens_next : (mode : Mode) (name : List ℕ) (names : List (List ℕ)) (old mid new : List Slot) → OpensOne mode name old mid → Opens mode names mid new → Opens mode (name ∷ names) old new
-opens_next mode name names old mid new one rest = record {
+pub opens_next : {mode : Mode} {name : List ℕ} {names : List (List ℕ)} {old mid new : List Slot} → OpensOne mode name old mid → Opens mode names mid new → Opens mode (name ∷ names) old new
+opens_next {name} {names} {old} one rest = record {
   since = one.slot ∷ rest.since;
   each = one_more name names one.slot rest.since one.opens rest.each;
   slots = rest.slots ∙ ap (λ front. front ++ rest.since) one.slots ∙ append_assoc old (one.slot ∷ []) rest.since;
 }
 
-pub some_none : (mode : Mode) (names : List (List ℕ)) (slots : List Slot) → OpensSome mode names slots slots
-some_none mode names slots = record { first = []; rest = names; names_are = refl; opens = opens_none mode slots }
+pub some_none : {mode : Mode} {names : List (List ℕ)} {slots : List Slot} → OpensSome mode names slots slots
+some_none {names} = record { first = []; rest = names; names_are = refl; opens = opens_none }
 
-pub some_next : (mode : Mode) (name : List ℕ) (names : List (List ℕ)) (old mid new : List Slot) → OpensOne mode name old mid → OpensSome mode names mid new → OpensSome mode (name ∷ names) old new
-some_next mode name names old mid new one rest = record {
+pub some_next : {mode : Mode} {name : List ℕ} {names : List (List ℕ)} {old mid new : List Slot} → OpensOne mode name old mid → OpensSome mode names mid new → OpensSome mode (name ∷ names) old new
+some_next {name} one rest = record {
   first = name ∷ rest.first;
   rest = rest.rest;
   names_are = ap (λ those. name ∷ those) rest.names_are;
-  opens = opens_next mode name rest.first old mid new one rest.opens;
+  opens = opens_next one rest.opens;
 }
 
-pub length-one : (mode : Mode) (name : List ℕ) (old new : List Slot) → OpensOne mode name old new → length new ≡ length old + 1
-length-one mode name old new one = ap length one.slots ∙ length-append old (one.slot ∷ [])
+pub length-one : {mode : Mode} {name : List ℕ} {old new : List Slot} → OpensOne mode name old new → length new ≡ length old + 1
+length-one {old} one = ap length one.slots ∙ length-append old (one.slot ∷ [])
 
 -- how far the loop over the names has come
 pub record Opening (mode : Mode) (names left : List (List ℕ)) (old now : List Slot) : Type 0 where
@@ -52,67 +52,67 @@ pub record Opening (mode : Mode) (names left : List (List ℕ)) (old now : List 
   pub counts : length now + length left ≡ length old + length names
   pub small : length now ≤ 2 ^ 64
 
-pub begins_opening : (mode : Mode) (names : List (List ℕ)) (slots : List Slot) → length slots ≤ 2 ^ 64 → Opening mode names names slots slots
-begins_opening mode names slots small = record { whole = λ new opens. opens; some = λ new opens. opens; counts = refl; small = small }
+pub begins_opening : {mode : Mode} {names : List (List ℕ)} {slots : List Slot} → length slots ≤ 2 ^ 64 → Opening mode names names slots slots
+begins_opening small = record { whole = λ new opens. opens; some = λ new opens. opens; counts = refl; small = small }
 
-pub opens_more : (mode : Mode) (names : List (List ℕ)) (name : List ℕ) (left : List (List ℕ)) (old now new : List Slot) (slot : ℕ) → Opening mode names (name ∷ left) old now → slot ≡ length now → slot < 2 ^ 64 → OpensOne mode name now new → Opening mode names left old new
-opens_more mode names name left old now new slot so_far number small one = record {
-  whole = λ last opens. so_far.whole last (opens_next mode name left now new last one opens);
-  some = λ last opens. so_far.some last (some_next mode name left now new last one opens);
-  counts = let before : length now + suc (length left) ≡ length old + length names = so_far.counts in omega (arith, length-one mode name now new one);
-  small = omega (arith, length-one mode name now new one);
+pub opens_more : {mode : Mode} {names : List (List ℕ)} {name : List ℕ} {left : List (List ℕ)} {old now new : List Slot} {slot : ℕ} → Opening mode names (name ∷ left) old now → slot ≡ length now → slot < 2 ^ 64 → OpensOne mode name now new → Opening mode names left old new
+opens_more {names} {left} {old} {now} so_far number small one = record {
+  whole = λ last opens. so_far.whole last (opens_next one opens);
+  some = λ last opens. so_far.some last (some_next one opens);
+  counts = let before : length now + suc (length left) ≡ length old + length names = so_far.counts in omega (arith, length-one one);
+  small = omega (arith, length-one one);
 }
 
 -- a tee can go on with what was opened
 
-opened_usable : (mode : Mode) (name : List ℕ) (slot : Slot) → OpensAs mode name slot → IsUsable slot
-opened_usable mode name _ is_opened = λ sound. refl
-opened_usable mode name _ (is_unopened kept named) = λ sound. absurd (false≢true (sym sound))
+opened_usable : {mode : Mode} {name : List ℕ} {slot : Slot} → OpensAs mode name slot → IsUsable slot
+opened_usable is_opened = λ sound. refl
+opened_usable (is_unopened kept named) = λ sound. absurd (false≢true (sym sound))
 
-since_usable : (mode : Mode) (names : List (List ℕ)) (slots : List Slot) (place : ℕ) → OpensEach mode names slots → place < length slots → IsUsable (slot_at slots place)
-since_usable mode [] [] place no_more within = absurd (omega arith)
-since_usable mode _ _ zero (one_more name names slot slots one rest) within = opened_usable mode name slot one
-since_usable mode _ _ (suc place) (one_more name names slot slots one rest) within = since_usable mode names slots place rest (omega arith)
+since_usable : {mode : Mode} (names : List (List ℕ)) (slots : List Slot) (place : ℕ) → OpensEach mode names slots → place < length slots → IsUsable (slot_at slots place)
+since_usable [] [] place no_more within = absurd (omega arith)
+since_usable _ _ zero (one_more name names slot slots one rest) within = opened_usable one
+since_usable _ _ (suc place) (one_more name names slot slots one rest) within = since_usable names slots place rest (omega arith)
 
-pub length-since : (mode : Mode) (names : List (List ℕ)) (slots : List Slot) → OpensEach mode names slots → length slots ≡ length names
-length-since mode [] [] no_more = refl
-length-since mode _ _ (one_more name names slot slots one rest) = ap suc (length-since mode names slots rest)
+pub length-since : {mode : Mode} (names : List (List ℕ)) (slots : List Slot) → OpensEach mode names slots → length slots ≡ length names
+length-since [] [] no_more = refl
+length-since _ _ (one_more name names slot slots one rest) = ap suc (length-since names slots rest)
 
-pub ready_to_go : (mode : Mode) (names : List (List ℕ)) (old new : List Slot) (tee : TeeState) → 0 < length old → is_open (slot_at old 0).state ≡ true → Opens mode names old new → tee.count ≡ length names → (0 < tee.count → tee.first ≡ length old) → IsReady tee new
-ready_to_go mode names old new tee some standard opens count first place is = by is where
+pub ready_to_go : {mode : Mode} {names : List (List ℕ)} {old new : List Slot} (tee : TeeState) → 0 < length old → is_open (slot_at old 0).state ≡ true → Opens mode names old new → tee.count ≡ length names → (0 < tee.count → tee.first ≡ length old) → IsReady tee new
+ready_to_go {names} {old} {new} tee some standard opens count first place is = by is where
   by : IsOutput tee place → IsUsable (slot_at new place)
   by (inl here) = λ sound. ap (λ at. is_open (slot_at new at).state) here ∙ ap (λ those. is_open (slot_at those 0).state) opens.slots ∙ ap (λ (slot : Slot). is_open slot.state) (get_or_append_left old opens.since no_slot 0 some) ∙ standard
   by (inr file) =
       let start : tee.first ≡ length old = first (omega (arith, file.0, file.1)) in
-      let many : length opens.since ≡ length names = length-since mode names opens.since opens.each in
+      let many : length opens.since ≡ length names = length-since names opens.since opens.each in
       let there : place ≡ length old + (place - length old) = omega (arith, start, file.0) in
       subst IsUsable (sym (ap (λ at. slot_at new at) there ∙ ap (λ those. slot_at those (length old + (place - length old))) opens.slots ∙ get_or-append-add old opens.since (place - length old) no_slot))
-      (since_usable mode names opens.since (place - length old) opens.each (omega (arith, start, file.0, file.1, many, count)))
+      (since_usable names opens.since (place - length old) opens.each (omega (arith, start, file.0, file.1, many, count)))
 
 -- the same of names as the code has them
 
-pub none_left : (mode : Mode) (names : List (Bor (List ℕ))) (slots : List Slot) → length names < 1 → Opens mode (map (λ name. name.now) names) slots slots
-none_left mode [] slots few = opens_none mode slots
-none_left mode (name ∷ names) slots few = absurd (omega arith)
+pub none_left : {mode : Mode} (names : List (Bor (List ℕ))) {slots : List Slot} → length names < 1 → Opens mode (map (λ name. name.now) names) slots slots
+none_left [] few = opens_none
+none_left (name ∷ names) few = absurd (omega arith)
 
 pub first_and_rest : (other : Bor (List ℕ)) (names : List (Bor (List ℕ))) → 1 ≤ length names → map (λ name. name.now) names ≡ (get_or names 0 other).now ∷ map (λ name. name.now) (take (length names - 1) (drop 1 names))
 first_and_rest other [] some = absurd (omega arith)
 first_and_rest other (name ∷ names) some = ap (λ rest. name.now ∷ map (λ (name : Bor (List ℕ)). name.now) rest) (sym (ap (λ n. take n names) (let e : suc (length names) - 1 ≡ length names = omega arith in e) ∙ take_all (length names) names (omega arith)))
 
-pub opens_more_at : (mode : Mode) (names : List (List ℕ)) (other : Bor (List ℕ)) (left : List (Bor (List ℕ))) (old now new : List Slot) (slot : ℕ) → 1 ≤ length left → Opening mode names (map (λ name. name.now) left) old now → slot ≡ length now → slot < 2 ^ 64 → OpensOne mode (get_or left 0 other).now now new
+pub opens_more_at : {mode : Mode} {names : List (List ℕ)} (other : Bor (List ℕ)) (left : List (Bor (List ℕ))) {old now new : List Slot} {slot : ℕ} → 1 ≤ length left → Opening mode names (map (λ name. name.now) left) old now → slot ≡ length now → slot < 2 ^ 64 → OpensOne mode (get_or left 0 other).now now new
     → Opening mode names (map (λ name. name.now) (take (length left - 1) (drop 1 left))) old new
-opens_more_at mode names other left old now new slot some so_far number small one =
-    opens_more mode names _ _ old now new slot (subst (λ those. Opening mode names those old now) (first_and_rest other left some) so_far) number small one
+opens_more_at {mode} {names} other left {old} {now} some so_far number small one =
+    opens_more (subst (λ those. Opening mode names those old now) (first_and_rest other left some) so_far) number small one
 
-pub opens_next_at : (mode : Mode) (other : Bor (List ℕ)) (names : List (Bor (List ℕ))) (old mid new : List Slot) → 1 ≤ length names → OpensOne mode (get_or names 0 other).now old mid → Opens mode (map (λ name. name.now) (take (length names - 1) (drop 1 names))) mid new → Opens mode (map (λ name. name.now) names) old new
-opens_next_at mode other names old mid new some one rest = rw (first_and_rest other names some) (opens_next mode _ _ old mid new one rest)
+pub opens_next_at : {mode : Mode} (other : Bor (List ℕ)) (names : List (Bor (List ℕ))) {old mid new : List Slot} → 1 ≤ length names → OpensOne mode (get_or names 0 other).now old mid → Opens mode (map (λ name. name.now) (take (length names - 1) (drop 1 names))) mid new → Opens mode (map (λ name. name.now) names) old new
+opens_next_at other names some one rest = rw (first_and_rest other names some) (opens_next one rest)
 
-pub some_next_at : (mode : Mode) (other : Bor (List ℕ)) (names : List (Bor (List ℕ))) (old mid new : List Slot) → 1 ≤ length names → OpensOne mode (get_or names 0 other).now old mid → OpensSome mode (map (λ name. name.now) (take (length names - 1) (drop 1 names))) mid new → OpensSome mode (map (λ name. name.now) names) old new
-some_next_at mode other names old mid new some one rest = rw (first_and_rest other names some) (some_next mode _ _ old mid new one rest)
+pub some_next_at : {mode : Mode} (other : Bor (List ℕ)) (names : List (Bor (List ℕ))) {old mid new : List Slot} → 1 ≤ length names → OpensOne mode (get_or names 0 other).now old mid → OpensSome mode (map (λ name. name.now) (take (length names - 1) (drop 1 names))) mid new → OpensSome mode (map (λ name. name.now) names) old new
+some_next_at other names some one rest = rw (first_and_rest other names some) (some_next one rest)
 
-pub some_now : (mode : Mode) (names : List (List ℕ)) (old new : List Slot) → new ≡ old → OpensSome mode names old new
-some_now mode names old new is = rw is (some_none mode names old)
+pub some_now : {mode : Mode} {names : List (List ℕ)} {old new : List Slot} → new ≡ old → OpensSome mode names old new
+some_now is = rw is (some_none)
 
 -- the numbers of the files
-pub in_range : (mode : Mode) (names : List (List ℕ)) (old new : List Slot) → Opens mode names old new → length new ≡ length old + length names
-in_range mode names old new opens = ap length opens.slots ∙ length-append old opens.since ∙ ap (λ n. length old + n) (length-since mode names opens.since opens.each)
+pub in_range : {mode : Mode} {names : List (List ℕ)} {old new : List Slot} → Opens mode names old new → length new ≡ length old + length names
+in_range {names} {old} opens = ap length opens.slots ∙ length-append old opens.since ∙ ap (λ n. length old + n) (length-since names opens.since opens.each)

@@ -18,39 +18,39 @@ use Rattle.tee_core.proofs.OpeningLemmas.{length-since}
 abbrev FileStarts : Bool → Mode → List ℕ → Slot → Type 0
 FileStarts told mode name file = (first : Option ℕ) × FileHas told mode [] name first file × Marks 0 None first false file.is_broken
 
-file_starts : (told : Bool) (mode : Mode) (name : List ℕ) (file : Slot) → OpensAs mode name file → FileStarts told mode name file
-file_starts told mode name _ is_opened = (None, subst (FileHas told mode [] name None) (adds-nil told (opened name mode)) has_all, marked_none 0)
-file_starts told mode name _ (is_unopened kept named) = (Some 0, has_none kept named, marked_now 0)
+file_starts : (told : Bool) {mode : Mode} {name : List ℕ} {file : Slot} → OpensAs mode name file → FileStarts told mode name file
+file_starts told {mode} {name} is_opened = (None, subst (FileHas told mode [] name None) (adds-nil told (opened name mode)) has_all, marked_none)
+file_starts told (is_unopened kept named) = (Some 0, has_none kept named, marked_now)
 
 abbrev FilesStart : Bool → Mode → List (List ℕ) → List Slot → Type 0
 FilesStart told mode names files =
     (broke : List (Option ℕ)) × FilesHave told mode [] names broke files × AllMark 0 (replicate (length names) None) broke (replicate (length names) false) (map (λ (file : Slot). file.is_broken) files)
 
-files_start : (told : Bool) (mode : Mode) (names : List (List ℕ)) (files : List Slot) → OpensEach mode names files → FilesStart told mode names files
-files_start told mode _ _ no_more = ([], steps.no_more, none_marked)
-files_start told mode _ _ (one_more name names file files one rest) =
-    let here = file_starts told mode name file one in
-    let there = files_start told mode names files rest in
+files_start : (told : Bool) {mode : Mode} {names : List (List ℕ)} {files : List Slot} → OpensEach mode names files → FilesStart told mode names files
+files_start told no_more = ([], steps.no_more, none_marked)
+files_start told (one_more name names file files one rest) =
+    let here = file_starts told one in
+    let there = files_start told rest in
     (here.0 ∷ there.0, steps.one_more name names here.0 there.0 file files here.1 there.1, all_marked None here.0 false file.is_broken _ there.0 _ _ here.2 there.2)
 
-pub opened_streams : (mode : Mode) (names : List (List ℕ)) (slots : List Slot) → Opens mode names streams slots → HasStreams slots (length names)
-opened_streams mode names slots opens = record {
+pub opened_streams : {mode : Mode} {names : List (List ℕ)} {slots : List Slot} → Opens mode names streams slots → HasStreams slots (length names)
+opened_streams {names} opens = record {
   output = standard_output;
   error = standard_error;
   files = opens.since;
   are = opens.slots;
   opened = refl;
-  files_are = length-since mode names opens.since opens.each;
+  files_are = length-since names opens.since opens.each;
 }
 
 none_known : (names : List (List ℕ)) → replicate (length names + 1) false ≡ false ∷ replicate (length names) false
 none_known names = ap (λ n. replicate n false) (let e : length names + 1 ≡ suc (length names) = omega arith in e)
 
-pub starts : (told : Bool) (mode : Mode) (names : List (List ℕ)) (old new : List Slot) (known now : List Bool) → Opens mode names streams old → known ≡ replicate (length names + 1) false → SaysTo told (said_since (fault_in 0) (output_names names) known (broken_of old)) old new → now ≡ broken_of old → Copies told mode names [] [] new now
-starts told mode names old new known now opens unknown says flags =
-    let files = files_start told mode names opens.since opens.each in
+pub starts : (told : Bool) {mode : Mode} {names : List (List ℕ)} {old new : List Slot} {known now : List Bool} → Opens mode names streams old → known ≡ replicate (length names + 1) false → SaysTo told (said_since (fault_in 0) (output_names names) known (broken_of old)) old new → now ≡ broken_of old → Copies told mode names [] [] new now
+starts told {names} {old} {new} {known} opens unknown says flags =
+    let files = files_start told opens.each in
     let new_is : new ≡ standard_output ∷ says.0 ∷ opens.since = says.2 ∙ ap (changed_at 1 (λ _. says.0)) opens.slots in
-    let marked : AllMark 0 (None ∷ replicate (length names) None) (None ∷ files.0) (false ∷ replicate (length names) false) (broken_of (standard_output ∷ standard_error ∷ opens.since)) = all_marked None None false false _ files.0 _ _ (marked_none 0) files.2 in
+    let marked : AllMark 0 (None ∷ replicate (length names) None) (None ∷ files.0) (false ∷ replicate (length names) false) (broken_of (standard_output ∷ standard_error ∷ opens.since)) = all_marked None None false false _ files.0 _ _ (marked_none) files.2 in
     record {
       output = standard_output;
       error = says.0;
@@ -62,19 +62,19 @@ starts told mode names old new known now opens unknown says flags =
       files_have = files.1;
       said = subst (λ texts. SaysAll told Tee texts standard_error says.0)
           (ap (λ flags. said_since (fault_in 0) (output_names names) flags (broken_of old)) (unknown ∙ none_known names) ∙ ap (λ those. said_since (fault_in 0) (output_names names) (false ∷ replicate (length names) false) (broken_of those)) opens.slots
-          ∙ sym (said_marked 0 (output_names names) _ _ _ _ marked) ∙ sym (append-nil _))
+          ∙ sym (said_marked (output_names names) marked) ∙ sym (append-nil _))
           (subst (λ slot. SaysAll told Tee (said_since (fault_in 0) (output_names names) known (broken_of old)) slot says.0) (ap (λ those. slot_at those 1) opens.slots) says.1);
       known_are = flags ∙ ap broken_of opens.slots ∙ sym (ap broken_of new_is);
       some_left = refl;
-      is_vain = none_now 0 _ _ _ _ marked ∙ ap all_of (sym (flags ∙ ap broken_of opens.slots));
+      is_vain = none_now marked ∙ ap all_of (sym (flags ∙ ap broken_of opens.slots));
     }
 
 -- standard output is sound as a run begins
-pub some_at_first : (mode : Mode) (names : List (List ℕ)) (slots : List Slot) (known : List Bool) → Opens mode names streams slots → known ≡ broken_of slots → all_of known ≡ false
-some_at_first mode names slots known opens is = ap all_of (is ∙ ap broken_of opens.slots)
+pub some_at_first : {mode : Mode} {names : List (List ℕ)} {slots : List Slot} {known : List Bool} → Opens mode names streams slots → known ≡ broken_of slots → all_of known ≡ false
+some_at_first opens is = ap all_of (is ∙ ap broken_of opens.slots)
 
-pub length-names : (names : List (Bor (List ℕ))) (known : List Bool) → known ≡ replicate (length names + 1) false → known ≡ replicate (length (map (λ (name : Bor (List ℕ)). name.now) names) + 1) false
-length-names names known is = is ∙ ap (λ n. replicate (n + 1) false) (sym (length-map names (λ (name : Bor (List ℕ)). name.now)))
+pub length-names : (names : List (Bor (List ℕ))) {known : List Bool} → known ≡ replicate (length names + 1) false → known ≡ replicate (length (map (λ (name : Bor (List ℕ)). name.now) names) + 1) false
+length-names names is = is ∙ ap (λ n. replicate (n + 1) false) (sym (length-map names (λ (name : Bor (List ℕ)). name.now)))
 
-pub is_tee_of : (names : List (Bor (List ℕ))) (old : List Slot) (tee : TeeState) → old ≡ streams → tee.is_over ≡ false → tee.count ≡ length names → (0 < tee.count → tee.first ≡ length old) → IsTeeOf (map (λ (name : Bor (List ℕ)). name.now) names) tee
-is_tee_of names old tee is live count first = record { live = live; count = count ∙ sym (length-map names (λ (name : Bor (List ℕ)). name.now)); first = λ some. first some ∙ ap length is }
+pub is_tee_of : (names : List (Bor (List ℕ))) {old : List Slot} {tee : TeeState} → old ≡ streams → tee.is_over ≡ false → tee.count ≡ length names → (0 < tee.count → tee.first ≡ length old) → IsTeeOf (map (λ (name : Bor (List ℕ)). name.now) names) tee
+is_tee_of names is live count first = record { live = live; count = count ∙ sym (length-map names (λ (name : Bor (List ℕ)). name.now)); first = λ some. first some ∙ ap length is }

@@ -48,8 +48,8 @@ broken_at : (output error : Slot) (files : List Slot) (n : ℕ) → (slot_at (ou
 broken_at output error files zero = refl
 broken_at output error files (suc n) = sym (get_or-map (λ (file : Slot). file.is_broken) files n no_slot)
 
-pub count_broken : (slots : List Slot) (count : ℕ) → HasStreams slots count → length (broken_of slots) ≡ count + 1
-count_broken slots count has = ap (λ those. length (broken_of those)) has.are ∙ (let many : length (map (λ (file : Slot). file.is_broken) has.files) ≡ length has.files = length-map has.files _ in let same : length has.files ≡ count = has.files_are in let e : suc (length (map (λ (file : Slot). file.is_broken) has.files)) ≡ count + 1 = omega arith in e)
+pub count_broken : {slots : List Slot} {count : ℕ} → HasStreams slots count → length (broken_of slots) ≡ count + 1
+count_broken {count} has = ap (λ those. length (broken_of those)) has.are ∙ (let many : length (map (λ (file : Slot). file.is_broken) has.files) ≡ length has.files = length-map has.files _ in let same : length has.files ≡ count = has.files_are in let e : suc (length (map (λ (file : Slot). file.is_broken) has.files)) ≡ count + 1 = omega arith in e)
 
 -- standard error alone is written
 
@@ -57,8 +57,8 @@ says_after : (told : Bool) (texts : List (List ℕ)) (text : List ℕ) (output e
 says_after told texts text output error files now new so_far says =
     let said = says output so_far.0 files so_far.2 in (said.0, says_more told Tee texts text error so_far.0 said.0 so_far.1 said.1, said.2)
 
-pub says_too : (told : Bool) (texts : List (List ℕ)) (text : List ℕ) (count : ℕ) (old now new : List Slot) → HasStreams old count → SaysTo told texts old now → SaysOn told Tee text now new → SaysTo told (texts ++ text ∷ []) old new
-says_too told texts text count old now new has so_far says =
+pub says_too : (told : Bool) (texts : List (List ℕ)) (text : List ℕ) {count : ℕ} {old : List Slot} (now new : List Slot) → HasStreams old count → SaysTo told texts old now → SaysOn told Tee text now new → SaysTo told (texts ++ text ∷ []) old new
+says_too told texts text now new has so_far says =
     subst (λ those. SaysTo told (texts ++ text ∷ []) those new) (sym has.are)
     (says_after told texts text has.output has.error has.files now new (subst (λ those. SaysTo told texts those now) has.are so_far) says)
 
@@ -72,18 +72,18 @@ pub record Telling (told : Bool) (fault : Fault) (names : List (List ℕ)) (know
   pub rest : so_far ++ said_since fault (drop n names) (drop n known_before) (drop n (broken_of old)) ≡ said_since fault names known_before (broken_of old)
   pub known_are : known ≡ take n (broken_of old) ++ drop n known_before
 
-pub error_open : (told : Bool) (fault : Fault) (names : List (List ℕ)) (before known : List Bool) (n count : ℕ) (old now : List Slot) → HasStreams old count → Telling told fault names before n old now known → is_open (slot_at now 1).state ≡ true
-error_open told fault names before known n count old now has so_far =
+pub error_open : (told : Bool) {fault : Fault} {names : List (List ℕ)} {before known : List Bool} {n count : ℕ} {old now : List Slot} → HasStreams old count → Telling told fault names before n old now known → is_open (slot_at now 1).state ≡ true
+error_open told {now} has so_far =
     let said : SaysTo told so_far.so_far (has.output ∷ has.error ∷ has.files) now = subst (λ those. SaysTo told so_far.so_far those now) has.are so_far.said in
     ap (λ those. is_open (slot_at those 1).state) said.2 ∙ ap is_open (all_said_state told Tee so_far.so_far has.error said.0 said.1) ∙ has.opened
 
-pub tells_next : (told : Bool) (fault : Fault) (names : List (List ℕ)) (before known : List Bool) (other : Bool) (n count : ℕ) (old now new : List Slot) (name : List ℕ) (broken : Bool) → HasStreams old count → length names ≡ count + 1 → length before ≡ count + 1 → n < length before → Telling told fault names before n old now known
+pub tells_next : (told : Bool) {fault : Fault} {names : List (List ℕ)} {before known : List Bool} (other : Bool) {n count : ℕ} {old now new : List Slot} {name : List ℕ} {broken : Bool} → HasStreams old count → length names ≡ count + 1 → length before ≡ count + 1 → n < length before → Telling told fault names before n old now known
     → name ≡ get_or names n [] → broken ≡ (slot_at now (output_slot n)).is_broken → ((not (get_or known n other) && broken) ≡ true → SaysOn told Tee (message_of Tee fault name) now new) → ((not (get_or known n other) && broken) ≡ false → new ≡ now)
     → Telling told fault names before (n + 1) old new (set known n broken)
-tells_next told fault names before known other n count old now new name broken has names_many many within so_far named tells says quiet =
+tells_next told {fault} {names} {before} {known} other {n} {count} {old} {now} {new} {name} {broken} has names_many many within so_far named tells says quiet =
     subst (λ k. Telling told fault names before k old new (set known n broken)) (let e : suc n ≡ n + 1 = omega arith in e) (by (not (get_or known n other) && broken) refl) where
       broken_are : length (broken_of old) ≡ count + 1
-      broken_are = count_broken old count has
+      broken_are = count_broken has
 
       here : broken ≡ get_or (broken_of old) n false
       here = tells ∙ broken_still told so_far.so_far has.output has.error has.files now n (subst (λ those. SaysTo told so_far.so_far those now) has.are so_far.said) ∙ ap (λ those. get_or (broken_of those) n false) (sym has.are)
@@ -103,7 +103,7 @@ tells_next told fault names before known other n count old now new name broken h
       by : (flag : Bool) → (not (get_or known n other) && broken) ≡ flag → Telling told fault names before (suc n) old new (set known n broken)
       by true is = record {
         so_far = so_far.so_far ++ message_of Tee fault name ∷ [];
-        said = says_too told so_far.so_far (message_of Tee fault name) count old now new has so_far.said (says is);
+        said = says_too told so_far.so_far (message_of Tee fault name) now new has so_far.said (says is);
         rest = append_assoc so_far.so_far (message_of Tee fault name ∷ []) _ ∙ ap (λ texts. so_far.so_far ++ texts) (sym (step ∙ ap (λ (flag : Bool). (if flag then message_of Tee fault name ∷ [] else []) ++ said_since fault (drop (suc n) names) (drop (suc n) before) (drop (suc n) (broken_of old))) is)) ∙ so_far.rest;
         known_are = flags;
       }

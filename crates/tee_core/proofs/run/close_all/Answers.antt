@@ -7,7 +7,7 @@ use Rattle.tee_core.proofs.CloseLemmas.{closed_next, closing_said, ending_stream
 use Rattle.tee_core.proofs.run.close_all.Goals as goal
 
 pub close-requires : goal.close-requires
-close-requires g c = λ live. let (mode, pieces, messages, copies) = c.requires.copies in copies_ready _ mode _ pieces _ _ _ _ c.requires.tee copies
+close-requires g c = λ live. let (mode, pieces, messages, copies) = c.requires.copies in copies_ready _ mode _ c.requires.tee copies
 
 pub tell_broken-requires-clause-streams : goal.tell_broken-requires-clause-streams
 tell_broken-requires-clause-streams g c =
@@ -17,8 +17,8 @@ tell_broken-requires-clause-streams g c =
 pub tell_broken-requires-clause-known : goal.tell_broken-requires-clause-known
 tell_broken-requires-clause-known g c =
     let (mode, pieces, messages, copies) = c.requires.copies in
-    known_many _ mode _ pieces _ _ _ copies ∙ ap (λ n. n + 1) (length-map c.args.names.now _)
+    known_many _ mode _ copies ∙ ap (λ n. n + 1) (length-map c.args.names.now _)
 
 pub returns : goal.returns
 returns g c mode pieces fault copies =
-    closing_said _ mode _ pieces fault _ _ _ _ _ copies (closed_next _ mode _ pieces (said_of_input fault) _ _ _ _ c.requires.tee copies (c.close.ensures.closes c.requires.tee.live)) c.tell_broken.ensures.said c.tell_broken.ensures.known
+    closing_said _ mode _ copies (closed_next _ mode _ pieces (said_of_input fault) _ c.requires.tee copies (c.close.ensures.closes c.requires.tee.live)) c.tell_broken.ensures.said c.tell_broken.ensures.known

@@ -9,29 +9,29 @@ use Rattle.tee_core.proofs.StartLemmas.{length-names, opened_streams, some_at_fi
 use Rattle.tee_core.proofs.run.copy_all.Goals as goal
 
 pub tell_broken-requires-clause-streams : goal.tell_broken-requires-clause-streams
-tell_broken-requires-clause-streams g c = subst (HasStreams (g.O.Outs.slots c.args.outs.now)) (length-map c.args.names.now _) (opened_streams _ _ _ c.requires.opened.1)
+tell_broken-requires-clause-streams g c = subst (HasStreams (g.O.Outs.slots c.args.outs.now)) (length-map c.args.names.now _) (opened_streams c.requires.opened.1)
 
 pub copy_pieces-fault-requires-clause-copies : goal.copy_pieces-fault-requires-clause-copies
-copy_pieces-fault-requires-clause-copies g c = (c.requires.opened.0, starts _ _ _ _ _ _ _ c.requires.opened.1 (length-names c.args.names.now _ c.requires.unknown) c.tell_broken.ensures.said c.tell_broken.ensures.known)
+copy_pieces-fault-requires-clause-copies g c = (c.requires.opened.0, starts _ c.requires.opened.1 (length-names c.args.names.now c.requires.unknown) c.tell_broken.ensures.said c.tell_broken.ensures.known)
 
 pub copy_pieces-fault-requires-clause-left : goal.copy_pieces-fault-requires-clause-left
-copy_pieces-fault-requires-clause-left g c = some_at_first _ _ _ _ c.requires.opened.1 c.tell_broken.ensures.known
+copy_pieces-fault-requires-clause-left g c = some_at_first c.requires.opened.1 c.tell_broken.ensures.known
 
 pub tell_input-requires : goal.tell_input-requires
 tell_input-requires g c =
     let (mode, opens) = c.requires.opened in
-    let copied = c.copy_pieces-fault.ensures.copies mode (starts _ mode _ _ _ _ _ opens (length-names c.args.names.now _ c.requires.unknown) c.tell_broken.ensures.said c.tell_broken.ensures.known) in
-    (_, copies_streams _ mode _ copied.2.0.pieces _ _ _ copied.2.0.copies)
+    let copied = c.copy_pieces-fault.ensures.copies mode (starts _ opens (length-names c.args.names.now c.requires.unknown) c.tell_broken.ensures.said c.tell_broken.ensures.known) in
+    (_, copies_streams _ mode _ copied.2.0.copies)
 
 pub close_all-requires-clause-copies : goal.close_all-requires-clause-copies
 close_all-requires-clause-copies g c =
     let (mode, opens) = c.requires.opened in
-    let copied = c.copy_pieces-fault.ensures.copies mode (starts _ mode _ _ _ _ _ opens (length-names c.args.names.now _ c.requires.unknown) c.tell_broken.ensures.said c.tell_broken.ensures.known) in
-    (mode, copied.2.0.pieces, said_of_input c.copy_pieces-fault.result, copies_said _ mode _ copied.2.0.pieces _ _ _ _ copied.2.0.copies c.tell_input.ensures)
+    let copied = c.copy_pieces-fault.ensures.copies mode (starts _ opens (length-names c.args.names.now c.requires.unknown) c.tell_broken.ensures.said c.tell_broken.ensures.known) in
+    (mode, copied.2.0.pieces, said_of_input c.copy_pieces-fault.result, copies_said _ mode _ copied.2.0.copies c.tell_input.ensures)
 
 pub returns-clause-copied : goal.returns-clause-copied
 returns-clause-copied g c mode opens =
-    let copied = c.copy_pieces-fault.ensures.copies mode (starts _ mode _ _ _ _ _ opens (length-names c.args.names.now _ c.requires.unknown) c.tell_broken.ensures.said c.tell_broken.ensures.known) in (
+    let copied = c.copy_pieces-fault.ensures.copies mode (starts _ opens (length-names c.args.names.now c.requires.unknown) c.tell_broken.ensures.said c.tell_broken.ensures.known) in (
       copied.0,
       copied.1,
       (
@@ -41,7 +41,7 @@ returns-clause-copied g c mode opens =
           known = c.close_all.new.known;
           is_vain = all_of c.copy_pieces-fault.new.known;
           read = copied.2.0.read;
-          copied = c.close_all.ensures mode copied.2.0.pieces c.copy_pieces-fault.result (copies_said _ mode _ copied.2.0.pieces _ _ _ _ copied.2.0.copies c.tell_input.ensures);
+          copied = c.close_all.ensures mode copied.2.0.pieces c.copy_pieces-fault.result (copies_said _ mode _ copied.2.0.copies c.tell_input.ensures);
           failed_is = c.has_failed.ensures;
         },
         copied.2.1,

@@ -5,7 +5,7 @@ use Rattle.tee_core.proofs.CopyLemmas.{copies_ready, fed_next, known_many, next_
 use Rattle.tee_core.proofs.run.copy_piece.Goals as goal
 
 pub feed-requires : goal.feed-requires
-feed-requires g c = λ live. let (mode, pieces, copies) = c.requires.copies in copies_ready _ mode _ pieces _ _ _ _ c.requires.tee copies
+feed-requires g c = λ live. let (mode, pieces, copies) = c.requires.copies in copies_ready _ mode _ c.requires.tee copies
 
 pub tell_broken-requires-clause-streams : goal.tell_broken-requires-clause-streams
 tell_broken-requires-clause-streams g c =
@@ -15,8 +15,8 @@ tell_broken-requires-clause-streams g c =
 pub tell_broken-requires-clause-known : goal.tell_broken-requires-clause-known
 tell_broken-requires-clause-known g c =
     let (mode, pieces, copies) = c.requires.copies in
-    known_many _ mode _ pieces _ _ _ copies ∙ ap (λ n. n + 1) (length-map c.args.names.now _)
+    known_many _ mode _ copies ∙ ap (λ n. n + 1) (length-map c.args.names.now _)
 
 pub returns-clause-copies : goal.returns-clause-copies
 returns-clause-copies g c mode pieces copies =
-    piece_said _ mode _ pieces _ _ _ _ _ _ c.requires.left copies (fed_next _ mode _ pieces _ [] _ _ _ _ c.requires.tee copies (c.feed.ensures.gets c.requires.tee.live)) c.tell_broken.ensures.said c.tell_broken.ensures.known
+    piece_said _ mode _ c.requires.left copies (fed_next _ mode _ pieces [] _ c.requires.tee copies (c.feed.ensures.gets c.requires.tee.live)) c.tell_broken.ensures.said c.tell_broken.ensures.known

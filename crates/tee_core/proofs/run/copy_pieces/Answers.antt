@@ -32,11 +32,11 @@ pieces-preserved g c =
       came = so_far.came ++ take c.in-Ok.n c.read.new.buffer;
       pieces = so_far.pieces ++ take c.in-Ok.n c.read.new.buffer ∷ [];
       joined = ap (λ bytes. bytes ++ take c.in-Ok.n c.read.new.buffer) so_far.joined ∙ joined_more so_far.pieces (take c.in-Ok.n c.read.new.buffer);
-      sized = more_sized so_far.pieces c.read.new.buffer c.in-Ok.n so_far.sized c.if-n-eq0.false (omega (arith, c.in-Ok.ensures.bound, c.read.auto.buffer)) (omega (arith, c.requires.most, c.read.auto.buffer, c.pieces.auto.buffer));
+      sized = more_sized so_far.pieces c.read.new.buffer so_far.sized c.if-n-eq0.false (omega (arith, c.in-Ok.ensures.bound, c.read.auto.buffer)) (omega (arith, c.requires.most, c.read.auto.buffer, c.pieces.auto.buffer));
       left = sym c.are_all.ensures ∙ c.if-are_all.false;
       copies = λ mode at. c.copy_piece.ensures.copies mode so_far.pieces (so_far.copies mode at);
       same = c.copy_piece.ensures.same ∙ so_far.same;
-      counted = counted_more so_far.came c.read.new.buffer c.pieces.fed c.in-Ok.n _ so_far.counted (omega (arith, c.in-Ok.ensures.bound, c.read.auto.buffer)) c.in-Some.ensures.1;
+      counted = counted_more so_far.came c.read.new.buffer c.in-Ok.n so_far.counted (omega (arith, c.in-Ok.ensures.bound, c.read.auto.buffer)) c.in-Some.ensures.1;
       small = omega (arith, c.in-Some.ensures.0, c.in-Some.ensures.1);
       readable = still_readable _ _ _ _ c.in-Ok.n c.in-Ok.ensures.rest so_far.readable;
       others = keeps_again _ _ _ _ so_far.others (keeps_others _ _ _ _ c.in-Ok.ensures.rest);
@@ -50,8 +50,8 @@ pub returns-in-Err-clause-copies : goal.returns-in-Err-clause-copies
 returns-in-Err-clause-copies g c mode at =
     let so_far = c.pieces.invariant in
     of_content g.I.Inputs.told _ (record { bytes = so_far.came; breaks_off = true }) (source_at (g.I.Inputs.sources c.read.new.self) 0) _
-    (λ told. reads_copied _ _ _ _ _ _ _ _ _ _ _ _ so_far.joined so_far.left so_far.sized (omega (arith, so_far.counted, so_far.small)) (inl (ap Some c.in-Err.ensures.err.0)) (broken_read _ _ _ _ _ _ _ (so_far.read told) so_far.readable (c.in-Err.ensures.break_off told) c.in-Err.ensures.err.0 c.in-Err.ensures.err.1) (so_far.copies mode at))
-    (λ untold. reads_copied _ _ _ _ _ _ _ _ _ _ _ _ so_far.joined so_far.left so_far.sized (omega (arith, so_far.counted, so_far.small)) (inl (ap Some c.in-Err.ensures.err.0)) (broken_untold _ _ (source_at (g.I.Inputs.sources c.read.new.self) 0) _ untold c.in-Err.ensures.err.0) (so_far.copies mode at))
+    (λ told. reads_copied _ so_far.joined so_far.left so_far.sized (omega (arith, so_far.counted, so_far.small)) (inl (ap Some c.in-Err.ensures.err.0)) (broken_read _ _ (so_far.read told) so_far.readable (c.in-Err.ensures.break_off told) c.in-Err.ensures.err.0 c.in-Err.ensures.err.1) (so_far.copies mode at))
+    (λ untold. reads_copied _ so_far.joined so_far.left so_far.sized (omega (arith, so_far.counted, so_far.small)) (inl (ap Some c.in-Err.ensures.err.0)) (broken_untold _ (source_at (g.I.Inputs.sources c.read.new.self) 0) untold c.in-Err.ensures.err.0) (so_far.copies mode at))
     (λ _. broken_now _ _ _ _ so_far.readable c.in-Err.ensures.err.1)
 
 pub returns-in-Err-clause-others : goal.returns-in-Err-clause-others
@@ -66,8 +66,8 @@ pub returns-then-n-eq0-clause-copies : goal.returns-then-n-eq0-clause-copies
 returns-then-n-eq0-clause-copies g c mode at =
     let so_far = c.pieces.invariant in
     of_content g.I.Inputs.told _ (record { bytes = so_far.came; breaks_off = false }) (source_at (g.I.Inputs.sources c.read.new.self) 0) _
-    (λ told. reads_copied _ _ _ _ _ _ _ _ _ _ _ _ so_far.joined so_far.left so_far.sized (omega (arith, so_far.counted, so_far.small)) (inr (sound_at (g.I.Inputs.sources c.read.new.self) 0 (still_readable _ _ _ _ c.in-Ok.n c.in-Ok.ensures.rest so_far.readable))) (ended_read _ _ _ _ _ _ _ _ _ (so_far.read told) so_far.readable (c.in-Ok.ensures.bytes told) c.if-n-eq0.true (omega (arith, c.requires.room, c.pieces.auto.buffer)) c.in-Ok.ensures.rest) (so_far.copies mode at))
-    (λ untold. reads_copied _ _ _ _ _ _ _ _ _ _ _ _ so_far.joined so_far.left so_far.sized (omega (arith, so_far.counted, so_far.small)) (inr (sound_at (g.I.Inputs.sources c.read.new.self) 0 (still_readable _ _ _ _ c.in-Ok.n c.in-Ok.ensures.rest so_far.readable))) (ended_untold _ _ (source_at (g.I.Inputs.sources c.read.new.self) 0) untold) (so_far.copies mode at))
+    (λ told. reads_copied _ so_far.joined so_far.left so_far.sized (omega (arith, so_far.counted, so_far.small)) (inr (sound_at (g.I.Inputs.sources c.read.new.self) 0 (still_readable _ _ _ _ c.in-Ok.n c.in-Ok.ensures.rest so_far.readable))) (ended_read _ _ (so_far.read told) so_far.readable (c.in-Ok.ensures.bytes told) c.if-n-eq0.true (omega (arith, c.requires.room, c.pieces.auto.buffer)) c.in-Ok.ensures.rest) (so_far.copies mode at))
+    (λ untold. reads_copied _ so_far.joined so_far.left so_far.sized (omega (arith, so_far.counted, so_far.small)) (inr (sound_at (g.I.Inputs.sources c.read.new.self) 0 (still_readable _ _ _ _ c.in-Ok.n c.in-Ok.ensures.rest so_far.readable))) (ended_untold _ (source_at (g.I.Inputs.sources c.read.new.self) 0) untold) (so_far.copies mode at))
     (λ breaks. absurd (false≢true breaks))
 
 pub returns-then-n-eq0-clause-others : goal.returns-then-n-eq0-clause-others
@@ -82,8 +82,8 @@ pub returns-in_default-clause-copies : goal.returns-in_default-clause-copies
 returns-in_default-clause-copies g c mode at =
     let so_far = c.pieces.invariant in
     of_content g.I.Inputs.told _ (record { bytes = so_far.came ++ take c.in-Ok.n c.read.new.buffer; breaks_off = false }) (source_at (g.I.Inputs.sources c.read.new.self) 0) _
-    (λ told. reads_copied _ _ _ _ _ _ _ _ _ _ _ _ so_far.joined so_far.left so_far.sized (omega (arith, so_far.counted, so_far.small)) (inr (sound_at (g.I.Inputs.sources c.read.new.self) 0 (still_readable _ _ _ _ c.in-Ok.n c.in-Ok.ensures.rest so_far.readable))) (long_read _ _ _ _ _ _ _ _ _ _ (so_far.read told) so_far.readable (c.in-Ok.ensures.bytes told) so_far.counted (omega (arith, c.in-Ok.ensures.bound, c.read.auto.buffer)) (omega (arith, c.requires.most, c.read.auto.buffer, c.pieces.auto.buffer)) (omega (arith, c.in_default.ensures)) c.in-Ok.ensures.rest) (so_far.copies mode at))
-    (λ untold. reads_copied _ _ _ _ _ _ _ _ _ _ _ _ so_far.joined so_far.left so_far.sized (omega (arith, so_far.counted, so_far.small)) (inr (sound_at (g.I.Inputs.sources c.read.new.self) 0 (still_readable _ _ _ _ c.in-Ok.n c.in-Ok.ensures.rest so_far.readable))) (long_untold _ _ _ _ _ (source_at (g.I.Inputs.sources c.read.new.self) 0) untold so_far.counted (omega (arith, c.in-Ok.ensures.bound, c.read.auto.buffer)) (omega (arith, c.requires.most, c.read.auto.buffer, c.pieces.auto.buffer)) (omega (arith, c.in_default.ensures))) (so_far.copies mode at))
+    (λ told. reads_copied _ so_far.joined so_far.left so_far.sized (omega (arith, so_far.counted, so_far.small)) (inr (sound_at (g.I.Inputs.sources c.read.new.self) 0 (still_readable _ _ _ _ c.in-Ok.n c.in-Ok.ensures.rest so_far.readable))) (long_read _ _ (so_far.read told) so_far.readable (c.in-Ok.ensures.bytes told) so_far.counted (omega (arith, c.in-Ok.ensures.bound, c.read.auto.buffer)) (omega (arith, c.requires.most, c.read.auto.buffer, c.pieces.auto.buffer)) (omega (arith, c.in_default.ensures)) c.in-Ok.ensures.rest) (so_far.copies mode at))
+    (λ untold. reads_copied _ so_far.joined so_far.left so_far.sized (omega (arith, so_far.counted, so_far.small)) (inr (sound_at (g.I.Inputs.sources c.read.new.self) 0 (still_readable _ _ _ _ c.in-Ok.n c.in-Ok.ensures.rest so_far.readable))) (long_untold _ _ (source_at (g.I.Inputs.sources c.read.new.self) 0) untold so_far.counted (omega (arith, c.in-Ok.ensures.bound, c.read.auto.buffer)) (omega (arith, c.requires.most, c.read.auto.buffer, c.pieces.auto.buffer)) (omega (arith, c.in_default.ensures))) (so_far.copies mode at))
     (λ breaks. absurd (false≢true breaks))
 
 pub returns-in_default-clause-others : goal.returns-in_default-clause-others
@@ -98,12 +98,12 @@ pub returns-then-are_all-clause-copies : goal.returns-then-are_all-clause-copies
 returns-then-are_all-clause-copies g c mode at =
     let so_far = c.pieces.invariant in
     of_content g.I.Inputs.told _ (record { bytes = so_far.came ++ take c.in-Ok.n c.read.new.buffer; breaks_off = false }) (source_at (g.I.Inputs.sources c.read.new.self) 0) _
-    (λ told. vain_copied _ _ _ _ _ _ _ _ _ _ _ _ _ _ so_far.joined (sym c.are_all.ensures ∙ c.if-are_all.true) so_far.sized c.if-n-eq0.false (omega (arith, c.in-Ok.ensures.bound, c.read.auto.buffer)) (omega (arith, c.requires.most, c.read.auto.buffer, c.pieces.auto.buffer)) so_far.counted c.in-Some.ensures.1 (omega (arith, c.in-Some.ensures.0, c.in-Some.ensures.1))
+    (λ told. vain_copied _ _ _ so_far.joined (sym c.are_all.ensures ∙ c.if-are_all.true) so_far.sized c.if-n-eq0.false (omega (arith, c.in-Ok.ensures.bound, c.read.auto.buffer)) (omega (arith, c.requires.most, c.read.auto.buffer, c.pieces.auto.buffer)) so_far.counted c.in-Some.ensures.1 (omega (arith, c.in-Some.ensures.0, c.in-Some.ensures.1))
     (sound_at (g.I.Inputs.sources c.read.new.self) 0 (still_readable _ _ _ _ c.in-Ok.n c.in-Ok.ensures.rest so_far.readable))
-    (vain_read _ _ _ _ _ _ _ _ _ (so_far.read told) so_far.readable (c.in-Ok.ensures.bytes told) c.in-Ok.ensures.rest) (c.copy_piece.ensures.copies mode so_far.pieces (so_far.copies mode at)))
-    (λ untold. vain_copied _ _ _ _ _ _ _ _ _ _ _ _ _ _ so_far.joined (sym c.are_all.ensures ∙ c.if-are_all.true) so_far.sized c.if-n-eq0.false (omega (arith, c.in-Ok.ensures.bound, c.read.auto.buffer)) (omega (arith, c.requires.most, c.read.auto.buffer, c.pieces.auto.buffer)) so_far.counted c.in-Some.ensures.1 (omega (arith, c.in-Some.ensures.0, c.in-Some.ensures.1))
+    (vain_read _ _ (so_far.read told) so_far.readable (c.in-Ok.ensures.bytes told) c.in-Ok.ensures.rest) (c.copy_piece.ensures.copies mode so_far.pieces (so_far.copies mode at)))
+    (λ untold. vain_copied _ _ _ so_far.joined (sym c.are_all.ensures ∙ c.if-are_all.true) so_far.sized c.if-n-eq0.false (omega (arith, c.in-Ok.ensures.bound, c.read.auto.buffer)) (omega (arith, c.requires.most, c.read.auto.buffer, c.pieces.auto.buffer)) so_far.counted c.in-Some.ensures.1 (omega (arith, c.in-Some.ensures.0, c.in-Some.ensures.1))
     (sound_at (g.I.Inputs.sources c.read.new.self) 0 (still_readable _ _ _ _ c.in-Ok.n c.in-Ok.ensures.rest so_far.readable))
-    (vain_untold _ _ (source_at (g.I.Inputs.sources c.read.new.self) 0) untold) (c.copy_piece.ensures.copies mode so_far.pieces (so_far.copies mode at)))
+    (vain_untold _ (source_at (g.I.Inputs.sources c.read.new.self) 0) untold) (c.copy_piece.ensures.copies mode so_far.pieces (so_far.copies mode at)))
     (λ breaks. absurd (false≢true breaks))
 
 pub returns-then-are_all-clause-others : goal.returns-then-are_all-clause-others

@@ -5,16 +5,16 @@ use Rattle.tee_core.proofs.OpeningLemmas.{begins_opening, none_left, opens_more_
 use Rattle.tee_core.proofs.tee.open_files.Goals as goal
 
 pub loop-left-init : goal.loop-left-init
-loop-left-init g c = begins_opening _ _ _ c.requires
+loop-left-init g c = begins_opening c.requires
 
 pub loop-left-preserved : goal.loop-left-preserved
-loop-left-preserved g c = opens_more_at _ _ _ c.loop-left.left.now _ _ _ c.in_ok-open_file.field-0 c.in-len1-up.len_at_least c.loop-left.invariant c.in_ok-open_file.ensures.ok.0 c.in_ok-open_file.ensures.bound c.in_ok-open_file.ensures.ok.1
+loop-left-preserved g c = opens_more_at _ c.loop-left.left.now c.in-len1-up.len_at_least c.loop-left.invariant c.in_ok-open_file.ensures.ok.0 c.in_ok-open_file.ensures.bound c.in_ok-open_file.ensures.ok.1
 
 pub returns-in_err-open_file-clause-some : goal.returns-in_err-open_file-clause-some
-returns-in_err-open_file-clause-some g c = rw (handed_on _ _ c.from_residual.ensures.1) (c.loop-left.invariant.some _ (some_now _ _ _ _ c.in_err-open_file.ensures.err.2))
+returns-in_err-open_file-clause-some g c = rw (handed_on _ _ c.from_residual.ensures.1) (c.loop-left.invariant.some _ (some_now c.in_err-open_file.ensures.err.2))
 
 pub returns-clause-ok : goal.returns-clause-ok
-returns-clause-ok g c = c.loop-left.invariant.whole _ (none_left _ c.loop-left.left.now _ c.in_default.len_below)
+returns-clause-ok g c = c.loop-left.invariant.whole _ (none_left c.loop-left.left.now c.in_default.len_below)
 
 pub returns-in_err-open_file-clause-err : goal.returns-in_err-open_file-clause-err
 returns-in_err-open_file-clause-err g c = grind (arith, common_steps)

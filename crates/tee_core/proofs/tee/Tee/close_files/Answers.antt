@@ -6,7 +6,7 @@ use Rattle.tee_core.proofs.GetsLemmas.{closes_next}
 use Rattle.tee_core.proofs.tee.Tee.close_files.Goals as goal
 
 pub loop-n-init : goal.loop-n-init
-loop-n-init g c = none_in_turn _ _
+loop-n-init g c = none_in_turn
 
 pub loop-n-preserved : goal.loop-n-preserved
 loop-n-preserved g c = closes_next _ _ _ _ _ _ _ c.loop-n.invariant

@@ -13,13 +13,13 @@ returns g c =
     let streams = subst (λ (tee : TeeState). 0 < tee.count → 2 ≤ tee.first) c.self.view_is c.self.invariant.1 in
     let first = c.write_piece-broke.ensures in
     let files = c.write_files.ensures in
-    let turned = fed _ _ c.args.self.now _ _ _ _ _ streams first.gets first.broke files.gets files.broke in
+    let turned = fed _ c.args.self.now _ _ streams first.gets first.broke files.gets files.broke in
     record {
       same = search rules;
       gets = λ live. turned.changes;
-      sound = λ live place is still. sound_gets _ _ _ _ (turned.changes.each place is) still;
-      so_far = λ live start x at. all_get_more _ _ _ _ _ _ at turned.changes;
+      sound = λ live place is still. sound_gets _ (turned.changes.each place is) still;
+      so_far = λ live start x at. all_get_more _ at turned.changes;
       broke = turned.broke_are;
-      ready = λ live. all_still_usable _ _ _ _ turned.changes (c.requires live);
+      ready = λ live. all_still_usable _ turned.changes (c.requires live);
       over = grind (arith, common_steps);
     }
