@@ -35,19 +35,19 @@ far delim unit n x = elim (cases_lt (length x) (length (but_last_of delim unit n
       = last_is_drop delim unit n (x ++ replicate (n + 1) delim) ∙ drop-append-le k x (replicate (n + 1) delim) within in
       let sum : measure delim unit (last_of delim unit n (x ++ replicate (n + 1) delim)) ≡ measure delim unit (drop k x) + measure delim unit (replicate (n + 1) delim)
       = ap (measure delim unit) last ∙ measure-append delim unit (drop k x) (replicate (n + 1) delim) in
-      let many : measure delim unit (replicate (n + 1) delim) ≡ n + 1 = measure-delimiters delim unit (n + 1) in
+      let many : measure delim unit (replicate (n + 1) delim) ≡ n + 1 = measure-delimiters delim unit in
       let few : measure delim unit (last_of delim unit n (x ++ replicate (n + 1) delim)) ≤ n = last_is_small delim unit n (x ++ replicate (n + 1) delim) in
       omega arith
 
 -- Heads
 
-pub head_agreed : (delim : ℕ) (unit : Counted) (but_last : Bool) (n : ℕ) (x : List ℕ) → IsAgreed (head_work delim unit but_last n) x ((head_work delim unit but_last n).settled x)
-head_agreed delim unit but_last n x = agreed_now (head_work delim unit but_last n) x (common (head_work delim unit but_last n) (law.head_lawful delim unit but_last n) x) refl
+pub head_agreed : (delim : ℕ) (unit : Counted) (but_last : Bool) (n : ℕ) {x : List ℕ} → IsAgreed (head_work delim unit but_last n) x ((head_work delim unit but_last n).settled x)
+head_agreed delim unit but_last n {x} = agreed_now (head_work delim unit but_last n) x (common (head_work delim unit but_last n) (law.head_lawful delim unit but_last n) x) refl
 
 -- the first n of a text with fewer, which goes on, have all of it
 first_long : (delim : ℕ) (unit : Counted) (n : ℕ) (x y : List ℕ) → measure delim unit x < n → length x ≤ length (first_of delim unit n (x ++ y))
 first_long delim unit n x y short =
-    let is : first_of delim unit n (x ++ y) ≡ x ++ first_of delim unit (n - measure delim unit x) y = first_of-append delim unit n x y ∙ ap (λ front. front ++ first_of delim unit (n - measure delim unit x) y) (first_of-short delim unit n x short) in
+    let is : first_of delim unit n (x ++ y) ≡ x ++ first_of delim unit (n - measure delim unit x) y = first_of-append delim unit n x y ∙ ap (λ front. front ++ first_of delim unit (n - measure delim unit x) y) (first_of-short delim unit n short) in
     let long : length (first_of delim unit n (x ++ y)) ≡ length x + length (first_of delim unit (n - measure delim unit x) y) = ap length is ∙ length-append x (first_of delim unit (n - measure delim unit x) y) in
     omega arith
 
@@ -78,14 +78,14 @@ but_last_differ delim unit n x i past within same =
     let one : head_spots delim unit true n (x ++ replicate (n + 1) delim) i ≡ spot 0 i ∷ [] = spot_in 0 i (but_last_of delim unit n (x ++ replicate (n + 1) delim)) [] (omega (arith, within, more)) in
     some_spot (spot 0 i) [] (sym one ∙ sym same ∙ none)
 
-pub head_undecided : (delim : ℕ) → delim < 256 → (unit : Counted) (but_last : Bool) (n : ℕ) (x : List ℕ) → IsUndecided (head_spots delim unit but_last n) x (head_waiting delim unit but_last n x)
-head_undecided delim byte unit false n x = record {
+pub head_undecided : (delim : ℕ) → delim < 256 → (unit : Counted) (but_last : Bool) (n : ℕ) {x : List ℕ} → IsUndecided (head_spots delim unit but_last n) x (head_waiting delim unit but_last n x)
+head_undecided delim byte unit false n {x} = record {
   before = x;
   are_last = sym (append-nil x);
   differ = λ i past within. absurd (omega (arith, past, within));
   decided = λ i less y z can also. first_decided delim unit n x i less y z;
 }
-head_undecided delim byte unit true n x = record {
+head_undecided delim byte unit true n {x} = record {
   before = but_last_of delim unit n x;
   are_last = sym (ends_together delim unit n x);
   differ = λ i past within. ([], replicate (n + 1) delim, none_comes, copies_come (n + 1) delim byte, but_last_differ delim unit n x i past within);
@@ -98,12 +98,12 @@ abbrev pub tail_first : (delim : ℕ) (unit : Counted) (from_nth : Bool) (n : �
 tail_first delim unit true n x = first_of delim unit (n - 1) x
 tail_first delim unit false n x = but_last_of delim unit n x
 
-pub tail_together : (delim : ℕ) (unit : Counted) (from_nth : Bool) (n : ℕ) (x : List ℕ) → tail_first delim unit from_nth n x ++ tail_of delim unit from_nth n x ≡ x
-tail_together delim unit true n x = first_then_after delim unit (n - 1) x
-tail_together delim unit false n x = ends_together delim unit n x
+pub tail_together : (delim : ℕ) (unit : Counted) (from_nth : Bool) (n : ℕ) {x : List ℕ} → tail_first delim unit from_nth n x ++ tail_of delim unit from_nth n x ≡ x
+tail_together delim unit true n {x} = first_then_after delim unit (n - 1) x
+tail_together delim unit false n {x} = ends_together delim unit n x
 
 pub tail_long : (delim : ℕ) (unit : Counted) (from_nth : Bool) (n : ℕ) (x : List ℕ) → length x ≡ length (tail_first delim unit from_nth n x) + length (tail_of delim unit from_nth n x)
-tail_long delim unit from_nth n x = ap length (sym (tail_together delim unit from_nth n x)) ∙ length-append (tail_first delim unit from_nth n x) (tail_of delim unit from_nth n x)
+tail_long delim unit from_nth n x = ap length (sym (tail_together delim unit from_nth n)) ∙ length-append (tail_first delim unit from_nth n x) (tail_of delim unit from_nth n x)
 
 pub skipped_is : (delim : ℕ) (unit : Counted) (from_nth : Bool) (n : ℕ) (x : List ℕ) → skipped delim unit from_nth n x ≡ length (tail_first delim unit from_nth n x)
 skipped_is delim unit from_nth n x = (let long = tail_long delim unit from_nth n x in omega (arith, long))
@@ -150,14 +150,14 @@ last_differ delim unit n x i past within same =
     let none : tail_spots delim unit false n (x ++ replicate (n + 1) delim) i ≡ [] = tail_nowhere delim unit false n (x ++ replicate (n + 1) delim) i (omega (arith, there, more, within)) in
     some_spot (spot 0 (i - skipped delim unit false n x)) [] (sym one ∙ same ∙ none)
 
-pub tail_undecided : (delim : ℕ) → delim < 256 → (unit : Counted) (from_nth : Bool) (n : ℕ) (x : List ℕ) → IsUndecided (tail_spots delim unit from_nth n) x (tail_waiting delim unit from_nth n x)
-tail_undecided delim byte unit true n x = record {
+pub tail_undecided : (delim : ℕ) → delim < 256 → (unit : Counted) (from_nth : Bool) (n : ℕ) {x : List ℕ} → IsUndecided (tail_spots delim unit from_nth n) x (tail_waiting delim unit from_nth n x)
+tail_undecided delim byte unit true n {x} = record {
   before = x;
   are_last = sym (append-nil x);
   differ = λ i past within. absurd (omega (arith, past, within));
   decided = λ i less y z can also. nth_decided delim unit n x i less y z;
 }
-tail_undecided delim byte unit false n x = record {
+tail_undecided delim byte unit false n {x} = record {
   before = but_last_of delim unit n x;
   are_last = sym (ends_together delim unit n x);
   differ = λ i past within. ([], replicate (n + 1) delim, none_comes, copies_come (n + 1) delim byte, last_differ delim unit n x i past within);
@@ -179,33 +179,33 @@ others_come : (delim : ℕ) → delim < 256 → (unit : Counted) (k : ℕ) → C
 others_come delim byte Lines k = one_comes delim (other delim ∷ replicate (suc k) delim) byte (one_comes (other delim) (replicate (suc k) delim) (other_comes delim) (copies_come (suc k) delim byte))
 others_come delim byte Bytes k = one_comes delim (other delim ∷ replicate k (other delim)) byte (one_comes (other delim) (replicate k (other delim)) (other_comes delim) (copies_come k (other delim) (other_comes delim)))
 
-others_size : (delim : ℕ) (unit : Counted) (k : ℕ) → size delim unit (other delim ∷ others delim unit k) ≡ suc k
-others_size delim Lines k =
+others_size : (delim : ℕ) (unit : Counted) {k : ℕ} → size delim unit (other delim ∷ others delim unit k) ≡ suc k
+others_size delim Lines {k} =
     line_count-closed delim (other delim ∷ replicate (suc k) delim) (ends_with-append delim (other delim ∷ []) (replicate (suc k) delim) (omega arith) ∙ ends_there delim k)
     ∙ ap (λ is. cond is (delimiters delim (replicate (suc k) delim) + 1) (delimiters delim (replicate (suc k) delim))) (ne_eqb (other delim) delim (λ is. other_differs delim (sym is)))
-    ∙ measure-delimiters delim Lines (suc k)
-others_size delim Bytes k = ap suc (length-replicate k (other delim))
+    ∙ measure-delimiters delim Lines
+others_size delim Bytes {k} = ap suc (length-replicate k (other delim))
 
-delimiters_size : (delim : ℕ) (unit : Counted) (k : ℕ) → size delim unit (replicate (suc k) delim) ≡ suc k
-delimiters_size delim Lines k = line_count-closed delim (replicate (suc k) delim) (ends_there delim k) ∙ measure-delimiters delim Lines (suc k)
-delimiters_size delim Bytes k = length-replicate (suc k) delim
+delimiters_size : (delim : ℕ) (unit : Counted) {k : ℕ} → size delim unit (replicate (suc k) delim) ≡ suc k
+delimiters_size delim Lines {k} = line_count-closed delim (replicate (suc k) delim) (ends_there delim k) ∙ measure-delimiters delim Lines
+delimiters_size delim Bytes {k} = length-replicate (suc k) delim
 
 -- after a complete line these are the last n
-last_exact : (delim : ℕ) (unit : Counted) (n : ℕ) (front back : List ℕ) → ends_with delim front ≡ true → size delim unit back ≡ n → last_of delim unit n (front ++ back) ≡ back
-last_exact delim Lines n front back ends is =
+last_exact : (delim : ℕ) (unit : Counted) {n : ℕ} (front : List ℕ) {back : List ℕ} → ends_with delim front ≡ true → size delim unit back ≡ n → last_of delim unit n (front ++ back) ≡ back
+last_exact delim Lines {n} front {back} ends is =
     let lines : lines_of delim (front ++ back) ≡ lines_of delim front ++ lines_of delim back = lines_of-append delim front back ends in
     let count : length (lines_of delim (front ++ back)) ≡ length (lines_of delim front) + length (lines_of delim back) = ap length lines ∙ length-append (lines_of delim front) (lines_of delim back) in
     let start : length (lines_of delim (front ++ back)) - n ≡ length (lines_of delim front) = omega (arith, count, is) in
     ap (λ k. joined (drop k (lines_of delim (front ++ back)))) start ∙ ap (λ those. joined (drop (length (lines_of delim front)) those)) lines
     ∙ ap joined (drop-append_seam (lines_of delim front) (lines_of delim back)) ∙ joined-lines_of delim back
-last_exact delim Bytes n front back ends is =
+last_exact delim Bytes {n} front {back} ends is =
     let start : length (front ++ back) - n ≡ length front = (let count = length-append front back in omega (arith, count, is)) in
     ap (λ k. drop k (front ++ back)) start ∙ drop-append_seam front back
 
-last_after : (delim : ℕ) (unit : Counted) (n : ℕ) (x back : List ℕ) → size delim unit back ≡ n → last_of delim unit n (x ++ delim ∷ back) ≡ back
-last_after delim unit n x back is =
+last_after : (delim : ℕ) (unit : Counted) {n : ℕ} (x : List ℕ) {back : List ℕ} → size delim unit back ≡ n → last_of delim unit n (x ++ delim ∷ back) ≡ back
+last_after delim unit {n} x {back} is =
     ap (last_of delim unit n) (sym (append_assoc x (delim ∷ []) back))
-    ∙ last_exact delim unit n (x ++ delim ∷ []) back (ends_with-append delim x (delim ∷ []) (omega arith) ∙ eq-eqb delim delim refl) is
+    ∙ last_exact delim unit (x ++ delim ∷ []) (ends_with-append delim x (delim ∷ []) (omega arith) ∙ eq-eqb delim delim refl) is
 
 -- texts with different first bytes have no beginning in common
 none_common : (one two : ℕ) (rest more bytes : List ℕ) → one ≢ two → IsBeginning bytes (one ∷ rest) → IsBeginning bytes (two ∷ more) → length bytes ≤ 0
@@ -224,33 +224,33 @@ pub record Apart (delim : ℕ) (unit : Counted) (n : ℕ) (x : List ℕ) : Type 
   pub z_comes : CanCome z
   pub nothing_common : (bytes : List ℕ) → IsBeginning bytes (last_of delim unit n (x ++ y)) → IsBeginning bytes (last_of delim unit n (x ++ z)) → length bytes ≤ 0
 
-apart : (delim : ℕ) → delim < 256 → (unit : Counted) (n : ℕ) (x : List ℕ) → Apart delim unit n x
-apart delim byte unit zero x = record {
+apart : {delim : ℕ} → delim < 256 → {unit : Counted} (n : ℕ) {x : List ℕ} → Apart delim unit n x
+apart {delim} byte {unit} zero {x} = record {
   y = [];
   z = [];
   y_comes = none_comes;
   z_comes = none_comes;
   nothing_common = λ bytes begins also. (let short = beginning_short bytes _ begins in let none = none_last delim unit (x ++ []) in omega (arith, short, none));
 }
-apart delim byte unit (suc k) x = record {
+apart {delim} byte {unit} (suc k) {x} = record {
   y = delim ∷ replicate (suc k) delim;
   z = delim ∷ other delim ∷ others delim unit k;
   y_comes = one_comes delim (replicate (suc k) delim) byte (copies_come (suc k) delim byte);
   z_comes = others_come delim byte unit k;
   nothing_common = λ bytes begins also. none_common delim (other delim) (replicate k delim) (others delim unit k) bytes (other_differs delim)
-      (subst (IsBeginning bytes) (last_after delim unit (suc k) x (replicate (suc k) delim) (delimiters_size delim unit k)) begins)
-      (subst (IsBeginning bytes) (last_after delim unit (suc k) x (other delim ∷ others delim unit k) (others_size delim unit k)) also);
+      (subst (IsBeginning bytes) (last_after delim unit x (delimiters_size delim unit)) begins)
+      (subst (IsBeginning bytes) (last_after delim unit x (others_size delim unit)) also);
 }
 
-last_longest : (delim : ℕ) (unit : Counted) (n : ℕ) (x : List ℕ) → Apart delim unit n x → (place : ℕ) → place < 1 → (y : List ℕ) × (z : List ℕ) × CanCome y × CanCome z
+last_longest : {delim : ℕ} {unit : Counted} {n : ℕ} {x : List ℕ} → Apart delim unit n x → (place : ℕ) → place < 1 → (y : List ℕ) × (z : List ℕ) × CanCome y × CanCome z
     × ((bytes : List ℕ) → IsBeginning bytes (output_at ((tail_work delim unit false n).whole (x ++ y)) place) → IsBeginning bytes (output_at ((tail_work delim unit false n).whole (x ++ z)) place) → length bytes ≤ length (output_at nothing place))
-last_longest delim unit n x apart zero less = (apart.y, apart.z, apart.y_comes, apart.z_comes, apart.nothing_common)
-last_longest delim unit n x apart (suc place) less = absurd (omega (arith, less))
+last_longest apart zero less = (apart.y, apart.z, apart.y_comes, apart.z_comes, apart.nothing_common)
+last_longest apart (suc place) less = absurd (omega (arith, less))
 
-pub tail_agreed : (delim : ℕ) → delim < 256 → (unit : Counted) (from_nth : Bool) (n : ℕ) (x : List ℕ) → IsAgreed (tail_work delim unit from_nth n) x ((tail_work delim unit from_nth n).settled x)
-tail_agreed delim byte unit true n x = agreed_now (tail_work delim unit true n) x (common (tail_work delim unit true n) (law.tail_lawful delim unit true n) x) refl
-tail_agreed delim byte unit false n x = record {
+pub tail_agreed : (delim : ℕ) → delim < 256 → (unit : Counted) (from_nth : Bool) (n : ℕ) {x : List ℕ} → IsAgreed (tail_work delim unit from_nth n) x ((tail_work delim unit from_nth n).settled x)
+tail_agreed delim byte unit true n {x} = agreed_now (tail_work delim unit true n) x (common (tail_work delim unit true n) (law.tail_lawful delim unit true n) x) refl
+tail_agreed delim byte unit false n {x} = record {
   common = λ y can. common (tail_work delim unit false n) (law.tail_lawful delim unit false n) x y;
   fewest = ([], none_comes, refl);
-  longest = last_longest delim unit n x (apart delim byte unit n x);
+  longest = last_longest (apart byte n);
 }

@@ -45,9 +45,9 @@ pub past_rest : (delim : ℕ) (unit : Counted) (n k : ℕ) (x : List ℕ) → ta
 past_rest delim unit n k x front = sym (length-drop k x) ∙ ap length (after_is_drop delim unit n k x front)
 
 -- what came in after the first is counted
-pub front_past : (old now : Front) (left k : ℕ) (piece : List ℕ) → now ≡ record old { left = left } → take k piece ≡ first_of old.delim old.unit old.left piece
+pub front_past : (old : Front) {now : Front} {left : ℕ} (k : ℕ) (piece : List ℕ) → now ≡ record old { left = left } → take k piece ≡ first_of old.delim old.unit old.left piece
     → record now { past = now.past + (length piece - k) } ≡ record old { left = left; past = old.past + length (after_of old.delim old.unit old.left piece) }
-front_past old now left k piece is front =
+front_past old {left} k piece is front =
     ap (λ (those : Front). record those { past = those.past + (length piece - k) }) is
     ∙ ap (λ n. record old { left = left; past = old.past + n }) (past_rest old.delim old.unit old.left k piece front)
 
@@ -68,9 +68,9 @@ delimiters-replicate delim (suc k) =
     let so_far = delimiters-replicate delim k in
     omega arith
 
-pub measure-delimiters : (delim : ℕ) (unit : Counted) (k : ℕ) → measure delim unit (replicate k delim) ≡ k
-measure-delimiters delim Lines k = delimiters-replicate delim k
-measure-delimiters delim Bytes k = length-replicate k delim
+pub measure-delimiters : (delim : ℕ) (unit : Counted) {k : ℕ} → measure delim unit (replicate k delim) ≡ k
+measure-delimiters delim Lines {k} = delimiters-replicate delim k
+measure-delimiters delim Bytes {k} = length-replicate k delim
 
 -- where more came than may wait, more stands before the last
 pub but_last_grows : (delim : ℕ) (unit : Counted) (n : ℕ) (x y : List ℕ) → n < measure delim unit y → but_last_of delim unit n (x ++ y) ≡ but_last_of delim unit n x → ⊥

@@ -34,12 +34,12 @@ use Rattle.ends_core.proofs.KeptLemmas.{full_once}
 use Rattle.ends_core.proofs.LoadLemmas.{last_none}
 
 -- what is a function of what was asked for is the same where the same was asked for
-same_for : {A : Type 0} (f : Stretch → ℕ → Counted → ℕ → A) (old new : Ends) → SameAsked old new → f (stretch_of new) (delim_of new) (unit_of new) (count_of new) ≡ f (stretch_of old) (delim_of old) (unit_of old) (count_of old)
-same_for f old new same = ap (λ s. f s (delim_of new) (unit_of new) (count_of new)) same.stretch ∙ ap (λ d. f (stretch_of old) d (unit_of new) (count_of new)) same.delim
+same_for : {A : Type 0} (f : Stretch → ℕ → Counted → ℕ → A) {old new : Ends} → SameAsked old new → f (stretch_of new) (delim_of new) (unit_of new) (count_of new) ≡ f (stretch_of old) (delim_of old) (unit_of old) (count_of old)
+same_for f {old} {new} same = ap (λ s. f s (delim_of new) (unit_of new) (count_of new)) same.stretch ∙ ap (λ d. f (stretch_of old) d (unit_of new) (count_of new)) same.delim
     ∙ ap (λ u. f (stretch_of old) (delim_of old) u (count_of new)) same.unit ∙ ap (f (stretch_of old) (delim_of old) (unit_of old)) same.count
 
-pub same_work : (old new : Ends) → SameAsked old new → work new ≡ work old
-same_work old new same = same_for work_in old new same
+pub same_work : {old new : Ends} → SameAsked old new → work new ≡ work old
+same_work same = same_for work_in same
 
 -- it writes to standard output alone, and may want memory where the last are kept
 pub on_means : (s : Stretch) (delim : ℕ) (unit : Counted) (n : ℕ) → (work_in s delim unit n).means ≡ on_output (keeps s)
@@ -51,47 +51,47 @@ always_well the_first delim unit n x = refl
 always_well s delim unit n x = refl
 
 -- what is written with a piece is what the output gains by it
-went_out : (ends : Ends) (x piece : List ℕ) → Holds ends x → record ((work ends).settled x) { out = ((work ends).settled x).out ++ due ends piece } ≡ (work ends).settled (x ++ piece)
-went_out (First count front) x piece holds =
+went_out : (ends : Ends) {x : List ℕ} (piece : List ℕ) → Holds ends x → record ((work ends).settled x) { out = ((work ends).settled x).out ++ due ends piece } ≡ (work ends).settled (x ++ piece)
+went_out (First count front) {x} piece holds =
     ap (λ left. only_out (first_of front.delim front.unit count x ++ first_of front.delim front.unit left piece)) (holds.left refl) ∙ ap only_out (sym (first_of-append front.delim front.unit count x piece))
-went_out (ButLast kept) x piece holds =
+went_out (ButLast kept) {x} piece holds =
     ap (λ held. only_out (but_last_of (kept_delim kept) (kept_unit kept) (most_of kept) x ++ but_last_of (kept_delim kept) (kept_unit kept) (most_of kept) (held ++ piece))) holds.waits
     ∙ ap only_out (sym (but_last_of-append (kept_delim kept) (kept_unit kept) (most_of kept) x piece))
-went_out (FromNth count front) x piece holds =
+went_out (FromNth count front) {x} piece holds =
     ap (λ left. only_out (after_of front.delim front.unit (count - 1) x ++ after_of front.delim front.unit left piece)) (holds.left refl) ∙ ap only_out (sym (after_of-append front.delim front.unit (count - 1) x piece))
-went_out (Last kept) x piece holds = refl
+went_out (Last kept) piece holds = refl
 
 -- and at the end
-rest_out : (ends : Ends) (x : List ℕ) → Holds ends x → record ((work ends).settled x) { out = ((work ends).settled x).out ++ due_at_end ends } ≡ (work ends).whole x
-rest_out (Last kept) x holds = ap only_out holds.waits
-rest_out ends x holds = ap only_out (append-nil ((work ends).settled x).out)
+rest_out : (ends : Ends) {x : List ℕ} → Holds ends x → record ((work ends).settled x) { out = ((work ends).settled x).out ++ due_at_end ends } ≡ (work ends).whole x
+rest_out (Last kept) holds = ap only_out holds.waits
+rest_out ends {x} holds = ap only_out (append-nil ((work ends).settled x).out)
 
-pub puts_out : (told : Bool) (ends : Ends) (piece : List ℕ) (old new : List Slot) → new ≡ with_written 0 (told_of told (due ends piece)) old → PutsOut Holds OwnsNone work ends piece told old new
-puts_out told ends piece old new wrote = stop.puts_out Holds OwnsNone work told ends piece (due ends piece) old new (λ x holds. went_out ends x piece holds) wrote
+pub puts_out : (told : Bool) (ends : Ends) (piece : List ℕ) {old new : List Slot} → new ≡ with_written 0 (told_of told (due ends piece)) old → PutsOut Holds OwnsNone work ends piece told old new
+puts_out told ends piece {old} wrote = stop.puts_out Holds OwnsNone work told piece (due ends piece) old (λ x holds. went_out ends piece holds) wrote
 
-pub cuts_off : (told lacks : Bool) (ends : Ends) (piece : List ℕ) (old new : List Slot) (f : Fault) → Stops told lacks (due ends piece) old new f → CutsOff Holds OwnsNone work ends piece told old new f
-cuts_off told lacks ends piece old new f stops = stop.cuts_off Holds OwnsNone work told lacks ends piece (due ends piece) old new f (λ x holds. went_out ends x piece holds) stops
+pub cuts_off : (told : Bool) {lacks : Bool} (ends : Ends) (piece : List ℕ) {old new : List Slot} {f : Fault} → Stops told lacks (due ends piece) old new f → CutsOff Holds OwnsNone work ends piece told old new f
+cuts_off told ends piece stops = stop.cuts_off Holds OwnsNone work told piece (λ x holds. went_out ends piece holds) stops
 
-pub finishes : (told : Bool) (ends : Ends) (old new : List Slot) → new ≡ with_written 0 (told_of told (due_at_end ends)) old → Finishes Holds OwnsNone work ends told old new
-finishes told ends old new wrote =
-    stop.finishes Holds OwnsNone work told ends (due_at_end ends) old new (λ x holds. rest_out ends x holds) (always_well (stretch_of ends) (delim_of ends) (unit_of ends) (count_of ends)) wrote
+pub finishes : (told : Bool) (ends : Ends) {old new : List Slot} → new ≡ with_written 0 (told_of told (due_at_end ends)) old → Finishes Holds OwnsNone work ends told old new
+finishes told ends {old} wrote =
+    stop.finishes Holds OwnsNone work told (due_at_end ends) old (λ x holds. rest_out ends holds) (always_well (stretch_of ends) (delim_of ends) (unit_of ends) (count_of ends)) wrote
 
-pub ends_short : (told lacks : Bool) (ends : Ends) (old new : List Slot) (f : Fault) → Stops told lacks (due_at_end ends) old new f → EndsShort Holds OwnsNone work ends told old new f
-ends_short told lacks ends old new f stops = stop.ends_short Holds OwnsNone work told lacks ends (due_at_end ends) old new f (λ x holds. rest_out ends x holds) stops
+pub ends_short : (told : Bool) {lacks : Bool} (ends : Ends) {old new : List Slot} {f : Fault} → Stops told lacks (due_at_end ends) old new f → EndsShort Holds OwnsNone work ends told old new f
+ends_short told ends stops = stop.ends_short Holds OwnsNone work told (λ x holds. rest_out ends holds) stops
 
 minus_both : (n a b : ℕ) → (n - a) - b ≡ n - (a + b)
 minus_both n a b = omega arith
 
 -- what waits after the piece
-waits_next : (ends : Ends) (x piece : List ℕ) → Holds ends x → left_waiting ends piece ≡ waiting ends (x ++ piece)
-waits_next (ButLast kept) x piece holds =
+waits_next : (ends : Ends) {x : List ℕ} (piece : List ℕ) → Holds ends x → left_waiting ends piece ≡ waiting ends (x ++ piece)
+waits_next (ButLast kept) {x} piece holds =
     ap (λ held. last_of (kept_delim kept) (kept_unit kept) (most_of kept) (held ++ piece)) holds.waits ∙ sym (last_of-append (kept_delim kept) (kept_unit kept) (most_of kept) x piece)
-waits_next (Last kept) x piece holds =
+waits_next (Last kept) {x} piece holds =
     ap (λ held. last_of (kept_delim kept) (kept_unit kept) (most_of kept) (held ++ piece)) holds.waits ∙ sym (last_of-append (kept_delim kept) (kept_unit kept) (most_of kept) x piece)
-waits_next ends x piece holds = refl
+waits_next ends piece holds = refl
 
-waits_now : (ends next : Ends) (x piece : List ℕ) → SameAsked ends next → waiting_of next ≡ left_waiting ends piece → Holds ends x → waiting_of next ≡ waiting next (x ++ piece)
-waits_now ends next x piece same waits holds = waits ∙ waits_next ends x piece holds ∙ sym (same_for (λ s d u n. (work_in s d u n).waiting (x ++ piece)) ends next same)
+waits_now : (ends : Ends) {next : Ends} {x : List ℕ} (piece : List ℕ) → SameAsked ends next → waiting_of next ≡ left_waiting ends piece → Holds ends x → waiting_of next ≡ waiting next (x ++ piece)
+waits_now ends {x} piece same waits holds = waits ∙ waits_next ends piece holds ∙ sym (same_for (λ s d u n. (work_in s d u n).waiting (x ++ piece)) same)
 
 none_lacks : (ends : Ends) → keeps (stretch_of ends) ≡ false → may_lack ends ≡ false
 none_lacks (First count front) none = cc
@@ -107,26 +107,26 @@ full_lacks ends x waits full bytes enough = refl
 pub past_after : (delim : ℕ) (unit : Counted) (n : ℕ) (x : List ℕ) → length x - length (first_of delim unit n x) ≡ length (after_of delim unit n x)
 past_after delim unit n x = omega (arith, sym (ap length (first_then_after delim unit n x)) ∙ length-append (first_of delim unit n x) (after_of delim unit n x))
 
-past_next : (ends : Ends) (x piece : List ℕ) → Holds ends x → past_of ends + length (unused_of ends piece) ≡ past_in (stretch_of ends) (delim_of ends) (unit_of ends) (count_of ends) (x ++ piece)
-past_next (First count front) x piece holds =
+past_next : (ends : Ends) {x : List ℕ} (piece : List ℕ) → Holds ends x → past_of ends + length (unused_of ends piece) ≡ past_in (stretch_of ends) (delim_of ends) (unit_of ends) (count_of ends) (x ++ piece)
+past_next (First count front) {x} piece holds =
     let more : length (after_of front.delim front.unit front.left piece) ≡ length (after_of front.delim front.unit (count - measure front.delim front.unit x) piece) = ap (λ left. length (after_of front.delim front.unit left piece)) (holds.left refl) in
     let all : length (after_of front.delim front.unit count (x ++ piece)) ≡ length (after_of front.delim front.unit count x) + length (after_of front.delim front.unit (count - measure front.delim front.unit x) piece)
     = ap length (after_of-append front.delim front.unit count x piece) ∙ length-append (after_of front.delim front.unit count x) (after_of front.delim front.unit (count - measure front.delim front.unit x) piece) in
     omega (arith, holds.past, past_after front.delim front.unit count x, more, all, past_after front.delim front.unit count (x ++ piece))
-past_next ends x piece holds = refl
+past_next ends piece holds = refl
 
-pub takes_in : (ends next : Ends) (piece : List ℕ) → SameAsked ends next → past_of next ≡ past_of ends + length (unused_of ends piece)
+pub takes_in : (ends : Ends) {next : Ends} (piece : List ℕ) → SameAsked ends next → past_of next ≡ past_of ends + length (unused_of ends piece)
     → left_of next ≡ left_of ends - measure (delim_of ends) (unit_of ends) piece → waiting_of next ≡ left_waiting ends piece → FullLacksNone next → TakesIn Holds piece ends next
-takes_in ends next piece same past left waits full x holds = record {
+takes_in ends {next} piece same past left waits full x holds = record {
   byte = subst (λ delim. delim < 256) (sym same.delim) holds.byte;
   left = λ none. left ∙ ap (λ n. n - measure (delim_of ends) (unit_of ends) piece) (holds.left (sym (ap keeps same.stretch) ∙ none))
       ∙ minus_both (front_in (stretch_of ends) (count_of ends)) (measure (delim_of ends) (unit_of ends) x) (measure (delim_of ends) (unit_of ends) piece)
       ∙ ap (λ n. front_in (stretch_of ends) (count_of ends) - n) (sym (measure-append (delim_of ends) (unit_of ends) x piece))
-      ∙ sym (same_for (λ s d u n. front_in s n - measure d u (x ++ piece)) ends next same);
-  waits = waits_now ends next x piece same waits holds;
-  past = past ∙ past_next ends x piece holds ∙ sym (same_for (λ s d u n. past_in s d u n (x ++ piece)) ends next same);
+      ∙ sym (same_for (λ s d u n. front_in s n - measure d u (x ++ piece)) same);
+  waits = waits_now ends piece same waits holds;
+  past = past ∙ past_next ends piece holds ∙ sym (same_for (λ s d u n. past_in s d u n (x ++ piece)) same);
   none = none_lacks next;
-  full = full_lacks next (x ++ piece) (waits_now ends next x piece same waits holds) full;
+  full = full_lacks next (x ++ piece) (waits_now ends piece same waits holds) full;
 }
 
 -- a head is complete exactly where it is done
@@ -134,26 +134,26 @@ takes_in ends next piece same past left waits full x holds = record {
 incomplete : (delim : ℕ) (unit : Counted) (but_last : Bool) (n : ℕ) (x : List ℕ) → delim < 256 → (not but_last && nat_le n (measure delim unit x)) ≡ false → IsDone delim unit but_last n x → ⊥
 incomplete delim unit false n x byte short done =
     let few : measure delim unit x < n = leb-false n (measure delim unit x) short in
-    let same : x ++ 0 ∷ [] ≡ x = sym (first_of-more delim unit n x 0 few) ∙ done (0 ∷ []) (All-replicate (λ byte. byte < 256) 1 0 (lit< tt)) ∙ first_of-short delim unit n x few in
+    let same : x ++ 0 ∷ [] ≡ x = sym (first_of-more delim unit n x 0 few) ∙ done (0 ∷ []) (All-replicate (λ byte. byte < 256) 1 0 (lit< tt)) ∙ first_of-short delim unit n {x = x} few in
     let longer : length x + 1 ≡ length x = sym (length-append x (0 ∷ [])) ∙ ap length same in
     omega arith
 incomplete delim unit true n x byte short done =
-    but_last_grows delim unit n x (replicate (n + 1) delim) (let many = measure-delimiters delim unit (n + 1) in omega arith) (done (replicate (n + 1) delim) (All-replicate (λ byte. byte < 256) (n + 1) delim byte))
+    but_last_grows delim unit n x (replicate (n + 1) delim) (let many = measure-delimiters delim unit {k = n + 1} in omega arith) (done (replicate (n + 1) delim) (All-replicate (λ byte. byte < 256) (n + 1) delim byte))
 
 head_exact : (delim : ℕ) (unit : Counted) (but_last : Bool) (n : ℕ) (x : List ℕ) (full : Bool) → delim < 256 → full ≡ (head_work delim unit but_last n).is_complete x → IsTrue full ↔ IsDone delim unit but_last n x
 head_exact delim unit but_last n x true byte is = (λ yes y bytes. (full_head delim unit but_last n x y (sym is)).1, λ done. refl)
 head_exact delim unit but_last n x false byte is = (λ yes. absurd (false≢true yes), λ done. absurd (incomplete delim unit but_last n x byte (sym is) done))
 
-pub done_is_exact : (ends : Ends) (x : List ℕ) (full : Bool) → Holds ends x → full ≡ (work ends).is_complete x → IsTrue full ↔ is_done ends x
-done_is_exact (First count front) x full holds is = head_exact front.delim front.unit false count x full holds.byte is
-done_is_exact (ButLast kept) x full holds is = head_exact (kept_delim kept) (kept_unit kept) true (most_of kept) x full holds.byte is
-done_is_exact ends x full holds is = (λ yes. absurd (false≢true (sym is ∙ yes)), λ never. absurd never)
+pub done_is_exact : (ends : Ends) {x : List ℕ} {full : Bool} → Holds ends x → full ≡ (work ends).is_complete x → IsTrue full ↔ is_done ends x
+done_is_exact (First count front) {x} {full} holds is = head_exact front.delim front.unit false count x full holds.byte is
+done_is_exact (ButLast kept) {x} {full} holds is = head_exact (kept_delim kept) (kept_unit kept) true (most_of kept) x full holds.byte is
+done_is_exact ends holds is = (λ yes. absurd (false≢true (sym is ∙ yes)), λ never. absurd never)
 
-pub full_is : (ends : Ends) (x : List ℕ) → Holds ends x → is_full ends ≡ (work ends).is_complete x
-full_is (First count front) x holds = ap (λ left. left == 0) (holds.left refl) ∙ none_left count (measure front.delim front.unit x) where
+pub full_is : (ends : Ends) {x : List ℕ} → Holds ends x → is_full ends ≡ (work ends).is_complete x
+full_is (First count front) {x} holds = ap (λ left. left == 0) (holds.left refl) ∙ none_left count (measure front.delim front.unit x) where
   none_left : (n m : ℕ) → (n - m == 0) ≡ nat_le n m
   none_left n m = grind (arith, nat_tests)
-full_is ends x holds = refl
+full_is ends holds = refl
 
 -- where memory may be wanted, something is kept
 lacks_kept : (ends : Ends) → may_lack ends ≡ true → keeps (stretch_of ends) ≡ true
@@ -164,13 +164,13 @@ pub met : (told : Bool) (ends : Ends) (piece bytes : List ℕ) (old new : List S
     → Stops told (may_lack ends) bytes old new f → IsMet (work ends).means (work ends).means.feeding (may_lack ends ≡ true) (EndsWith Holds work ends piece) old new f
 met told ends piece bytes old new f can stops =
     subst (λ means. IsMet means means.feeding (may_lack ends ≡ true) (EndsWith Holds work ends piece) old new f) (sym (on_means (stretch_of ends) (delim_of ends) (unit_of ends) (count_of ends)))
-    (stop.met (on_output (keeps (stretch_of ends))) (on_output (keeps (stretch_of ends))).feeding (may_lack ends ≡ true) (EndsWith Holds work ends piece) told (may_lack ends) bytes old new f refl (λ lacking. (lacks_kept ends lacking, lacking)) can stops)
+    (stop.met (on_output (keeps (stretch_of ends))) (on_output (keeps (stretch_of ends))).feeding (may_lack ends ≡ true) (EndsWith Holds work ends piece) told refl (λ lacking. (lacks_kept ends lacking, lacking)) can stops)
 
-pub end_met : (told : Bool) (ends : Ends) (bytes : List ℕ) (old new : List Slot) (f : Fault) → IsTrue (is_writable old 0)
+pub end_met : (told : Bool) (ends : Ends) {bytes : List ℕ} {old new : List Slot} {f : Fault} → IsTrue (is_writable old 0)
     → Stops told false bytes old new f → IsMet (work ends).means (work ends).means.closing (Unit {0}) (EndsThere Holds work ends) old new f
-end_met told ends bytes old new f can stops =
+end_met told ends {old} {new} {f} can stops =
     subst (λ means. IsMet means means.closing (Unit {0}) (EndsThere Holds work ends) old new f) (sym (on_means (stretch_of ends) (delim_of ends) (unit_of ends) (count_of ends)))
-    (stop.met (on_output (keeps (stretch_of ends))) (on_output (keeps (stretch_of ends))).closing (Unit {0}) (EndsThere Holds work ends) told false bytes old new f refl (λ never. absurd (false≢true never)) can stops)
+    (stop.met (on_output (keeps (stretch_of ends))) (on_output (keeps (stretch_of ends))).closing (Unit {0}) (EndsThere Holds work ends) told refl (λ never. absurd (false≢true never)) can stops)
 
 -- where the last are kept, nothing is written before the end
 pub no_room : (told : Bool) (ends : Ends) (kept : Kept) (piece : List ℕ) (slots : List Slot) (result : Result (Unit {0}) Fault) → ends ≡ Last kept → IfErr result (λ f. (f ≡ fault.Memory) × (may_lack_of kept ≡ true))
@@ -203,27 +203,27 @@ waits_within s delim unit n x = last_within delim unit n x
 
 -- only where the last are asked for is a front taken in, and of these nothing is written before the end
 
-settled_same : (s : Stretch) (delim : ℕ) (unit : Counted) (n : ℕ) (x : List ℕ) → (is_last s ≡ false → x ≡ []) → (work_in s delim unit n).settled x ≡ (work_in s delim unit n).settled []
-settled_same the_last delim unit n x none = refl
-settled_same s delim unit n x none = ap (work_in s delim unit n).settled (none refl)
+settled_same : (s : Stretch) (delim : ℕ) (unit : Counted) (n : ℕ) {x : List ℕ} → (is_last s ≡ false → x ≡ []) → (work_in s delim unit n).settled x ≡ (work_in s delim unit n).settled []
+settled_same the_last delim unit n none = refl
+settled_same s delim unit n none = ap (work_in s delim unit n).settled (none refl)
 
-goes_on : (s : Stretch) (delim : ℕ) (unit : Counted) (n : ℕ) (x : List ℕ) → (is_last s ≡ false → x ≡ []) → (x ≡ []) ⊎ ((work_in s delim unit n).is_complete x ≡ false)
-goes_on the_last delim unit n x none = inr refl
-goes_on s delim unit n x none = inl (none refl)
+goes_on : (s : Stretch) (delim : ℕ) (unit : Counted) (n : ℕ) {x : List ℕ} → (is_last s ≡ false → x ≡ []) → (x ≡ []) ⊎ ((work_in s delim unit n).is_complete x ≡ false)
+goes_on the_last delim unit n none = inr refl
+goes_on s delim unit n none = inl (none refl)
 
 not_last : (s : Stretch) → keeps s ≡ false → is_last s ≡ false
 not_last the_last none = cc
 not_last s none = refl
 
-past_same : (s : Stretch) (delim : ℕ) (unit : Counted) (n : ℕ) (x : List ℕ) → (is_last s ≡ false → x ≡ []) → past_in s delim unit n [] ≡ past_in s delim unit n x
-past_same the_first delim unit n x none = ap (past_in the_first delim unit n) (sym (none refl))
-past_same s delim unit n x none = refl
+past_same : (s : Stretch) (delim : ℕ) (unit : Counted) (n : ℕ) {x : List ℕ} → (is_last s ≡ false → x ≡ []) → past_in s delim unit n [] ≡ past_in s delim unit n x
+past_same the_first delim unit n none = ap (past_in the_first delim unit n) (sym (none refl))
+past_same s delim unit n none = refl
 
 pub loads : (told : Bool) (slot count : ℕ) (ends next : Ends) (old new : List Source) → Holds ends [] → SameAsked ends next → left_of next ≡ left_of ends → past_of next ≡ past_of ends → (is_last (stretch_of ends) ≡ false → count ≡ 0)
     → Passes told slot count (λ x. waiting_of next ≡ waiting ends x) old new → FullLacksNone next → Loads Holds (λ (those : Ends) slots. IsTrue (is_writable slots 0)) OwnsNone work told slot count ends next old new
 loads told slot count ends next old new fresh same left past others passes full =
     let none : is_last (stretch_of ends) ≡ false → passes.front ≡ [] = λ is. nil_from_length passes.front (sym passes.long ∙ others is) in
-    let waits = passes.keeps ∙ sym (same_for (λ s d u n. (work_in s d u n).waiting passes.front) ends next same) in
+    let waits = passes.keeps ∙ sym (same_for (λ s d u n. (work_in s d u n).waiting passes.front) same) in
     record {
       front = passes.front;
       long = passes.long;
@@ -232,15 +232,15 @@ loads told slot count ends next old new fresh same left past others passes full 
       holds = record {
         byte = subst (λ delim. delim < 256) (sym same.delim) fresh.byte;
         left = λ is. let before = sym (ap keeps same.stretch) ∙ is in
-            left ∙ fresh.left before ∙ sym (same_for (λ s d u n. front_in s n - measure d u []) ends next same)
+            left ∙ fresh.left before ∙ sym (same_for (λ s d u n. front_in s n - measure d u []) same)
             ∙ sym (ap (λ x. front_in (stretch_of next) (count_of next) - measure (delim_of next) (unit_of next) x) (none (not_last (stretch_of ends) before)));
         waits = waits;
-        past = past ∙ fresh.past ∙ past_same (stretch_of ends) (delim_of ends) (unit_of ends) (count_of ends) passes.front none ∙ sym (same_for (λ s d u n. past_in s d u n passes.front) ends next same);
+        past = past ∙ fresh.past ∙ past_same (stretch_of ends) (delim_of ends) (unit_of ends) (count_of ends) none ∙ sym (same_for (λ s d u n. past_in s d u n passes.front) same);
         none = none_lacks next;
         full = full_lacks next passes.front waits full;
       };
       ready = λ slots is. is;
       owns = λ first slots is. is;
-      idle = settled_same (stretch_of ends) (delim_of ends) (unit_of ends) (count_of ends) passes.front none;
-      going = goes_on (stretch_of ends) (delim_of ends) (unit_of ends) (count_of ends) passes.front none;
+      idle = settled_same (stretch_of ends) (delim_of ends) (unit_of ends) (count_of ends) none;
+      going = goes_on (stretch_of ends) (delim_of ends) (unit_of ends) (count_of ends) none;
     }

@@ -48,8 +48,8 @@ more_lines delim n y shorter = by_count (line_count delim y - n) refl where
   by_count (suc k) is = omega (arith, is)
 
 -- and one that isn't longer is them
-same_lines : (delim n : ℕ) (y : List ℕ) → length y ≤ length (last_lines delim n y) → last_lines delim n y ≡ y
-same_lines delim n y long =
+same_lines : (delim n : ℕ) {y : List ℕ} → length y ≤ length (last_lines delim n y) → last_lines delim n y ≡ y
+same_lines delim n {y} long =
     let none : but_last_lines delim n y ≡ [] = nil_from_length (but_last_lines delim n y) (omega (arith, lengths delim n y, long)) in
     ap (λ those. those ++ last_lines delim n y) (sym none) ∙ but_last_then_last delim n y
 
@@ -57,24 +57,24 @@ same_lines delim n y long =
 abbrev front_of : Bool → ℕ → List ℕ → List ℕ
 front_of told place text = if told then take place text else replicate place 0
 
-front-long : (told : Bool) (place : ℕ) (text : List ℕ) → (told ≡ true → place ≤ length text) → length (front_of told place text) ≡ place
-front-long true place text within = let there : place ≤ length text = within refl in omega (arith, there, length-take place text)
-front-long false place text within = length-replicate place 0
+front-long : (told : Bool) {place : ℕ} (text : List ℕ) → (told ≡ true → place ≤ length text) → length (front_of told place text) ≡ place
+front-long true {place} text within = let there : place ≤ length text = within refl in omega (arith, there, length-take place text)
+front-long false {place} text within = length-replicate place 0
 
-front-there : (told : Bool) (place : ℕ) (text rest : List ℕ) → (told ≡ true → rest ≡ drop place text) → told ≡ true → front_of told place text ++ rest ≡ text
-front-there true place text rest is tells = ap (λ those. take place text ++ those) (is refl) ∙ take-append-drop place text
-front-there false place text rest is tells = absurd (false≢true tells)
+front-there : (told : Bool) (place : ℕ) {text rest : List ℕ} → (told ≡ true → rest ≡ drop place text) → told ≡ true → front_of told place text ++ rest ≡ text
+front-there true place {text} is tells = ap (λ those. take place text ++ those) (is refl) ∙ take-append-drop place text
+front-there false place is tells = absurd (false≢true tells)
 
 -- what follows a place was seen, and its last part is that of the whole
 pub seen_from : (told : Bool) (text : List ℕ) (left place delim : ℕ) (unit : Counted) (n : ℕ) (rest held : List ℕ) → (told ≡ true → left ≡ length text) → place ≤ left → length rest ≡ left - place → (told ≡ true → rest ≡ drop place text)
     → held ≡ last_of delim unit n (front_of told place text ++ rest) → HasSeen told text left (λ x. held ≡ last_of delim unit n x)
 seen_from told text left place delim unit n rest held all within long there last =
-    let before = front-long told place text (λ tells. omega (arith, all tells, within)) in
+    let before = front-long told {place = place} text (λ tells. omega (arith, all tells, within)) in
     let both = length-append (front_of told place text) rest in
     record {
       seen = front_of told place text ++ rest;
       long = omega (arith, before, both, long, within);
-      there = front-there told place text rest there;
+      there = front-there told place {text = text} {rest = rest} there;
       keeps = last;
     }
 
@@ -86,39 +86,39 @@ pub record HoldsFrom (told : Bool) (text : List ℕ) (left place delim n : ℕ) 
   pub last : held ≡ last_lines delim n held
 
 -- a block before what was seen from a place on
-seen_more : (told : Bool) (text : List ℕ) (place size : ℕ) (block rest : List ℕ) → size ≤ place → length block ≡ size → (told ≡ true → Shows text (place - size) block) → (told ≡ true → rest ≡ drop place text) → told ≡ true → block ++ rest ≡ drop (place - size) text
-seen_more told text place size block rest within long shows there tells =
+seen_more : (told : Bool) (text : List ℕ) (place : ℕ) {size : ℕ} {block rest : List ℕ} → size ≤ place → length block ≡ size → (told ≡ true → Shows text (place - size) block) → (told ≡ true → rest ≡ drop place text) → told ≡ true → block ++ rest ≡ drop (place - size) text
+seen_more told text place {size} {rest} within long shows there tells =
     let at : place - size + size ≡ place = omega (arith, within) in
     ap (λ those. those ++ rest) (shows tells ∙ ap (λ k. take k (drop (place - size) text)) long)
     ∙ ap (λ those. take size (drop (place - size) text) ++ those) (there tells ∙ ap (λ k. drop k text) (sym at) ∙ sym (drop-drop size (place - size) text))
     ∙ take-append-drop size (drop (place - size) text)
 
-pub holds_more : (told : Bool) (text : List ℕ) (left place size delim n : ℕ) (block held new : List ℕ) → HoldsFrom told text left place delim n held → size ≤ place → length block ≡ size → (told ≡ true → Shows text (place - size) block)
+pub holds_more : (told : Bool) {text : List ℕ} {left place size delim n : ℕ} {block held new : List ℕ} → HoldsFrom told text left place delim n held → size ≤ place → length block ≡ size → (told ≡ true → Shows text (place - size) block)
     → new ≡ last_lines delim n (block ++ held) → left - (place - size) ≤ length new → HoldsFrom told text left (place - size) delim n new
-holds_more told text left place size delim n block held new holds within long shows is enough =
+holds_more told {text} {left} {place} {size} {delim} {n} {block} {held} {new} holds within long shows is enough =
     let both = length-append block held in
     let here = holds.within in
     let there = holds.long in
     let all : length (block ++ held) ≡ left - (place - size) = omega (arith, both, here, there, long, within) in
-    let lines : last_lines delim n (block ++ held) ≡ block ++ held = same_lines delim n (block ++ held) (omega (arith, all, enough, ap length is)) in
+    let lines : last_lines delim n (block ++ held) ≡ block ++ held = same_lines delim n (omega (arith, all, enough, ap length is)) in
     let same : new ≡ block ++ held = is ∙ lines in
     record {
       within = omega (arith, here);
       long = ap length same ∙ all;
-      there = λ tells. same ∙ seen_more told text place size block held within long shows holds.there tells;
+      there = λ tells. same ∙ seen_more told text place within long shows holds.there tells;
       last = is ∙ ap (last_lines delim n) (sym same);
     }
 
 -- the window is shorter than what was seen: all of the last lines are there
-pub holds_last : (told : Bool) (text : List ℕ) (left place size delim n : ℕ) (block held new : List ℕ) → (told ≡ true → left ≡ length text) → HoldsFrom told text left place delim n held → size ≤ place → length block ≡ size → (told ≡ true → Shows text (place - size) block)
+pub holds_last : (told : Bool) {text : List ℕ} {left place size delim n : ℕ} {block held new : List ℕ} → (told ≡ true → left ≡ length text) → HoldsFrom told text left place delim n held → size ≤ place → length block ≡ size → (told ≡ true → Shows text (place - size) block)
     → new ≡ last_lines delim n (block ++ held) → length new < left - (place - size) → HasSeen told text left (λ x. new ≡ last_lines delim n x)
-holds_last told text left place size delim n block held new known holds within long shows is shorter =
+holds_last told {text} {left} {place} {size} {delim} {n} {block} {held} {new} known holds within long shows is shorter =
     let both = length-append block held in
     let here = holds.within in
     let there = holds.long in
     let all : length (block ++ held) ≡ left - (place - size) = omega (arith, both, here, there, long, within) in
     let more : n < line_count delim (block ++ held) = more_lines delim n (block ++ held) (omega (arith, all, shorter, ap length is)) in
-    seen_from told text left (place - size) delim Lines n (block ++ held) new known (omega (arith, here)) all (seen_more told text place size block held within long shows holds.there)
+    seen_from told text left (place - size) delim Lines n (block ++ held) new known (omega (arith, here)) all (seen_more told text place within long shows holds.there)
     (is ∙ sym (last_after delim Lines n (front_of told (place - size) text) (block ++ held) more))
 
 -- a window over bytes holds what stands between two places
@@ -127,8 +127,8 @@ pub record HoldsBetween (told : Bool) (text : List ℕ) (from place : ℕ) (held
   pub long : length held ≡ place - from
   pub there : told ≡ true → held ≡ take (place - from) (drop from text)
 
-pub between_more : (told : Bool) (text : List ℕ) (from place size : ℕ) (block held new : List ℕ) → HoldsBetween told text from place held → length block ≡ size → (told ≡ true → Shows text place block) → new ≡ held ++ block → HoldsBetween told text from (place + size) new
-between_more told text from place size block held new holds long shows is =
+pub between_more : (told : Bool) {text : List ℕ} {from place size : ℕ} {block held new : List ℕ} → HoldsBetween told text from place held → length block ≡ size → (told ≡ true → Shows text place block) → new ≡ held ++ block → HoldsBetween told text from (place + size) new
+between_more told {text} {from} {place} {size} {block} {held} holds long shows is =
     let here = holds.within in
     let there = holds.long in
     let all : place - from + size ≡ place + size - from = omega (arith, here) in
@@ -138,8 +138,7 @@ between_more told text from place size block held new holds long shows is =
       long = ap length is ∙ length-append held block ∙ omega (arith, there, long, all);
       there = λ tells. is ∙ ap (λ those. those ++ block) (holds.there tells)
           ∙ ap (λ those. take (place - from) (drop from text) ++ those) (shows tells ∙ ap (λ k. take k (drop place text)) long ∙ ap (λ k. take size (drop k text)) (sym at) ∙ ap (take size) (sym (drop-drop (place - from) from text)))
-          ∙ sym (take-add (place - from) size (drop from text))
-          ∙ ap (λ k. take k (drop from text)) all;
+          ∙ sym (take-add (place - from) size (drop from text)) ∙ ap (λ k. take k (drop from text)) all;
     }
 
 -- once it holds all from there on, these are the last bytes
@@ -148,7 +147,7 @@ between_last told text left place n held known holds is =
     let there = holds.long in
     let long : length held ≡ left - (left - n) = omega (arith, there, is) in
     let front = front_of told (left - n) text in
-    let before = front-long told (left - n) text (λ tells. omega (arith, known tells)) in
+    let before = front-long told {place = left - n} text (λ tells. omega (arith, known tells)) in
     let both = length-append front held in
     let past : length (front ++ held) - n ≡ length front = omega (arith, both, before, long) in
     seen_from told text left (left - n) 0 Bytes n held held known (omega arith) long
@@ -169,8 +168,8 @@ was_ok (Ok a) P is no_error = is
 was_ok (Err b) P is no_error = absurd (false≢true no_error)
 
 -- where none is passed over, what holds of nothing holds
-pub passes_none : (told : Bool) (slot : ℕ) (Keeps : List ℕ → Type 0) (old new : List Source) → new ≡ old → Keeps [] → Passes told slot 0 Keeps old new
-passes_none told slot Keeps old new same keeps = record {
+pub passes_none : (told : Bool) {slot : ℕ} (Keeps : List ℕ → Type 0) {old new : List Source} → new ≡ old → Keeps [] → Passes told slot 0 Keeps old new
+passes_none told {slot} Keeps {old} same keeps = record {
   front = [];
   long = refl;
   there = λ t. ap (λ those. (source_at those slot).left.bytes) (sym same);
@@ -184,8 +183,8 @@ last_none delim Lines n = nil_from_length (last_lines delim n []) (omega (arith,
 last_none delim Bytes n = drop_all (0 - n) [] (omega arith)
 
 -- what was seen is passed over
-pub passes_seen : (told : Bool) (slot left : ℕ) (Keeps : List ℕ → Type 0) (old new : List Source) → IsTrue (is_readable old slot) → HasSeen told (source_at old slot).left.bytes left Keeps → new ≡ changed_at slot (skips left) old → Passes told slot left Keeps old new
-passes_seen told slot left Keeps old new can has passed = record {
+pub passes_seen : (told : Bool) {slot left : ℕ} (Keeps : List ℕ → Type 0) {old new : List Source} → IsTrue (is_readable old slot) → HasSeen told (source_at old slot).left.bytes left Keeps → new ≡ changed_at slot (skips left) old → Passes told slot left Keeps old new
+passes_seen told {slot} {left} Keeps {old} {new} can has passed = record {
   front = has.seen;
   long = sym has.long;
   there = λ tells. sym (ap (λ those. has.seen ++ those) (ap (λ (source : Source). source.left.bytes) (passed_at slot left old new can passed) ∙ drop_all left (source_at old slot).left.bytes (omega (arith, has.long, ap length (has.there tells)))) ∙ append-nil has.seen ∙ has.there tells);

@@ -16,8 +16,8 @@ use Rattle.ends_core.proofs.AgreedLemmas.{tail_first, tail_together, tail_long, 
 
 -- one output alone
 
-one_spot : (bytes : List ℕ) (i : ℕ) (at : Spot) → GoesTo at (spots_from 0 (bytes ∷ []) i) → (i < length bytes) × (at ≡ spot 0 i)
-one_spot bytes i at goes = elim (cases_lt i (length bytes)) [
+one_spot : (bytes : List ℕ) (i : ℕ) {at : Spot} → GoesTo at (spots_from 0 (bytes ∷ []) i) → (i < length bytes) × (at ≡ spot 0 i)
+one_spot bytes i {at} goes = elim (cases_lt i (length bytes)) [
   | inl less ↦ (less, only (subst (GoesTo at) (spot_in 0 i bytes [] less) goes))
   | inr past ↦ absurd (subst (GoesTo at) (spot_past 0 i bytes [] past) goes)
 ] where
@@ -34,34 +34,34 @@ StandsThere bytes at byte = (at.offset < length (output_at (only_out bytes) at.p
 
 -- heads
 
-head_together : (delim : ℕ) (unit : Counted) (but_last : Bool) (n : ℕ) (x : List ℕ) → (rest : List ℕ) × (x ≡ head_of delim unit but_last n x ++ rest)
-head_together delim unit false n x = (after_of delim unit n x, sym (first_then_after delim unit n x))
-head_together delim unit true n x = (last_of delim unit n x, sym (ends_together delim unit n x))
+head_together : (delim : ℕ) (unit : Counted) (but_last : Bool) (n : ℕ) {x : List ℕ} → (rest : List ℕ) × (x ≡ head_of delim unit but_last n x ++ rest)
+head_together delim unit false n {x} = (after_of delim unit n x, sym (first_then_after delim unit n x))
+head_together delim unit true n {x} = (last_of delim unit n x, sym (ends_together delim unit n x))
 
 head_filled : (delim : ℕ) (unit : Counted) (but_last : Bool) (n : ℕ) (x : List ℕ) (place offset : ℕ) → offset < length (output_at (only_out (head_of delim unit but_last n x)) place)
     → (i : ℕ) × (i < length x) × GoesTo (spot place offset) (head_spots delim unit but_last n x i)
 head_filled delim unit but_last n x zero offset less =
-    let rest = head_together delim unit but_last n x in
+    let rest = head_together delim unit but_last n in
     let long : length x ≡ length (head_of delim unit but_last n x) + length rest.0 = ap length rest.1 ∙ length-append (head_of delim unit but_last n x) rest.0 in
     (offset, omega (arith, less, long), goes_in (head_of delim unit but_last n x) offset less)
 head_filled delim unit but_last n x (suc place) offset less = absurd (omega (arith, less))
 
 pub head_placed : (delim : ℕ) (unit : Counted) (but_last : Bool) (n : ℕ) → ArePlaced (head_work delim unit but_last n) (head_spots delim unit but_last n)
 head_placed delim unit but_last n = record {
-  stands = λ x i at less goes. (let one = one_spot (head_of delim unit but_last n x) i at goes in let rest = head_together delim unit but_last n x in
+  stands = λ x i at less goes. (let one = one_spot (head_of delim unit but_last n x) i goes in let rest = head_together delim unit but_last n in
       subst (λ there. StandsThere (head_of delim unit but_last n x) there (get_or x i 0)) (sym one.1)
       (one.0, sym (ap (λ those. get_or those i 0) rest.1 ∙ get_or_append_left (head_of delim unit but_last n x) rest.0 0 i one.0)));
   filled = λ x at less. head_filled delim unit but_last n x at.place at.offset less;
-  apart = λ x i j at goes also. (let one = one_spot (head_of delim unit but_last n x) i at goes in let two = one_spot (head_of delim unit but_last n x) j at also in ap (λ there. there.offset) (sym one.1 ∙ two.1));
+  apart = λ x i j at goes also. (let one = one_spot (head_of delim unit but_last n x) i goes in let two = one_spot (head_of delim unit but_last n x) j also in ap (λ there. there.offset) (sym one.1 ∙ two.1));
 }
 
 -- tails
 
-tail_goes : (delim : ℕ) (unit : Counted) (from_nth : Bool) (n : ℕ) (x : List ℕ) (i : ℕ) (at : Spot) → GoesTo at (tail_spots delim unit from_nth n x i)
+tail_goes : (delim : ℕ) (unit : Counted) (from_nth : Bool) (n : ℕ) (x : List ℕ) (i : ℕ) {at : Spot} → GoesTo at (tail_spots delim unit from_nth n x i)
     → (skipped delim unit from_nth n x ≤ i) × (i - skipped delim unit from_nth n x < length (tail_of delim unit from_nth n x)) × (at ≡ spot 0 (i - skipped delim unit from_nth n x))
-tail_goes delim unit from_nth n x i at goes = elim (cases_lt i (skipped delim unit from_nth n x)) [
+tail_goes delim unit from_nth n x i {at} goes = elim (cases_lt i (skipped delim unit from_nth n x)) [
   | inl before ↦ absurd (subst (GoesTo at) (tail_nowhere delim unit from_nth n x i before) goes)
-  | inr past ↦ (let one = one_spot (tail_of delim unit from_nth n x) (i - skipped delim unit from_nth n x) at (subst (GoesTo at) (after past) goes) in (past, one.0, one.1))
+  | inr past ↦ (let one = one_spot (tail_of delim unit from_nth n x) (i - skipped delim unit from_nth n x) (subst (GoesTo at) (after past) goes) in (past, one.0, one.1))
 ] where
   after : skipped delim unit from_nth n x ≤ i → tail_spots delim unit from_nth n x i ≡ spots_from 0 (tail_of delim unit from_nth n x ∷ []) (i - skipped delim unit from_nth n x)
   after past = ap (λ before. cond before [] (spots_from 0 (tail_of delim unit from_nth n x ∷ []) (i - skipped delim unit from_nth n x))) (le-ltb i (skipped delim unit from_nth n x) past)
@@ -71,7 +71,7 @@ tail_byte delim unit from_nth n x i past =
     let is = skipped_is delim unit from_nth n x in
     ap (λ k. get_or (tail_of delim unit from_nth n x) (i - k) 0) is
     ∙ sym (get_or-append_right (tail_first delim unit from_nth n x) (tail_of delim unit from_nth n x) i 0 (omega (arith, past, is)))
-    ∙ ap (λ those. get_or those i 0) (tail_together delim unit from_nth n x)
+    ∙ ap (λ those. get_or those i 0) (tail_together delim unit from_nth n)
 
 tail_filled : (delim : ℕ) (unit : Counted) (from_nth : Bool) (n : ℕ) (x : List ℕ) (place offset : ℕ) → offset < length (output_at (only_out (tail_of delim unit from_nth n x)) place)
     → (i : ℕ) × (i < length x) × GoesTo (spot place offset) (tail_spots delim unit from_nth n x i)
@@ -87,10 +87,10 @@ tail_filled delim unit from_nth n x (suc place) offset less = absurd (omega (ari
 
 pub tail_placed : (delim : ℕ) (unit : Counted) (from_nth : Bool) (n : ℕ) → ArePlaced (tail_work delim unit from_nth n) (tail_spots delim unit from_nth n)
 tail_placed delim unit from_nth n = record {
-  stands = λ x i at less goes. (let one = tail_goes delim unit from_nth n x i at goes in
+  stands = λ x i at less goes. (let one = tail_goes delim unit from_nth n x i goes in
       subst (λ there. StandsThere (tail_of delim unit from_nth n x) there (get_or x i 0)) (sym one.2) (one.1, tail_byte delim unit from_nth n x i one.0));
   filled = λ x at less. tail_filled delim unit from_nth n x at.place at.offset less;
-  apart = λ x i j at goes also. (let one = tail_goes delim unit from_nth n x i at goes in let two = tail_goes delim unit from_nth n x j at also in
+  apart = λ x i j at goes also. (let one = tail_goes delim unit from_nth n x i goes in let two = tail_goes delim unit from_nth n x j also in
       let same : i - skipped delim unit from_nth n x ≡ j - skipped delim unit from_nth n x = ap (λ there. there.offset) (sym one.2 ∙ two.2) in
       omega (arith, one.0, two.0, same));
 }

@@ -25,8 +25,8 @@ written_both told old mid new first then one other =
     other ∙ ap (with_written 0 (told_of told then)) one ∙ with_written-append 0 (told_of told first) (told_of told then) old
     ∙ ap (λ bytes. with_written 0 bytes old) (sym (told_of-append told first then))
 
-pub writable_still : (told : Bool) (old new : List Slot) (bytes : List ℕ) → IsTrue (is_writable old 0) → new ≡ with_written 0 (told_of told bytes) old → IsTrue (is_writable new 0)
-writable_still told old new bytes can wrote = subst (λ those. is_writable those 0 ≡ true) (sym wrote) (writable-written old 0 0 (told_of told bytes) ∙ can)
+pub writable_still : (told : Bool) (old : List Slot) {new : List Slot} (bytes : List ℕ) → IsTrue (is_writable old 0) → new ≡ with_written 0 (told_of told bytes) old → IsTrue (is_writable new 0)
+writable_still told old bytes can wrote = subst (λ those. is_writable those 0 ≡ true) (sym wrote) (writable-written old 0 0 (told_of told bytes) ∙ can)
 
 -- the output broke in a later write
 pub broke_later : (told : Bool) (old mid new : List Slot) (first then past : List ℕ) (n : ℕ) → mid ≡ with_written 0 (told_of told first) old → BrokeAfter told mid new 0 then n → BrokeAfter told old new 0 (first ++ (then ++ past)) (length first + n)
@@ -46,15 +46,15 @@ stops_later told lacks old mid new first then past _ one (broke n cut) = broke (
 stops_later told lacks old mid new first then past _ one (no_room never wrote) = absurd (false≢true never)
 
 -- where the bytes are the next that are settled
-pub puts_out : {E : Type 0} (Holds : E → List ℕ → Type 0) (Owns : E → ℕ → List Slot → Type 0) (work : E → Work) (told : Bool) (e : E) (piece bytes : List ℕ) (old new : List Slot)
+pub puts_out : {E : Type 0} (Holds : E → List ℕ → Type 0) (Owns : E → ℕ → List Slot → Type 0) (work : E → Work) (told : Bool) {e : E} (piece bytes : List ℕ) (old : List Slot) {new : List Slot}
     → ((x : List ℕ) → Holds e x → record ((work e).settled x) { out = ((work e).settled x).out ++ bytes } ≡ (work e).settled (x ++ piece))
     → new ≡ with_written 0 (told_of told bytes) old → PutsOut Holds Owns work e piece told old new
-puts_out Holds Owns work told e piece bytes old new next wrote before x at =
+puts_out Holds Owns work told piece bytes old {new} next wrote before x at =
     subst (λ part. OutputsAt told before part new) (next x at.holds) (out_more told before _ old new bytes at.outputs wrote)
 
-between : (told lacks : Bool) (before : List Slot) (part : Part) (bytes : List ℕ) (old new : List Slot) (fault : Fault) → OutputsAt told before part old → Stops told lacks bytes old new fault → StoppedBetween told before part (record part { out = part.out ++ bytes }) fault new
-between told lacks before part bytes old new _ at (broke n broken) = out_cut told before part old new bytes n at broken
-between told lacks before part bytes old new _ at (no_room keeping wrote) = record {
+between : (told : Bool) {lacks : Bool} {before : List Slot} {part : Part} {bytes : List ℕ} {old new : List Slot} {fault : Fault} → OutputsAt told before part old → Stops told lacks bytes old new fault → StoppedBetween told before part (record part { out = part.out ++ bytes }) fault new
+between told {before} {part} {bytes} {old} {new} at (broke n broken) = out_cut told before part old new bytes n at broken
+between told {before} {part} {bytes} {old} {new} at (no_room keeping wrote) = record {
   part = record part { out = part.out ++ bytes };
   above = record { out = begins_more part.out bytes; files = files_begin_themselves part.files };
   below = part_begins_itself _;
@@ -66,45 +66,44 @@ between told lacks before part bytes old new _ at (no_room keeping wrote) = reco
   from = tt;
 }
 
-unjudged : (told lacks : Bool) (bytes : List ℕ) (old new : List Slot) (fault : Fault) → Stops told lacks bytes old new fault → is_verdict fault ≡ false
-unjudged told lacks bytes old new _ (broke n broken) = refl
-unjudged told lacks bytes old new _ (no_room keeping wrote) = refl
+unjudged : (told : Bool) {lacks : Bool} {bytes : List ℕ} {old new : List Slot} {fault : Fault} → Stops told lacks bytes old new fault → is_verdict fault ≡ false
+unjudged told (broke n broken) = refl
+unjudged told (no_room keeping wrote) = refl
 
-pub cuts_off : {E : Type 0} (Holds : E → List ℕ → Type 0) (Owns : E → ℕ → List Slot → Type 0) (work : E → Work) (told lacks : Bool) (e : E) (piece bytes : List ℕ) (old new : List Slot) (fault : Fault)
+pub cuts_off : {E : Type 0} (Holds : E → List ℕ → Type 0) (Owns : E → ℕ → List Slot → Type 0) (work : E → Work) (told : Bool) {lacks : Bool} {e : E} (piece : List ℕ) {bytes : List ℕ} {old new : List Slot} {fault : Fault}
     → ((x : List ℕ) → Holds e x → record ((work e).settled x) { out = ((work e).settled x).out ++ bytes } ≡ (work e).settled (x ++ piece))
     → Stops told lacks bytes old new fault → CutsOff Holds Owns work e piece told old new fault
-cuts_off Holds Owns work told lacks e piece bytes old new fault next stops before x at =
-    engine.cut (unjudged told lacks bytes old new fault stops) (subst (λ part. StoppedBetween told before ((work e).settled x) part fault new) (next x at.holds) (between told lacks before ((work e).settled x) bytes old new fault at.outputs stops))
+cuts_off Holds Owns work told {e} piece {new} {fault} next stops before x at =
+    engine.cut (unjudged told stops) (subst (λ part. StoppedBetween told before ((work e).settled x) part fault new) (next x at.holds) (between told at.outputs stops))
 
-pub finishes : {E : Type 0} (Holds : E → List ℕ → Type 0) (Owns : E → ℕ → List Slot → Type 0) (work : E → Work) (told : Bool) (e : E) (bytes : List ℕ) (old new : List Slot)
+pub finishes : {E : Type 0} (Holds : E → List ℕ → Type 0) (Owns : E → ℕ → List Slot → Type 0) (work : E → Work) (told : Bool) {e : E} (bytes : List ℕ) (old : List Slot) {new : List Slot}
     → ((x : List ℕ) → Holds e x → record ((work e).settled x) { out = ((work e).settled x).out ++ bytes } ≡ (work e).whole x)
-    → ((x : List ℕ) → (work e).verdict x ≡ None)
-    → new ≡ with_written 0 (told_of told bytes) old → Finishes Holds Owns work e told old new
-finishes Holds Owns work told e bytes old new next well wrote before x at =
+    → ((x : List ℕ) → (work e).verdict x ≡ None) → new ≡ with_written 0 (told_of told bytes) old → Finishes Holds Owns work e told old new
+finishes Holds Owns work told bytes old {new} next well wrote before x at =
     (well x, subst (λ part. OutputsAt told before part new) (next x at.holds) (out_more told before _ old new bytes at.outputs wrote))
 
-pub ends_short : {E : Type 0} (Holds : E → List ℕ → Type 0) (Owns : E → ℕ → List Slot → Type 0) (work : E → Work) (told lacks : Bool) (e : E) (bytes : List ℕ) (old new : List Slot) (fault : Fault)
+pub ends_short : {E : Type 0} (Holds : E → List ℕ → Type 0) (Owns : E → ℕ → List Slot → Type 0) (work : E → Work) (told : Bool) {lacks : Bool} {e : E} {bytes : List ℕ} {old new : List Slot} {fault : Fault}
     → ((x : List ℕ) → Holds e x → record ((work e).settled x) { out = ((work e).settled x).out ++ bytes } ≡ (work e).whole x)
     → Stops told lacks bytes old new fault → EndsShort Holds Owns work e told old new fault
-ends_short Holds Owns work told lacks e bytes old new fault next stops before x at =
-    engine.cut (unjudged told lacks bytes old new fault stops) (subst (λ part. StoppedBetween told before ((work e).settled x) part fault new) (next x at.holds) (between told lacks before ((work e).settled x) bytes old new fault at.outputs stops))
+ends_short Holds Owns work told {e} {new} {fault} next stops before x at =
+    engine.cut (unjudged told stops) (subst (λ part. StoppedBetween told before ((work e).settled x) part fault new) (next x at.holds) (between told at.outputs stops))
 
 -- why it stopped
-pub met : (means : Means) (needs : Needs) (Lacks : Type 0) (Ends : Fault → Type 0) (told lacks : Bool) (bytes : List ℕ) (old new : List Slot) (fault : Fault) → means.output ≡ true → (lacks ≡ true → (needs.memory ≡ true) × Lacks)
+pub met : (means : Means) (needs : Needs) (Lacks : Type 0) (Ends : Fault → Type 0) (told : Bool) {lacks : Bool} {bytes : List ℕ} {old new : List Slot} {fault : Fault} → means.output ≡ true → (lacks ≡ true → (needs.memory ≡ true) × Lacks)
     → IsTrue (is_writable old 0) → Stops told lacks bytes old new fault → IsMet means needs Lacks Ends old new fault
-met means needs Lacks Ends told lacks bytes old new _ writes room can (broke n broken) = (
+met means needs Lacks Ends told {bytes} {old} writes room can (broke n broken) = (
   λ here. writes,
   λ alone. refl,
   (
     sound_at 0 old can,
-    subst (λ those. those.is_broken ≡ true) (ap (λ those. slot_at those 0) (sym broken.slots)) (broken_at 0 _ (writable_still told old _ (take n bytes) can refl)),
+    subst (λ those. those.is_broken ≡ true) (ap (λ those. slot_at those 0) (sym broken.slots)) (broken_at 0 _ (writable_still told old (take n bytes) can refl)),
   ),
 )
-met means needs Lacks Ends told lacks bytes old new _ writes room can (no_room lacking wrote) = room lacking
+met means needs Lacks Ends told writes room can (no_room lacking wrote) = room lacking
 
 -- the bytes among which it broke, in another form
-pub broke_in : (told lacks : Bool) (some bytes : List ℕ) (old new : List Slot) (n : ℕ) → some ≡ bytes → BrokeAfter told old new 0 some n → Stops told lacks bytes old new (fault.Write 0)
-broke_in told lacks some bytes old new n same cut = broke n (subst (λ those. BrokeAfter told old new 0 those n) same cut)
+pub broke_in : (told : Bool) {lacks : Bool} {some bytes : List ℕ} {old new : List Slot} {n : ℕ} → some ≡ bytes → BrokeAfter told old new 0 some n → Stops told lacks bytes old new (fault.Write 0)
+broke_in told {old} {new} {n} same cut = broke n (subst (λ those. BrokeAfter told old new 0 those n) same cut)
 
 -- nothing was to be written, and there was no room for what waits
 pub no_room_here : (told lacks : Bool) (slots : List Slot) (result : Result (Unit {0}) Fault) → IfErr result (λ f. (f ≡ fault.Memory) × (lacks ≡ true)) → IfErr result (Stops told lacks [] slots slots)

@@ -35,8 +35,8 @@ first_measures delim Lines n x full = omega (arith, delimiters-first_lines delim
 first_measures delim Bytes n x full = omega (arith, length-take n x, full)
 
 -- of n lines or bytes the last byte is needed
-last_needed : (delim : ℕ) (unit : Counted) (n k : ℕ) (used : List ℕ) → length used ≡ suc k → first_of delim unit n used ≡ used → measure delim unit (take k used) < n
-last_needed delim unit n k used long again = elim (cases_lt (measure delim unit (take k used)) n) [
+last_needed : (delim : ℕ) (unit : Counted) (n : ℕ) {k : ℕ} {used : List ℕ} → length used ≡ suc k → first_of delim unit n used ≡ used → measure delim unit (take k used) < n
+last_needed delim unit n {k} {used} long again = elim (cases_lt (measure delim unit (take k used)) n) [
   | inl short ↦ short
   | inr full ↦
       let same : used ≡ first_of delim unit n (take k used) = sym again ∙ ap (first_of delim unit n) (sym (take-append-drop k used)) ∙ first_of-full delim unit n (take k used) (drop k used) full in
@@ -44,14 +44,14 @@ last_needed delim unit n k used long again = elim (cases_lt (measure delim unit 
       absurd (omega (arith, ap length same, shorter, length-take k used, long))
 ]
 
-needed_by : (delim : ℕ) (unit : Counted) (n k : ℕ) (used : List ℕ) → length used ≡ k → first_of delim unit n used ≡ used → IsNeeded (head_work delim unit false n).is_complete 1 used
-needed_by delim unit n zero used long again = inl (nil_from_length used long)
-needed_by delim unit n (suc k) used long again = inr (
+needed_by : (delim : ℕ) (unit : Counted) (n k : ℕ) {used : List ℕ} → length used ≡ k → first_of delim unit n used ≡ used → IsNeeded (head_work delim unit false n).is_complete 1 used
+needed_by delim unit n zero {used} long again = inl (nil_from_length used long)
+needed_by delim unit n (suc k) {used} long again = inr (
   take k used,
   drop k used,
   sym (take-append-drop k used),
   omega (arith, length-drop k used, long),
-  not_le n (measure delim unit (take k used)) (last_needed delim unit n k used long again),
+  not_le n (measure delim unit (take k used)) (last_needed delim unit n long again),
 )
 
 -- the first n of the first n are these
@@ -61,7 +61,7 @@ first_again delim unit n x full = sym (first_of-full delim unit n (first_of deli
 first_needed : (delim : ℕ) (unit : Counted) (n : ℕ) (x : List ℕ) → IsNeeded (head_work delim unit false n).is_complete 1 (first_of delim unit n x)
 first_needed delim unit n x = elim (cases_lt (measure delim unit (first_of delim unit n x)) n) [
   | inl short ↦ inr (first_of delim unit n x, [], sym (append-nil (first_of delim unit n x)), omega arith, not_le n (measure delim unit (first_of delim unit n x)) short)
-  | inr full ↦ needed_by delim unit n (length (first_of delim unit n x)) (first_of delim unit n x) refl (first_again delim unit n x full)
+  | inr full ↦ needed_by delim unit n (length (first_of delim unit n x)) refl (first_again delim unit n x full)
 ]
 
 first_enough : (delim : ℕ) (unit : Counted) (n : ℕ) (x : List ℕ) → (after_of delim unit n x ≡ []) ⊎ ((head_work delim unit false n).is_complete (first_of delim unit n x) ≡ true)
@@ -71,8 +71,8 @@ first_enough delim unit n x = elim (cases_lt (measure delim unit x) n) [
 ]
 
 -- a head uses the first n, and nothing that stands after them
-pub first_used : (delim : ℕ) (unit : Counted) (n : ℕ) (x : List ℕ) → IsSpare (head_work delim unit false n) x (length (after_of delim unit n x))
-first_used delim unit n x = record {
+pub first_used : (delim : ℕ) (unit : Counted) (n : ℕ) {x : List ℕ} → IsSpare (head_work delim unit false n) x (length (after_of delim unit n x))
+first_used delim unit n {x} = record {
   used = first_of delim unit n x;
   rest = after_of delim unit n x;
   joined = sym (first_then_after delim unit n x);
@@ -82,44 +82,42 @@ first_used delim unit n x = record {
 }
 
 -- what was needed to the last byte is its own first n
-needed_whole : (delim : ℕ) (unit : Counted) (n : ℕ) (used : List ℕ) → IsNeeded (head_work delim unit false n).is_complete 1 used → first_of delim unit n used ≡ used
-needed_whole delim unit n used (inl none) = ap (first_of delim unit n) none ∙ first_of-nil delim unit n ∙ sym none
-needed_whole delim unit n used (inr (before, piece, is, few, going)) =
-    ap (first_of delim unit n) is ∙ with_piece piece few ∙ sym is where
-      short : measure delim unit before < n
-      short = leb-false n (measure delim unit before) going
+needed_whole : (delim : ℕ) (unit : Counted) (n : ℕ) {used : List ℕ} → IsNeeded (head_work delim unit false n).is_complete 1 used → first_of delim unit n used ≡ used
+needed_whole delim unit n (inl none) = ap (first_of delim unit n) none ∙ first_of-nil delim unit n ∙ sym none
+needed_whole delim unit n (inr (before, piece, is, few, going)) = ap (first_of delim unit n) is ∙ with_piece piece few ∙ sym is where
+  short : measure delim unit before < n
+  short = leb-false n (measure delim unit before) going
 
-      with_piece : (piece : List ℕ) → length piece ≤ 1 → first_of delim unit n (before ++ piece) ≡ before ++ piece
-      with_piece [] few = ap (first_of delim unit n) (append-nil before) ∙ first_of-short delim unit n before short ∙ sym (append-nil before)
-      with_piece (byte ∷ []) few = first_of-more delim unit n before byte short
-      with_piece (byte ∷ next ∷ piece) few = absurd (omega (arith, few))
+  with_piece : (piece : List ℕ) → length piece ≤ 1 → first_of delim unit n (before ++ piece) ≡ before ++ piece
+  with_piece [] few = ap (first_of delim unit n) (append-nil before) ∙ first_of-short delim unit n short ∙ sym (append-nil before)
+  with_piece (byte ∷ []) few = first_of-more delim unit n before byte short
+  with_piece (byte ∷ next ∷ piece) few = absurd (omega (arith, few))
 
-pub written_used : (delim : ℕ) (unit : Counted) (n : ℕ) (used rest : List ℕ) → IsNeeded (head_work delim unit false n).is_complete 1 used → (rest ≡ []) ⊎ ((head_work delim unit false n).is_complete used ≡ true) → first_of delim unit n (used ++ rest) ≡ used
-written_used delim unit n used rest needed (inl none) = ap (first_of delim unit n) (ap (λ those. used ++ those) none ∙ append-nil used) ∙ needed_whole delim unit n used needed
-written_used delim unit n used rest needed (inr complete) = first_of-full delim unit n used rest (leb-true n (measure delim unit used) complete) ∙ needed_whole delim unit n used needed
+pub written_used : (delim : ℕ) (unit : Counted) (n : ℕ) {used rest : List ℕ} → IsNeeded (head_work delim unit false n).is_complete 1 used → (rest ≡ []) ⊎ ((head_work delim unit false n).is_complete used ≡ true) → first_of delim unit n (used ++ rest) ≡ used
+written_used delim unit n {used} needed (inl none) = ap (first_of delim unit n) (ap (λ those. used ++ those) none ∙ append-nil used) ∙ needed_whole delim unit n needed
+written_used delim unit n {used} {rest} needed (inr complete) = first_of-full delim unit n used rest (leb-true n (measure delim unit used) complete) ∙ needed_whole delim unit n needed
 
-pub rest_left : (delim : ℕ) (unit : Counted) (n : ℕ) (used rest : List ℕ) → IsNeeded (head_work delim unit false n).is_complete 1 used → (rest ≡ []) ⊎ ((head_work delim unit false n).is_complete used ≡ true) → after_of delim unit n (used ++ rest) ≡ rest
-rest_left delim unit n used rest needed enough =
-    append_cancel_left used _ _ (ap (λ those. those ++ after_of delim unit n (used ++ rest)) (sym (written_used delim unit n used rest needed enough)) ∙ first_then_after delim unit n (used ++ rest))
+pub rest_left : (delim : ℕ) (unit : Counted) (n : ℕ) (used : List ℕ) {rest : List ℕ} → IsNeeded (head_work delim unit false n).is_complete 1 used → (rest ≡ []) ⊎ ((head_work delim unit false n).is_complete used ≡ true) → after_of delim unit n (used ++ rest) ≡ rest
+rest_left delim unit n used {rest} needed enough =
+    append_cancel_left used _ _ (ap (λ those. those ++ after_of delim unit n (used ++ rest)) (sym (written_used delim unit n needed enough)) ∙ first_then_after delim unit n (used ++ rest))
 
-pub spare_here : (ends : Ends) (x : List ℕ) → Holds ends x → IsSpare (work ends) x (past_of ends)
-spare_here (First count front) x holds = subst (IsSpare (head_work front.delim front.unit false count) x) (sym (holds.past ∙ past_after front.delim front.unit count x)) (first_used front.delim front.unit count x)
-spare_here (ButLast kept) x holds = all_used (work (ButLast kept)) x refl
-spare_here (FromNth count front) x holds = all_used (work (FromNth count front)) x refl
-spare_here (Last kept) x holds = all_used (work (Last kept)) x refl
+pub spare_here : (ends : Ends) {x : List ℕ} → Holds ends x → IsSpare (work ends) x (past_of ends)
+spare_here (First count front) {x} holds = subst (IsSpare (head_work front.delim front.unit false count) x) (sym (holds.past ∙ past_after front.delim front.unit count x)) (first_used front.delim front.unit count)
+spare_here (ButLast kept) {x} holds = all_used (work (ButLast kept)) x refl
+spare_here (FromNth count front) {x} holds = all_used (work (FromNth count front)) x refl
+spare_here (Last kept) {x} holds = all_used (work (Last kept)) x refl
 
 -- a text that goes on from x, cut in two where more stands before the cut than in x: the cut is after x, and what is before
 -- it and after x has no more delimiters than bytes
 
-front_at : (a b c d : List ℕ) → a ++ b ≡ c ++ d → length c ≤ length a → c ≡ take (length c) a
-front_at a b c d is short =
-    sym (take_at c d (length c) refl) ∙ ap (take (length c)) (sym is) ∙ take-append-le (length c) a b short
+front_at : (a b : List ℕ) {c : List ℕ} (d : List ℕ) → a ++ b ≡ c ++ d → length c ≤ length a → c ≡ take (length c) a
+front_at a b {c} d is short = sym (take_at c d (length c) refl) ∙ ap (take (length c)) (sym is) ∙ take-append-le (length c) a b short
 
 goes_past : (delim : ℕ) (x piece used rest : List ℕ) → x ++ piece ≡ used ++ rest → delimiters delim x < delimiters delim used → length x < length used
 goes_past delim x piece used rest is more = elim (cases_lt (length x) (length used)) [
   | inl past ↦ past
   | inr short ↦
-      let front = front_at x piece used rest is short in
+      let front = front_at x piece rest is short in
       absurd (omega (arith, more, ap (delimiters delim) front, delimiters-take-le delim (length used) x))
 ]
 
@@ -133,11 +131,11 @@ few_between delim x piece used rest is past =
     let same : delimiters delim (take (length x + (length used - length x)) (x ++ piece)) ≡ delimiters delim used = ap (λ k. delimiters delim (take k (x ++ piece))) (omega (arith, past)) ∙ ap (delimiters delim) all in
     omega (arith, cut, few, same, ap (delimiters delim) front, length-take (length used - length x) (drop (length x) (x ++ piece)), past)
 
-few_spare : (delim : ℕ) (unit : Counted) (count left n : ℕ) (x piece : List ℕ) (spare : IsSpare (head_work delim unit false count) (x ++ piece) n) → left ≡ count - measure delim unit x → measure delim unit x < count → count ≤ measure delim unit spare.used
+few_spare : (delim : ℕ) (unit : Counted) (count : ℕ) {left n : ℕ} (x piece : List ℕ) (spare : IsSpare (head_work delim unit false count) (x ++ piece) n) → left ≡ count - measure delim unit x → measure delim unit x < count → count ≤ measure delim unit spare.used
     → length piece ≤ piece_for unit left → n ≤ ahead_of unit
-few_spare delim Bytes count left n x piece spare is going enough within =
+few_spare delim Bytes count x piece spare is going enough within =
     omega (arith, is, going, enough, within, spare.long, sym (length-append x piece) ∙ ap length spare.joined ∙ length-append spare.used spare.rest)
-few_spare delim Lines count left n x piece spare is going enough within =
+few_spare delim Lines count x piece spare is going enough within =
     let past = goes_past delim x piece spare.used spare.rest spare.joined (omega (arith, going, enough)) in
     let few = few_between delim x piece spare.used spare.rest spare.joined past in
     omega (arith, is, going, enough, within, past, few, spare.long, sym (length-append x piece) ∙ ap length spare.joined ∙ length-append spare.used spare.rest)
@@ -145,7 +143,7 @@ few_spare delim Lines count left n x piece spare is going enough within =
 pub may_get : (ends : Ends) → MayGet Holds work ends (wanted_by ends)
 may_get (First count front) x piece after n holds going within same later spare = elim spare.enough [
   | inl none ↦ omega (arith, spare.long, ap length none)
-  | inr complete ↦ few_spare front.delim front.unit count front.left n x piece spare (holds.left refl) (leb-false count (measure front.delim front.unit x) going) (leb-true count (measure front.delim front.unit spare.used) complete) within
+  | inr complete ↦ few_spare front.delim front.unit count x piece spare (holds.left refl) (leb-false count (measure front.delim front.unit x) going) (leb-true count (measure front.delim front.unit spare.used) complete) within
 ]
 may_get ends x piece after n holds going within same later spare = omega (arith, none_spare (work ends) (x ++ piece) n (lawful ends) refl spare)
 
@@ -153,6 +151,6 @@ some_wanted : (unit : Counted) (left : ℕ) → 0 < left → 0 < piece_for unit 
 some_wanted Lines left some = omega (arith, some)
 some_wanted Bytes left some = some
 
-pub wants_some : (ends : Ends) (x : List ℕ) → Holds ends x → (work ends).is_complete x ≡ false → 0 < wanted_by ends
-wants_some (First count front) x holds going = some_wanted front.unit front.left (omega (arith, holds.left refl, leb-false count (measure front.delim front.unit x) going))
-wants_some ends x holds going = omega arith
+pub wants_some : (ends : Ends) {x : List ℕ} → Holds ends x → (work ends).is_complete x ≡ false → 0 < wanted_by ends
+wants_some (First count front) {x} holds going = some_wanted front.unit front.left (omega (arith, holds.left refl, leb-false count (measure front.delim front.unit x) going))
+wants_some ends holds going = omega arith

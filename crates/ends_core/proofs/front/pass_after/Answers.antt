@@ -12,4 +12,4 @@ returns-in-Ok-clause-out g c =
 
 pub returns-in-Err-clause-cut : goal.returns-in-Err-clause-cut
 returns-in-Err-clause-cut g c =
-    broke_in _ _ _ _ _ _ _ (take_rest c.args.piece.now c.take_in-bytes.result ∙ after_is_drop c.args.front.now.delim c.args.front.now.unit c.args.front.now.left c.take_in-bytes.result c.args.piece.now c.take_in-bytes.ensures.front) c.in-Err.ensures.cut
+    broke_in _ (take_rest c.args.piece.now c.take_in-bytes.result ∙ after_is_drop c.args.front.now.delim c.args.front.now.unit c.args.front.now.left c.take_in-bytes.result c.args.piece.now c.take_in-bytes.ensures.front) c.in-Err.ensures.cut

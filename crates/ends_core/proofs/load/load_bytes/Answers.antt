@@ -22,7 +22,7 @@ loop-at-preserved g c =
       grown = λ is. ap (λ (w : ByteWindowState). w.grown) put ∙ still_grown c.loop-at.window c.read_at.new.buffer (so_far.grown is);
       full = λ full. ap (λ (w : ByteWindowState). w.grown) put ∙ now_grown c.loop-at.window c.read_at.new.buffer fits (omega (arith, full, ap (λ (w : ByteWindowState). w.most) put, ap (λ (w : ByteWindowState). length w.held) put));
       within = omega (arith, kept, there);
-      holds = between_more _ _ _ c.loop-at.at c.block_size-size.result c.read_at.new.buffer _ _ so_far.holds long (λ told. c.read_at.ensures.shows c.if-not-read_at.false told) (ap (λ (w : ByteWindowState). w.held) put);
+      holds = between_more _ so_far.holds long (λ told. c.read_at.ensures.shows c.if-not-read_at.false told) (ap (λ (w : ByteWindowState). w.held) put);
     }
 
 pub returns-clause-held : goal.returns-clause-held

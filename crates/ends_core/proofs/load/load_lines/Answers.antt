@@ -11,7 +11,7 @@ pub returns-then-len-left-clause-held : goal.returns-then-len-left-clause-held
 returns-then-len-left-clause-held g c yes_it_is =
     let so_far = c.loop-end.invariant in
     let seen = c.put_block.ensures.held c.if-not-put_block.false in
-    holds_last _ _ _ c.loop-end.end c.block_size-size.result _ _ seen.0 _ _ c.requires.left so_far.holds c.block_size-size.ensures.there seen.1 seen.2
+    holds_last _ c.requires.left so_far.holds c.block_size-size.ensures.there seen.1 seen.2
     (seen.3 ∙ ap (λ delim. last_lines delim c.loop-end.window.most (seen.0 ++ c.loop-end.window.held)) so_far.delim ∙ ap (λ most. last_lines c.args.window.now.delim most (seen.0 ++ c.loop-end.window.held)) so_far.most)
     (omega (arith, c.len.ensures.len, c.if-len-left.true))
 
@@ -21,7 +21,7 @@ loop-end-preserved g c =
     let seen = c.put_block.ensures.held c.if-not-put_block.false in record {
       most = c.put_block.ensures.most ∙ so_far.most;
       delim = c.put_block.ensures.delim ∙ so_far.delim;
-      holds = holds_more _ _ _ c.loop-end.end c.block_size-size.result _ _ seen.0 _ _ so_far.holds c.block_size-size.ensures.there seen.1 seen.2
+      holds = holds_more _ so_far.holds c.block_size-size.ensures.there seen.1 seen.2
           (seen.3 ∙ ap (λ delim. last_lines delim c.loop-end.window.most (seen.0 ++ c.loop-end.window.held)) so_far.delim ∙ ap (λ most. last_lines c.args.window.now.delim most (seen.0 ++ c.loop-end.window.held)) so_far.most)
           (omega (arith, c.len.ensures.len, c.if-len-left.false));
     }

@@ -13,35 +13,35 @@ pub pass-tells : goal.pass-tells
 pass-tells g c =
     let ends = c.args.self.now in
     let piece = c.args.piece.now in record {
-      same = same_work ends c.new.self.now c.ensures.same;
+      same = same_work c.ensures.same;
       size = c.ensures.bound;
-      holds = on_ok_each c.result (λ left waits full. takes_in ends c.new.self.now piece c.ensures.same c.ensures.past left waits full) c.ensures.left c.ensures.waits c.ensures.full;
-      outputs = on_ok_weaker c.result (λ wrote. puts_out g.O.Outs.told ends piece _ _ wrote) c.ensures.out;
-      ready = on_ok_weaker c.result (λ wrote. writable_still g.O.Outs.told _ _ (due ends piece) c.requires.ready wrote) c.ensures.out;
+      holds = on_ok_each c.result (λ left waits full. takes_in ends piece c.ensures.same c.ensures.past left waits full) c.ensures.left c.ensures.waits c.ensures.full;
+      outputs = on_ok_weaker c.result (λ wrote. puts_out g.O.Outs.told ends piece wrote) c.ensures.out;
+      ready = on_ok_weaker c.result (λ wrote. writable_still g.O.Outs.told _ (due ends piece) c.requires.ready wrote) c.ensures.out;
       owns = λ first own. tt;
       there = λ are. tt;
-      cut = IfErr-weaker c.result _ _ (λ fault stops. cuts_off g.O.Outs.told _ ends piece _ _ fault stops) c.ensures.cut;
+      cut = IfErr-weaker c.result _ _ (λ fault stops. cuts_off g.O.Outs.told ends piece stops) c.ensures.cut;
       met = IfErr-weaker c.result _ _ (λ fault stops. met g.O.Outs.told ends piece _ _ _ fault c.requires.ready stops) c.ensures.cut;
     }
 
 pub finish-tells : goal.finish-tells
 finish-tells g c =
     let ends = c.args.self.now in record {
-      same = same_work ends c.new.self.now c.ensures.same;
+      same = same_work c.ensures.same;
       size = c.ensures.bound;
-      outputs = on_ok_weaker c.result (λ wrote. finishes g.O.Outs.told ends _ _ wrote) c.ensures.out;
-      writable = on_ok_weaker c.result (λ wrote output. writable_still g.O.Outs.told _ _ (due_at_end ends) c.requires.ready wrote) c.ensures.out;
+      outputs = on_ok_weaker c.result (λ wrote. finishes g.O.Outs.told ends wrote) c.ensures.out;
+      writable = on_ok_weaker c.result (λ wrote output. writable_still g.O.Outs.told _ (due_at_end ends) c.requires.ready wrote) c.ensures.out;
       owns = λ first own. tt;
       there = λ are. tt;
-      cut = IfErr-weaker c.result _ _ (λ fault stops. ends_short g.O.Outs.told _ ends _ _ fault stops) c.ensures.cut;
-      met = IfErr-weaker c.result _ _ (λ fault stops. end_met g.O.Outs.told ends _ _ _ fault c.requires.ready stops) c.ensures.cut;
+      cut = IfErr-weaker c.result _ _ (λ fault stops. ends_short g.O.Outs.told ends stops) c.ensures.cut;
+      met = IfErr-weaker c.result _ _ (λ fault stops. end_met g.O.Outs.told ends c.requires.ready stops) c.ensures.cut;
     }
 
 pub load-tells : goal.load-tells
 load-tells g c =
     let ends = c.args.self.now in
     let passes = c.ensures.passes in record {
-      same = same_work ends c.new.self.now c.ensures.same;
+      same = same_work c.ensures.same;
       size = omega (arith, passes.long, ap length passes.keeps, waits_within (stretch_of ends) (delim_of ends) (unit_of ends) (count_of ends) passes.front, c.ensures.past, c.requires.none);
       loads = loads _ c.args.slot c.result ends c.new.self.now _ _ c.requires.fresh c.ensures.same c.ensures.left c.ensures.past c.ensures.others passes c.ensures.full;
       laid = c.ensures.laid;
@@ -50,15 +50,15 @@ load-tells g c =
 
 pub is_done-tells : goal.is_done-tells
 is_done-tells c = record {
-  complete = λ x holds. c.ensures ∙ full_is c.args.self.now x holds;
-  exact = λ x holds. done_is_exact c.args.self.now x _ holds (c.ensures ∙ full_is c.args.self.now x holds);
+  complete = λ x holds. c.ensures ∙ full_is c.args.self.now holds;
+  exact = λ x holds. done_is_exact c.args.self.now holds (c.ensures ∙ full_is c.args.self.now holds);
 }
 
 pub wanted-tells : goal.wanted-tells
 wanted-tells c = record {
-  some = λ x holds going. subst (λ n. 0 < n) (sym c.ensures) (wants_some c.args.self.now x holds going);
+  some = λ x holds going. subst (λ n. 0 < n) (sym c.ensures) (wants_some c.args.self.now holds going);
   few = subst (MayGet Holds work c.args.self.now) (sym c.ensures) (may_get c.args.self.now);
 }
 
 pub unused-tells : goal.unused-tells
-unused-tells c x holds = subst (IsSpare (work c.args.self.now) x) (sym c.ensures) (spare_here c.args.self.now x holds)
+unused-tells c x holds = subst (IsSpare (work c.args.self.now) x) (sym c.ensures) (spare_here c.args.self.now holds)

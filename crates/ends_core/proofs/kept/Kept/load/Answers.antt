@@ -7,13 +7,13 @@ use Rattle.ends_core.proofs.kept.Kept.load.Goals.{else-hold_last-via-then-hold_l
 use Rattle.ends_core.proofs.kept.Kept.load.Goals as goal
 
 pub returns-in_default-clause-passes : goal.returns-in_default-clause-passes
-returns-in_default-clause-passes g c = passes_none _ c.args.slot _ _ _ refl (c.requires.none ∙ sym (last_none (delim_of c.args.self.now) (unit_of c.args.self.now) (most_of c.args.self.now)))
+returns-in_default-clause-passes g c = passes_none _ _ refl (c.requires.none ∙ sym (last_none (delim_of c.args.self.now) (unit_of c.args.self.now) (most_of c.args.self.now)))
 
 pub returns-then-left-buffer-clause-passes : goal.returns-then-left-buffer-clause-passes
-returns-then-left-buffer-clause-passes g c = passes_none _ c.args.slot _ _ _ refl (c.requires.none ∙ sym (last_none (delim_of c.args.self.now) (unit_of c.args.self.now) (most_of c.args.self.now)))
+returns-then-left-buffer-clause-passes g c = passes_none _ _ refl (c.requires.none ∙ sym (last_none (delim_of c.args.self.now) (unit_of c.args.self.now) (most_of c.args.self.now)))
 
 pub returns-then-skip-clause-passes : goal.returns-then-skip-clause-passes
-returns-then-skip-clause-passes g c = passes_seen _ c.args.slot c.in-Some.left _ _ _ c.requires.input (c.hold_last.ensures.held c.if-hold_last.true) (c.skip.ensures.rest c.if-skip.true)
+returns-then-skip-clause-passes g c = passes_seen _ _ c.requires.input (c.hold_last.ensures.held c.if-hold_last.true) (c.skip.ensures.rest c.if-skip.true)
 
 pub returns-clause-passes : goal.returns-clause-passes
 returns-clause-passes g c =
@@ -21,7 +21,7 @@ returns-clause-passes g c =
       | else-hold_last-via-then-hold_last+else-skip w ↦ ap g.I.Inputs.sources w.inputs-is ∙ w.skip.ensures.unchanged w.if-skip.false
       | else-hold_last-via-else-hold_last w ↦ ap g.I.Inputs.sources w.inputs-is
     ] in
-    passes_none _ c.args.slot _ _ _ same
+    passes_none _ _ same
     (c.drop_front.ensures.held ∙ drop_all c.len-held.result (held_of c.hold_last.new.self) (omega (arith, c.len-held.ensures)) ∙ sym (last_none (delim_of c.args.self.now) (unit_of c.args.self.now) (most_of c.args.self.now)))
 
 pub returns-clause-full : goal.returns-clause-full
