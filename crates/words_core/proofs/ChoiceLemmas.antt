@@ -1,5 +1,5 @@
 -- Lemmas on what options ask for, one after another.
-use Rattle.std.proofs.Common.{◌≡◌, ◌≤◌, ◌↔◌, ℕ, Bool, true, false, ◌||◌, arith, List, [], ◌∷◌, ◌++◌, length, Option, Some, None, Result, Ok, Err, refl, sym, ◌∙◌, ap, if◌then◌else◌}
+use Rattle.std.proofs.Common.{◌≡◌, ◌≤◌, ◌↔◌, Bool, true, false, ◌||◌, arith, List, [], ◌∷◌, ◌++◌, length, Option, Some, None, Result, Ok, Err, refl, sym, ◌∙◌, ap, if◌then◌else◌}
 use Rattle.std.specs.Prelude.{filter, IsOk}
 use Rattle.std.specs.List.{list_any}
 use Rattle.std.proofs.lemmas.Bool.{or_parts}
@@ -12,7 +12,7 @@ use Rattle.ports_core.specs.declared.slot.Mode.TheVariants as mode
 use Rattle.operand_core.specs.Style.{Style}
 use Rattle.seg_core.specs.declared.cut.Cut.{Cut}
 use Rattle.words_core.specs.declared.table.Choice.{Choice}
-use Rattle.words_core.specs.declared.table.Choice.TheVariants.{Lines, Bytes, Quiet, Verbose, SuffixLength, NumericSuffixes, HexSuffixes, AdditionalSuffix, Separator, Prefix, Digits, Append, Follow, FollowNames, Looks as HowOften}
+use Rattle.words_core.specs.declared.table.Choice.TheVariants.{Lines, Bytes, SuffixLength, AdditionalSuffix, Separator, Prefix, Digits, Append, Follow, Looks as HowOften}
 use Rattle.words_core.specs.declared.tail_words.FollowOptions.{FollowOptions}
 use Rattle.words_core.specs.Value.{Meant, Byte, Counted, Following, Looks, Text, Width}
 use Rattle.words_core.specs.Given.{GivenOption, asked_by}

@@ -4,6 +4,7 @@ pub mod ChoiceLemmas
 pub mod CsplitLemmas
 pub mod FaultLemmas
 pub mod LimitLemmas
+pub mod MeaningLemmas
 pub mod OperandLemmas
 pub mod SpellingLemmas
 pub mod ValueLemmas
