@@ -4,7 +4,7 @@ use Rattle.std.specs.Prelude.{⊤, filter}
 use Rattle.std.proofs.lemmas.Bool.Decides.{nat_tests}
 use Rattle.ports_core.specs.declared.fault.Fault.{Fault}
 use Rattle.ports_core.specs.declared.alphabet.Alphabet.{Alphabet}
-use Rattle.ports_core.specs.declared.alphabet.Alphabet.TheVariants.{Letters, Digits, Hex}
+use Rattle.ports_core.specs.declared.alphabet.Alphabet.TheVariants.{Letters}
 use Rattle.ports_core.specs.declared.tool.Tool.{Tool}
 use Rattle.ports_core.specs.declared.tool.Tool.TheVariants as tool
 use Rattle.ports_core.specs.Name.{name_count}
@@ -79,7 +79,6 @@ split_by-few asked choice value few is = few
 
 way_in-limits : (value : Meant) (choice : Choice) → IsSound value → IsInLimits (way_in value choice)
 way_in-limits (Size size) choice.Bytes is = is
-way_in-limits (Size size) choice.LineBytes is = is
 way_in-limits (Size size) choice is = is
 way_in-limits (Files files) choice is = is
 way_in-limits value choice is = omega arith
@@ -104,8 +103,7 @@ enough alphabet files width is = grind (arith, nat_tests)
 
 five-enough : (alphabet : Alphabet) (files : ℕ) → files ≤ 65535 → files ≤ name_count alphabet 5
 five-enough Letters files few = omega arith
-five-enough Digits files few = omega arith
-five-enough Hex files few = omega arith
+five-enough alphabet files few = omega arith
 
 -- a suffix with which all files have names, and which is no wider than one may be
 abbrev Serves : Alphabet → ℕ → ℕ → Type 0
@@ -123,13 +121,11 @@ free-width width most = cond_both (width == 0) _ _ (λ (suffix : Suffix). IsWidt
 
 suffix-can : (cut : Cut) (alphabet : Alphabet) (width : ℕ) → IsInLimits cut → width ≤ 255
     → IfOk (suffix_for cut alphabet width) (λ suffix. AreNamed cut alphabet suffix.width × IsWidth suffix.width)
-suffix-can (cut.Lines size) alphabet width is most = (tt, free-width width most)
-suffix-can (cut.Bytes size) alphabet width is most = (tt, free-width width most)
-suffix-can (cut.LineBytes size) alphabet width is most = (tt, free-width width most)
 suffix-can (cut.Round files) alphabet width is_in most =
     let P : Result Suffix Fault → Type 0 = λ r. IfOk r (λ suffix. Serves alphabet files suffix.width) in
     cond_both (width == 0) _ _ P (λ is. least-serves alphabet files is_in.1) (λ is.
     cond_both (names_all alphabet files width) _ _ P (λ all. (enough alphabet files width all, (grind (arith, nat_tests), most))) (λ no. tt))
+suffix-can cut alphabet width is most = (tt, free-width width most)
 
 -- the line as a whole
 
@@ -151,9 +147,8 @@ csplit_by-few asked choice.Prefix (Text text) few is = few
 csplit_by-few asked choice value few is = few
 
 asked_of-few : (style : Style) (operands : List GivenOperand) → style.digits ≤ 255 → IfOk (asked_of style operands) (λ asked. asked.style.digits ≤ 255)
-asked_of-few style [] few = tt
-asked_of-few style (file ∷ []) few = tt
 asked_of-few style (file ∷ operand ∷ operands) few = few
+asked_of-few style operands few = tt
 
 csplit-can : (given : Given) → AreSound given.options → IfOk (csplit_asked given) (λ asked. asked.style.digits ≤ 255)
 csplit-can given sound =

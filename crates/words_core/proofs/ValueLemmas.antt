@@ -19,24 +19,22 @@ use Rattle.words_core.proofs.SpellingLemmas.{given_before-nothing, given_before-
 
 -- a letter
 
-by_its_letter : {rows : List OptionRow} {letter : ℕ} {choice : Choice} {kind : Kind} (value : List ℕ) (place : ℕ) → IsLetter rows letter choice kind
-    → mixed rows place (45 ∷ letter ∷ value) ≡ lettered place value (cluster rows place value) (Some (choice, takes.Value kind))
-by_its_letter {rows} {letter} value place is =
-    cond-false (letter == 45) (dashed rows place value) (cluster rows place (letter ∷ value)) (ne_eqb letter 45 is.no_hyphen)
-    ∙ ap (lettered place value (cluster rows place value)) (cond-true (nat_lt letter 128) (option_named rows (45 ∷ letter ∷ [])) None (lt-ltb letter 128 is.ascii) ∙ is.named)
+by_its_letter : (rows : List OptionRow) (letter : ℕ) {choice : Choice} {takes : Takes} (value : List ℕ) (place : ℕ)
+    → letter < 128 → letter ≢ 45 → option_named rows (45 ∷ letter ∷ []) ≡ Some (choice, takes)
+    → mixed rows place (45 ∷ letter ∷ value) ≡ lettered place value (cluster rows place value) (Some (choice, takes))
+by_its_letter rows letter value place ascii no_hyphen found =
+    cond-false (letter == 45) (dashed rows place value) (cluster rows place (letter ∷ value)) (ne_eqb letter 45 no_hyphen)
+    ∙ ap (lettered place value (cluster rows place value)) (cond-true (nat_lt letter 128) (option_named rows (45 ∷ letter ∷ [])) None (lt-ltb letter 128 ascii) ∙ found)
 
 -- one that takes no value
 
 given_bare : (place : ℕ) (rest : List ℕ) (others : Result Meaning Fault) (choice : Choice) (takes : Takes) → takes_none takes ≡ true → lettered place rest others (Some (choice, takes)) ≡ before (bare choice place) others
-given_bare place rest others choice takes.Nothing none = refl
-given_bare place rest others choice (takes.Optional kind) none = refl
 given_bare place rest others choice (takes.Value kind) none = absurd (cc)
+given_bare place rest others choice other none = refl
 
 by_its_switch : {rows : List OptionRow} {letter : ℕ} {choice : Choice} (rest : List ℕ) (place : ℕ) → IsSwitch rows letter choice → mixed rows place (45 ∷ letter ∷ rest) ≡ before (bare choice place) (cluster rows place rest)
 by_its_switch {rows} {letter} {choice} rest place is =
-    cond-false (letter == 45) (dashed rows place rest) (cluster rows place (letter ∷ rest)) (ne_eqb letter 45 is.no_hyphen)
-    ∙ ap (lettered place rest (cluster rows place rest)) (cond-true (nat_lt letter 128) (option_named rows (45 ∷ letter ∷ [])) None (lt-ltb letter 128 is.ascii) ∙ is.named)
-    ∙ given_bare place rest (cluster rows place rest) choice is.takes is.none
+    by_its_letter rows letter rest place is.ascii is.no_hyphen is.named ∙ given_bare place rest (cluster rows place rest) choice is.takes is.none
 
 pub switch_together : (rows : List OptionRow) (letter next : ℕ) (choice : Choice) (rest : List ℕ) (words : List (List ℕ)) (place : ℕ) → IsSwitch rows letter choice → next ≢ 45
     → spelled rows ((45 ∷ letter ∷ next ∷ rest) ∷ words) place Reading ≡ given_before (bare choice place) (spelled rows ((45 ∷ next ∷ rest) ∷ words) place Reading)
@@ -54,7 +52,7 @@ pub value_attached : (rows : List OptionRow) (letter : ℕ) (choice : Choice) (k
     → Gives rows ((45 ∷ letter ∷ value) ∷ words) place choice meant (spelled rows words (place + 1) Reading)
 value_attached rows letter choice kind [] meant words place is some reads = absurd (some refl)
 value_attached rows letter choice kind (byte ∷ value) meant words place is some reads =
-    ap (onward (spelled rows words (place + 1))) (by_its_letter (byte ∷ value) place is ∙ ap (said choice place place) reads)
+    ap (onward (spelled rows words (place + 1))) (by_its_letter rows letter (byte ∷ value) place is.ascii is.no_hyphen is.named ∙ ap (said choice place place) reads)
 
 -- the next word
 
@@ -69,7 +67,7 @@ awaited rows {choice} kind word value words {place} awaits reads =
 pub value_after_letter : (rows : List OptionRow) (letter : ℕ) (choice : Choice) (kind : Kind) (value : List ℕ) (meant : Meant) (words : List (List ℕ)) (place : ℕ)
     → IsLetter rows letter choice kind → value_in kind value ≡ Ok meant
     → Gives rows ((45 ∷ letter ∷ []) ∷ value ∷ words) place choice meant (spelled rows words (place + 1 + 1) Reading)
-value_after_letter rows letter choice kind value meant words place is reads = awaited rows kind (45 ∷ letter ∷ []) value words (by_its_letter [] place is) reads
+value_after_letter rows letter choice kind value meant words place is reads = awaited rows kind (45 ∷ letter ∷ []) value words (by_its_letter rows letter [] place is.ascii is.no_hyphen is.named) reads
 
 -- a long name
 
