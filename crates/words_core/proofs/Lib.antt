@@ -5,7 +5,6 @@ pub mod CsplitLemmas
 pub mod FaultLemmas
 pub mod LimitLemmas
 pub mod MeaningLemmas
-pub mod OperandLemmas
 pub mod SpellingLemmas
 pub mod ValueLemmas
 pub mod WordsLemmas
