@@ -34,12 +34,11 @@ skipped bytes given n reached asked last breaks_off is_open is_broken =
     ap (λ those. record (seen_as bytes (given + n) breaks_off is_open is_broken asked reached last) { left = record { bytes = those; breaks_off = breaks_off } }) (rest_left bytes given n)
     ∙ ap (λ those. record (skips n (seen_as bytes given breaks_off is_open is_broken asked reached last)) { taken = those }) (both_taken bytes given n)
 
-pub read_on : (bytes : List ℕ) (given n size most now reached asked last : ℕ) (breaks_off is_open is_broken : Bool)
+pub read_on : (bytes : List ℕ) (given n size : ℕ) {most now : ℕ} (reached asked last : ℕ) (breaks_off is_open is_broken : Bool)
     → given + n ≤ length bytes → most ≡ max asked size → now ≡ max reached (given + n)
     → seen_as bytes (given + n) breaks_off is_open is_broken most now n ≡ gives size n (seen_as bytes given breaks_off is_open is_broken asked reached last)
-read_on bytes given n size most now reached asked last breaks_off is_open is_broken within greatest is =
-    skipped bytes given n now most n breaks_off is_open is_broken
-    ∙ ap (λ asks. skips n (seen_as bytes given breaks_off is_open is_broken asks now n)) greatest
+read_on bytes given n size {most} {now} reached asked last breaks_off is_open is_broken within greatest is =
+    skipped bytes given n now most n breaks_off is_open is_broken ∙ ap (λ asks. skips n (seen_as bytes given breaks_off is_open is_broken asks now n)) greatest
     ∙ ap (λ those. record (skips n (seen_as bytes given breaks_off is_open is_broken (max asked size) now n)) { last = those }) (sym (omega (arith, within, length-take n (drop given bytes), length-drop given bytes)))
     ∙ ap (λ far. record (gives size n (seen_as bytes given breaks_off is_open is_broken asked reached last)) { reached = far })
     (is ∙ ap (max reached) (sym (ap length (sym (both_taken bytes given n)) ∙ omega (arith, within, length-take (given + n) bytes))))
@@ -68,22 +67,21 @@ abbrev pub IsSeen : List Source → List Laid → List (ℕ × ℕ) → MemInSta
 IsSeen sources files breaks state = record { sources = sources; files = files; breaks = breaks } ≡ state
 
 -- an input that has this many bytes is cut there
-pub cut_within : (source : Source) (at : ℕ) → at ≤ length source.left.bytes
+pub cut_within : (source : Source) {at : ℕ} → at ≤ length source.left.bytes
     → record source { left = record { bytes = take at source.left.bytes; breaks_off = true } } ≡ cut at source
-cut_within source at within = rw le-leb refl
+cut_within source within = rw le-leb refl
 
-pub break_there : (state : MemInState) (slot at : ℕ) (source new : Source) → slot < length state.sources
-    → source ≡ get_or state.sources slot source → new ≡ cut at source
-    → record state { sources = set state.sources slot new } ≡ with_break slot at state
-break_there state slot at source new within there is =
+pub break_there : (state : MemInState) {slot : ℕ} (at : ℕ) {source new : Source} → slot < length state.sources
+    → source ≡ get_or state.sources slot source → new ≡ cut at source → record state { sources = set state.sources slot new } ≡ with_break slot at state
+break_there state {slot} at {source} {new} within there is =
     ap (λ sources. record state { sources = sources }) (one_changes state.sources state.sources slot (cut at) source new refl within there is)
     ∙ ap (λ (b : Bool). if b then record state { sources = changed_at slot (cut at) state.sources } else record state { breaks = state.breaks ++ (slot, at) ∷ [] }) (sym (lt-ltb slot (length state.sources) within))
 
 -- a name at which nothing lies
-pub finds_nothing : (state : MemInState) (sources : List Source) (files : List Laid) (breaks : List (ℕ × ℕ)) (name : List ℕ)
+pub finds_nothing : (state : MemInState) (sources : List Source) (files : List Laid) (breaks : List (ℕ × ℕ)) {name : List ℕ}
     → IsSeen sources files breaks state → laid_at files name ≡ None
     → OpensNothing true (laid_in state.files state.breaks) state.sources (sources ++ missing ∷ []) name (fault.Open (length sources))
-finds_nothing state sources files breaks name is none =
+finds_nothing state sources files breaks {name} is none =
     broke (length sources) (ap (λ (those : MemInState). length those.sources) is)
     (λ told. ap (content_of state.breaks (length sources)) (ap (λ (those : MemInState). laid_at those.files name) (sym is) ∙ none))
     (ap (λ (those : MemInState). those.sources ++ missing ∷ []) is)
@@ -103,11 +101,11 @@ still_open (plan ∷ plans) slot content =
     either_open (eqb plan.0 slot) (cut plan.1 (source_of content)) (breaks_in plans slot (source_of content)) (cut_open (leb plan.1 (length content.bytes)) plan.1 content) (still_open plans slot content)
 
 -- a name at which a file lies
-pub finds_file : (state : MemInState) (sources : List Source) (files : List Laid) (breaks : List (ℕ × ℕ)) (name bytes : List ℕ) (source : Source)
+pub finds_file : (state : MemInState) (sources : List Source) (files : List Laid) (breaks : List (ℕ × ℕ)) {name bytes : List ℕ} {source : Source}
     → IsSeen sources files breaks state → laid_at files name ≡ Some bytes
     → source ≡ breaks_in breaks (length sources) (source_of (record { bytes = bytes; breaks_off = false }))
     → Opens true (laid_in state.files state.breaks) state.sources (sources ++ source ∷ []) name (length sources)
-finds_file state sources files breaks name bytes source is found planned =
+finds_file state sources files breaks {name} {bytes} {source} is found planned =
     record {
       number = ap (λ (those : MemInState). length those.sources) is;
       content = source.left;
@@ -118,26 +116,24 @@ finds_file state sources files breaks name bytes source is found planned =
 
 -- the same, as the code has it: the new list, its last member and its number by their equations
 
-pub opened_nothing : (state : MemInState) (sources new : List Source) (files : List Laid) (breaks : List (ℕ × ℕ)) (name : List ℕ) (source : Source) (slot : ℕ)
+pub opened_nothing : {state : MemInState} {sources new : List Source} {files : List Laid} {breaks : List (ℕ × ℕ)} {name : List ℕ} {source : Source} {slot : ℕ}
     → IsSeen sources files breaks state → laid_at files name ≡ None → new ≡ sources ++ source ∷ [] → source ≡ missing
     → slot ≡ length sources → OpensNothing true (laid_in state.files state.breaks) state.sources new name (fault.Open slot)
-opened_nothing state sources new files breaks name source slot is none added lacks counts =
+opened_nothing {state} {sources} {new} {files} {breaks} {name} is none added lacks counts =
     subst (λ number. OpensNothing true (laid_in state.files state.breaks) state.sources new name (fault.Open number)) (sym counts)
     (subst (λ those. OpensNothing true (laid_in state.files state.breaks) state.sources those name (fault.Open (length sources))) (sym (added ∙ ap (λ last. sources ++ last ∷ []) lacks))
-    (finds_nothing state sources files breaks name is none))
+    (finds_nothing state sources files breaks is none))
 
-pub opened_file : (state : MemInState) (sources new : List Source) (files : List Laid) (breaks : List (ℕ × ℕ)) (name bytes held : List ℕ) (made source : Source) (slot : ℕ)
+pub opened_file : {state : MemInState} {sources new : List Source} {files : List Laid} {breaks : List (ℕ × ℕ)} {name bytes held : List ℕ} (made : Source) {source : Source} {slot : ℕ}
     → IsSeen sources files breaks state → laid_at files name ≡ Some bytes → held ≡ bytes
     → made ≡ source_of (record { bytes = held; breaks_off = false }) → source ≡ breaks_in breaks slot made → new ≡ sources ++ source ∷ []
     → slot ≡ length sources → Opens true (laid_in state.files state.breaks) state.sources new name slot
-opened_file state sources new files breaks name bytes held made source slot is found same fresh planned added counts =
+opened_file {state} {sources} {new} {files} {breaks} {name} {bytes} made is found same fresh planned added counts =
     subst (λ number. Opens true (laid_in state.files state.breaks) state.sources new name number) (sym counts)
     (subst (λ those. Opens true (laid_in state.files state.breaks) state.sources those name (length sources)) (sym added)
-    (finds_file state sources files breaks name bytes source is found
-    (planned ∙ ap (λ number. breaks_in breaks number made) counts
+    (finds_file state sources files breaks is found (planned ∙ ap (λ number. breaks_in breaks number made) counts
     ∙ ap (breaks_in breaks (length sources)) (fresh ∙ ap (λ those. source_of (record { bytes = those; breaks_off = false })) same))))
 
-pub kept_all : (state : MemInState) (sources new : List Source) (files : List Laid) (breaks : List (ℕ × ℕ)) (name : List ℕ)
-    → IsSeen sources files breaks state → new ≡ sources
-    → OpensNothing true (laid_in state.files state.breaks) state.sources new name fault.Memory
-kept_all state sources new files breaks name is same = no_room (same ∙ ap (λ (those : MemInState). those.sources) is)
+pub kept_all : {state : MemInState} {sources new : List Source} {files : List Laid} {breaks : List (ℕ × ℕ)} {name : List ℕ}
+    → IsSeen sources files breaks state → new ≡ sources → OpensNothing true (laid_in state.files state.breaks) state.sources new name fault.Memory
+kept_all is same = no_room (same ∙ ap (λ (those : MemInState). those.sources) is)

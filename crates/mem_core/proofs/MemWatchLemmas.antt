@@ -70,52 +70,52 @@ latest_seen worlds zero is = ap seen_in (sym is)
 latest_seen worlds (suc n) is = latest-last (seen_by worlds n) _
 
 -- what is so of the files of the last turn is so of the last look
-pub now_seen : (watch : MemWatchState) (worlds : List World) (turns : ℕ) (names : List Watched) (world : World) → record { worlds = worlds; turns = turns; watched = names } ≡ watch
+pub now_seen : {watch : MemWatchState} {worlds : List World} (turns : ℕ) {names : List Watched} {world : World} → record { worlds = worlds; turns = turns; watched = names } ≡ watch
     → world_at worlds 0 ≡ empty_world → world ≡ world_at worlds turns → seen_in world ≡ latest (seen watch)
-now_seen watch worlds turns names world is empty now = ap seen_in now ∙ sym (latest_seen worlds turns empty) ∙ ap (λ (those : MemWatchState). latest (seen those)) is
+now_seen {worlds} turns is empty now = ap seen_in now ∙ sym (latest_seen worlds turns empty) ∙ ap (λ (those : MemWatchState). latest (seen those)) is
 
-pub finds_now : (watch : MemWatchState) (worlds : List World) (turns place : ℕ) (names : List Watched) (world : World) (item : Watched) (found : Option Seen) → record { worlds = worlds; turns = turns; watched = names } ≡ watch
+pub finds_now : {watch : MemWatchState} {worlds : List World} (turns place : ℕ) {names : List Watched} {world : World} {item : Watched} {found : Option Seen} → record { worlds = worlds; turns = turns; watched = names } ≡ watch
     → world_at worlds 0 ≡ empty_world → world ≡ world_at worlds turns → place < length names → item ≡ get_or names place item
     → Finds (seen_in world) item.name found → Finds (latest (seen watch)) (watched_at watch.watched place).name found
-finds_now watch worlds turns place names world item found is empty now within at finds =
-    subst (λ snapshot. Finds snapshot (watched_at watch.watched place).name found) (now_seen watch worlds turns names world is empty now)
+finds_now {watch} turns place {names} {world} {item} {found} is empty now within at finds =
+    subst (λ snapshot. Finds snapshot (watched_at watch.watched place).name found) (now_seen turns is empty now)
     (subst (λ (those : Watched). Finds (seen_in world) those.name found) (name_there names place item within at ∙ ap (λ (those : MemWatchState). watched_at those.watched place) is) finds)
 
-pub reopens_now : (watch : MemWatchState) (worlds : List World) (turns place : ℕ) (names : List Watched) (world : World) (item new : Watched) (file : Option ℕ) (is_there : Bool) → record { worlds = worlds; turns = turns; watched = names } ≡ watch
+pub reopens_now : {watch : MemWatchState} {worlds : List World} (turns : ℕ) {place : ℕ} {names : List Watched} {world : World} {item new : Watched} {file : Option ℕ} {is_there : Bool} → record { worlds = worlds; turns = turns; watched = names } ≡ watch
     → world_at worlds 0 ≡ empty_world → world ≡ world_at worlds turns → place < length names → item ≡ get_or names place item
     → file ≡ led_to world.links item.name → new ≡ opens file item → is_there ≡ is_some file
     → Reopens true (latest (seen watch)) watch.watched (set names place new) place is_there
-reopens_now watch worlds turns place names world item new file is_there is empty now within at leads changed found = record {
+reopens_now {watch} turns {place} {names} {item} {new} {file} is empty now within at leads changed found = record {
   file = file;
   found = sym found;
   names = name_changes names watch.watched place (opens file) item new (ap (λ (those : MemWatchState). those.watched) is) within at changed;
-  leads = λ told. leads ∙ ap (λ (snapshot : Snapshot). snapshot.leads item.name) (now_seen watch worlds turns names world is empty now)
+  leads = λ told. leads ∙ ap (λ (snapshot : Snapshot). snapshot.leads item.name) (now_seen turns is empty now)
       ∙ ap (λ (those : Watched). (latest (seen watch)).leads those.name) (name_there names place item within at ∙ ap (λ (those : MemWatchState). watched_at those.watched place) is);
 }
 
-pub opened_now : (watch : MemWatchState) (worlds : List World) (turns place file : ℕ) (names : List Watched) (world : World) (item : Watched) → record { worlds = worlds; turns = turns; watched = names } ≡ watch
+pub opened_now : {watch : MemWatchState} {worlds : List World} (turns place : ℕ) {file : ℕ} {names : List Watched} {world : World} {item : Watched} → record { worlds = worlds; turns = turns; watched = names } ≡ watch
     → world_at worlds 0 ≡ empty_world → world ≡ world_at worlds turns → place < length names → item ≡ get_or names place item → item.opened ≡ Some file
     → held_in world.files file ≡ open_contents (latest (seen watch)) (watched_at watch.watched place)
-opened_now watch worlds turns place file names world item is empty now within at opened =
-    ap (λ (snapshot : Snapshot). snapshot.holds file) (now_seen watch worlds turns names world is empty now)
+opened_now {watch} turns place {file} {names} {item} is empty now within at opened =
+    ap (λ (snapshot : Snapshot). snapshot.holds file) (now_seen turns is empty now)
     ∙ sym (ap (λ those. open_contents (latest (seen watch)) (record item { opened = those })) opened)
     ∙ ap (open_contents (latest (seen watch))) (name_there names place item within at ∙ ap (λ (those : MemWatchState). watched_at those.watched place) is)
 
-pub turned : (watch : MemWatchState) (worlds new : List World) (turns n : ℕ) (names : List Watched) → record { worlds = worlds; turns = turns; watched = names } ≡ watch → SameWorlds new worlds → n ≡ turns + 1
+pub turned : {watch : MemWatchState} {worlds : List World} (new : List World) (turns : ℕ) {n : ℕ} {names : List Watched} → record { worlds = worlds; turns = turns; watched = names } ≡ watch → SameWorlds new worlds → n ≡ turns + 1
     → seen_by new n ≡ seen watch ++ shows watch (length (seen watch)) ∷ []
-turned watch worlds new turns n names is same next =
+turned {worlds} new turns {n} {names} is same next =
     subst (λ (those : MemWatchState). seen_by new n ≡ seen those ++ shows those (length (seen those)) ∷ []) is
     (ap (seen_by new) next ∙ turns_on (record { worlds = worlds; turns = turns; watched = names }) new same)
 
 -- where nothing more was planned, the last files are added once more
-pub same_again : (worlds new : List World) (world : World) → world ≡ world_at worlds (length worlds) → new ≡ worlds ++ world ∷ [] → SameWorlds new worlds
-same_again worlds new world last is n = ap (λ those. world_at those n) (is ∙ ap (λ those. worlds ++ those ∷ []) last) ∙ world_again worlds n
+pub same_again : (worlds : List World) {new : List World} {world : World} → world ≡ world_at worlds (length worlds) → new ≡ worlds ++ world ∷ [] → SameWorlds new worlds
+same_again worlds last is n = ap (λ those. world_at those n) (is ∙ ap (λ those. worlds ++ those ∷ []) last) ∙ world_again worlds n
 
-pub still_shows : (watch new : MemWatchState) (worlds : List World) (turns : ℕ) (names : List Watched) → record { worlds = worlds; turns = turns; watched = names } ≡ watch → SameWorlds new.worlds worlds → shows new ≡ shows watch
-still_shows watch new worlds turns names is same = shows_same new (record { worlds = worlds; turns = turns; watched = names }) same ∙ ap shows is
+pub still_shows : {watch : MemWatchState} (new : MemWatchState) {worlds : List World} (turns : ℕ) {names : List Watched} → record { worlds = worlds; turns = turns; watched = names } ≡ watch → SameWorlds new.worlds worlds → shows new ≡ shows watch
+still_shows new {worlds} turns {names} is same = shows_same new (record { worlds = worlds; turns = turns; watched = names }) same ∙ ap shows is
 
 -- one look more is planned: the watch is still at one of them, and begins with no file
-pub holds_more : (worlds new : List World) (world : World) (turns n : ℕ) → turns < length worlds → world_at worlds 0 ≡ empty_world → new ≡ worlds ++ world ∷ [] → n ≤ turns + 1 → (n < length new) × (world_at new 0 ≡ empty_world)
-holds_more worlds new world turns n within empty is few =
+pub holds_more : (worlds : List World) {new : List World} (world : World) (turns n : ℕ) → turns < length worlds → world_at worlds 0 ≡ empty_world → new ≡ worlds ++ world ∷ [] → n ≤ turns + 1 → (n < length new) × (world_at new 0 ≡ empty_world)
+holds_more worlds world turns n within empty is few =
     let longer : length (worlds ++ world ∷ []) ≡ length worlds + 1 = length-append worlds (world ∷ []) in
     subst (λ those. (n < length those) × (world_at those 0 ≡ empty_world)) (sym is) (omega (arith, longer, within, few), world_before worlds world 0 (omega (arith, within)) ∙ empty)

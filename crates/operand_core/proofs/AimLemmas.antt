@@ -32,18 +32,18 @@ lacks aimed result ends = let at = err_from_is_err_and result ends in subst (IsA
 pub goes_wrong : (aimed : Aimed) (what : OperandFaultKind) (result : Result Target OperandFaultKind) → aimed ≡ fails what → IsErrAnd result (λ e. e ≡ what) → IsAimed aimed result
 goes_wrong aimed what result is ends = let at = err_from_is_err_and result ends in subst (IsAimed aimed) (sym (at.1 ∙ ap Err at.2)) (is_wrong what is)
 
-refused_so : (kept : Bool) (text : List ℕ) (offset : Offset) (fault : BreFault) → (IsOfText fault → (pattern : Pattern) → Reads text pattern → ⊥) → (fault ≡ TooLarge → IsTooLarge text)
+refused_so : {kept : Bool} {text : List ℕ} {offset : Offset} (fault : BreFault) → (IsOfText fault → (pattern : Pattern) → Reads text pattern → ⊥) → (fault ≡ TooLarge → IsTooLarge text)
     → IsAimed (aims (match kept text offset)) (Err (refusal_of fault))
-refused_so kept text offset TooLarge none large = is_refused (match kept text offset) TooLarge refl (large refl)
-refused_so kept text offset Memory none large = no_memory
-refused_so kept text offset fault none large = is_refused (match kept text offset) fault refl (none tt)
+refused_so {kept} {text} {offset} TooLarge none large = is_refused (match kept text offset) TooLarge refl (large refl)
+refused_so Memory none large = no_memory
+refused_so {kept} {text} {offset} fault none large = is_refused (match kept text offset) fault refl (none tt)
 
 pub is_refused_so : (kept : Bool) (text plain : List ℕ) (offset : Offset) (fault : BreFault) (result : Result Target OperandFaultKind) → plain ≡ text
     → (IsOfText fault → (pattern : Pattern) → Reads plain pattern → ⊥) → (fault ≡ TooLarge → IsTooLarge plain) → IsErrAnd result (λ e. e ≡ refusal_of fault)
     → IsAimed (aims (match kept text offset)) result
 is_refused_so kept text plain offset fault result is none large ends =
     let at = err_from_is_err_and result ends in
-    subst (λ those. IsAimed (aims (match kept those offset)) result) is (subst (IsAimed (aims (match kept plain offset))) (sym (at.1 ∙ ap Err at.2)) (refused_so kept plain offset fault none large))
+    subst (λ those. IsAimed (aims (match kept those offset)) result) is (subst (IsAimed (aims (match kept plain offset))) (sym (at.1 ∙ ap Err at.2)) (refused_so fault none large))
 
 pub is_read : (kept : Bool) (text plain : List ℕ) (offset : Offset) (pattern : Pattern) → plain ≡ text → Reads plain pattern → depth_of pattern ≤ 255 → positions_of pattern ≤ 65535
     → IsAimed (aims (match kept text offset)) (Ok (Search pattern kept offset))

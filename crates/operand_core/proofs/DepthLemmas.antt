@@ -20,26 +20,26 @@ Stays most zero (Close ∷ tokens) = Unit {0}
 Stays most (suc depth) (Close ∷ tokens) = (suc depth ≤ most) × Stays most depth tokens
 Stays most depth (token ∷ tokens) = Stays most depth tokens
 
-stays_now : (most depth : ℕ) (tokens : List Token) → Stays most depth tokens → depth ≤ most
-stays_now most depth [] stays = stays
-stays_now most depth (Open ∷ tokens) stays = stays.0
-stays_now most zero (Close ∷ tokens) stays = omega arith
-stays_now most (suc depth) (Close ∷ tokens) stays = stays.0
-stays_now most depth (token ∷ tokens) stays = stays_now most depth tokens stays
+stays_now : {most : ℕ} (depth : ℕ) (tokens : List Token) → Stays most depth tokens → depth ≤ most
+stays_now depth [] stays = stays
+stays_now depth (Open ∷ tokens) stays = stays.0
+stays_now zero (Close ∷ tokens) stays = omega arith
+stays_now (suc depth) (Close ∷ tokens) stays = stays.0
+stays_now depth (token ∷ tokens) stays = stays_now depth tokens stays
 
-within : (most depth n : ℕ) (first rest : List Token) → Stays most depth (first ++ rest) → depth_after depth first ≡ Some n → n ≤ most
-within most depth n [] rest stays is = let now = stays_now most depth rest stays in let e : depth ≡ n = cc in omega (arith, now, e)
-within most depth n (Open ∷ first) rest stays is = within most (suc depth) n first rest stays.1 is
-within most zero n (Close ∷ first) rest stays is = cc
-within most (suc depth) n (Close ∷ first) rest stays is = within most depth n first rest stays.1 is
-within most depth n (token ∷ first) rest stays is = within most depth n first rest stays is
+within : {most : ℕ} (depth : ℕ) {n : ℕ} (first rest : List Token) → Stays most depth (first ++ rest) → depth_after depth first ≡ Some n → n ≤ most
+within depth {n} [] rest stays is = let now = stays_now depth rest stays in let e : depth ≡ n = cc in omega (arith, now, e)
+within depth (Open ∷ first) rest stays is = within (suc depth) first rest stays.1 is
+within zero (Close ∷ first) rest stays is = cc
+within (suc depth) (Close ∷ first) rest stays is = within depth first rest stays.1 is
+within depth (token ∷ first) rest stays is = within depth first rest stays is
 
 mutual
-  stays_written : (pattern : Pattern) (most depth : ℕ) (tokens : List Token) → depth + depth_of pattern ≤ most → Stays most depth tokens → Stays most depth (written pattern ++ tokens)
-  stays_written nothing most depth tokens few stays = stays
-  stays_written (append pattern item) most depth tokens few stays =
+  stays_written : (pattern : Pattern) {most : ℕ} (depth : ℕ) (tokens : List Token) → depth + depth_of pattern ≤ most → Stays most depth tokens → Stays most depth (written pattern ++ tokens)
+  stays_written nothing depth tokens few stays = stays
+  stays_written (append pattern item) {most} depth tokens few stays =
       subst (Stays most depth) (sym (append_assoc (written pattern) (written_item item) tokens))
-      (stays_written pattern most depth (written_item item ++ tokens) (omega (arith, few)) (stays_written_item item most depth tokens (omega (arith, few)) stays))
+      (stays_written pattern depth (written_item item ++ tokens) (omega (arith, few)) (stays_written_item item most depth tokens (omega (arith, few)) stays))
 
   stays_written_item : (item : Item) (most depth : ℕ) (tokens : List Token) → depth + depth_of_item item ≤ most → Stays most depth tokens → Stays most depth (written_item item ++ tokens)
   stays_written_item (set bytes) most depth tokens few stays = stays
@@ -48,17 +48,17 @@ mutual
   stays_written_item (group pattern) most depth tokens few stays = (
     omega (arith, few),
     subst (Stays most (suc depth)) (sym (append_assoc (written pattern) (Close ∷ []) tokens))
-        (stays_written pattern most (suc depth) (Close ∷ tokens) (omega (arith, few)) (omega (arith, few), stays)),
+        (stays_written pattern {most = most} (suc depth) (Close ∷ tokens) (omega (arith, few)) (omega (arith, few), stays)),
   )
   stays_written_item (repeat item low high) most depth tokens few stays =
       subst (Stays most depth) (sym (append_assoc (written_item item) (Repeat low high ∷ []) tokens))
       (stays_written_item item most depth (Repeat low high ∷ tokens) few stays)
 
-pub read_or_too_large : (text : List ℕ) (pattern : Pattern) → IsPattern text pattern → IsTooLarge text → ⊥
-read_or_too_large text pattern is (inl large) =
+pub read_or_too_large : {text : List ℕ} {pattern : Pattern} → IsPattern text pattern → IsTooLarge text → ⊥
+read_or_too_large {text} {pattern} is (inl large) =
     let same = ap positions_of (one_tree_alone text pattern large.pattern is.reads large.reads) in omega (arith, same, large.positions, is.size)
-read_or_too_large text pattern is (inr opens) =
+read_or_too_large {text} {pattern} is (inr opens) =
     let left = left_of_way ReadsToken tokens_decided (Opening, text) (opens.context, opens.rest) (is.reads.tokens.0, []) opens.tokens (written pattern) opens.way is.reads.tokens.1 (end_stuck is.reads.tokens.0) in
-    let all : Stays 255 0 (written pattern ++ []) = stays_written pattern 255 0 [] (let few = is.groups in omega (arith, few)) (omega arith) in
-    let many : 256 ≤ 255 = within 255 0 256 opens.tokens left.0 (subst (Stays 255 0) left.1 (subst (Stays 255 0) (append-nil (written pattern)) all)) opens.depth in
+    let all : Stays 255 0 (written pattern ++ []) = stays_written pattern 0 [] (let few = is.groups in omega (arith, few)) (omega arith) in
+    let many : 256 ≤ 255 = within 0 opens.tokens left.0 (subst (Stays 255 0) left.1 (subst (Stays 255 0) (append-nil (written pattern)) all)) opens.depth in
     omega (arith, many)

@@ -17,16 +17,16 @@ abbrev pub after_front : List Spelled → Words → Words
 after_front front words = record { operands = front ++ words.operands; fault = words.fault }
 
 -- a step over an operand and the words that say how often it is performed again
-pub step_over : (index least : ℕ) (word : List ℕ) (words : List (List ℕ)) (aim : Aim) (times : Times) (said : ℕ) → aim_of least (spelling word) ≡ aims aim → SayTimes words times said
+pub step_over : (index least : ℕ) (word : List ℕ) {words : List (List ℕ)} {aim : Aim} {times : Times} {said : ℕ} → aim_of least (spelling word) ≡ aims aim → SayTimes words times said
     → words_from index least (word ∷ words) ≡ with_operand index aim times (words_from (index + (1 + said)) (least_after least aim) (drop said words))
-step_over index least word words aim times said is no_word = rw (is, words_from) refl
-step_over index least word words aim times said is (again next rest times' says) = rw (is, says, words_from) refl
-step_over index least word words aim times said is (other next rest says) = rw (is, says, words_from) refl
+step_over index least word is no_word = rw (is, words_from) refl
+step_over index least word is (again next rest times' says) = rw (is, says, words_from) refl
+step_over index least word is (other next rest says) = rw (is, says, words_from) refl
 
 -- a word that is wrong ends the list
-pub stop_at : (index least : ℕ) (word : List ℕ) (words : List (List ℕ)) (what : OperandFaultKind) → aim_of least (spelling word) ≡ fails what → words_from index least (word ∷ words) ≡ failed what index
-stop_at index least word [] what is = rw (is, words_from) refl
-stop_at index least word (next ∷ words) what is = rw (is, words_from) refl
+pub stop_at : {index : ℕ} (least : ℕ) (word : List ℕ) (words : List (List ℕ)) {what : OperandFaultKind} → aim_of least (spelling word) ≡ fails what → words_from index least (word ∷ words) ≡ failed what index
+stop_at least word [] is = rw (is, words_from) refl
+stop_at least word (next ∷ words) is = rw (is, words_from) refl
 
 -- the words as texts
 abbrev pub texts : List (Bor (List ℕ)) → List (List ℕ)
@@ -36,15 +36,15 @@ pub no_first : (words : List (Bor (List ℕ))) → length words < 1 → SayTimes
 no_first [] none = no_word
 no_first (word ∷ words) none = absurd (omega (arith, none))
 
-pub first_says : (words : List (Bor (List ℕ))) (text : List ℕ) (default : Bor (List ℕ)) (says : Option Times) (times : Times) → 1 ≤ length words → text ≡ (get_or words 0 default).now
+pub first_says : (words : List (Bor (List ℕ))) {text : List ℕ} (default : Bor (List ℕ)) {says : Option Times} {times : Times} → 1 ≤ length words → text ≡ (get_or words 0 default).now
     → says ≡ times_by (spelling text) → says ≡ Some times → SayTimes (texts words) times 1
-first_says [] text default says times some is reads at = absurd (omega (arith, some))
-first_says (word ∷ words) text default says times some is reads at = again word.now (texts words) times (sym (ap (λ those. times_by (spelling those)) is) ∙ sym reads ∙ at)
+first_says [] default some is reads at = absurd (omega (arith, some))
+first_says (word ∷ words) default {times} some is reads at = again word.now (texts words) times (sym (ap (λ those. times_by (spelling those)) is) ∙ sym reads ∙ at)
 
-pub first_is_other : (words : List (Bor (List ℕ))) (text : List ℕ) (default : Bor (List ℕ)) (says : Option Times) → 1 ≤ length words → text ≡ (get_or words 0 default).now
+pub first_is_other : (words : List (Bor (List ℕ))) {text : List ℕ} (default : Bor (List ℕ)) {says : Option Times} → 1 ≤ length words → text ≡ (get_or words 0 default).now
     → says ≡ times_by (spelling text) → says ≡ None → SayTimes (texts words) (Count 0) 0
-first_is_other [] text default says some is reads at = absurd (omega (arith, some))
-first_is_other (word ∷ words) text default says some is reads at = other word.now (texts words) (sym (ap (λ those. times_by (spelling those)) is) ∙ sym reads ∙ at)
+first_is_other [] default some is reads at = absurd (omega (arith, some))
+first_is_other (word ∷ words) default some is reads at = other word.now (texts words) (sym (ap (λ those. times_by (spelling those)) is) ∙ sym reads ∙ at)
 
 -- Some words were read, and these are left.
 pub record Reads (words : List (Bor (List ℕ))) (read : List Operand) (least : ℕ) (left : List (Bor (List ℕ))) : Type 0 where
@@ -59,30 +59,30 @@ abbrev pub spelled_as : ℕ → Aim → Times → Spelled
 spelled_as index aim times = record { index = index; aim = aim; times = times }
 
 -- there is a time for each operand
-says_by : (next : List ℕ) (words : List (List ℕ)) (says : Option Times) → times_by (spelling next) ≡ says → (times : Times) × (said : ℕ) × SayTimes (next ∷ words) times said
-says_by next words None is = (Count 0, 0, other next words is)
-says_by next words (Some times) is = (times, 1, again next words times is)
+says_by : {next : List ℕ} {words : List (List ℕ)} (says : Option Times) → times_by (spelling next) ≡ says → (times : Times) × (said : ℕ) × SayTimes (next ∷ words) times said
+says_by {next} {words} None is = (Count 0, 0, other next words is)
+says_by {next} {words} (Some times) is = (times, 1, again next words times is)
 
 says : (words : List (List ℕ)) → (times : Times) × (said : ℕ) × SayTimes words times said
 says [] = (Count 0, 0, no_word)
-says (next ∷ words) = says_by next words (times_by (spelling next)) refl
+says (next ∷ words) = says_by (times_by (spelling next)) refl
 
 ends_by : (words : List (List ℕ)) (read : List Operand) (front : List Spelled) (index least : ℕ) (word : List ℕ) (left : List (List ℕ)) (what : OperandFaultKind)
     → AreRead front read → words_of words ≡ after_front front (words_from index least (word ∷ left)) → IsAimed (aim_of least (spelling word)) (Err what) → IsFault words (record { kind = what; index = index })
 ends_by words read front index least word left what are asks (is_wrong what' is) =
-    let at : words_of words ≡ after_front front (failed what index) = asks ∙ ap (after_front front) (stop_at index least word left what is) in
+    let at : words_of words ≡ after_front front (failed what index) = asks ∙ ap (after_front front) (stop_at least word left is) in
     reading.is_wrong (record { kind = what; index = index }) read (ap (λ (w : Words). w.fault) at) (subst (λ those. AreRead those read) (sym (ap (λ (w : Words). w.operands) at ∙ append-nil front)) are)
 ends_by words read front index least word left what are asks (is_refused aim fault is refused) =
     let said = says left in
     reading.is_refused fault front (spelled_as index aim said.0) _ read
-    (ap (λ (w : Words). w.operands) (asks ∙ ap (after_front front) (step_over index least word left aim said.0 said.1 is said.2))) are refused
+    (ap (λ (w : Words). w.operands) (asks ∙ ap (after_front front) (step_over index least word is said.2))) are refused
 ends_by words read front index least word left what are asks no_memory = reading.no_memory index
 
-pub ends_at : (words : List (Bor (List ℕ))) (read : List Operand) (least : ℕ) (left : List (Bor (List ℕ))) (text : List ℕ) (default : Bor (List ℕ)) (result : Result Target OperandFaultKind) (what : OperandFaultKind)
+pub ends_at : {words : List (Bor (List ℕ))} {read : List Operand} {least : ℕ} (left : List (Bor (List ℕ))) {text : List ℕ} (default : Bor (List ℕ)) {result : Result Target OperandFaultKind} {what : OperandFaultKind}
     → Reads words read least left → 1 ≤ length left → text ≡ (get_or left 0 default).now → IsAimed (aim_of least (spelling text)) result → result ≡ Err what
     → IsFault (texts words) (record { kind = what; index = length words - length left })
-ends_at words read least [] text default result what reads some is aimed at = absurd (omega (arith, some))
-ends_at words read least (word ∷ left) text default result what reads some is aimed at =
+ends_at [] default reads some is aimed at = absurd (omega (arith, some))
+ends_at {words} {read} {least} (word ∷ left) default {result} {what} reads some is aimed at =
     ends_by (texts words) read reads.front (length words - length (word ∷ left)) least word.now (texts left) what reads.are reads.asks
     (subst (IsAimed (aim_of least (spelling word.now))) at (subst (λ those. IsAimed (aim_of least (spelling those)) result) is aimed))
 
@@ -90,37 +90,37 @@ pub no_operand : (words : List (Bor (List ℕ))) → (length words == 0) ≡ tru
 no_operand [] none = reading.is_wrong (record { kind = kind.Missing; index = 0 }) [] refl tt
 no_operand (word ∷ words) none = absurd (omega (arith, eqb-true (length (word ∷ words)) 0 none))
 
-are_more : (front : List Spelled) (read : List Operand) (spelled : Spelled) (operand : Operand) → AreRead front read → IsRead spelled operand → AreRead (front ++ spelled ∷ []) (read ++ operand ∷ [])
-are_more [] [] spelled operand are is = (is, tt)
-are_more (first ∷ front) (one ∷ read) spelled operand are is = (are.0, are_more front read spelled operand are.1 is)
-are_more front read spelled operand are is = absurd are
+are_more : (front : List Spelled) (read : List Operand) {spelled : Spelled} {operand : Operand} → AreRead front read → IsRead spelled operand → AreRead (front ++ spelled ∷ []) (read ++ operand ∷ [])
+are_more [] [] are is = (is, tt)
+are_more (first ∷ front) (one ∷ read) are is = (are.0, are_more front read are.1 is)
+are_more front read are is = absurd are
 
 least_same : (least : ℕ) (aim : Aim) (target : Target) → IsTarget aim target → least_after least aim ≡ least_by least target
 least_same least (line n) (Number m) is = sym is
 least_same least (match kept text offset) (Search pattern kept' offset') is = refl
 least_same least aim target is = absurd is
 
-next_by : (words : List (List ℕ)) (read : List Operand) (front : List Spelled) (index least : ℕ) (word : List ℕ) (left : List (List ℕ)) (target : Target) (times : Times) (said : ℕ)
+next_by : (words : List (List ℕ)) (read : List Operand) (front : List Spelled) (index least : ℕ) (word : List ℕ) {left : List (List ℕ)} {target : Target} {times : Times} {said : ℕ}
     → AreRead front read → words_of words ≡ after_front front (words_from index least (word ∷ left)) → IsAimed (aim_of least (spelling word)) (Ok target) → SayTimes left times said
     → (front' : List Spelled) × AreRead front' (read ++ record { index = index; target = target; times = times } ∷ [])
     × (words_of words ≡ after_front front' (words_from (index + (1 + said)) (least_by least target) (drop said left)))
-next_by words read front index least word left target times said are asks (is_target aim target' is hits) says = (
+next_by words read front index least word {left} {target} {times} {said} are asks (is_target aim target' is hits) says = (
   front ++ spelled_as index aim times ∷ [],
-  are_more front read (spelled_as index aim times) (record { index = index; target = target; times = times }) are (record { index = refl; target = hits; times = refl }),
-  asks ∙ ap (after_front front) (step_over index least word left aim times said is says)
+  are_more front read are (record { index = refl; target = hits; times = refl }),
+  asks ∙ ap (after_front front) (step_over index least word is says)
       ∙ ap (λ those. record { operands = those; fault = (words_from (index + (1 + said)) (least_after least aim) (drop said left)).fault })
       (sym (append_assoc front (spelled_as index aim times ∷ []) (words_from (index + (1 + said)) (least_after least aim) (drop said left)).operands))
       ∙ ap (λ n. after_front (front ++ spelled_as index aim times ∷ []) (words_from (index + (1 + said)) n (drop said left))) (least_same least aim target hits),
 )
 
-pub reads_next : (words : List (Bor (List ℕ))) (read : List Operand) (least : ℕ) (left : List (Bor (List ℕ))) (text : List ℕ) (default : Bor (List ℕ)) (result : Result Target OperandFaultKind) (target : Target)
-    (rest : List (Bor (List ℕ))) (times : Times) (said : ℕ) (now : List Operand) (after : List (Bor (List ℕ))) (least' : ℕ)
+pub reads_next : {words : List (Bor (List ℕ))} {read : List Operand} {least : ℕ} (left : List (Bor (List ℕ))) {text : List ℕ} (default : Bor (List ℕ)) {result : Result Target OperandFaultKind} {target : Target}
+    {rest : List (Bor (List ℕ))} {times : Times} {said : ℕ} {now : List Operand} {after : List (Bor (List ℕ))} {least' : ℕ}
     → Reads words read least left → 1 ≤ length left → text ≡ (get_or left 0 default).now → IsAimed (aim_of least (spelling text)) result → result ≡ Ok target
     → rest ≡ drop 1 left → SayTimes (texts rest) times said → said ≤ length rest → now ≡ read ++ record { index = length words - length left; target = target; times = times } ∷ []
     → after ≡ drop said rest → least' ≡ least_by least target → Reads words now least' after
-reads_next words read least [] text default result target rest times said now after least' reads some is aimed at rest_is says within now_is after_is least_is = absurd (omega (arith, some))
-reads_next words read least (word ∷ left) text default result target rest times said now after least' reads some is aimed at rest_is says within now_is after_is least_is =
-    let next = next_by (texts words) read reads.front (length words - suc (length left)) least word.now (texts left) target times said reads.are reads.asks
+reads_next [] default reads some is aimed at rest_is says within now_is after_is least_is = absurd (omega (arith, some))
+reads_next {words} {read} {least} (word ∷ left) default {result} {target} {times} {said} {after} {least'} reads some is aimed at rest_is says within now_is after_is least_is =
+    let next = next_by (texts words) read reads.front (length words - suc (length left)) least word.now reads.are reads.asks
     (subst (IsAimed (aim_of least (spelling word.now))) at (subst (λ those. IsAimed (aim_of least (spelling those)) result) is aimed))
     (subst (λ those. SayTimes (texts those) times said) rest_is says) in
     let length_is : length after ≡ length left - said = ap length (after_is ∙ ap (drop said) rest_is) ∙ length-drop said left in

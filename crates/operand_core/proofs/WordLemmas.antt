@@ -32,17 +32,16 @@ before_brace_at (first ∷ []) byte = one_more first [] (byte == 125)
 before_brace_at (first ∷ next ∷ inner) byte =
     ap (option_map (λ those. first ∷ those)) (before_brace_at (next ∷ inner) byte) ∙ one_more first (next ∷ inner) (byte == 125)
 
-pub is_brace : (inner : List ℕ) (byte : ℕ) → byte ≡ 125 → before_brace (inner ++ byte ∷ []) ≡ Some inner
-is_brace inner byte is = before_brace_at inner byte ∙ ap (λ b. cond b (Some inner) None) (eq-eqb byte 125 is)
+pub is_brace : (inner : List ℕ) {byte : ℕ} → byte ≡ 125 → before_brace (inner ++ byte ∷ []) ≡ Some inner
+is_brace inner {byte} is = before_brace_at inner byte ∙ ap (λ b. cond b (Some inner) None) (eq-eqb byte 125 is)
 
 pub is_no_brace : (inner : List ℕ) (byte : ℕ) → byte ≢ 125 → before_brace (inner ++ byte ∷ []) ≡ None
 is_no_brace inner byte differ = before_brace_at inner byte ∙ ap (λ b. cond b (Some inner) None) (ne_eqb byte 125 differ)
 
 -- the pattern and the offset that a closing delimiter stands between
-pub search_closed : (delimiter : ℕ) (text : List ℕ) (place : ℕ) (found : Option ℕ) (offset now : Option Offset) → found ≡ closing delimiter false text
-    → found ≡ Some place
-    → offset ≡ offset_of (take (length text - (place + 1)) (drop (place + 1) text)) → offset ≡ now
+pub search_closed : (delimiter : ℕ) (text : List ℕ) {place : ℕ} {found : Option ℕ} {offset now : Option Offset} → found ≡ closing delimiter false text
+    → found ≡ Some place → offset ≡ offset_of (take (length text - (place + 1)) (drop (place + 1) text)) → offset ≡ now
     → searched delimiter (take place text) now ≡ closed_at delimiter text (closing delimiter false text)
-search_closed delimiter text place found offset now is at read then =
+search_closed delimiter text {place} is at read then =
     let after = take_rest text (place + 1) ∙ ap (λ n. drop n text) (add-one place) in
     ap (searched delimiter (take place text)) (sym then ∙ read ∙ ap offset_of after) ∙ ap (closed_at delimiter text) (sym at ∙ is)

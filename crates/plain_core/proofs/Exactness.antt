@@ -11,7 +11,7 @@ use Rattle.bre_core.specs.declared.token.Token.{Token}
 use Rattle.bre_core.specs.declared.token.Token.TheVariants.{Set, Front, End, Open, Close, Repeat}
 use Rattle.bre_core.specs.Flat.{read_on, tree_of, current_after, around_after, AreBounded}
 use Rattle.bre_core.specs.Match.{Parts, Matches, MatchesItem, Contains}
-use Rattle.bre_core.specs.Pattern.{Pattern, nothing, append, Item, set, front, end, repeat}
+use Rattle.bre_core.specs.Pattern.{Pattern, nothing, append, Item, repeat}
 use Rattle.plain_core.specs.inner.Plain.{State, IsSettled, TookLeaf, TookRepeat, Advances}
 use Rattle.plain_core.specs.inner.Spans.{IsSpan, LeafEnds, GoesOn, Run, StandAfter, AreLeaf, AreRepeated, ends_from}
 use Rattle.bre_core.proofs.Matching.{parts_stay, stays, item_stays}
@@ -28,9 +28,9 @@ FrameIs line nothing before last = Exact line (Matches nothing line) before × (
 FrameIs line (append pattern item) before last =
     Exact line (Matches pattern line) before × (spans : List (List Bool)) × (last ≡ Some spans) × Exact line (MatchesItem item line) spans
 
-joined_exact : (line : List ℕ) (pattern : Pattern) (item : Item) (before spans whole : List (List Bool)) → Exact line (Matches pattern line) before → Exact line (MatchesItem item line) spans
+joined_exact : (line : List ℕ) (pattern : Pattern) (item : Item) {before spans : List (List Bool)} (whole : List (List Bool)) → Exact line (Matches pattern line) before → Exact line (MatchesItem item line) spans
     → StandAfter Once before spans whole → Exact line (Matches (append pattern item) line) whole
-joined_exact line pattern item before spans whole e f b = record {
+joined_exact line pattern item {before} {spans} whole e f b = record {
   places = b.places ∙ e.places;
   exact = λ from to h. (λ s. there from to h ((b.exact from to).0 s), λ m. (b.exact from to).1 (back from to h m));
 }
@@ -46,32 +46,31 @@ joined_exact line pattern item before spans whole e f b = record {
 pub settled_exact : (line : List ℕ) (pattern : Pattern) (before whole : List (List Bool)) (last : Option (List (List Bool)))
     → FrameIs line pattern before last → IsSettled before last whole → Exact line (Matches pattern line) whole
 settled_exact line nothing before whole last f s = subst (Exact line (Matches nothing line)) (sym (subst (λ l. IsSettled before l whole) f.1 s)) f.0
-settled_exact line (append pattern item) before whole last f s =
-    joined_exact line pattern item before f.1 whole f.0 f.3 (subst (λ l. IsSettled before l whole) f.2 s)
+settled_exact line (append pattern item) before whole last f s = joined_exact line pattern item whole f.0 f.3 (subst (λ l. IsSettled before l whole) f.2 s)
 
-nothing_exact : (line : List ℕ) (spans : List (List Bool)) → AreLeaf Open line spans → Exact line (Matches nothing line) spans
-nothing_exact line spans a = record { places = a.places; exact = a.exact }
+nothing_exact : (line : List ℕ) {spans : List (List Bool)} → AreLeaf Open line spans → Exact line (Matches nothing line) spans
+nothing_exact line a = record { places = a.places; exact = a.exact }
 
 -- that number of parts is found
-runs_exact : (line : List ℕ) (item : Item) (spans : List (List Bool)) → Exact line (MatchesItem item line) spans → (count from to : ℕ) → from ≤ length line → (Run spans count from to → Parts (MatchesItem item line) count from to) × (Parts (MatchesItem item line) count from to → Run spans count from to)
-runs_exact line item spans e zero from to h = (λ r. r, λ r. r)
-runs_exact line item spans e (suc count) from to h = (
+runs_exact : (line : List ℕ) (item : Item) {spans : List (List Bool)} → Exact line (MatchesItem item line) spans → (count : ℕ) {from : ℕ} (to : ℕ) → from ≤ length line → (Run spans count from to → Parts (MatchesItem item line) count from to) × (Parts (MatchesItem item line) count from to → Run spans count from to)
+runs_exact line item e zero to h = (λ r. r, λ r. r)
+runs_exact line item e (suc count) {from} to h = (
   λ r.
-      let one = (runs_exact line item spans e count from r.0 h).0 r.1 in
+      let one = (runs_exact line item e count r.0 h).0 r.1 in
       (r.0, one, (e.exact r.0 to (within from r.0 count h one)).0 r.2),
-  λ p. (p.0, (runs_exact line item spans e count from p.0 h).1 p.1, (e.exact p.0 to (within from p.0 count h p.1)).1 p.2),
+  λ p. (p.0, (runs_exact line item e count p.0 h).1 p.1, (e.exact p.0 to (within from p.0 count h p.1)).1 p.2),
 )
   where
     within : (from to count : ℕ) → from ≤ length line → Parts (MatchesItem item line) count from to → to ≤ length line
     within from to count h p = (parts_stay (MatchesItem item line) (length line) (λ f t k q. item_stays item line f t k q) count from to h p).1
 
-repeated_exact : (line : List ℕ) (item : Item) (low : ℕ) (high : Option ℕ) (spans all : List (List Bool)) → Exact line (MatchesItem item line) spans → AreRepeated spans low high all → Exact line (MatchesItem (repeat item low high) line) all
-repeated_exact line item low high spans all e r = record {
+repeated_exact : (line : List ℕ) (item : Item) {low : ℕ} {high : Option ℕ} {spans : List (List Bool)} (all : List (List Bool)) → Exact line (MatchesItem item line) spans → AreRepeated spans low high all → Exact line (MatchesItem (repeat item low high) line) all
+repeated_exact line item {spans} all e r = record {
   places = r.places ∙ e.places;
   exact = λ from to h.
       let small : from < length spans = omega (arith, h, e.places) in (
-        λ s. let run = (r.exact from to small).0 s in (run.0, run.1, run.2, (runs_exact line item spans e run.0 from to h).0 run.3),
-        λ m. (r.exact from to small).1 (m.0, m.1, m.2, (runs_exact line item spans e m.0 from to h).1 m.3),
+        λ s. let run = (r.exact from to small).0 s in (run.0, run.1, run.2, (runs_exact line item e run.0 to h).0 run.3),
+        λ m. (r.exact from to small).1 (m.0, m.1, m.2, (runs_exact line item e m.0 to h).1 m.3),
       );
 }
 
@@ -86,9 +85,9 @@ pub record Means (line : List ℕ) (current : Pattern) (around : List Pattern) (
   pub frame : FrameIs line current state.before state.last
   pub outer : AroundAre line state.around around
 
-leaf_taken : (line : List ℕ) (token : Token) (item : Item) (current : Pattern) (around : List Pattern) (old new : State) → Means line current around old → TookLeaf token line old new
+leaf_taken : (line : List ℕ) {token : Token} {item : Item} {current : Pattern} {around : List Pattern} {old new : State} → Means line current around old → TookLeaf token line old new
     → ((from to : ℕ) → LeafEnds token line from to ↔ MatchesItem item line from to) → Means line (append current item) around new
-leaf_taken line token item current around old new m t same = record {
+leaf_taken line {current} {around} {old} {new} m t same = record {
   frame = (
     settled_exact line current old.before new.before old.last m.frame t.before,
     t.item,
@@ -101,32 +100,31 @@ leaf_taken line token item current around old new m t same = record {
   outer = subst (λ spans. AroundAre line spans around) (sym t.around) m.outer;
 }
 
-pub advanced : (line : List ℕ) (token : Token) (current : Pattern) (around : List Pattern) (old new : State)
-    → Means line current around old → Advances token line old new
-    → Means line (current_after token current around) (around_after token current around) new
-advanced line (Set bytes) current around old new m t = leaf_taken line (Set bytes) (set bytes) current around old new m t (λ from to. (λ h. h, λ h. h))
-advanced line Front current around old new m t = leaf_taken line Front front current around old new m t (λ from to. (λ h. h, λ h. h))
-advanced line End current around old new m t = leaf_taken line End end current around old new m t (λ from to. (λ h. h, λ h. h))
-advanced line Open current around old new m t = record {
-  frame = (nothing_exact line new.before t.before, t.last);
+pub advanced : (line : List ℕ) (token : Token) (current : Pattern) (around : List Pattern) {old new : State}
+    → Means line current around old → Advances token line old new → Means line (current_after token current around) (around_after token current around) new
+advanced line (Set bytes) current around m t = leaf_taken line m t (λ from to. (λ h. h, λ h. h))
+advanced line Front current around m t = leaf_taken line m t (λ from to. (λ h. h, λ h. h))
+advanced line End current around m t = leaf_taken line m t (λ from to. (λ h. h, λ h. h))
+advanced line Open current around {old} m t = record {
+  frame = (nothing_exact line t.before, t.last);
   outer = (old.around, t.outer, t.around, settled_exact line current old.before t.outer old.last m.frame t.settled, m.outer);
 }
-advanced line Close current [] old new m (inl t) = subst (Means line current []) (sym t.1) m
-advanced line Close current [] old new m (inr t) = absurd (no_end new.around new.before (sym t.around ∙ m.outer))
-advanced line Close current (outer ∷ around) old new m (inl t) = absurd (no_end m.outer.0 m.outer.1 (sym m.outer.2 ∙ t.0))
-advanced line Close current (outer ∷ around) old new m (inr t) =
+advanced line Close current [] m (inl t) = subst (Means line current []) (sym t.1) m
+advanced line Close current [] {new} m (inr t) = absurd (no_end new.around new.before (sym t.around ∙ m.outer))
+advanced line Close current (outer ∷ around) m (inl t) = absurd (no_end m.outer.0 m.outer.1 (sym m.outer.2 ∙ t.0))
+advanced line Close current (outer ∷ around) {old} {new} m (inr t) =
     let same = same_end new.around m.outer.0 new.before m.outer.1 (sym t.around ∙ m.outer.2) in
     let inner = settled_exact line current old.before t.inner old.last m.frame t.settled in
     record {
       frame = (subst (Exact line (Matches outer line)) (sym same.1) m.outer.3, t.inner, t.last, record { places = inner.places; exact = inner.exact });
       outer = subst (λ spans. AroundAre line spans around) (sym same.0) m.outer.4;
     }
-advanced line (Repeat low high) nothing around old new m t =
+advanced line (Repeat low high) nothing around {old} {new} m t =
     subst (Means line nothing around) (sym (subst (λ last. MatchOption last (new ≡ old) (λ item. TookRepeat low high item old new)) m.frame.1 t)) m
-advanced line (Repeat low high) (append pattern item) around old new m t =
+advanced line (Repeat low high) (append pattern item) around {old} {new} m t =
     let took = subst (λ last. MatchOption last (new ≡ old) (λ spans. TookRepeat low high spans old new)) m.frame.2 t in
     record {
-      frame = (subst (Exact line (Matches pattern line)) (sym took.before) m.frame.0, took.all, took.last, repeated_exact line item low high m.frame.1 took.all m.frame.3 took.repeated);
+      frame = (subst (Exact line (Matches pattern line)) (sym took.before) m.frame.0, took.all, took.last, repeated_exact line item took.all m.frame.3 took.repeated);
       outer = subst (λ spans. AroundAre line spans around) (sym took.around) m.outer;
     }
 
@@ -138,21 +136,21 @@ pub record GoneOver (line : List ℕ) (tokens rest : List Token) (state : State)
   pub means : Means line current around state
   pub order : AreBounded rest
 
-pub over_more : (line : List ℕ) (tokens rest : List Token) (token : Token) (old new : State) → GoneOver line tokens (token ∷ rest) old
+pub over_more : (line : List ℕ) {tokens rest : List Token} {token : Token} {old new : State} → GoneOver line tokens (token ∷ rest) old
     → Advances token line old new → GoneOver line tokens rest new
-over_more line tokens rest token old new g a = record {
+over_more line {token} g a = record {
   current = current_after token g.current g.around;
   around = around_after token g.current g.around;
   left = g.left;
-  means = advanced line token g.current g.around old new g.means a;
+  means = advanced line token g.current g.around g.means a;
   order = g.order.1;
 }
 
 -- over all of them: some stretch is found exactly where the line contains one
-pub over_all : (line : List ℕ) (tokens : List Token) (state : State) (whole : List (List Bool)) → GoneOver line tokens [] state
+pub over_all : (line : List ℕ) {tokens : List Token} {state : State} (whole : List (List Bool)) → GoneOver line tokens [] state
     → IsSettled state.before state.last whole
     → (((from : ℕ) × (to : ℕ) × IsSpan whole from to) → Contains (tree_of tokens) line) × (Contains (tree_of tokens) line → (from : ℕ) × (to : ℕ) × IsSpan whole from to)
-over_all line tokens state whole g s =
+over_all line {state} whole g s =
     let e = settled_exact line g.current state.before whole state.last g.means.frame s in (
       λ f.
           let small : f.0 ≤ length line = omega (arith, spans_within whole f.0 f.1 f.2, e.places) in
@@ -164,20 +162,20 @@ over_all line tokens state whole g s =
           (d.0, d.1, (e.exact d.0 d.1 (omega (arith, d.2, d.3))).1 d.4),
     )
 
-pub over_at : (line : List ℕ) (tokens : List Token) (place : ℕ) (token : Token) (old new : State)
+pub over_at : (line : List ℕ) {tokens : List Token} (place : ℕ) {token : Token} {old new : State}
     → GoneOver line tokens (drop place tokens) old → place < length tokens → token ≡ get_or tokens place token
     → Advances token line old new → GoneOver line tokens (drop (place + 1) tokens) new
-over_at line tokens place token old new g h e a =
+over_at line {tokens} place {token} {old} g h e a =
     let rest : drop place tokens ≡ token ∷ drop (place + 1) tokens = at_drop_more (λ ts. ts) tokens place token h ∙ ap (λ t. t ∷ drop (place + 1) tokens) (sym e) in
-    over_more line tokens (drop (place + 1) tokens) token old new (subst (λ ts. GoneOver line tokens ts old) rest g) a
+    over_more line (subst (λ ts. GoneOver line tokens ts old) rest g) a
 
 -- what the search for a stretch says
-pub found_exact : (found : Bool) (line : List ℕ) (tokens : List Token) (pattern : Pattern) (place : ℕ) (state : State) (whole : List (List Bool))
+pub found_exact : (found : Bool) (line : List ℕ) {tokens : List Token} {pattern : Pattern} (place : ℕ) {state : State} (whole : List (List Bool))
     → GoneOver line tokens (drop place tokens) state → length tokens ≤ place → tree_of tokens ≡ pattern
     → IsSettled state.before state.last whole → MatchBool found ((from : ℕ) × (to : ℕ) × IsSpan whole from to) ((from to : ℕ) → IsSpan whole from to → ⊥) → IsTrue found ↔ Contains pattern line
-found_exact found line tokens pattern place state whole g h e s m =
+found_exact found line {tokens} place {state} whole g h e s m =
     let none_left : drop place tokens ≡ [] = drop_all tokens place h in
-    let all = over_all line tokens state whole (subst (λ ts. GoneOver line tokens ts state) none_left g) s in
+    let all = over_all line whole (subst (λ ts. GoneOver line tokens ts state) none_left g) s in
     subst (λ p. IsTrue found ↔ Contains p line) e (decide found m all)
   where
     drop_all : (ts : List Token) (k : ℕ) → length ts ≤ k → drop k ts ≡ []

@@ -18,8 +18,8 @@ pub record RowsAre (places : ℕ) (P : ℕ → ℕ → Type 0) (rows : List (Lis
   pub exact : (from to : ℕ) → from < length rows → (IsSpan rows from to ↔ P from to)
 
 -- whole, they are stretches
-pub rows_whole : (places : ℕ) (P : ℕ → ℕ → Type 0) (rows : List (List Bool)) → RowsAre places P rows → length rows ≡ places → ((from to : ℕ) → from < places → P from to → from ≤ to) → AreSpans rows
-rows_whole places P rows r e f = record {
+pub rows_whole : {places : ℕ} (P : ℕ → ℕ → Type 0) {rows : List (List Bool)} → RowsAre places P rows → length rows ≡ places → ((from to : ℕ) → from < places → P from to → from ≤ to) → AreSpans rows
+rows_whole P {rows} r e f = record {
   square = λ from h. r.each from h ∙ sym e;
   forward = λ from to s. let h = spans_within rows from to s in f from to (omega (arith, h, e)) ((r.exact from to h).0 s);
 }

@@ -13,11 +13,11 @@ pub record RunsAre (item : List (List Bool)) (low high : ℕ) (all : List (List 
   pub places : length all ≡ length item
   pub exact : (from to : ℕ) → from < length item → (IsSpan all from to ↔ RunsBetween item low high from to)
 
-run_last : (item : List (List Bool)) (count below from to : ℕ) → count ≡ suc below → Run item count from to → (middle : ℕ) × Run item below from middle × IsSpan item middle to
-run_last item count below from to e r = subst (λ c. Run item c from to) e r
+run_last : (item : List (List Bool)) {count : ℕ} (below from to : ℕ) → count ≡ suc below → Run item count from to → (middle : ℕ) × Run item below from middle × IsSpan item middle to
+run_last item below from to e r = subst (λ c. Run item c from to) e r
 
-pub runs_once : (item all all' : List (List Bool)) (count count' : ℕ) → RunsAre item count count all → StandAfter Once all item all' → count' ≡ count + 1 → RunsAre item count' count' all'
-runs_once item all all' count count' r b e = record {
+pub runs_once : {item : List (List Bool)} (all : List (List Bool)) {all' : List (List Bool)} {count count' : ℕ} → RunsAre item count count all → StandAfter Once all item all' → count' ≡ count + 1 → RunsAre item count' count' all'
+runs_once {item} all {count} {count'} r b e = record {
   places = b.places ∙ r.places;
   exact = λ from to h. (λ s. there from to h ((b.exact from to).0 s), λ s. (b.exact from to).1 (back from to h s));
 }
@@ -27,11 +27,11 @@ runs_once item all all' count count' r b e = record {
 
     back : (from to : ℕ) → from < length item → RunsBetween item count' count' from to → EndsAfter Once (ends_from all from) item to
     back from to h run =
-        let last = run_last item run.0 count from to (omega (arith, run.1, run.2, e)) run.3 in
+        let last = run_last item count from to (omega (arith, run.1, run.2, e)) run.3 in
         (last.0, (r.exact from last.0 h).1 (count, omega arith, omega arith, last.1), last.2)
 
-pub runs_more : (item all all' : List (List Bool)) (low high high' : ℕ) → low ≤ high → RunsAre item low high all → StandAfter AtMostOnce all item all' → high' ≡ high + 1 → RunsAre item low high' all'
-runs_more item all all' low high high' order r b e = record {
+pub runs_more : {item : List (List Bool)} (all : List (List Bool)) {all' : List (List Bool)} {low high high' : ℕ} → low ≤ high → RunsAre item low high all → StandAfter AtMostOnce all item all' → high' ≡ high + 1 → RunsAre item low high' all'
+runs_more {item} all {low} {high} {high'} order r b e = record {
   places = b.places ∙ r.places;
   exact = λ from to h. (λ s. there from to h ((b.exact from to).0 s), λ s. (b.exact from to).1 (back from to h s));
 }
@@ -44,7 +44,7 @@ runs_more item all all' low high high' order r b e = record {
     back from to h run = elim (cases_lt run.0 high') [
       | inl less ↦ inl ((r.exact from to h).1 (run.0, run.1, omega (arith, less, e), run.3))
       | inr more ↦
-          let last = run_last item run.0 high from to (omega (arith, more, run.2, e)) run.3 in
+          let last = run_last item high from to (omega (arith, more, run.2, e)) run.3 in
           inr (last.0, (r.exact from last.0 h).1 (high, order, omega arith, last.1), last.2)
     ]
 
@@ -61,12 +61,12 @@ run_join item first (suc second) from middle to r s =
 run_split : (item : List (List Bool)) (first second from to : ℕ) → Run item (first + second) from to → (middle : ℕ) × Run item first from middle × Run item second middle to
 run_split item first zero from to r = let e : first + zero ≡ first = omega arith in (to, subst (λ c. Run item c from to) e r, refl)
 run_split item first (suc second) from to r =
-    let last = run_last item (first + suc second) (first + second) from to (omega arith) r in
+    let last = run_last item (first + second) from to (omega arith) r in
     let split = run_split item first second from last.0 last.1 in
     (split.0, split.1, (last.0, split.2, last.2))
 
-pub runs_unbounded : (item all all' : List (List Bool)) (low : ℕ) → RunsAre item low low all → StandAfter AnyTimes all item all' → AreRepeated item low None all'
-runs_unbounded item all all' low r b = record {
+pub runs_unbounded : {item : List (List Bool)} (all : List (List Bool)) {all' : List (List Bool)} {low : ℕ} → RunsAre item low low all → StandAfter AnyTimes all item all' → AreRepeated item low None all'
+runs_unbounded {item} all {low} r b = record {
   places = b.places ∙ r.places;
   exact = λ from to h. (λ s. there from to h ((b.exact from to).0 s), λ s. (b.exact from to).1 (back from to h s));
 }

@@ -32,5 +32,5 @@ too_many : (n most : ℕ) → (n < most → ⊥) → most ≤ n
 too_many n most many = omega (arith, many)
 
 -- a piece is too long for what came in
-pub is_long : {S : Type 0} (state guard : GuardState S) (size most : ℕ) → state ≡ guard → (state.fed + size < most → ⊥) → most ≤ guard.fed + size
-is_long state guard size most is many = subst (λ (those : GuardState _). most ≤ those.fed + size) is (too_many (state.fed + size) most many)
+pub is_long : {S : Type 0} {state guard : GuardState S} (size : ℕ) {most : ℕ} → state ≡ guard → (state.fed + size < most → ⊥) → most ≤ guard.fed + size
+is_long {state} size {most} is many = subst (λ (those : GuardState _). most ≤ those.fed + size) is (too_many (state.fed + size) most many)

@@ -20,8 +20,8 @@ passed_at slot count old new can is = ap (λ those. source_at those slot) is ∙
 
 module _ {E : Type 0} (Holds : E → List ℕ → Type 0) (Ready : E → List Slot → Type 0) (Owns : E → ℕ → List Slot → Type 0) (work : E → Work) where
   -- an engine that takes in none stays as it was
-  pub loads_none : (told : Bool) (slot : ℕ) (engine : E) (sources : List Source) → Holds engine [] → Loads Holds Ready Owns work told slot 0 engine engine sources sources
-  loads_none told slot engine sources fresh = record {
+  pub loads_none : (told : Bool) {slot : ℕ} {engine : E} {sources : List Source} → Holds engine [] → Loads Holds Ready Owns work told slot 0 engine engine sources sources
+  loads_none told {slot} {sources} fresh = record {
     front = [];
     long = refl;
     there = λ t. refl;

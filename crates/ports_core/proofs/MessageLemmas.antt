@@ -8,18 +8,18 @@ use Rattle.ports_core.specs.declared.whole.WriteCut.{WriteCut}
 use Rattle.ports_core.specs.declared.fault.Fault.TheVariants.{Memory}
 use Rattle.ports_core.specs.Message.{Prints, whole, cut, passed, PrintsOn, Says, SaysAll, SaysOn}
 
-pub prints_on : (told : Bool) (text : List ℕ) (old new : List Slot) (result : Result (Unit {0}) WriteCut) → (slot_at old 1).is_broken ≡ false → OnOk result (new ≡ with_written 1 (told_of told text) old) → IfErr result (λ at. BrokeAfter told old new 1 text at.written) → PrintsOn told text old new
-prints_on told text old new (Ok u) sound out broke output error since is = (adds (told_of told text) error, whole (sym (ap (λ slots. (slot_at slots 1).is_broken) is) ∙ sound) refl, out ∙ ap (with_written 1 (told_of told text)) is)
-prints_on told text old new (Err at) sound out broke output error since is =
+pub prints_on : (told : Bool) {text : List ℕ} {old new : List Slot} (result : Result (Unit {0}) WriteCut) → (slot_at old 1).is_broken ≡ false → OnOk result (new ≡ with_written 1 (told_of told text) old) → IfErr result (λ at. BrokeAfter told old new 1 text at.written) → PrintsOn told text old new
+prints_on told {text} (Ok u) sound out broke output error since is = (adds (told_of told text) error, whole (sym (ap (λ slots. (slot_at slots 1).is_broken) is) ∙ sound) refl, out ∙ ap (with_written 1 (told_of told text)) is)
+prints_on told {text} (Err at) sound out broke output error since is =
     (breaks (adds (told_of told (take at.written text)) error), cut (sym (ap (λ slots. (slot_at slots 1).is_broken) is) ∙ sound) at.written broke.within refl, broke.slots ∙ ap (λ slots. with_broken 1 (with_written 1 (told_of told (take at.written text)) slots)) is)
 
-pub says_on : (told : Bool) (tool : Tool) (text said : List ℕ) (old new : List Slot) → said ≡ text → PrintsOn told said old new → SaysOn told tool text old new
-says_on told tool text said old new is prints output error since shape =
+pub says_on : (told : Bool) {tool : Tool} {text said : List ℕ} {old new : List Slot} → said ≡ text → PrintsOn told said old new → SaysOn told tool text old new
+says_on told {said} is prints output error since shape =
     let printed = prints output error since shape in
     (printed.0, record { said = said; is = inl is; printed = printed.1 }, printed.2)
 
-pub says_memory_on : (told : Bool) (tool : Tool) (text said : List ℕ) (old new : List Slot) → said ≡ message_of tool Memory [] → PrintsOn told said old new → SaysOn told tool text old new
-says_memory_on told tool text said old new is prints output error since shape =
+pub says_memory_on : (told : Bool) {tool : Tool} (text : List ℕ) {said : List ℕ} {old new : List Slot} → said ≡ message_of tool Memory [] → PrintsOn told said old new → SaysOn told tool text old new
+says_memory_on told text {said} is prints output error since shape =
     let printed = prints output error since shape in
     (printed.0, record { said = said; is = inr is; printed = printed.1 }, printed.2)
 

@@ -27,38 +27,36 @@ files_at (file ∷ low) [] place begins less = absurd begins
 files_at (file ∷ low) (whole ∷ high) zero begins less = begins.4
 files_at (file ∷ low) (whole ∷ high) (suc place) begins less = files_at low high place begins.5 (omega (arith, less))
 
-outputs_fewer : (low high : Part) → Begins low high → length (outputs_of low) ≤ length (outputs_of high)
-outputs_fewer low high begins = omega (arith, no_fewer low.files high.files begins.files, length-map low.files (λ (file : File). file.bytes), length-map high.files (λ (file : File). file.bytes))
+outputs_fewer : {low high : Part} → Begins low high → length (outputs_of low) ≤ length (outputs_of high)
+outputs_fewer {low} {high} begins = omega (arith, no_fewer low.files high.files begins.files, length-map low.files (λ (file : File). file.bytes), length-map high.files (λ (file : File). file.bytes))
 
-begins_at : (low high : Part) (place : ℕ) → Begins low high → place < length (outputs_of low) → IsBeginning (output_at low place) (output_at high place)
-begins_at low high zero begins less = begins.out
-begins_at low high (suc place) begins less = files_at low.files high.files place begins.files (omega (arith, less))
+begins_at : {low high : Part} (place : ℕ) → Begins low high → place < length (outputs_of low) → IsBeginning (output_at low place) (output_at high place)
+begins_at zero begins less = begins.out
+begins_at {low} {high} (suc place) begins less = files_at low.files high.files place begins.files (omega (arith, less))
 
 -- as many outputs
-no_more : (work : Work) (x : List ℕ) (one other : Part) → IsAgreed work x one → IsAgreed work x other → length (outputs_of one) ≤ length (outputs_of other)
-no_more work x one other agreed also =
-    let few = outputs_fewer one (work.whole (x ++ also.fewest.0)) (agreed.common also.fewest.0 also.fewest.1) in let count = also.fewest.2 in omega (arith, few, count)
+no_more : {work : Work} {x : List ℕ} (one other : Part) → IsAgreed work x one → IsAgreed work x other → length (outputs_of one) ≤ length (outputs_of other)
+no_more one other agreed also = let few = outputs_fewer (agreed.common also.fewest.0 also.fewest.1) in let count = also.fewest.2 in omega (arith, few, count)
 
 -- and in each as many bytes
-no_longer : (work : Work) (x : List ℕ) (one other : Part) (place : ℕ) → IsAgreed work x one → IsAgreed work x other → place < length (outputs_of one) → place < length (outputs_of other) → length (output_at one place) ≤ length (output_at other place)
-no_longer work x one other place agreed also less within =
+no_longer : {work : Work} {x : List ℕ} (one other : Part) (place : ℕ) → IsAgreed work x one → IsAgreed work x other → place < length (outputs_of one) → place < length (outputs_of other) → length (output_at one place) ≤ length (output_at other place)
+no_longer one other place agreed also less within =
     let two = also.longest place within in
-    two.4 (output_at one place) (begins_at one _ place (agreed.common two.0 two.2) less) (begins_at one _ place (agreed.common two.1 two.3) less)
+    two.4 (output_at one place) (begins_at place (agreed.common two.0 two.2) less) (begins_at place (agreed.common two.1 two.3) less)
 
 pub one_is_agreed : (work : Work) (x : List ℕ) (one other : Part) → IsAgreed work x one → IsAgreed work x other → outputs_of one ≡ outputs_of other
 one_is_agreed work x one other agreed also =
-    let count : length (outputs_of one) ≡ length (outputs_of other) = (let few = no_more work x one other agreed also in let little = no_more work x other one also agreed in omega (arith, few, little)) in
+    let count : length (outputs_of one) ≡ length (outputs_of other) = (let few = no_more one other agreed also in let little = no_more other one also agreed in omega (arith, few, little)) in
     lists_same (outputs_of one) (outputs_of other) count (λ place less.
     let within : place < length (outputs_of other) = subst (λ n. place < n) count less in
     beginnings_same (output_at one place) (output_at other place) (output_at (work.whole (x ++ [])) place)
-    (begins_at one _ place (agreed.common [] none_comes) less) (begins_at other _ place (also.common [] none_comes) within)
-    (let short = no_longer work x one other place agreed also less within in let long = no_longer work x other one place also agreed within less in omega (arith, short, long)))
+    (begins_at place (agreed.common [] none_comes) less) (begins_at place (also.common [] none_comes) within)
+    (let short = no_longer one other place agreed also less within in let long = no_longer other one place also agreed within less in omega (arith, short, long)))
 
 module _ (spots_of : List ℕ → ℕ → List Spot) (x : List ℕ) where
   begins_no_later : (one other : List ℕ) (here : IsUndecided spots_of x one) (there : IsUndecided spots_of x other) → length here.before ≤ length there.before
   begins_no_later one other here there = elim (cases_lt (length there.before) (length here.before)) [
-    | inl less ↦
-        (let long : length x ≡ length here.before + length one = ap length here.are_last ∙ length-append here.before one in
+    | inl less ↦ (let long : length x ≡ length here.before + length one = ap length here.are_last ∙ length-append here.before one in
         let two = there.differ (length there.before) (omega arith) (omega (arith, less, long)) in
         absurd (two.4 (here.decided (length there.before) less two.0 two.1 two.2 two.3)))
     | inr within ↦ within

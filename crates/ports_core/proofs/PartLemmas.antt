@@ -141,17 +141,17 @@ marks_by IsName IsOther (Open slot) before after also is = (is.0, (is.1.0, is.1.
 marks_by IsName IsOther fault before after also is = is
 
 -- the files of a part are at their places in what it begins
-next_in : (part : Part) (name : List ℕ) (front : List File) (file : File) (rest files : List File) → FilesBegin (front ++ file ∷ rest) files → (count : ℕ) → length front ≡ count → file.name ≡ name
+next_in : (part : Part) {name : List ℕ} (front : List File) (file : File) (rest files : List File) → FilesBegin (front ++ file ∷ rest) files → {count : ℕ} → length front ≡ count → file.name ≡ name
     → (these : List File) × (one : File) × (more : List File) × (files ≡ these ++ one ∷ more) × (length these ≡ count) × (one.name ≡ name)
-next_in part name [] file rest (one ∷ more) begins count place named = ([], one, more, refl, place, sym begins.0 ∙ named)
-next_in part name (first ∷ front) file rest (one ∷ more) begins count place named =
-    let past = next_in part name front file rest more begins.5 (length front) refl named in
+next_in part [] file rest (one ∷ more) begins place named = ([], one, more, refl, place, sym begins.0 ∙ named)
+next_in part (first ∷ front) file rest (one ∷ more) begins place named =
+    let past = next_in part front file rest more begins.5 refl named in
     (one ∷ past.0, past.1, past.2, ap (λ files. one ∷ files) past.3, ap suc past.4 ∙ place, past.5)
-next_in part name front file rest files begins count place named = absurd begins
+next_in part front file rest files begins place named = absurd begins
 
-next_wider : (part high more : Part) → Begins high more → (name : List ℕ) → IsNext part high name → IsNext part more name
-next_wider part high more begins name next =
-    let found = next_in part name next.front next.file next.rest more.files (subst (λ files. FilesBegin files more.files) next.files begins.files) (length part.files) next.place next.name_is in
+next_wider : {part high : Part} (more : Part) → Begins high more → (name : List ℕ) → IsNext part high name → IsNext part more name
+next_wider {part} more begins name next =
+    let found = next_in part next.front next.file next.rest more.files (subst (λ files. FilesBegin files more.files) next.files begins.files) next.place next.name_is in
     record { front = found.0; file = found.1; rest = found.2; files = found.3; place = found.4; name_is = found.5 }
 
 -- what stopped in turn between two parts stopped between one that begins the lower and one that the higher begins
@@ -164,20 +164,20 @@ turn_between told before less low high more fault now lower stop wider = record 
   turn = stop.turn;
   reached = stop.reached;
   outputs = stop.outputs;
-  marks = marks_by (IsNext stop.part high) (IsNext stop.part more) fault stop.reached now (next_wider stop.part high more wider) stop.marks;
+  marks = marks_by (IsNext stop.part high) (IsNext stop.part more) fault stop.reached now (next_wider more wider) stop.marks;
   from = stop.from;
 }
 
-closed_stays : (file whole : File) → file.state ≡ state.Closed → (file.state ≡ state.Open) ⊎ (file ≡ whole) → file ≡ whole
-closed_stays file whole closed (inl is) = cc
-closed_stays file whole closed (inr same) = same
+closed_stays : {file : File} (whole : File) → file.state ≡ state.Closed → (file.state ≡ state.Open) ⊎ (file ≡ whole) → file ≡ whole
+closed_stays whole closed (inl is) = cc
+closed_stays whole closed (inr same) = same
 
 done_by : (place : ℕ) (part high : List File) → FilesBegin part high → AllClosed (take place part) → place ≤ length part → take place part ≡ take place high
 done_by zero part high begins closed within = refl
 done_by (suc place) [] high begins closed within = absurd (omega arith)
 done_by (suc place) (file ∷ part) [] begins closed within = absurd begins
 done_by (suc place) (file ∷ part) (whole ∷ high) begins closed within =
-    ap (λ one. one ∷ take place part) (closed_stays file whole closed.0 begins.3) ∙ ap (λ rest. whole ∷ rest) (done_by place part high begins.5 closed.1 (omega arith))
+    ap (λ one. one ∷ take place part) (closed_stays whole closed.0 begins.3) ∙ ap (λ rest. whole ∷ rest) (done_by place part high begins.5 closed.1 (omega arith))
 
 pub no_fewer : (low part : List File) → FilesBegin low part → length low ≤ length part
 no_fewer [] part begins = omega arith
@@ -185,8 +185,8 @@ no_fewer (file ∷ low) [] begins = absurd begins
 no_fewer (file ∷ low) (whole ∷ part) begins = let fewer : length low ≤ length part = no_fewer low part begins.5 in omega arith
 
 -- in turn is in order
-pub in_order : (low part high : List File) (place : ℕ) → FilesBegin low part → FilesBegin part high → InTurn part place → InOrder low part high place
-in_order low part high place above below turn = record {
+pub in_order : {low part high : List File} {place : ℕ} → FilesBegin low part → FilesBegin part high → InTurn part place → InOrder low part high place
+in_order {low} {part} {high} {place} above below turn = record {
   done = done_by place part high below turn.closed turn.within;
   untouched = drop_all (suc place) part turn.last ∙ sym (drop_all (suc place) low (let fewer : length low ≤ length part = no_fewer low part above in let last : length part ≤ suc place = turn.last in omega arith));
 }
@@ -197,7 +197,7 @@ stopped_in_turn told before low high fault now stop = record {
   above = stop.above;
   below = stop.below;
   place = stop.place;
-  order = in_order low.files stop.part.files high.files stop.place stop.above.files stop.below.files stop.turn;
+  order = in_order stop.above.files stop.below.files stop.turn;
   reached = stop.reached;
   outputs = stop.outputs;
   marks = stop.marks;

@@ -29,14 +29,14 @@ keeps_same old new is place sound = ap (λ those. (slot_at those place).is_broke
 pub keeps_again : (old mid new : List Slot) → KeepsBroken old mid → KeepsBroken mid new → KeepsBroken old new
 keeps_again old mid new first second place sound = first place (second place sound)
 
-keeps_change : (change : Slot → Slot) → ((slot : Slot) → (change slot).is_broken ≡ slot.is_broken) → (slot : ℕ) (old new : List Slot) → new ≡ changed_at slot change old → KeepsBroken old new
-keeps_change change same slot old new is place sound = sym (flag_stays change same slot place old) ∙ ap (λ those. (slot_at those place).is_broken) (sym is) ∙ sound
+keeps_change : (change : Slot → Slot) → ((slot : Slot) → (change slot).is_broken ≡ slot.is_broken) → (slot : ℕ) (old : List Slot) {new : List Slot} → new ≡ changed_at slot change old → KeepsBroken old new
+keeps_change change same slot old is place sound = sym (flag_stays change same slot place old) ∙ ap (λ those. (slot_at those place).is_broken) (sym is) ∙ sound
 
 pub keeps_write : (slot : ℕ) (bytes : List ℕ) (old new : List Slot) → new ≡ with_written slot bytes old → KeepsBroken old new
-keeps_write slot bytes old new is = keeps_change (adds bytes) (λ one. refl) slot old new is
+keeps_write slot bytes old new is = keeps_change (adds bytes) (λ one. refl) slot old is
 
 pub keeps_close : (slot : ℕ) (old new : List Slot) → new ≡ changed_at slot closes old → KeepsBroken old new
-keeps_close slot old new is = keeps_change closes (λ one. refl) slot old new is
+keeps_close slot old new is = keeps_change closes (λ one. refl) slot old is
 
 sound_before : (slots : List Slot) (one : Slot) (place : ℕ) → (slot_at (slots ++ one ∷ []) place).is_broken ≡ false → (slot_at slots place).is_broken ≡ false
 sound_before [] one place sound = refl
@@ -109,8 +109,7 @@ writable_within (suc place) (slot ∷ slots) can = let rest = writable_within pl
 
 pub opened_writable : (old new : List Slot) (slot : ℕ) (name : List ℕ) (mode : Mode) → slot ≡ length old → new ≡ old ++ opened name mode ∷ [] → IsTrue (is_writable new slot)
 opened_writable old new slot name mode at is =
-    ap (λ those. is_writable those slot) is ∙ ap (λ n. is_writable (old ++ opened name mode ∷ []) n) at
-    ∙ ap can_write (at_end old (opened name mode))
+    ap (λ those. is_writable those slot) is ∙ ap (λ n. is_writable (old ++ opened name mode ∷ []) n) at ∙ ap can_write (at_end old (opened name mode))
 
 pub writable_before : (old new : List Slot) (place : ℕ) (one : Slot) → place < length old → new ≡ old ++ one ∷ [] → IsTrue (is_writable old place) → IsTrue (is_writable new place)
 writable_before old new place one within is can = ap (λ those. is_writable those place) is ∙ ap can_write (get_or_append_left old (one ∷ []) no_slot place within) ∙ can
@@ -161,20 +160,20 @@ file_stays change zero zero (slot ∷ slots) same = same
 file_stays change (suc place) (suc other) (slot ∷ slots) same = file_stays change place other slots same
 file_stays change place other slots same = refl
 
-made_change : (change : Slot → Slot) (slot : ℕ) (old new : List Slot) → has_file (change (slot_at old slot)).state ≡ has_file (slot_at old slot).state → new ≡ changed_at slot change old → KeepsMade old new
-made_change change slot old new same is = record {
+made_change : (change : Slot → Slot) (slot : ℕ) {old new : List Slot} → has_file (change (slot_at old slot)).state ≡ has_file (slot_at old slot).state → new ≡ changed_at slot change old → KeepsMade old new
+made_change change slot {old} same is = record {
   size = ap length is ∙ length-changed_at slot change old;
   same = λ place. ap (λ those. has_file (slot_at those place).state) is ∙ file_stays change slot place old same;
 }
 
 pub made_write : (slot : ℕ) (bytes : List ℕ) (old new : List Slot) → new ≡ with_written slot bytes old → KeepsMade old new
-made_write slot bytes old new is = made_change (adds bytes) slot old new refl is
+made_write slot bytes old new is = made_change (adds bytes) slot refl is
 
 pub made_break : (slot : ℕ) (old new : List Slot) → new ≡ with_broken slot old → KeepsMade old new
-made_break slot old new is = made_change breaks slot old new refl is
+made_break slot old new is = made_change breaks slot refl is
 
 pub made_short : (told : Bool) (slot : ℕ) (bytes : List ℕ) (old new : List Slot) (f : Fault) → WritesShort told slot bytes old new f → KeepsMade old new
 made_short told slot bytes old new _ (broke n cut) = made_again old (with_written slot (told_of told (take n bytes)) old) new (made_write slot _ old _ refl) (made_break slot _ new cut.slots)
 
 pub made_close : (slot : ℕ) (old new : List Slot) → IsTrue (is_writable old slot) → new ≡ changed_at slot closes old → KeepsMade old new
-made_close slot old new can is = made_change closes slot old new (sym (open_has_file (slot_at old slot).state (slot_at old slot).is_broken can)) is
+made_close slot old new can is = made_change closes slot (sym (open_has_file (slot_at old slot).state (slot_at old slot).is_broken can)) is

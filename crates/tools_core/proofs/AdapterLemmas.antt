@@ -46,15 +46,15 @@ tail_begins delim false unit n = refl
 pub some_there : (slots : List Slot) → 2 ≤ length slots → 0 < length slots
 some_there slots two = omega (arith, two)
 
-pub head_begins : (delim : ℕ) (told : Bool) (unit : Counted) (but_last : Bool) (n : ℕ) (slots : List Slot) → 2 ≤ length slots → OutputsAt told slots ((head_work delim unit but_last n).settled []) slots
-head_begins delim told unit but_last n slots two = subst (λ bytes. OutputsAt told slots (only_out bytes) slots) (sym (head_of-nil delim unit but_last n)) (nothing_out told slots (some_there slots two))
+pub head_begins : (delim : ℕ) (told : Bool) (unit : Counted) (but_last : Bool) (n : ℕ) {slots : List Slot} → 2 ≤ length slots → OutputsAt told slots ((head_work delim unit but_last n).settled []) slots
+head_begins delim told unit but_last n {slots} two = subst (λ bytes. OutputsAt told slots (only_out bytes) slots) (sym (head_of-nil delim unit but_last n)) (nothing_out told slots (some_there slots two))
 
-pub tail_starts : (delim : ℕ) (told : Bool) (unit : Counted) (from_nth : Bool) (n : ℕ) (slots : List Slot) → 2 ≤ length slots → OutputsAt told slots ((tail_work delim unit from_nth n).settled []) slots
-tail_starts delim told unit from_nth n slots two = subst (λ part. OutputsAt told slots part slots) (sym (tail_begins delim from_nth unit n)) (nothing_out told slots (some_there slots two))
+pub tail_starts : (delim : ℕ) (told : Bool) (unit : Counted) (from_nth : Bool) (n : ℕ) {slots : List Slot} → 2 ≤ length slots → OutputsAt told slots ((tail_work delim unit from_nth n).settled []) slots
+tail_starts delim told unit from_nth n {slots} two = subst (λ part. OutputsAt told slots part slots) (sym (tail_begins delim from_nth unit n)) (nothing_out told slots (some_there slots two))
 
 -- an engine for which there was no memory
-pub no_memory : (told : Bool) (work : Work) (opening : Needs) (slots : List Slot) (fault : Fault) → opening.memory ≡ true → 2 ≤ length slots → fault ≡ Memory → OpensShort work opening told slots slots fault
-no_memory told work opening slots fault may two is = subst (OpensShort work opening told slots slots) (sym is) (record {
+pub no_memory : (told : Bool) {work : Work} {opening : Needs} {slots : List Slot} {fault : Fault} → opening.memory ≡ true → 2 ≤ length slots → fault ≡ Memory → OpensShort work opening told slots slots fault
+no_memory told {work} {opening} {slots} may two is = subst (OpensShort work opening told slots slots) (sym is) (record {
   unjudged = refl;
   reached = slots;
   why = may;
@@ -63,22 +63,21 @@ no_memory told work opening slots fault may two is = subst (OpensShort work open
 })
 
 -- the names that were made are those of the plan
-pub plan_is : (asked : SplitAsked) (cut : Cut) (alphabet : Alphabet) (width : ℕ) (auto elide : Bool) (input prefix ending : List ℕ) (delim : ℕ) (names : Naming)
+pub plan_is : {asked : SplitAsked} (cut : Cut) {alphabet : Alphabet} {width : ℕ} {auto elide : Bool} {input prefix ending : List ℕ} {delim : ℕ} {names : Naming}
     → names ≡ record { prefix = prefix; alphabet = alphabet; width = width; auto = auto; ending = ending; drawn = 0 }
     → record { cut = cut; alphabet = alphabet; width = width; auto = auto; elide = elide; input = input; prefix = prefix; ending = ending; delim = delim } ≡ asked
     → record { delim = delim; cut = cut; elide = elide; names = names } ≡ plan_of asked
-plan_is asked cut alphabet width auto elide input prefix ending delim names made is =
-    ap (λ (those : Naming). record { delim = delim; cut = cut; elide = elide; names = those }) made ∙ ap plan_of is
+plan_is cut {elide} {delim} {names} made is = ap (λ (those : Naming). record { delim = delim; cut = cut; elide = elide; names = those }) made ∙ ap plan_of is
 
-split_stops : (told : Bool) (plan : Plan) (opening : Needs) (old new : List Slot) (fault : Fault) → opening.memory ≡ true → opening.files ≡ true → 2 ≤ length old → ((before : List Slot) → OutputsAt told before nothing old → StoppedBetween told before nothing (settled_by plan []) fault new) → CannotOpen old new fault → OpensShort (split_work plan) opening told old new fault
-split_stops told plan opening old new fault may opens two stop (inl is) = record {
+split_stops : (told : Bool) (plan : Plan) {opening : Needs} {old new : List Slot} {fault : Fault} → opening.memory ≡ true → opening.files ≡ true → 2 ≤ length old → ((before : List Slot) → OutputsAt told before nothing old → StoppedBetween told before nothing (settled_by plan []) fault new) → CannotOpen old new fault → OpensShort (split_work plan) opening told old new fault
+split_stops told plan {opening} {old} {new} may opens two stop (inl is) = record {
   unjudged = ap is_verdict is;
   reached = new;
   why = subst (Stops (call_of (split_work plan) opening [] nothing (settled_by plan [])) new) (sym is) may;
   stop = stop old (nothing_out told old (some_there old two));
   swept = refl;
 }
-split_stops told plan opening old new fault may opens two stop (inr (slot, is, rose)) = record {
+split_stops told plan {opening} {old} {new} may opens two stop (inr (slot, is, rose)) = record {
   unjudged = ap is_verdict is;
   reached = new;
   why = subst (Stops (call_of (split_work plan) opening [] nothing (settled_by plan [])) new) (sym is) (refl, opens);
@@ -88,15 +87,15 @@ split_stops told plan opening old new fault may opens two stop (inr (slot, is, r
 
 -- an engine that was opened, and left the outputs as they were
 
-pub if_does : {E : Type 0} (work : E → Work) (first asked : Work) (result : Result E Fault) → IfOk result (λ e. work e ≡ first) → first ≡ asked → IfOk result (λ e. work e ≡ asked)
-if_does work first asked (Ok e) does is = does ∙ is
-if_does work first asked (Err fault) does is = tt
+pub if_does : {E : Type 0} (work : E → Work) {first asked : Work} (result : Result E Fault) → IfOk result (λ e. work e ≡ first) → first ≡ asked → IfOk result (λ e. work e ≡ asked)
+if_does work (Ok e) does is = does ∙ is
+if_does work (Err fault) does is = tt
 
-pub opened_of : {S : Type 0} (Holds : S → List ℕ → Type 0) (Owns : S → ℕ → List Slot → Type 0) (work : S → Work) (Ready : S → List Slot → Type 0) (asked : Work) (told : Bool) (old new : List Slot) (result : Result (GuardState S) Fault)
+pub opened_of : {S : Type 0} (Holds : S → List ℕ → Type 0) (Owns : S → ℕ → List Slot → Type 0) (work : S → Work) (Ready : S → List Slot → Type 0) (asked : Work) (told : Bool) {old new : List Slot} (result : Result (GuardState S) Fault)
     → IfOk result (λ e. HoldsIn Holds e []) → IfOk result (λ e. work e.stage ≡ asked) → IfOk result (λ e. e.fed < 2 ^ 63) → IfOk result (λ e. Ready e.stage new) → IfOk result (λ e. Owns e.stage (length old) new) → OutputsAt told old (asked.settled []) new
     → IfOk result (Opens Holds Owns work Ready asked told old new)
-opened_of Holds Owns work Ready asked told old new (Ok e) fresh does bound ready owns at = record { fresh = fresh; does = does; bound = bound; ready = ready; owns = owns; outputs = at }
-opened_of Holds Owns work Ready asked told old new (Err fault) fresh does bound ready owns at = tt
+opened_of Holds Owns work Ready asked told (Ok e) fresh does bound ready owns at = record { fresh = fresh; does = does; bound = bound; ready = ready; owns = owns; outputs = at }
+opened_of Holds Owns work Ready asked told (Err fault) fresh does bound ready owns at = tt
 
 pub whatever : {E : Type 0} (P : E → Type 0) (result : Result E Fault) → ((e : E) → P e) → IfOk result P
 whatever P (Ok e) all = all e
@@ -104,36 +103,36 @@ whatever P (Err fault) all = tt
 
 pub no_memory_for : {E : Type 0} (told : Bool) (work : Work) (opening : Needs) (slots : List Slot) (result : Result E Fault) (P : Type 0) → (P → opening.memory ≡ true) → 2 ≤ length slots → IfErr result (λ fault. (fault ≡ Memory) × P) → IfErr result (OpensShort work opening told slots slots)
 no_memory_for told work opening slots (Ok e) P may two err = tt
-no_memory_for told work opening slots (Err fault) P may two err = no_memory told work opening slots fault (may err.1) two err.0
+no_memory_for told work opening slots (Err fault) P may two err = no_memory told (may err.1) two err.0
 
 -- what opening may need
 
-pub head_opening : (asked : EndsAsked) (unit : Counted) (count : Count) (headers : Headers) (delim : ℕ) (names : List (List ℕ)) (minus : Bool) → record { unit = unit; count = count; headers = headers; delim = delim; names = names } ≡ asked → minus ≡ is_minus count.sign → minus ≡ true → (head_task asked).opening.memory ≡ true
-head_opening asked unit count headers delim names minus is signed may = sym (ap (λ (those : EndsAsked). is_minus those.count.sign) is) ∙ sym signed ∙ may
+pub head_opening : {asked : EndsAsked} {unit : Counted} {count : Count} {headers : Headers} {delim : ℕ} {names : List (List ℕ)} {minus : Bool} → record { unit = unit; count = count; headers = headers; delim = delim; names = names } ≡ asked → minus ≡ is_minus count.sign → minus ≡ true → (head_task asked).opening.memory ≡ true
+head_opening is signed may = sym (ap (λ (those : EndsAsked). is_minus those.count.sign) is) ∙ sym signed ∙ may
 
-pub tail_opening : (asked : EndsAsked) (unit : Counted) (count : Count) (headers : Headers) (delim : ℕ) (names : List (List ℕ)) (plus : Bool) → record { unit = unit; count = count; headers = headers; delim = delim; names = names } ≡ asked → plus ≡ is_plus count.sign → plus ≡ false → (tail_task asked).opening.memory ≡ true
-tail_opening asked unit count headers delim names plus is signed may = ap not (sym (ap (λ (those : EndsAsked). is_plus those.count.sign) is) ∙ sym signed ∙ may)
+pub tail_opening : {asked : EndsAsked} {unit : Counted} {count : Count} {headers : Headers} {delim : ℕ} {names : List (List ℕ)} {plus : Bool} → record { unit = unit; count = count; headers = headers; delim = delim; names = names } ≡ asked → plus ≡ is_plus count.sign → plus ≡ false → (tail_task asked).opening.memory ≡ true
+tail_opening is signed may = ap not (sym (ap (λ (those : EndsAsked). is_plus those.count.sign) is) ∙ sym signed ∙ may)
 
 -- the work that is asked for
 
-pub head_asked : (asked : EndsAsked) (unit : Counted) (count : Count) (headers : Headers) (delim : ℕ) (names : List (List ℕ)) (minus : Bool) → record { unit = unit; count = count; headers = headers; delim = delim; names = names } ≡ asked → minus ≡ is_minus count.sign → head_work delim unit minus count.amount ≡ (head_task asked).work
-head_asked asked unit count headers delim names minus is signed = ap (λ b. head_work delim unit b count.amount) signed ∙ ap (λ (those : EndsAsked). (head_task those).work) is
+pub head_asked : {asked : EndsAsked} {unit : Counted} {count : Count} {headers : Headers} {delim : ℕ} {names : List (List ℕ)} {minus : Bool} → record { unit = unit; count = count; headers = headers; delim = delim; names = names } ≡ asked → minus ≡ is_minus count.sign → head_work delim unit minus count.amount ≡ (head_task asked).work
+head_asked {unit} {count} {delim} is signed = ap (λ b. head_work delim unit b count.amount) signed ∙ ap (λ (those : EndsAsked). (head_task those).work) is
 
 pub tail_asked : (asked : EndsAsked) (unit : Counted) (count : Count) (headers : Headers) (delim : ℕ) (names : List (List ℕ)) (plus : Bool) → record { unit = unit; count = count; headers = headers; delim = delim; names = names } ≡ asked → plus ≡ is_plus count.sign → tail_work delim unit plus count.amount ≡ (tail_task asked).work
 tail_asked asked unit count headers delim names plus is signed = ap (λ b. tail_work delim unit b count.amount) signed ∙ ap (λ (those : EndsAsked). (tail_task those).work) is
 
 -- split, with the names that were made
-pub split_opened : {S : Type 0} (Holds : S → List ℕ → Type 0) (Owns : S → ℕ → List Slot → Type 0) (work : S → Work) (Ready : S → List Slot → Type 0) (plan asked : Plan) (told : Bool) (old new : List Slot) (result : Result (GuardState S) Fault) → plan ≡ asked → 2 ≤ length old
+pub split_opened : {S : Type 0} (Holds : S → List ℕ → Type 0) (Owns : S → ℕ → List Slot → Type 0) (work : S → Work) (Ready : S → List Slot → Type 0) {plan asked : Plan} (told : Bool) (old new : List Slot) (result : Result (GuardState S) Fault) → plan ≡ asked → 2 ≤ length old
     → IfOk result (λ e. HoldsIn Holds e []) → IfOk result (λ e. work e.stage ≡ split_work plan) → IfOk result (λ e. e.fed < 2 ^ 63) → IfOk result (λ e. Ready e.stage new) → IfOk result (λ e. Owns e.stage (length old) new)
     → OnOk result ((before : List Slot) → OutputsAt told before nothing old → OutputsAt told before (settled_by plan []) new)
     → IfOk result (Opens Holds Owns work Ready (split_work asked) told old new)
-split_opened Holds Owns work Ready plan asked told old new (Ok e) is two fresh does bound ready owns puts =
+split_opened Holds Owns work Ready told old new (Ok e) is two fresh does bound ready owns puts =
     subst (λ those. Opens Holds Owns work Ready (split_work those) told old new e) is
     (record { fresh = fresh; does = does; bound = bound; ready = ready; owns = owns; outputs = puts old (nothing_out told old (some_there old two)) })
-split_opened Holds Owns work Ready plan asked told old new (Err fault) is two fresh does bound ready owns puts = tt
+split_opened Holds Owns work Ready told old new (Err fault) is two fresh does bound ready owns puts = tt
 
-pub split_short_if : {E : Type 0} (told : Bool) (plan asked : Plan) (opening : Needs) (old new : List Slot) (result : Result E Fault) → opening.memory ≡ true → opening.files ≡ true → plan ≡ asked → 2 ≤ length old
+pub split_short_if : {E : Type 0} (told : Bool) {plan asked : Plan} {opening : Needs} (old new : List Slot) (result : Result E Fault) → opening.memory ≡ true → opening.files ≡ true → plan ≡ asked → 2 ≤ length old
     → IfErr result (λ fault. (before : List Slot) → OutputsAt told before nothing old → StoppedBetween told before nothing (settled_by plan []) fault new) → IfErr result (CannotOpen old new) → IfErr result (OpensShort (split_work asked) opening told old new)
-split_short_if told plan asked opening old new (Ok e) may opens is two stop why = tt
-split_short_if told plan asked opening old new (Err fault) may opens is two stop why =
-    subst (λ those. OpensShort (split_work those) opening told old new fault) is (split_stops told plan opening old new fault may opens two stop why)
+split_short_if told old new (Ok e) may opens is two stop why = tt
+split_short_if told {plan} {opening} old new (Err fault) may opens is two stop why =
+    subst (λ those. OpensShort (split_work those) opening told old new fault) is (split_stops told plan may opens two stop why)

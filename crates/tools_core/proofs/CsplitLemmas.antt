@@ -31,10 +31,10 @@ unjudged_by style old new (NoMatch operand repetition) breaks = absurd breaks
 unjudged_by style old new (Range operand repetition) breaks = absurd breaks
 unjudged_by style old new fault breaks = refl
 
-csplit_stops : (told : Bool) (style : Style) (operands : List Operand) (opening : Needs) (old new : List Slot) (fault : Fault) → opening.memory ≡ true → opening.files ≡ true → 2 ≤ length old
+csplit_stops : (told : Bool) (style : Style) (operands : List Operand) {opening : Needs} {old new : List Slot} {fault : Fault} → opening.memory ≡ true → opening.files ≡ true → 2 ≤ length old
     → ((before : List Slot) → OutputsAt told before nothing old → StoppedBetween told before nothing (settled_by style operands []) fault new) → Breaks style old new fault → HasNoFiles (length old) new
     → OpensShort (csplit_work style operands) opening told old new fault
-csplit_stops told style operands opening old new fault may opens two stop breaks none = record {
+csplit_stops told style operands {opening} {old} {new} {fault} may opens two stop breaks none = record {
   unjudged = unjudged_by style old new fault breaks;
   reached = new;
   why = stops_as style operands opening old new fault may opens breaks;
@@ -43,18 +43,18 @@ csplit_stops told style operands opening old new fault may opens two stop breaks
 }
 
 -- The style is a copy of the one that was asked for.
-pub csplit_short : (told : Bool) (style asked : Style) (operands : List Operand) (opening : Needs) (old new : List Slot) (E : Type 0) (result : Result E Fault) → opening.memory ≡ true → opening.files ≡ true → style ≡ asked → 2 ≤ length old
+pub csplit_short : (told : Bool) {style asked : Style} (operands : List Operand) {opening : Needs} (old new : List Slot) (E : Type 0) (result : Result E Fault) → opening.memory ≡ true → opening.files ≡ true → style ≡ asked → 2 ≤ length old
     → IfErr result (λ fault. (before : List Slot) → OutputsAt told before nothing old → StoppedBetween told before nothing (settled_by style operands []) fault new) → IfErr result (Breaks style old new) → IfErr result (λ fault. HasNoFiles (length old) new)
     → IfErr result (OpensShort (csplit_work asked operands) opening told old new)
-csplit_short told style asked operands opening old new E (Ok engine) may opens is two stop breaks none = tt
-csplit_short told style asked operands opening old new E (Err fault) may opens is two stop breaks none =
-    subst (λ those. OpensShort (csplit_work those operands) opening told old new fault) is (csplit_stops told style operands opening old new fault may opens two stop breaks none)
+csplit_short told operands old new E (Ok engine) may opens is two stop breaks none = tt
+csplit_short told {style} operands {opening} old new E (Err fault) may opens is two stop breaks none =
+    subst (λ those. OpensShort (csplit_work those operands) opening told old new fault) is (csplit_stops told style operands may opens two stop breaks none)
 
-pub csplit_opened : {S : Type 0} (Holds : S → List ℕ → Type 0) (Owns : S → ℕ → List Slot → Type 0) (work : S → Work) (Ready : S → List Slot → Type 0) (style asked : Style) (operands : List Operand) (told : Bool) (old new : List Slot) (result : Result (GuardState S) Fault) → style ≡ asked → 2 ≤ length old
+pub csplit_opened : {S : Type 0} (Holds : S → List ℕ → Type 0) (Owns : S → ℕ → List Slot → Type 0) (work : S → Work) (Ready : S → List Slot → Type 0) {style asked : Style} (operands : List Operand) (told : Bool) (old new : List Slot) (result : Result (GuardState S) Fault) → style ≡ asked → 2 ≤ length old
     → IfOk result (λ e. HoldsIn Holds e []) → IfOk result (λ e. work e.stage ≡ csplit_work style operands) → IfOk result (λ e. e.fed < 2 ^ 63) → IfOk result (λ e. Ready e.stage new) → IfOk result (λ e. Owns e.stage (length old) new)
     → OnOk result ((before : List Slot) → OutputsAt told before nothing old → OutputsAt told before (settled_by style operands []) new)
     → IfOk result (Opens Holds Owns work Ready (csplit_work asked operands) told old new)
-csplit_opened Holds Owns work Ready style asked operands told old new (Ok e) is two fresh does bound ready owns puts =
+csplit_opened Holds Owns work Ready operands told old new (Ok e) is two fresh does bound ready owns puts =
     subst (λ those. Opens Holds Owns work Ready (csplit_work those operands) told old new e) is
     (record { fresh = fresh; does = does; bound = bound; ready = ready; owns = owns; outputs = puts old (nothing_out told old (some_there old two)) })
-csplit_opened Holds Owns work Ready style asked operands told old new (Err fault) is two fresh does bound ready owns puts = tt
+csplit_opened Holds Owns work Ready operands told old new (Err fault) is two fresh does bound ready owns puts = tt

@@ -30,14 +30,14 @@ abbrev pub versions : (ℕ → Snapshot) → ℕ → ℕ → ℕ → List Entry
 versions shows file start zero = []
 versions shows file start (suc n) = version_in (shows start) file ∷ versions shows file (suc start) n
 
-later_by : (by_name : Bool) (name : List ℕ) (file : ℕ) (snapshot : Snapshot) (led : Option ℕ) (rest : List Entry) → led ≡ Some file → version_in snapshot file ∷ (entries_led snapshot (Some file) led ++ rest) ≡ version_in snapshot file ∷ rest
-later_by by_name name file snapshot led rest is = ap (λ those. version_in snapshot file ∷ (entries_led snapshot (Some file) those ++ rest)) is ∙ ap (λ those. version_in snapshot file ∷ (those ++ rest)) (led_same snapshot file)
+later_by : (by_name : Bool) (name : List ℕ) {file : ℕ} (snapshot : Snapshot) {led : Option ℕ} {rest : List Entry} → led ≡ Some file → version_in snapshot file ∷ (entries_led snapshot (Some file) led ++ rest) ≡ version_in snapshot file ∷ rest
+later_by by_name name {file} snapshot {rest} is = ap (λ those. version_in snapshot file ∷ (entries_led snapshot (Some file) those ++ rest)) is ∙ ap (λ those. version_in snapshot file ∷ (those ++ rest)) (led_same snapshot file)
 
 later_are : (by_name : Bool) (name : List ℕ) (shows : ℕ → Snapshot) (file count start n : ℕ) → start + n ≤ count → OnlyGrows count shows name file → entries_later by_name name (Some file) (looks_from shows start n) ≡ versions shows file start n
 later_are by_name name shows file count start zero within grows = refl
 later_are true name shows file count start (suc n) within grows =
     let leads = grows.0 start (omega (arith, within)) in
-    later_by true name file (shows start) ((shows start).leads name) _ leads
+    later_by true name (shows start) leads
     ∙ ap (λ opened. version_in (shows start) file ∷ entries_later true name opened (looks_from shows (suc start) n)) leads
     ∙ ap (λ rest. version_in (shows start) file ∷ rest) (later_are true name shows file count (suc start) n (omega (arith, within)) grows)
 later_are false name shows file count start (suc n) within grows = ap (λ rest. version_in (shows start) file ∷ rest) (later_are false name shows file count (suc start) n (omega (arith, within)) grows)
@@ -64,16 +64,16 @@ begins_later shows name file count start (suc n) within grows =
     (begins_trans _ ((shows (suc start)).holds file) _ (grows.1 start (omega (arith, within))) (begins_later shows name file count (suc start) n (omega (arith, within)) grows))
 
 -- what they gain is what came
-gains_are : (shows : ℕ → Snapshot) (name : List ℕ) (file count start n : ℕ) (came : List ℕ) → start + n < count → OnlyGrows count shows name file → (shows (start + n)).holds file ≡ (shows start).holds file ++ came
+gains_are : (shows : ℕ → Snapshot) (name : List ℕ) (file count start n : ℕ) {came : List ℕ} → start + n < count → OnlyGrows count shows name file → (shows (start + n)).holds file ≡ (shows start).holds file ++ came
     → gains_later (version_in (shows start) file) (versions shows file (suc start) n) ≡ came
-gains_are shows name file count start zero came within grows is = nothing_more ((shows start).holds file) came (ap (λ k. (shows k).holds file) (let e : start ≡ start + 0 = omega arith in e) ∙ is) where
+gains_are shows name file count start zero {came} within grows is = nothing_more ((shows start).holds file) came (ap (λ k. (shows k).holds file) (let e : start ≡ start + 0 = omega arith in e) ∙ is) where
   none : (bytes : List ℕ) → length bytes ≡ 0 → ◌≡◌ {A = List ℕ} [] bytes
   none [] few = refl
   none (byte ∷ bytes) few = absurd (omega (arith, few))
 
   nothing_more : (front more : List ℕ) → front ≡ front ++ more → ◌≡◌ {A = List ℕ} [] more
   nothing_more front more same = none more (let size = ap length same in let sum = length-append front more in omega (arith, size, sum))
-gains_are shows name file count start (suc n) came within grows is =
+gains_are shows name file count start (suc n) {came} within grows is =
     let (piece, next) = grows.1 start (omega (arith, within)) in
     let below : suc start + n < count = omega (arith, within) in
     let (rest, later) = begins_later shows name file count (suc start) n below grows in
@@ -81,7 +81,7 @@ gains_are shows name file count start (suc n) came within grows is =
     let both : (shows start).holds file ++ came ≡ (shows start).holds file ++ (piece ++ rest) =
     sym is ∙ there ∙ later ∙ ap (λ front. front ++ rest) next ∙ append_assoc ((shows start).holds file) piece rest in
     ap (λ gained. gained ++ gains_later (version_in (shows (suc start)) file) (versions shows file (suc (suc start)) n)) (grown file ((shows start).holds file) piece ((shows (suc start)).holds file) next)
-    ∙ ap (λ more. piece ++ more) (gains_are shows name file count (suc start) n rest below grows later)
+    ∙ ap (λ more. piece ++ more) (gains_are shows name file count (suc start) n below grows later)
     ∙ sym (sym (drop_front ((shows start).holds file) came) ∙ ap (drop (length ((shows start).holds file))) both ∙ drop_front ((shows start).holds file) (piece ++ rest))
 
 -- the text of such a name
@@ -90,11 +90,11 @@ pub growing_text : (by_name : Bool) (name : List ℕ) (shows : ℕ → Snapshot)
 growing_text by_name name shows file count n start came within grows is =
     ap (name_text start) (ap (entries_of by_name name) (seen_are shows (suc n)) ∙ entries_are by_name name shows file count (suc n) (omega (arith, within)) grows)
     ∙ text_is_gains start (versions shows file 0 (suc n)) (versions_kept shows name file count 0 (suc n) (omega (arith, within)) grows)
-    ∙ ap (λ more. start ((shows 0).holds file) ++ more) (gains_are shows name file count 0 n came (omega (arith, within)) grows (ap (λ k. (shows k).holds file) (let e : 0 + n ≡ n = omega arith in e) ∙ is))
+    ∙ ap (λ more. start ((shows 0).holds file) ++ more) (gains_are shows name file count 0 n (omega (arith, within)) grows (ap (λ k. (shows k).holds file) (let e : 0 + n ≡ n = omega arith in e) ∙ is))
 
 -- its file is open after each look
-pub stays_open : (by_name : Bool) (name : List ℕ) (shows : ℕ → Snapshot) (file count n : ℕ) → n < count → OnlyGrows count shows name file → open_after by_name name (looks_from shows 0 (suc n)) ≡ Some file
-stays_open by_name name shows file count n within grows = by by_name 1 n (omega (arith, within)) ((shows 0).leads name) (grows.0 0 (omega (arith, within))) where
+pub stays_open : (by_name : Bool) (name : List ℕ) (shows : ℕ → Snapshot) {file : ℕ} (count n : ℕ) → n < count → OnlyGrows count shows name file → open_after by_name name (looks_from shows 0 (suc n)) ≡ Some file
+stays_open by_name name shows {file} count n within grows = by by_name 1 n (omega (arith, within)) ((shows 0).leads name) (grows.0 0 (omega (arith, within))) where
   by : (by_name : Bool) (start n : ℕ) → start + n ≤ count → (opened : Option ℕ) → opened ≡ Some file → open_after_later by_name name opened (looks_from shows start n) ≡ Some file
   by by_name start zero below opened is = is
   by true start (suc n) below opened is = by true (suc start) n (omega (arith, below)) ((shows start).leads name) (grows.0 start (omega (arith, below)))

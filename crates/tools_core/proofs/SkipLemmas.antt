@@ -108,5 +108,5 @@ read_keep [] [] keep are = tt
 read_keep (spelled ∷ more) (operand ∷ operands) keep are = (target_keeps spelled.aim operand.target keep.0 are.0.target, read_keep more operands keep.1 are.1)
 read_keep spelled operands keep are = absurd are
 
-pub targets_keep : (words : List (List ℕ)) (operands : List Operand) → SkipNothing words → Asks words operands → KeepTargets operands
-targets_keep words operands none asks = read_keep (words_of words).operands operands (all_keep words none) asks.read
+pub targets_keep : {words : List (List ℕ)} {operands : List Operand} → SkipNothing words → Asks words operands → KeepTargets operands
+targets_keep {words} {operands} none asks = read_keep (words_of words).operands operands (all_keep words none) asks.read

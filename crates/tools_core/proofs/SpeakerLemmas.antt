@@ -21,28 +21,28 @@ tool_in (Ok settings) = tool_of settings
 tool_in (Err fault) = tool.Cutters
 
 -- what is asked of a tool that may find more wrong with it
-by_check : {A : Type 0} (which : Tool) (make : A → Settings) → ((asked : A) → tool_of (make asked) ≡ which) → (asked : Result A Fault) (settings : Settings) → then_check asked (λ those. Ok (make those)) ≡ Ok settings → which ≡ tool_of settings
+by_check : {A : Type 0} {which : Tool} (make : A → Settings) → ((asked : A) → tool_of (make asked) ≡ which) → (asked : Result A Fault) {settings : Settings} → then_check asked (λ those. Ok (make those)) ≡ Ok settings → which ≡ tool_of settings
 unfolding tool_in
-by_check which make same (Ok asked) settings is = sym (same asked) ∙ ap tool_in is
-by_check which make same (Err fault) settings is = absurd (cc)
+by_check make same (Ok asked) is = sym (same asked) ∙ ap tool_in is
+by_check make same (Err fault) is = absurd (cc)
 
-by_tool : (which : Tool) (given : Given) (settings : Settings) → settings_for which given ≡ Ok settings → which ≡ tool_of settings
+by_tool : (which : Tool) (given : Given) {settings : Settings} → settings_for which given ≡ Ok settings → which ≡ tool_of settings
 unfolding tool_in
-by_tool tool.Head given settings is = ap tool_in is
-by_tool tool.Tail given settings is = by_check tool.Tail (λ asked. Tail asked) (λ asked. refl) (tail_asked given) settings is
-by_tool tool.Split given settings is = by_check tool.Split (λ asked. Split asked) (λ asked. refl) (split_asked given) settings is
-by_tool tool.Csplit given settings is = by_check tool.Csplit (λ asked. Csplit asked) (λ asked. refl) (csplit_asked given) settings is
-by_tool tool.Tee given settings is = ap tool_in is
-by_tool tool.Cutters given settings is = absurd (cc)
+by_tool tool.Head given is = ap tool_in is
+by_tool tool.Tail given is = by_check (λ asked. Tail asked) (λ asked. refl) (tail_asked given) is
+by_tool tool.Split given is = by_check (λ asked. Split asked) (λ asked. refl) (split_asked given) is
+by_tool tool.Csplit given is = by_check (λ asked. Csplit asked) (λ asked. refl) (csplit_asked given) is
+by_tool tool.Tee given is = ap tool_in is
+by_tool tool.Cutters given is = absurd (cc)
 
-by_given : (which : Tool) (given : Result Given Fault) (settings : Settings) → then_check given (settings_for which) ≡ Ok settings → which ≡ tool_of settings
-by_given which (Ok given) settings is = by_tool which given settings is
-by_given which (Err fault) settings is = absurd (cc)
+by_given : {which : Tool} (given : Result Given Fault) {settings : Settings} → then_check given (settings_for which) ≡ Ok settings → which ≡ tool_of settings
+by_given {which} (Ok given) is = by_tool which given is
+by_given (Err fault) is = absurd (cc)
 
 named : (row : Option ToolRow) (words : List (List ℕ)) (settings : Settings) → tool_settings words row ≡ Ok settings → or_cutters (option_map (λ row. row.tool) row) ≡ tool_of settings
-named (Some row) words settings is = by_given row.tool (given_by row words) settings is
+named (Some row) words settings is = by_given (given_by row words) is
 named None words settings is = absurd (cc)
 
-pub runs_as_named : (words : List (List ℕ)) (settings : Settings) → settings_of words ≡ Ok settings → speaker words ≡ tool_of settings
-runs_as_named [] settings is = absurd (cc)
-runs_as_named (name ∷ words) settings is = named (row_named tools name) words settings is
+pub runs_as_named : (words : List (List ℕ)) {settings : Settings} → settings_of words ≡ Ok settings → speaker words ≡ tool_of settings
+runs_as_named [] is = absurd (cc)
+runs_as_named (name ∷ words) {settings} is = named (row_named tools name) words settings is

@@ -39,9 +39,9 @@ pub record IsCopied (tee : Run) (asked : TeeAsked) (input : List ℕ) : Type 0 w
   pub output : output_of tee ≡ input
   pub files : AreCopies asked.mode asked.names input (files_of tee)
 
-pub is_copied : (tee : Run) (asked : TeeAsked) (input : List ℕ) → Does tee (Tee asked) → HasInput tee input → IsCopied tee asked input
-is_copied tee asked input does has =
-    let one = did_one tee (Tee asked) input does has in
+pub is_copied : {tee : Run} {asked : TeeAsked} {input : List ℕ} → Does tee (Tee asked) → HasInput tee input → IsCopied tee asked input
+is_copied {asked} {input} does has =
+    let one = did_one does has in
     let ends = one.does in
     let same : ends.content.bytes ≡ input = sym (ap bytes_at ends.input) ∙ ap bytes_in one.content in
     let whole = ends.whole refl refl in

@@ -8,18 +8,18 @@ use Rattle.std.specs.Prelude.{is_some}
 use Rattle.watch_core.specs.DirWatchState.{DirWatchState}
 use Rattle.watch_core.proofs.NameLemmas.{name_changes, names_within}
 
-pub one_changes : (watch : DirWatchState) (names : List Watched) (turns place : ℕ) (change : Watched → Watched) (item new : Watched) → record { turns = turns; watched = names } ≡ watch → IsTrue (is_watchable watch.watched place)
+pub one_changes : {watch : DirWatchState} {names : List Watched} (turns place : ℕ) (change : Watched → Watched) {item new : Watched} → record { turns = turns; watched = names } ≡ watch → IsTrue (is_watchable watch.watched place)
     → item ≡ get_or names place item → new ≡ change item → set names place new ≡ changed_at place change watch.watched
-one_changes watch names turns place change item new is can at changed =
+one_changes {watch} {names} turns place change {item} {new} is can at changed =
     let those : names ≡ watch.watched = ap (λ (all : DirWatchState). all.watched) is in
     name_changes names watch.watched place change item new those (names_within names watch.watched place those can) at changed
 
 -- what was opened is not told
-pub opened_some : (watch : DirWatchState) (snapshot : Snapshot) (names : List Watched) (turns place : ℕ) (item new : Watched) (is_there : Bool) → record { turns = turns; watched = names } ≡ watch → IsTrue (is_watchable watch.watched place)
+pub opened_some : {watch : DirWatchState} {snapshot : Snapshot} {names : List Watched} (turns : ℕ) {place : ℕ} {item new : Watched} {is_there : Bool} → record { turns = turns; watched = names } ≡ watch → IsTrue (is_watchable watch.watched place)
     → item ≡ get_or names place item → new ≡ opens new.opened item → is_some new.opened ≡ is_there → Reopens false snapshot watch.watched (set names place new) place is_there
-opened_some watch snapshot names turns place item new is_there is can at changed found = record {
+opened_some {names} turns {place} {new} is can at changed found = record {
   file = new.opened;
   found = found;
-  names = one_changes watch names turns place (opens new.opened) item new is can at changed;
+  names = one_changes turns place (opens new.opened) is can at changed;
   leads = λ told. absurd (false≢true told);
 }

@@ -1,10 +1,9 @@
 -- Lemmas on what options ask for, one after another.
-use Rattle.std.proofs.Common.{◌≡◌, ◌≤◌, ℕ, Bool, true, false, ◌||◌, arith, List, [], ◌∷◌, ◌++◌, length, Option, Some, None, Result, Ok, Err, refl, sym, ◌∙◌, ap, if◌then◌else◌}
+use Rattle.std.proofs.Common.{◌≡◌, ◌≤◌, ◌↔◌, Bool, true, false, ◌||◌, arith, List, [], ◌∷◌, ◌++◌, length, Option, Some, None, Result, Ok, Err, refl, sym, ◌∙◌, ap, if◌then◌else◌}
 use Rattle.std.specs.Prelude.{filter, IsOk}
 use Rattle.std.specs.List.{list_any}
 use Rattle.std.proofs.lemmas.Bool.{or_parts}
 use Rattle.std.proofs.lemmas.List.Elements.{filter-append}
-use Rattle.bre_core.proofs.Sets.{or_false}
 use Rattle.ports_core.specs.declared.fault.Fault.{Fault}
 use Rattle.ports_core.specs.declared.fault.Fault.TheVariants.{Usage}
 use Rattle.ports_core.specs.declared.fault.UsageKind.TheVariants.{TwoWays}
@@ -13,7 +12,7 @@ use Rattle.ports_core.specs.declared.slot.Mode.TheVariants as mode
 use Rattle.operand_core.specs.Style.{Style}
 use Rattle.seg_core.specs.declared.cut.Cut.{Cut}
 use Rattle.words_core.specs.declared.table.Choice.{Choice}
-use Rattle.words_core.specs.declared.table.Choice.TheVariants.{Lines, Bytes, Quiet, Verbose, SuffixLength, NumericSuffixes, HexSuffixes, AdditionalSuffix, Separator, Prefix, Digits, Append, Follow, FollowNames, Looks as HowOften}
+use Rattle.words_core.specs.declared.table.Choice.TheVariants.{Lines, Bytes, SuffixLength, AdditionalSuffix, Separator, Prefix, Digits, Append, Follow, Looks as HowOften}
 use Rattle.words_core.specs.declared.tail_words.FollowOptions.{FollowOptions}
 use Rattle.words_core.specs.Value.{Meant, Byte, Counted, Following, Looks, Text, Width}
 use Rattle.words_core.specs.Given.{GivenOption, asked_by}
@@ -30,155 +29,96 @@ use Rattle.words_core.specs.Laws.{amount_of, appends, counts, counts_digits, cou
 
 abbrev pub Sets : {A C : Type 0} → (A → Choice → Meant → A) → (A → C) → (Choice → Meant → Bool) → Type 0
 Sets {A} by part test = (asked other : A) (choice : Choice) (value : Meant)
-    → (test choice value ≡ false → part (by asked choice value) ≡ part asked)
-    × (test choice value ≡ true → part (by asked choice value) ≡ part (by other choice value))
+    → part (by asked choice value) ≡ (if test choice value then part (by other choice value) else part asked)
 
 abbrev pub passes : (Choice → Meant → Bool) → GivenOption → Bool
 passes test option = test option.choice option.value
 
-pub kept : {A C : Type 0} (by : A → Choice → Meant → A) (part : A → C) (test : Choice → Meant → Bool) → Sets by part test
-    → (asked : A) (options : List GivenOption) → list_any (passes test) options ≡ false → part (asked_by by asked options) ≡ part asked
-kept by part test sets asked [] none = refl
-kept by part test sets asked (option ∷ options) none =
-    let both = or_parts (passes test option) (list_any (passes test) options) none in
-    kept by part test sets (by asked option.choice option.value) options both.1 ∙ (sets asked asked option.choice option.value).0 both.0
+module _ {A C : Type 0} (by : A → Choice → Meant → A) (part : A → C) (test : Choice → Meant → Bool) (sets : Sets by part test) where
+  pub kept : (asked : A) (options : List GivenOption) → list_any (passes test) options ≡ false → part (asked_by by asked options) ≡ part asked
+  kept asked [] none = refl
+  kept asked (option ∷ options) none =
+      let both = or_parts (passes test option) (list_any (passes test) options) none in
+      let next : A = by asked option.choice option.value in
+      kept next options both.1 ∙ sets asked asked option.choice option.value ∙ ap (λ test. if test then part next else part asked) both.0
 
-pub decided : {A C : Type 0} (by : A → Choice → Meant → A) (part : A → C) (test : Choice → Meant → Bool) → Sets by part test
-    → (asked other : A) (before after : List GivenOption) (option : GivenOption) → passes test option ≡ true → list_any (passes test) after ≡ false
-    → part (asked_by by asked (before ++ option ∷ after)) ≡ part (by other option.choice option.value)
-decided by part test sets asked other [] after option is none =
-    kept by part test sets (by asked option.choice option.value) after none ∙ (sets asked other option.choice option.value).1 is
-decided by part test sets asked other (first ∷ before) after option is none =
-    decided by part test sets (by asked first.choice first.value) other before after option is none
+  pub decided : (asked other : A) (before after : List GivenOption) (option : GivenOption) → passes test option ≡ true → list_any (passes test) after ≡ false
+      → part (asked_by by asked (before ++ option ∷ after)) ≡ part (by other option.choice option.value)
+  decided asked other [] after option is none =
+      kept (by asked option.choice option.value) after none ∙ sets asked other option.choice option.value
+      ∙ ap (λ test. if test then part (by other option.choice option.value) else part asked) is
+  decided asked other (first ∷ before) after option is none = decided (by asked first.choice first.value) other before after option is none
 
--- what the options of each tool set
+-- What the options of each tool set. One without a value sets the same wherever it stands.
 
-pub counts-sets : Sets ends_by amount_of counts
-counts-sets asked other Lines (Counted count) = (λ is. absurd (cc), λ is. refl)
-counts-sets asked other Bytes (Counted count) = (λ is. absurd (cc), λ is. refl)
-counts-sets asked other choice value = (λ is. refl, λ is. absurd (cc))
+pub ends-sets : (asked other : EndsAsked) (choice : Choice) (value : Meant)
+    → (amount_of (ends_by asked choice value) ≡ (if counts choice value then amount_of (ends_by other choice value) else amount_of asked))
+    × ((ends_by asked choice value).headers ≡ (if heads choice then (ends_by other choice value).headers else asked.headers))
+    × ((ends_by asked choice value).delim ≡ (if ends_with_zero choice then 0 else asked.delim))
+ends-sets asked other Lines (Counted count) = (refl, refl, refl)
+ends-sets asked other Bytes (Counted count) = (refl, refl, refl)
+ends-sets asked other choice value = (refl, refl, refl)
 
-pub heads-sets : Sets ends_by (λ asked. asked.headers) (λ choice value. heads choice)
-heads-sets asked other Quiet value = (λ is. absurd (cc), λ is. refl)
-heads-sets asked other Verbose value = (λ is. absurd (cc), λ is. refl)
-heads-sets asked other Lines (Counted count) = (λ is. refl, λ is. absurd (cc))
-heads-sets asked other Bytes (Counted count) = (λ is. refl, λ is. absurd (cc))
-heads-sets asked other choice value = (λ is. refl, λ is. absurd (cc))
+pub follow-sets : (asked other : FollowOptions) (choice : Choice) (value : Meant)
+    → ((follow_by asked choice value).followed ≡ (if says_followed choice then (follow_by other choice value).followed else asked.followed))
+    × ((follow_by asked choice value).looks ≡ (if counts_looks choice value then (follow_by other choice value).looks else asked.looks))
+    × ((follow_by asked choice value).retry ≡ (if retries choice then true else asked.retry))
+follow-sets asked other Follow (Following followed) = (refl, refl, refl)
+follow-sets asked other HowOften (Looks looks) = (refl, refl, refl)
+follow-sets asked other choice value = (refl, refl, refl)
 
-pub followed-sets : Sets follow_by (λ asked. asked.followed) (λ choice value. says_followed choice)
-followed-sets asked other Follow (Following followed) = (λ is. absurd (cc), λ is. refl)
-followed-sets asked other Follow value = (λ is. absurd (cc), λ is. refl)
-followed-sets asked other FollowNames value = (λ is. absurd (cc), λ is. refl)
-followed-sets asked other HowOften (Looks looks) = (λ is. refl, λ is. absurd (cc))
-followed-sets asked other choice value = (λ is. refl, λ is. absurd (cc))
+pub split-sets : (asked other : SplitAsked) (choice : Choice) (value : Meant)
+    → ((split_by asked choice value).alphabet ≡ (if spells choice then (split_by other choice value).alphabet else asked.alphabet))
+    × ((split_by asked choice value).width ≡ (if widens choice value then (split_by other choice value).width else asked.width))
+    × ((split_by asked choice value).delim ≡ (if separates choice value then (split_by other choice value).delim else asked.delim))
+    × ((split_by asked choice value).ending ≡ (if gives_ending choice value then (split_by other choice value).ending else asked.ending))
+    × ((split_by asked choice value).elide ≡ (if elides_files choice then true else asked.elide))
+split-sets asked other SuffixLength (Width width) = (refl, refl, refl, refl, refl)
+split-sets asked other AdditionalSuffix (Text text) = (refl, refl, refl, refl, refl)
+split-sets asked other Separator (Byte byte) = (refl, refl, refl, refl, refl)
+split-sets asked other choice value = (refl, refl, refl, refl, refl)
 
-pub looks-sets : Sets follow_by (λ asked. asked.looks) counts_looks
-looks-sets asked other HowOften (Looks looks) = (λ is. absurd (cc), λ is. refl)
-looks-sets asked other Follow (Following followed) = (λ is. refl, λ is. absurd (cc))
-looks-sets asked other choice value = (λ is. refl, λ is. absurd (cc))
+pub csplit-sets : (asked other : Style) (choice : Choice) (value : Meant)
+    → ((csplit_by asked choice value).prefix ≡ (if names_prefix choice value then (csplit_by other choice value).prefix else asked.prefix))
+    × ((csplit_by asked choice value).digits ≡ (if counts_digits choice value then (csplit_by other choice value).digits else asked.digits))
+    × ((csplit_by asked choice value).keep ≡ (if keeps_files choice then true else asked.keep))
+    × ((csplit_by asked choice value).quiet ≡ (if drops_sizes choice then true else asked.quiet))
+    × ((csplit_by asked choice value).elide ≡ (if elides_files choice then true else asked.elide))
+    × ((csplit_by asked choice value).suppress ≡ (if leaves_lines_out choice then true else asked.suppress))
+csplit-sets asked other Prefix (Text text) = (refl, refl, refl, refl, refl, refl)
+csplit-sets asked other Digits (Width digits) = (refl, refl, refl, refl, refl, refl)
+csplit-sets asked other choice value = (refl, refl, refl, refl, refl, refl)
 
-pub spells-sets : Sets split_by (λ asked. asked.alphabet) (λ choice value. spells choice)
-spells-sets asked other NumericSuffixes value = (λ is. absurd (cc), λ is. refl)
-spells-sets asked other HexSuffixes value = (λ is. absurd (cc), λ is. refl)
-spells-sets asked other SuffixLength (Width width) = (λ is. refl, λ is. absurd (cc))
-spells-sets asked other AdditionalSuffix (Text text) = (λ is. refl, λ is. absurd (cc))
-spells-sets asked other Separator (Byte byte) = (λ is. refl, λ is. absurd (cc))
-spells-sets asked other choice value = (λ is. refl, λ is. absurd (cc))
+pub append-sets : (old : Mode) (choice : Choice) (value : Meant) → mode_by old choice value ≡ (if appends choice then mode.Append else old)
+append-sets old Append value = refl
+append-sets old choice value = refl
 
-pub widens-sets : Sets split_by (λ asked. asked.width) widens
-widens-sets asked other SuffixLength (Width width) = (λ is. absurd (cc), λ is. refl)
-widens-sets asked other AdditionalSuffix (Text text) = (λ is. refl, λ is. absurd (cc))
-widens-sets asked other Separator (Byte byte) = (λ is. refl, λ is. absurd (cc))
-widens-sets asked other choice value = (λ is. refl, λ is. absurd (cc))
+-- what an option without a value asks is so where it is given
 
-pub separates-sets : Sets split_by (λ asked. asked.delim) separates
-separates-sets asked other Separator (Byte byte) = (λ is. absurd (cc), λ is. refl)
-separates-sets asked other SuffixLength (Width width) = (λ is. refl, λ is. absurd (cc))
-separates-sets asked other AdditionalSuffix (Text text) = (λ is. refl, λ is. absurd (cc))
-separates-sets asked other choice value = (λ is. refl, λ is. absurd (cc))
+either_fixed : {A : Type 0} (one rest : Bool) (fixed other : A) → (if rest then fixed else (if one then fixed else other)) ≡ (if one || rest then fixed else other)
+either_fixed true true fixed other = refl
+either_fixed one rest fixed other = refl
 
-pub ending-sets : Sets split_by (λ asked. asked.ending) gives_ending
-ending-sets asked other AdditionalSuffix (Text text) = (λ is. absurd (cc), λ is. refl)
-ending-sets asked other SuffixLength (Width width) = (λ is. refl, λ is. absurd (cc))
-ending-sets asked other Separator (Byte byte) = (λ is. refl, λ is. absurd (cc))
-ending-sets asked other choice value = (λ is. refl, λ is. absurd (cc))
+pub given_anywhere : {A C : Type 0} (by : A → Choice → Meant → A) (part : A → C) (test : Choice → Bool) (fixed : C)
+    → ((asked : A) (choice : Choice) (value : Meant) → part (by asked choice value) ≡ (if test choice then fixed else part asked))
+    → (asked : A) (options : List GivenOption) → part (asked_by by asked options) ≡ (if has test options then fixed else part asked)
+given_anywhere by part test fixed sets asked [] = refl
+given_anywhere by part test fixed sets asked (option ∷ options) =
+    given_anywhere by part test fixed sets (by asked option.choice option.value) options
+    ∙ ap (λ those. if has test options then fixed else those) (sets asked option.choice option.value)
+    ∙ either_fixed (test option.choice) (has test options) fixed (part asked)
 
-pub prefix-sets : Sets csplit_by (λ asked. asked.prefix) names_prefix
-prefix-sets asked other Prefix (Text text) = (λ is. absurd (cc), λ is. refl)
-prefix-sets asked other Digits (Width digits) = (λ is. refl, λ is. absurd (cc))
-prefix-sets asked other choice value = (λ is. refl, λ is. absurd (cc))
+pub so_where_given : {A : Type 0} (by : A → Choice → Meant → A) (part : A → Bool) (test : Choice → Bool)
+    → ((asked : A) (choice : Choice) (value : Meant) → part (by asked choice value) ≡ (if test choice then true else part asked))
+    → (asked : A) → part asked ≡ false → (options : List GivenOption) → part (asked_by by asked options) ≡ has test options
+so_where_given by part test sets asked not options = given_anywhere by part test true sets asked options ∙ itself (has test options) not where
+  itself : (is : Bool) {other : Bool} → other ≡ false → (if is then true else other) ≡ is
+  itself true not = refl
+  itself false not = not
 
-pub digits-sets : Sets csplit_by (λ asked. asked.digits) counts_digits
-digits-sets asked other Digits (Width digits) = (λ is. absurd (cc), λ is. refl)
-digits-sets asked other Prefix (Text text) = (λ is. refl, λ is. absurd (cc))
-digits-sets asked other choice value = (λ is. refl, λ is. absurd (cc))
-
--- an option without a value is asked for where it is given
-
-later : (one first rest : Bool) → (first || one) || rest ≡ one || (first || rest)
-later true true rest = refl
-later true false rest = refl
-later false true rest = refl
-later false false rest = refl
-
-pub given_anywhere : {A : Type 0} (by : A → Choice → Meant → A) (part : A → Bool) (test : Choice → Bool)
-    → ((asked : A) (choice : Choice) (value : Meant) → part (by asked choice value) ≡ test choice || part asked)
-    → (asked : A) (options : List GivenOption) → part (asked_by by asked options) ≡ part asked || has test options
-given_anywhere by part test says asked [] = sym (or_false (part asked))
-given_anywhere by part test says asked (option ∷ options) =
-    given_anywhere by part test says (by asked option.choice option.value) options
-    ∙ ap (λ those. those || has test options) (says asked option.choice option.value)
-    ∙ later (part asked) (test option.choice) (has test options)
-
-pub says_retry : (asked : FollowOptions) (choice : Choice) (value : Meant) → (follow_by asked choice value).retry ≡ retries choice || asked.retry
-says_retry asked Follow (Following followed) = refl
-says_retry asked HowOften (Looks looks) = refl
-says_retry asked choice value = refl
-
-pub says_style : (asked : Style) (choice : Choice) (value : Meant)
-    → ((csplit_by asked choice value).keep ≡ keeps_files choice || asked.keep)
-    × ((csplit_by asked choice value).quiet ≡ drops_sizes choice || asked.quiet)
-    × ((csplit_by asked choice value).elide ≡ elides_files choice || asked.elide)
-    × ((csplit_by asked choice value).suppress ≡ leaves_lines_out choice || asked.suppress)
-says_style asked Digits (Width digits) = (refl, refl, refl, refl)
-says_style asked Prefix (Text text) = (refl, refl, refl, refl)
-says_style asked choice value = (refl, refl, refl, refl)
-
-pub says_leave_out : (asked : SplitAsked) (choice : Choice) (value : Meant) → (split_by asked choice value).elide ≡ elides_files choice || asked.elide
-says_leave_out asked SuffixLength (Width width) = refl
-says_leave_out asked AdditionalSuffix (Text text) = refl
-says_leave_out asked Separator (Byte byte) = refl
-says_leave_out asked choice value = refl
-
-says_zero : (asked : EndsAsked) (choice : Choice) (value : Meant) → (ends_by asked choice value).delim ≡ (if ends_with_zero choice then 0 else asked.delim)
-says_zero asked Lines (Counted count) = refl
-says_zero asked Bytes (Counted count) = refl
-says_zero asked choice value = refl
-
-either_zero : (one rest : Bool) (delim : ℕ) → (if rest then 0 else (if one then 0 else delim)) ≡ (if one || rest then 0 else delim)
-either_zero true true delim = refl
-either_zero true false delim = refl
-either_zero false true delim = refl
-either_zero false false delim = refl
-
-pub zero_given : (options : List GivenOption) (asked : EndsAsked) → (asked_by ends_by asked options).delim ≡ (if has ends_with_zero options then 0 else asked.delim)
-zero_given [] asked = refl
-zero_given (option ∷ options) asked =
-    zero_given options (ends_by asked option.choice option.value)
-    ∙ ap (λ (delim : ℕ). if has ends_with_zero options then 0 else delim) (says_zero asked option.choice option.value)
-    ∙ either_zero (ends_with_zero option.choice) (has ends_with_zero options) asked.delim
-
-abbrev pub is_append : Mode → Bool
-is_append mode.Append = true
-is_append mode.Fresh = false
-
-pub says_append : (old : Mode) (choice : Choice) (value : Meant) → is_append (mode_by old choice value) ≡ appends choice || is_append old
-says_append old Append value = refl
-says_append old choice value = refl
-
-pub append_is : (chosen : Mode) → is_append chosen ≡ true → chosen ≡ mode.Append
-append_is mode.Append is = refl
-append_is mode.Fresh is = absurd (cc)
+pub append_is : (is : Bool) → ((if is then mode.Append else mode.Fresh) ≡ mode.Append) ↔ (is ≡ true)
+append_is true = (λ _. refl, λ _. refl)
+append_is false = (λ same. absurd (cc), λ is. absurd (cc))
 
 -- at most one way to split
 

@@ -1,11 +1,10 @@
 -- Lemmas on what options and operands ask of `csplit`.
-use Rattle.std.proofs.Common.{◌≡◌, ◌-◌, ◌<◌, ◌≤◌, arith, get_or, take, drop, length, map, List, [], ◌∷◌, Result, Ok, Err, IfOk, IfErr, ◌⊎◌, inl, inr, refl, sym, ◌∙◌, ap}
+use Rattle.std.proofs.Common.{◌≡◌, ◌-◌, ◌≤◌, arith, get_or, take, drop, length, map, List, [], ◌∷◌, Result, Ok, Err, IfOk, IfErr, ◌⊎◌, inl, inr, sym, ◌∙◌, ap}
 use Rattle.std.proofs.lemmas.List.{take_rest}
 use Rattle.std.proofs.lemmas.Result.{IfOk-weaker}
 use Rattle.operand_core.specs.Style.{Style}
 use Rattle.ports_core.specs.declared.fault.Fault.{Fault}
-use Rattle.ports_core.specs.declared.fault.Fault.TheVariants.{Memory, Usage}
-use Rattle.ports_core.specs.declared.fault.UsageKind.TheVariants.{MissingOperand}
+use Rattle.ports_core.specs.declared.fault.Fault.TheVariants.{Memory}
 use Rattle.words_core.specs.declared.spelled.Chosen.{Chosen}
 use Rattle.words_core.specs.declared.spelled.Operand.{Operand}
 use Rattle.words_core.specs.CsplitAsked.{CsplitAsked}
@@ -24,32 +23,20 @@ file_first style none [] some more = absurd (omega arith)
 file_first style none (file ∷ []) some more = absurd (omega arith)
 file_first style none (file ∷ operand ∷ operands) some more = ap (λ rest. Ok (asked_with style file.text.now (map operand_seen rest))) (sym (take_rest (file ∷ operand ∷ operands) 1))
 
--- one operand alone is refused
-too_few : (style : Style) (all : List Operand) → length all < 2 → asked_of style (map operand_seen all) ≡ Err (Usage MissingOperand 0)
-too_few style [] few = refl
-too_few style (file ∷ []) few = refl
-too_few style (file ∷ operand ∷ operands) few = absurd (omega arith)
-
-pub lacks_operand : (given : Given) (all : List Operand) → map operand_seen all ≡ given.operands → length all < 2
-    → csplit_asked given ≡ Err (Usage MissingOperand 0)
-lacks_operand given all these few = ap (asked_of (style_of given.options)) (sym these) ∙ too_few (style_of given.options) all few
-
-refused : (meant : Result CsplitAsked Fault) (one : CsplitAsked) (result : Result CsplitAsked Fault) → meant ≡ Ok one
+refused : {meant : Result CsplitAsked Fault} (one : CsplitAsked) (result : Result CsplitAsked Fault) → meant ≡ Ok one
     → IfErr result (λ fault. (fault ≡ Memory) ⊎ HasBadOperand one fault) → IfErr result (IsRefused HasBadOperand meant)
-refused meant one (Ok settings) is bad = tt
-refused meant one (Err fault) is (inl memory) = inl memory
-refused meant one (Err fault) is (inr bad) = inr (inr (one, is, bad))
+refused one (Ok settings) is bad = tt
+refused one (Err fault) is (inl memory) = inl memory
+refused one (Err fault) is (inr bad) = inr (inr (one, is, bad))
 
 -- what a call returns for the style of these options and for these operands is what is asked, or why it is refused
-pub settled : (given : Given) (options : List Chosen) (none : Operand) (all : List Operand) (style : Style) (result : Result CsplitAsked Fault)
+pub settled : (given : Given) (options : List Chosen) (none : Operand) (all : List Operand) {style : Style} (result : Result CsplitAsked Fault)
     → map option_seen options ≡ given.options → map operand_seen all ≡ given.operands → style ≡ style_of (map option_seen options)
-    → 1 ≤ length all → 1 ≤ length (take (length all - 1) (drop 1 all))
-    → IfOk result (λ settings. settings ≡ asked_first style none all)
+    → 1 ≤ length all → 1 ≤ length (take (length all - 1) (drop 1 all)) → IfOk result (λ settings. settings ≡ asked_first style none all)
     → IfErr result (λ fault. (fault ≡ Memory) ⊎ HasBadOperand (asked_first style none all) fault)
     → IfOk result (λ settings. csplit_asked given ≡ Ok settings) × IfErr result (IsRefused HasBadOperand (csplit_asked given))
-settled given options none all style result are these is some more equal bad =
+settled given options none all {style} result are these is some more equal bad =
     let asked : csplit_asked given ≡ Ok (asked_first style none all) =
     ap (λ operands. asked_of (style_of given.options) operands) (sym these)
-    ∙ ap (λ style. asked_of style (map operand_seen all)) (ap style_of (sym are) ∙ sym is)
-    ∙ file_first style none all some more in
-    (IfOk-weaker result _ _ (λ settings is. asked ∙ ap (λ those. Ok those) (sym is)) equal, refused (csplit_asked given) _ result asked bad)
+    ∙ ap (λ style. asked_of style (map operand_seen all)) (ap style_of (sym are) ∙ sym is) ∙ file_first style none all some more in
+    (IfOk-weaker result _ _ (λ settings is. asked ∙ ap (λ those. Ok those) (sym is)) equal, refused _ result asked bad)

@@ -4,7 +4,7 @@ pub mod ChoiceLemmas
 pub mod CsplitLemmas
 pub mod FaultLemmas
 pub mod LimitLemmas
-pub mod OperandLemmas
+pub mod MeaningLemmas
 pub mod SpellingLemmas
 pub mod ValueLemmas
 pub mod WordsLemmas

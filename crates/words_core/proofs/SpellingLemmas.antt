@@ -36,9 +36,9 @@ given_before-onward front rest (Ok meaning) = given_before-joined front meaning.
 given_before-onward front rest (Err fault) = refl
 
 -- one word more was read
-pub went_on : (front given : Given) (rest : State → Result Given Fault) (meant : Result Meaning Fault) (next : State) → before front meant ≡ Ok (record { given = given; next = next })
+pub went_on : (front : Given) {given : Given} (rest : State → Result Given Fault) (meant : Result Meaning Fault) {next : State} → before front meant ≡ Ok (record { given = given; next = next })
     → given_before front (onward rest meant) ≡ given_before given (rest next)
-went_on front given rest meant next is = given_before-onward front rest meant ∙ ap (onward rest) is
+went_on front rest meant is = given_before-onward front rest meant ∙ ap (onward rest) is
 
 -- the loop over words: what is left of them
 
@@ -50,52 +50,51 @@ pub none_left : (left : List (Bor (List ℕ))) → length left < 1 → map (λ w
 none_left [] none = refl
 none_left (word ∷ words) none = absurd (omega arith)
 
-pub one_more : (rows : List OptionRow) (none : Bor (List ℕ)) (left : List (Bor (List ℕ))) (place : ℕ) (state next : State) (front given : Given) (whole : Result Given Fault) → 1 ≤ length left
+pub one_more : (rows : List OptionRow) (none : Bor (List ℕ)) (left : List (Bor (List ℕ))) (place : ℕ) (state : State) {next : State} (front : Given) {given : Given} (whole : Result Given Fault) → 1 ≤ length left
     → before front (meaning_of rows state place (get_or left 0 none).now) ≡ Ok (record { given = given; next = next })
     → given_before front (spelled rows (map (λ word. word.now) left) place state) ≡ whole
     → given_before given (spelled rows (map (λ word. word.now) (take (length left - 1) (drop 1 left))) (place + 1) next) ≡ whole
-one_more rows none left place state next front given whole some is spells =
-    sym (went_on front given (spelled rows (map (λ word. word.now) (take (length left - 1) (drop 1 left))) (place + 1)) (meaning_of rows state place (get_or left 0 none).now) next is)
-    ∙ ap (λ words. given_before front (spelled rows words place state)) (sym (front_and_rest none left some))
-    ∙ spells
+one_more rows none left place state front whole some is spells =
+    sym (went_on front (spelled rows (map (λ word. word.now) (take (length left - 1) (drop 1 left))) (place + 1)) (meaning_of rows state place (get_or left 0 none).now) is)
+    ∙ ap (λ words. given_before front (spelled rows words place state)) (sym (front_and_rest none left some)) ∙ spells
 
 at_end : (rows : List OptionRow) (left : List (Bor (List ℕ))) (place : ℕ) (state : State) (given : Given) (whole : Result Given Fault) → length left < 1
     → given_before given (spelled rows (map (λ word. word.now) left) place state) ≡ whole → whole ≡ given_before given (ended state)
 at_end rows left place state given whole none spells = sym spells ∙ ap (λ words. given_before given (spelled rows words place state)) (none_left left none)
 
-pub lacks_value : (rows : List OptionRow) (left : List (Bor (List ℕ))) (place : ℕ) (state : State) (given : Given) (whole : Result Given Fault) (choice : Choice) (kind : Kind) (option : ℕ) → length left < 1
+pub lacks_value : (rows : List OptionRow) (left : List (Bor (List ℕ))) (place : ℕ) {state : State} (given : Given) (whole : Result Given Fault) (choice : Choice) (kind : Kind) (option : ℕ) → length left < 1
     → given_before given (spelled rows (map (λ word. word.now) left) place state) ≡ whole → state ≡ Awaiting choice kind option → Reads whole (Err (Usage MissingValue option))
-lacks_value rows left place state given whole choice kind option none spells is = inr (at_end rows left place state given whole none spells ∙ ap (λ those. given_before given (ended those)) is)
+lacks_value rows left place {state} given whole choice kind option none spells is = inr (at_end rows left place state given whole none spells ∙ ap (λ those. given_before given (ended those)) is)
 
-pub given_before-nothing : (given : Given) (meant : Result Given Fault) → given ≡ nothing → given_before given meant ≡ meant
-given_before-nothing given meant none = ap (λ front. given_before front meant) none ∙ same meant where
+pub given_before-nothing : {given : Given} {meant : Result Given Fault} → given ≡ nothing → given_before given meant ≡ meant
+given_before-nothing {meant} none = ap (λ front. given_before front meant) none ∙ same meant where
   same : (meant : Result Given Fault) → given_before nothing meant ≡ meant
   same (Ok more) = refl
   same (Err fault) = refl
 
-pub one_place_more : (left : List (Bor (List ℕ))) (place total : ℕ) → 1 ≤ length left → place + length left ≡ total → place + 1 + length (take (length left - 1) (drop 1 left)) ≡ total
-one_place_more [] place total some is = absurd (omega arith)
-one_place_more (word ∷ words) place total some is = ap (λ (rest : List (Bor (List ℕ))). place + 1 + length rest) (take_rest (word ∷ words) 1) ∙ omega arith
+pub one_place_more : (left : List (Bor (List ℕ))) (place : ℕ) {total : ℕ} → 1 ≤ length left → place + length left ≡ total → place + 1 + length (take (length left - 1) (drop 1 left)) ≡ total
+one_place_more [] place some is = absurd (omega arith)
+one_place_more (word ∷ words) place some is = ap (λ (rest : List (Bor (List ℕ))). place + 1 + length rest) (take_rest (word ∷ words) 1) ∙ omega arith
 
 -- a fault among the first words, whatever follows them
 
-pub of_more : (given : Given) (meant : Result Given Fault) (fault : Fault) → given_before given meant ≡ Err fault → meant ≡ Err fault
-of_more given (Ok more) fault is = absurd (cc)
-of_more given (Err other) fault is = is
+pub of_more : (given : Given) (meant : Result Given Fault) {fault : Fault} → given_before given meant ≡ Err fault → meant ≡ Err fault
+of_more given (Ok more) is = absurd (cc)
+of_more given (Err other) is = is
 
-at_the_end : (state : State) (more : List (List ℕ)) (rows : List OptionRow) (place : ℕ) (kind : UsageKind) (word : ℕ) → ended state ≡ Err (Usage kind word) → (kind ≡ MissingValue → ⊥) → spelled rows more place state ≡ Err (Usage kind word)
-at_the_end (Awaiting choice awaited option) more rows place kind word is other = absurd (other (cc))
-at_the_end state more rows place kind word is other = absurd (cc)
+at_the_end : (state : State) (more : List (List ℕ)) (rows : List OptionRow) (place : ℕ) {kind : UsageKind} (word : ℕ) → ended state ≡ Err (Usage kind word) → (kind ≡ MissingValue → ⊥) → spelled rows more place state ≡ Err (Usage kind word)
+at_the_end (Awaiting choice awaited option) more rows place word is other = absurd (other (cc))
+at_the_end state more rows place word is other = absurd (cc)
 
 still_told : (first more : List (List ℕ)) (rows : List OptionRow) (place : ℕ) (meant : Result Meaning Fault) (kind : UsageKind) (word : ℕ)
     → ((state : State) → spelled rows first (place + 1) state ≡ Err (Usage kind word) → spelled rows (first ++ more) (place + 1) state ≡ Err (Usage kind word))
     → onward (spelled rows first (place + 1)) meant ≡ Err (Usage kind word) → onward (spelled rows (first ++ more) (place + 1)) meant ≡ Err (Usage kind word)
 still_told first more rows place (Ok meaning) kind word rest is =
-    ap (given_before meaning.given) (rest meaning.next (of_more meaning.given (spelled rows first (place + 1) meaning.next) (Usage kind word) is))
+    ap (given_before meaning.given) (rest meaning.next (of_more meaning.given (spelled rows first (place + 1) meaning.next) is))
 still_told first more rows place (Err fault) kind word rest is = is
 
-pub told_whatever_follows : (first more : List (List ℕ)) (rows : List OptionRow) (place : ℕ) (state : State) (kind : UsageKind) (word : ℕ) → (kind ≡ MissingValue → ⊥)
+pub told_whatever_follows : (first more : List (List ℕ)) (rows : List OptionRow) (place : ℕ) (state : State) {kind : UsageKind} (word : ℕ) → (kind ≡ MissingValue → ⊥)
     → spelled rows first place state ≡ Err (Usage kind word) → spelled rows (first ++ more) place state ≡ Err (Usage kind word)
-told_whatever_follows [] more rows place state kind word other is = at_the_end state more rows place kind word is other
-told_whatever_follows (front ∷ first) more rows place state kind word other is =
-    still_told first more rows place (meaning_of rows state place front) kind word (λ next. told_whatever_follows first more rows (place + 1) next kind word other) is
+told_whatever_follows [] more rows place state word other is = at_the_end state more rows place word is other
+told_whatever_follows (front ∷ first) more rows place state {kind} word other is =
+    still_told first more rows place (meaning_of rows state place front) kind word (λ next. told_whatever_follows first more rows (place + 1) next word other) is

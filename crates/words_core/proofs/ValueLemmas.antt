@@ -12,65 +12,62 @@ use Rattle.words_core.specs.declared.table.Takes.TheVariants as takes
 use Rattle.words_core.specs.declared.spelling.State.TheVariants.{Reading}
 use Rattle.words_core.specs.Table.{OptionRow, option_named}
 use Rattle.words_core.specs.Value.{Meant, value_in}
-use Rattle.words_core.specs.Given.{bare, nothing, one_option}
+use Rattle.words_core.specs.Given.{bare, nothing}
 use Rattle.words_core.specs.Spelling.{Meaning, after_equals, awaiting, before, given_before, cluster, dashed, is_equals, lettered, long, mixed, named, onward, said, spelled}
 use Rattle.words_core.specs.Laws.{Gives, IsLetter, IsName, IsSwitch, takes_none}
 use Rattle.words_core.proofs.SpellingLemmas.{given_before-nothing, given_before-onward}
 
 -- a letter
 
-by_its_letter : (rows : List OptionRow) (letter : ℕ) (choice : Choice) (kind : Kind) (value : List ℕ) (place : ℕ) → IsLetter rows letter choice kind
-    → mixed rows place (45 ∷ letter ∷ value) ≡ lettered place value (cluster rows place value) (Some (choice, takes.Value kind))
-by_its_letter rows letter choice kind value place is =
-    cond-false (letter == 45) (dashed rows place value) (cluster rows place (letter ∷ value)) (ne_eqb letter 45 is.no_hyphen)
-    ∙ ap (lettered place value (cluster rows place value)) (cond-true (nat_lt letter 128) (option_named rows (45 ∷ letter ∷ [])) None (lt-ltb letter 128 is.ascii) ∙ is.named)
+by_its_letter : (rows : List OptionRow) (letter : ℕ) {choice : Choice} {takes : Takes} (value : List ℕ) (place : ℕ)
+    → letter < 128 → letter ≢ 45 → option_named rows (45 ∷ letter ∷ []) ≡ Some (choice, takes)
+    → mixed rows place (45 ∷ letter ∷ value) ≡ lettered place value (cluster rows place value) (Some (choice, takes))
+by_its_letter rows letter value place ascii no_hyphen found =
+    cond-false (letter == 45) (dashed rows place value) (cluster rows place (letter ∷ value)) (ne_eqb letter 45 no_hyphen)
+    ∙ ap (lettered place value (cluster rows place value)) (cond-true (nat_lt letter 128) (option_named rows (45 ∷ letter ∷ [])) None (lt-ltb letter 128 ascii) ∙ found)
 
 -- one that takes no value
 
 given_bare : (place : ℕ) (rest : List ℕ) (others : Result Meaning Fault) (choice : Choice) (takes : Takes) → takes_none takes ≡ true → lettered place rest others (Some (choice, takes)) ≡ before (bare choice place) others
-given_bare place rest others choice takes.Nothing none = refl
-given_bare place rest others choice (takes.Optional kind) none = refl
 given_bare place rest others choice (takes.Value kind) none = absurd (cc)
+given_bare place rest others choice other none = refl
 
-by_its_switch : (rows : List OptionRow) (letter : ℕ) (choice : Choice) (rest : List ℕ) (place : ℕ) → IsSwitch rows letter choice → mixed rows place (45 ∷ letter ∷ rest) ≡ before (bare choice place) (cluster rows place rest)
-by_its_switch rows letter choice rest place is =
-    cond-false (letter == 45) (dashed rows place rest) (cluster rows place (letter ∷ rest)) (ne_eqb letter 45 is.no_hyphen)
-    ∙ ap (lettered place rest (cluster rows place rest)) (cond-true (nat_lt letter 128) (option_named rows (45 ∷ letter ∷ [])) None (lt-ltb letter 128 is.ascii) ∙ is.named)
-    ∙ given_bare place rest (cluster rows place rest) choice is.takes is.none
+by_its_switch : {rows : List OptionRow} {letter : ℕ} {choice : Choice} (rest : List ℕ) (place : ℕ) → IsSwitch rows letter choice → mixed rows place (45 ∷ letter ∷ rest) ≡ before (bare choice place) (cluster rows place rest)
+by_its_switch {rows} {letter} {choice} rest place is =
+    by_its_letter rows letter rest place is.ascii is.no_hyphen is.named ∙ given_bare place rest (cluster rows place rest) choice is.takes is.none
 
 pub switch_together : (rows : List OptionRow) (letter next : ℕ) (choice : Choice) (rest : List ℕ) (words : List (List ℕ)) (place : ℕ) → IsSwitch rows letter choice → next ≢ 45
     → spelled rows ((45 ∷ letter ∷ next ∷ rest) ∷ words) place Reading ≡ given_before (bare choice place) (spelled rows ((45 ∷ next ∷ rest) ∷ words) place Reading)
 switch_together rows letter next choice rest words place is differs =
-    ap (onward (spelled rows words (place + 1))) (by_its_switch rows letter choice (next ∷ rest) place is)
+    ap (onward (spelled rows words (place + 1))) (by_its_switch (next ∷ rest) place is)
     ∙ sym (given_before-onward (bare choice place) (spelled rows words (place + 1)) (cluster rows place (next ∷ rest)))
     ∙ ap (λ those. given_before (bare choice place) (onward (spelled rows words (place + 1)) those)) (sym (cond-false (next == 45) (dashed rows place rest) (cluster rows place (next ∷ rest)) (ne_eqb next 45 differs)))
 
 pub switch_apart : (rows : List OptionRow) (letter : ℕ) (choice : Choice) (words : List (List ℕ)) (place : ℕ) → IsSwitch rows letter choice
     → spelled rows ((45 ∷ letter ∷ []) ∷ words) place Reading ≡ given_before (bare choice place) (spelled rows words (place + 1) Reading)
-switch_apart rows letter choice words place is = ap (onward (spelled rows words (place + 1))) (by_its_switch rows letter choice [] place is)
+switch_apart rows letter choice words place is = ap (onward (spelled rows words (place + 1))) (by_its_switch [] place is)
 
 pub value_attached : (rows : List OptionRow) (letter : ℕ) (choice : Choice) (kind : Kind) (value : List ℕ) (meant : Meant) (words : List (List ℕ)) (place : ℕ)
     → IsLetter rows letter choice kind → value ≢ [] → value_in kind value ≡ Ok meant
     → Gives rows ((45 ∷ letter ∷ value) ∷ words) place choice meant (spelled rows words (place + 1) Reading)
 value_attached rows letter choice kind [] meant words place is some reads = absurd (some refl)
 value_attached rows letter choice kind (byte ∷ value) meant words place is some reads =
-    ap (onward (spelled rows words (place + 1))) (by_its_letter rows letter choice kind (byte ∷ value) place is ∙ ap (said choice place place) reads)
+    ap (onward (spelled rows words (place + 1))) (by_its_letter rows letter (byte ∷ value) place is.ascii is.no_hyphen is.named ∙ ap (said choice place place) reads)
 
 -- the next word
 
-awaited : (rows : List OptionRow) (choice : Choice) (kind : Kind) (word value : List ℕ) (meant : Meant) (words : List (List ℕ)) (place : ℕ)
+awaited : (rows : List OptionRow) {choice : Choice} (kind : Kind) (word value : List ℕ) {meant : Meant} (words : List (List ℕ)) {place : ℕ}
     → mixed rows place word ≡ awaiting choice kind place → value_in kind value ≡ Ok meant
     → Gives rows (word ∷ value ∷ words) place choice meant (spelled rows words (place + 1 + 1) Reading)
-awaited rows choice kind word value meant words place awaits reads =
+awaited rows {choice} kind word value words {place} awaits reads =
     ap (onward (spelled rows (value ∷ words) (place + 1))) awaits
     ∙ ap (λ those. given_before nothing (onward (spelled rows words (place + 1 + 1)) those)) (ap (said choice place (place + 1)) reads)
-    ∙ given_before-nothing nothing (given_before (one_option choice meant place) (spelled rows words (place + 1 + 1) Reading)) refl
+    ∙ given_before-nothing refl
 
 pub value_after_letter : (rows : List OptionRow) (letter : ℕ) (choice : Choice) (kind : Kind) (value : List ℕ) (meant : Meant) (words : List (List ℕ)) (place : ℕ)
     → IsLetter rows letter choice kind → value_in kind value ≡ Ok meant
     → Gives rows ((45 ∷ letter ∷ []) ∷ value ∷ words) place choice meant (spelled rows words (place + 1 + 1) Reading)
-value_after_letter rows letter choice kind value meant words place is reads =
-    awaited rows choice kind (45 ∷ letter ∷ []) value meant words place (by_its_letter rows letter choice kind [] place is) reads
+value_after_letter rows letter choice kind value meant words place is reads = awaited rows kind (45 ∷ letter ∷ []) value words (by_its_letter rows letter [] place is.ascii is.no_hyphen is.named) reads
 
 -- a long name
 
@@ -85,8 +82,8 @@ place_of_equals (byte ∷ front) rest none here =
 no_place : (front : List ℕ) → list_any is_equals front ≡ false → position_or_len is_equals front ≡ length front
 no_place front none = ap (position_or_len is_equals) (sym (append-nil front)) ∙ place_of_equals front [] none refl
 
-equals_in : (front value : List ℕ) → list_any is_equals front ≡ false → after_equals (front ++ 61 ∷ value) ≡ Some value
-equals_in front value none =
+equals_in : (front : List ℕ) {value : List ℕ} → list_any is_equals front ≡ false → after_equals (front ++ 61 ∷ value) ≡ Some value
+equals_in front {value} none =
     let place = place_of_equals front (61 ∷ value) none refl in
     let below : position_or_len is_equals (front ++ 61 ∷ value) < length (front ++ 61 ∷ value) = rw length-append (omega (arith, place)) in
     cond-false (position_or_len is_equals (front ++ 61 ∷ value) == length (front ++ 61 ∷ value)) None (Some (after_first is_equals (front ++ 61 ∷ value))) (ne_eqb _ _ (λ is. omega (arith, is, below)))
@@ -101,34 +98,33 @@ no_equals_in front none = cond-true (position_or_len is_equals front == length f
 all_name : (front : List ℕ) → list_any is_equals front ≡ false → before_first is_equals front ≡ front
 all_name front none = ap (λ n. take n front) (no_place front none) ∙ take-length front
 
-by_its_name : (rows : List OptionRow) (place : ℕ) (word name : List ℕ) (option : Option (Choice × Takes)) (value : Option (List ℕ)) → before_first is_equals word ≡ name → after_equals word ≡ value → option_named rows name ≡ option
+by_its_name : (rows : List OptionRow) (place : ℕ) (word : List ℕ) {name : List ℕ} {option : Option (Choice × Takes)} {value : Option (List ℕ)} → before_first is_equals word ≡ name → after_equals word ≡ value → option_named rows name ≡ option
     → long rows place word ≡ named place option value
-by_its_name rows place word name option value front rest is =
+by_its_name rows place word {value} front rest is =
     ap (named place (option_named rows (before_first is_equals word))) rest
     ∙ ap (λ those. named place (option_named rows those) value) front ∙ ap (λ those. named place those value) is
 
-long_value : (rows : List OptionRow) (name : List ℕ) (choice : Choice) (kind : Kind) (value : List ℕ) (place : ℕ) → IsName rows name choice kind
+long_value : {rows : List OptionRow} (name : List ℕ) {choice : Choice} {kind : Kind} (value : List ℕ) (place : ℕ) → IsName rows name choice kind
     → mixed rows place (45 ∷ 45 ∷ name ++ 61 ∷ value) ≡ named place (Some (choice, takes.Value kind)) (Some value)
-long_value rows [] choice kind value place is = absurd (is.some refl)
-long_value rows (byte ∷ name) choice kind value place is =
+long_value [] value place is = absurd (is.some refl)
+long_value {rows} (byte ∷ name) value place is =
     let front : List ℕ = 45 ∷ 45 ∷ byte ∷ name in
-    by_its_name rows place (front ++ 61 ∷ value) front (Some (choice, takes.Value kind)) (Some value) (name_in front value is.no_equals) (equals_in front value is.no_equals) is.named
+    by_its_name rows place (front ++ 61 ∷ value) (name_in front value is.no_equals) (equals_in front is.no_equals) is.named
 
-long_name : (rows : List OptionRow) (name : List ℕ) (choice : Choice) (kind : Kind) (place : ℕ) → IsName rows name choice kind
+long_name : {rows : List OptionRow} (name : List ℕ) {choice : Choice} {kind : Kind} (place : ℕ) → IsName rows name choice kind
     → mixed rows place (45 ∷ 45 ∷ name) ≡ awaiting choice kind place
-long_name rows [] choice kind place is = absurd (is.some refl)
-long_name rows (byte ∷ name) choice kind place is =
+long_name [] place is = absurd (is.some refl)
+long_name {rows} (byte ∷ name) place is =
     let front : List ℕ = 45 ∷ 45 ∷ byte ∷ name in
-    by_its_name rows place front front (Some (choice, takes.Value kind)) None (all_name front is.no_equals) (no_equals_in front is.no_equals) is.named
+    by_its_name rows place front (all_name front is.no_equals) (no_equals_in front is.no_equals) is.named
 
 pub value_after_equals : (rows : List OptionRow) (name : List ℕ) (choice : Choice) (kind : Kind) (value : List ℕ) (meant : Meant) (words : List (List ℕ)) (place : ℕ)
     → IsName rows name choice kind → value_in kind value ≡ Ok meant
     → Gives rows ((45 ∷ 45 ∷ name ++ 61 ∷ value) ∷ words) place choice meant (spelled rows words (place + 1) Reading)
 value_after_equals rows name choice kind value meant words place is reads =
-    ap (onward (spelled rows words (place + 1))) (long_value rows name choice kind value place is ∙ ap (said choice place place) reads)
+    ap (onward (spelled rows words (place + 1))) (long_value name value place is ∙ ap (said choice place place) reads)
 
 pub value_after_name : (rows : List OptionRow) (name : List ℕ) (choice : Choice) (kind : Kind) (value : List ℕ) (meant : Meant) (words : List (List ℕ)) (place : ℕ)
     → IsName rows name choice kind → value_in kind value ≡ Ok meant
     → Gives rows ((45 ∷ 45 ∷ name) ∷ value ∷ words) place choice meant (spelled rows words (place + 1 + 1) Reading)
-value_after_name rows name choice kind value meant words place is reads =
-    awaited rows choice kind (45 ∷ 45 ∷ name) value meant words place (long_name rows name choice kind place is) reads
+value_after_name rows name choice kind value meant words place is reads = awaited rows kind (45 ∷ 45 ∷ name) value words (long_name name place is) reads

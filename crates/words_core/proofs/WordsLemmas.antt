@@ -26,27 +26,24 @@ pub names_none : (words : List (Bor (List ℕ))) → length words < 1 → settin
 names_none words none = ap settings_of (none_left words none)
 
 -- what the words after it ask of the tool in this row
-asked : (words : List (Bor (List ℕ))) (none : Bor (List ℕ)) (rows : List ToolRow) (row : ToolRow)
+asked : (words : List (Bor (List ℕ))) (none : Bor (List ℕ)) {rows : List ToolRow} {row : ToolRow}
     → 1 ≤ length words → rows ≡ tools → Some row ≡ row_named rows (get_or words 0 none).now
     → settings_of (texts words) ≡ then_check (given_by row (after_first words)) (settings_for row.tool)
-asked words none rows row some are named =
-    ap settings_of (front_and_rest none words some)
-    ∙ ap (tool_settings (after_first words))
+asked words none {rows} some are named =
+    ap settings_of (front_and_rest none words some) ∙ ap (tool_settings (after_first words))
     (ap (λ rows. row_named rows (get_or words 0 none).now) (sym are) ∙ sym named)
 
-pub refused : (words : List (Bor (List ℕ))) (none : Bor (List ℕ)) (rows : List ToolRow) (row : ToolRow) (fault : Fault)
+pub refused : (words : List (Bor (List ℕ))) (none : Bor (List ℕ)) {rows : List ToolRow} {row : ToolRow} {fault : Fault}
     → 1 ≤ length words → rows ≡ tools → Some row ≡ row_named rows (get_or words 0 none).now
     → Reads (given_by row (after_first words)) (Err fault) → IsRefused HasBadOperands (settings_of (texts words)) fault
-refused words none rows row fault some are named (inl memory) = inl memory
-refused words none rows row fault some are named (inr is) =
-    inr (inl (asked words none rows row some are named ∙ ap (λ given. then_check given (settings_for row.tool)) is))
+refused words none some are named (inl memory) = inl memory
+refused words none {row} some are named (inr is) = inr (inl (asked words none some are named ∙ ap (λ given. then_check given (settings_for row.tool)) is))
 
-pub returned : (words : List (Bor (List ℕ))) (none : Bor (List ℕ)) (rows : List ToolRow) (row : ToolRow) (given : Given) (result : Result Settings Fault)
-    → 1 ≤ length words → rows ≡ tools → Some row ≡ row_named rows (get_or words 0 none).now
-    → given_by row (after_first words) ≡ Ok given
+pub returned : (words : List (Bor (List ℕ))) (none : Bor (List ℕ)) {rows : List ToolRow} {row : ToolRow} {given : Given} (result : Result Settings Fault)
+    → 1 ≤ length words → rows ≡ tools → Some row ≡ row_named rows (get_or words 0 none).now → given_by row (after_first words) ≡ Ok given
     → IfOk result (λ settings. settings_for row.tool given ≡ Ok settings) → IfErr result (IsRefused HasBadOperands (settings_for row.tool given))
     → Settles (settings_of (texts words)) result
-returned words none rows row given result some are named read is bad =
+returned words none {row} {given} result some are named read is bad =
     let same : settings_for row.tool given ≡ settings_of (texts words)
-    = sym (asked words none rows row some are named ∙ ap (λ given. then_check given (settings_for row.tool)) read) in
+    = sym (asked words none some are named ∙ ap (λ given. then_check given (settings_for row.tool)) read) in
     (subst (λ meant. IfOk result (λ settings. meant ≡ Ok settings)) same is, subst (λ meant. IfErr result (IsRefused HasBadOperands meant)) same bad)

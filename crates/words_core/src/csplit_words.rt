@@ -95,14 +95,13 @@ pub fn settle_csplit<'a>(alloc: Global, spelled: &Spelled<'a>) -> Result<CsplitS
     ensures err { IfErr result (IsRefused HasBadOperand (csplit_asked spelled.now)) }
     ensures operands { IfOk result HasRead }
 {
-    let [file, operands @ ..] = spelled.operands.as_slice() else {
-        return Err(Fault::Usage(UsageKind::MissingOperand, 0));
-    };
-    if operands.is_empty() {
-        return Err(Fault::Usage(UsageKind::MissingOperand, 0));
+    match spelled.operands.as_slice() {
+        [file, operands @ ..] if !operands.is_empty() => {
+            let style = choose_style(alloc, &spelled.options)?;
+            read_settings(alloc, style, file.text, operands)
+        }
+        _ => Err(Fault::Usage(UsageKind::MissingOperand, 0)),
     }
-    let style = choose_style(alloc, &spelled.options)?;
-    read_settings(alloc, style, file.text, operands)
 }
 
 /// How files are made, as all options ask for it.

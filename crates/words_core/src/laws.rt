@@ -189,6 +189,7 @@ pub fn ends_options_ask()
 
 /// What the options of `tail` for following ask for: files that are opened once, or names; as many looks as can be, or this many
 /// (POSIX.1-2017, XCU tail; GNU coreutils manual).
+#[tactic(auto, unfolding(crate::specs::Table::tools, seg_core::specs::Count::digits_of))]
 pub fn tail_options_ask()
     ensures follows { settings_of (codes "tail" ∷ codes "-f" ∷ codes "f" ∷ []) ≡ Ok (Settings.Tail (following_as (Some Followed.Descriptor) (2 ^ 63 - 1))) }
     ensures long { settings_of (codes "tail" ∷ codes "--follow" ∷ codes "f" ∷ []) ≡ Ok (Settings.Tail (following_as (Some Followed.Descriptor) (2 ^ 63 - 1))) }

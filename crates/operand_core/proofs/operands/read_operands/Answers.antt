@@ -10,14 +10,14 @@ returns-then-is_empty-clause-err c = no_operand c.args.words.now (sym c.if-is_em
 
 pub returns-in-Err-clause-err : goal.returns-in-Err-clause-err
 returns-in-Err-clause-err c =
-    ends_at c.args.words.now c.loop-left.list.items c.loop-left.least c.loop-left.left.now c.as_bytes.result.now _ c.read_target.result c.in-Err.kind c.loop-left.invariant c.in-len1-up.len_at_least c.as_bytes.ensures.value c.read_target.ensures c.in-Err.is
+    ends_at c.loop-left.left.now _ c.loop-left.invariant c.in-len1-up.len_at_least c.as_bytes.ensures.value c.read_target.ensures c.in-Err.is
 
 pub returns-in-Err-keep-clause-err : goal.returns-in-Err-keep-clause-err
 returns-in-Err-keep-clause-err c = rw c.in-Err-keep.ensures.err (no_memory _)
 
 pub loop-left-preserved : goal.loop-left-preserved
 loop-left-preserved c =
-    reads_next c.args.words.now c.loop-left.list.items c.loop-left.least c.loop-left.left.now c.as_bytes.result.now _ c.read_target.result c.in-Ok.target _ c.times_before-times.result.0 c.times_before-times.result.1 c.keep.new.list.items _ c.least_after-least.result
+    reads_next c.loop-left.left.now _
     c.loop-left.invariant c.in-len1-up.len_at_least c.as_bytes.ensures.value c.read_target.ensures c.in-Ok.is (take_rest c.loop-left.left.now 1) c.times_before-times.ensures.says c.times_before-times.ensures.within
     c.in_default-keep.ensures.ok (take_rest _ c.times_before-times.result.1) c.least_after-least.ensures
 

@@ -5,7 +5,7 @@ pub returns-in_default-clause-says : goal.returns-in_default-clause-says
 returns-in_default-clause-says c = no_first c.args.words.now c.in_default.len_below
 
 pub returns-in-Some-clause-says : goal.returns-in-Some-clause-says
-returns-in-Some-clause-says c = first_says c.args.words.now c.as_bytes.result.now _ c.read_again.result c.in-Some.times c.in-len1-up.len_at_least c.as_bytes.ensures.value c.read_again.ensures c.in-Some.is
+returns-in-Some-clause-says c = first_says c.args.words.now _ c.in-len1-up.len_at_least c.as_bytes.ensures.value c.read_again.ensures c.in-Some.is
 
 pub returns-in-None-clause-says : goal.returns-in-None-clause-says
-returns-in-None-clause-says c = first_is_other c.args.words.now c.as_bytes.result.now _ c.read_again.result c.in-len1-up.len_at_least c.as_bytes.ensures.value c.read_again.ensures c.in-None.is
+returns-in-None-clause-says c = first_is_other c.args.words.now _ c.in-len1-up.len_at_least c.as_bytes.ensures.value c.read_again.ensures c.in-None.is

@@ -8,13 +8,13 @@ loop-middle-preserved c =
     elim c.if-contains.branch [
       | then-contains w ↦ record {
         places = ap length w.all-is ∙ w.absorb.ensures.places ∙ c.loop-middle.invariant.places;
-        again = subst (Again c.args.ends.now c.args.item.now (c.loop-middle.middle + 1)) (sym w.all-is) (again_more _ _ _ c.loop-middle.all _ _ c.loop-middle.invariant.again (cc) w.row.ensures.value w.row.ensures.forward w.absorb.ensures.exact);
+        again = subst (Again c.args.ends.now c.args.item.now (c.loop-middle.middle + 1)) (sym w.all-is) (again_more _ _ c.loop-middle.invariant.again (cc) w.row.ensures.value w.row.ensures.forward w.absorb.ensures.exact);
       }
       | else-contains w ↦ record {
         places = ap length w.all-is ∙ c.loop-middle.invariant.places;
-        again = subst (Again c.args.ends.now c.args.item.now (c.loop-middle.middle + 1)) (sym w.all-is) (again_skip _ _ _ c.loop-middle.all c.loop-middle.invariant.again (cc));
+        again = subst (Again c.args.ends.now c.args.item.now (c.loop-middle.middle + 1)) (sym w.all-is) (again_skip _ _ c.loop-middle.invariant.again (cc));
       }
     ]
 
 pub returns-clause-exact : goal.returns-clause-exact
-returns-clause-exact c = again_ends _ _ _ _ c.loop-middle.invariant.again (omega arith)
+returns-clause-exact c = again_ends _ _ c.loop-middle.invariant.again (omega arith)

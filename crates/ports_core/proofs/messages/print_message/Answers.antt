@@ -3,7 +3,7 @@ use Rattle.ports_core.proofs.MessageLemmas.{says_on, says_memory_on}
 use Rattle.ports_core.proofs.messages.print_message.Goals as goal
 
 pub returns-in-Ok : goal.returns-in-Ok
-returns-in-Ok g c text is = says_on _ _ text _ _ _ (c.deref.ensures.value ∙ subst (λ line. IfOk line (λ bytes. bytes.items ≡ text)) c.in-Ok.is is) c.print.ensures
+returns-in-Ok g c text is = says_on _ (c.deref.ensures.value ∙ subst (λ line. IfOk line (λ bytes. bytes.items ≡ text)) c.in-Ok.is is) c.print.ensures
 
 pub returns-in-Err : goal.returns-in-Err
-returns-in-Err g c text is = says_memory_on _ _ text _ _ _ c.memory_exhausted.ensures c.print-in-Err.ensures
+returns-in-Err g c text is = says_memory_on _ text c.memory_exhausted.ensures c.print-in-Err.ensures

@@ -3,12 +3,12 @@ use Rattle.ports_core.proofs.SweepLemmas.{none_swept, sweep_on, sweep_past}
 use Rattle.ports_core.proofs.sweep.sweep_files.Goals as goal
 
 pub loop-place-init : goal.loop-place-init
-loop-place-init g c = none_swept c.args.files.now _ c.requires
+loop-place-init g c = none_swept c.requires
 
 pub loop-place-preserved-then-is_ok : goal.loop-place-preserved-then-is_ok
 loop-place-preserved-then-is_ok g c =
-    sweep_on c.args.files.now c.loop-place.files c.loop-place.place c.loop-place.left _ _ _ _ c.remove.result c.loop-place.invariant (omega (arith, c.loop-place-test.true, c.loop-place.invariant.size)) refl (sym c.is_ok.ensures.value ∙ c.if-is_ok.true) c.remove.ensures.ok
+    sweep_on c.remove.result c.loop-place.invariant (omega (arith, c.loop-place-test.true, c.loop-place.invariant.size)) refl (sym c.is_ok.ensures.value ∙ c.if-is_ok.true) c.remove.ensures.ok
 
 pub loop-place-preserved : goal.loop-place-preserved
 loop-place-preserved g c =
-    sweep_past c.args.files.now c.loop-place.files c.loop-place.place c.loop-place.left _ _ _ _ c.remove.result c.loop-place.invariant (omega (arith, c.loop-place-test.true, c.loop-place.invariant.size)) refl (sym c.is_ok.ensures.value ∙ c.if-is_ok.false) c.remove.ensures.err
+    sweep_past c.remove.result c.loop-place.invariant (omega (arith, c.loop-place-test.true, c.loop-place.invariant.size)) refl (sym c.is_ok.ensures.value ∙ c.if-is_ok.false) c.remove.ensures.err

@@ -9,14 +9,10 @@ use Rattle.words_core.proofs.laws.ends_options_ask.Goals as goal
 pub returns : goal.returns
 unfolding tools
 returns c = record {
-  head_lines = λ value count is.
-      one_given tool.Head head_table 110 choice.Lines choice.Lines kind.Count kind.Count value _ refl refl refl refl (counts_so value count is);
-  head_bytes = λ value count is.
-      one_given tool.Head head_table 99 choice.Bytes choice.Lines kind.Count kind.Count value _ refl refl refl refl (counts_so value count is);
-  tail_lines = λ value count is.
-      one_given tool.Tail tail_table 110 choice.Lines choice.Lines kind.Count kind.Count value _ refl refl refl refl (counts_so value count is);
-  tail_bytes = λ value count is.
-      one_given tool.Tail tail_table 99 choice.Bytes choice.Lines kind.Count kind.Count value _ refl refl refl refl (counts_so value count is);
+  head_lines = λ value count is. one_given tool.Head head_table 110 choice.Lines kind.Count kind.Count value refl refl refl refl (counts_so value is);
+  head_bytes = λ value count is. one_given tool.Head head_table 99 choice.Lines kind.Count kind.Count value refl refl refl refl (counts_so value is);
+  tail_lines = λ value count is. one_given tool.Tail tail_table 110 choice.Lines kind.Count kind.Count value refl refl refl refl (counts_so value is);
+  tail_bytes = λ value count is. one_given tool.Tail tail_table 99 choice.Lines kind.Count kind.Count value refl refl refl refl (counts_so value is);
   head_quiet = refl;
   head_verbose = refl;
   tail_quiet = refl;

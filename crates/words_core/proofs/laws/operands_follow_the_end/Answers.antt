@@ -1,5 +1,14 @@
-use Rattle.words_core.proofs.OperandLemmas.{after_the_end}
+use Rattle.std.proofs.Common.{◌≡◌, ℕ, ◌+◌, List, [], ◌∷◌, Ok, refl, ap}
+use Rattle.words_core.specs.declared.spelling.State.TheVariants.{OnlyOperands}
+use Rattle.words_core.specs.Table.{OptionRow}
+use Rattle.words_core.specs.Given.{nothing, one_operand}
+use Rattle.words_core.specs.Spelling.{given_before, spelled}
+use Rattle.words_core.specs.Laws.{as_operands}
 use Rattle.words_core.proofs.laws.operands_follow_the_end.Goals as goal
 
+only_operands : (rows : List OptionRow) (words : List (List ℕ)) (place : ℕ) → spelled rows words place OnlyOperands ≡ Ok (record { options = []; operands = as_operands place words })
+only_operands rows [] place = refl
+only_operands rows (word ∷ words) place = ap (given_before (one_operand word place)) (only_operands rows words (place + 1))
+
 pub returns : goal.returns
-returns c rows words place = after_the_end rows words place
+returns c rows words place = ap (given_before nothing) (only_operands rows words (place + 1))

@@ -1,5 +1,11 @@
-use Rattle.words_core.proofs.OperandLemmas.{stands_anywhere}
+use Rattle.std.proofs.Common.{◌+◌, ◌==◌, ◌∷◌, refl, ap, if◌then◌else◌}
+use Rattle.std.proofs.lemmas.Bool.{not-true}
+use Rattle.words_core.specs.Given.{one_operand}
+use Rattle.words_core.specs.Spelling.{cluster, dashed, onward, reading, spelled}
 use Rattle.words_core.proofs.laws.operands_may_mix.Goals as goal
 
 pub returns : goal.returns
-returns c rows word words place is = stands_anywhere rows word words place is
+returns c rows (byte ∷ next ∷ rest) words place is =
+    ap (λ test. onward (spelled rows words (place + 1)) (if test then (if next == 45 then dashed rows place rest else cluster rows place (next ∷ rest)) else reading (one_operand (byte ∷ next ∷ rest) place)))
+    (not-true (byte == 45) is)
+returns c rows word words place is = refl

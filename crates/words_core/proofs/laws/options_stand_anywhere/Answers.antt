@@ -1,22 +1,24 @@
-use Rattle.std.proofs.Common.{◌∙◌, ap, sym}
-use Rattle.ports_core.specs.declared.slot.Mode.TheVariants.{Fresh}
+use Rattle.std.proofs.Common.{refl, subst, sym}
+use Rattle.std.specs.Prelude.{◌≡◌, ◌↔◌, true}
+use Rattle.ports_core.specs.declared.slot.Mode.{Mode}
+use Rattle.ports_core.specs.declared.slot.Mode.TheVariants.{Append, Fresh}
 use Rattle.words_core.specs.CsplitWords.{csplit_by, plain}
-use Rattle.words_core.specs.EndsWords.{ten_lines}
+use Rattle.words_core.specs.EndsWords.{ends_by, ten_lines}
 use Rattle.words_core.specs.SplitWords.{no_options, split_by}
-use Rattle.words_core.specs.Laws.{appends, drops_sizes, elides_files, keeps_files, leaves_lines_out}
-use Rattle.words_core.specs.TeeWords.{mode_by, tee_asked}
-use Rattle.words_core.proofs.ChoiceLemmas.{append_is, given_anywhere, is_append, says_append, says_leave_out, says_style, zero_given}
+use Rattle.words_core.specs.Laws.{appends, drops_sizes, elides_files, ends_with_zero, has, keeps_files, leaves_lines_out}
+use Rattle.words_core.specs.TeeWords.{mode_by}
+use Rattle.words_core.proofs.ChoiceLemmas.{append-sets, append_is, csplit-sets, ends-sets, given_anywhere, so_where_given, split-sets}
 use Rattle.words_core.proofs.laws.options_stand_anywhere.Goals as goal
 
 pub returns : goal.returns
 returns c = record {
-  keep = given_anywhere csplit_by (λ asked. asked.keep) keeps_files (λ asked choice value. (says_style asked choice value).0) plain;
-  quiet = given_anywhere csplit_by (λ asked. asked.quiet) drops_sizes (λ asked choice value. (says_style asked choice value).1) plain;
-  elide = given_anywhere csplit_by (λ asked. asked.elide) elides_files (λ asked choice value. (says_style asked choice value).2) plain;
-  suppress = given_anywhere csplit_by (λ asked. asked.suppress) leaves_lines_out (λ asked choice value. (says_style asked choice value).3) plain;
-  leave_out = given_anywhere split_by (λ asked. asked.elide) elides_files says_leave_out no_options;
-  zero = λ options. zero_given options ten_lines;
+  keep = so_where_given csplit_by (λ asked. asked.keep) keeps_files (λ a c v. (csplit-sets a a c v).2) plain refl;
+  quiet = so_where_given csplit_by (λ asked. asked.quiet) drops_sizes (λ a c v. (csplit-sets a a c v).3) plain refl;
+  elide = so_where_given csplit_by (λ asked. asked.elide) elides_files (λ a c v. (csplit-sets a a c v).4) plain refl;
+  suppress = so_where_given csplit_by (λ asked. asked.suppress) leaves_lines_out (λ a c v. (csplit-sets a a c v).5) plain refl;
+  leave_out = so_where_given split_by (λ asked. asked.elide) elides_files (λ a c v. (split-sets a a c v).4) no_options refl;
+  zero = given_anywhere ends_by (λ asked. asked.delim) ends_with_zero 0 (λ a c v. (ends-sets a a c v).2) ten_lines;
   append = λ given.
-      let given_so = given_anywhere mode_by is_append appends says_append Fresh given.options in
-      (λ is. sym given_so ∙ ap is_append is, λ is. append_is (tee_asked given).mode (given_so ∙ is));
+      subst (λ (mode : Mode). (mode ≡ Append) ↔ (has appends given.options ≡ true))
+      (sym (given_anywhere mode_by (λ mode. mode) appends Append append-sets Fresh given.options)) (append_is (has appends given.options));
 }

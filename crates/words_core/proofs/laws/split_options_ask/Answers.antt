@@ -11,14 +11,10 @@ use Rattle.words_core.proofs.laws.split_options_ask.Goals as goal
 pub returns : goal.returns
 unfolding tools digits_of
 returns c = record {
-  lines = λ value size is.
-      one_given tool.Split split_table 108 choice.Lines choice.Lines kind.Size kind.Size value _ refl refl refl refl (sizes_so value size is);
-  bytes = λ value size is.
-      one_given tool.Split split_table 98 choice.Bytes choice.Lines kind.Size kind.Size value _ refl refl refl refl (sizes_so value size is);
-  line_bytes = λ value size is.
-      one_given tool.Split split_table 67 choice.LineBytes choice.Lines kind.Size kind.Size value _ refl refl refl refl (sizes_so value size is);
-  files = λ value files is.
-      one_given tool.Split split_table 110 choice.Files choice.Lines kind.Round kind.Size value (meant.Files files) refl refl refl refl
+  lines = λ value size is. one_given tool.Split split_table 108 choice.Lines kind.Size kind.Size value refl refl refl refl (sizes_so value is);
+  bytes = λ value size is. one_given tool.Split split_table 98 choice.Lines kind.Size kind.Size value refl refl refl refl (sizes_so value is);
+  line_bytes = λ value size is. one_given tool.Split split_table 67 choice.Lines kind.Size kind.Size value refl refl refl refl (sizes_so value is);
+  files = λ value files is. one_given tool.Split split_table 110 choice.Lines kind.Round kind.Size value refl refl refl refl
       (ap (meant.as_value (λ those. meant.Files those)) is);
   digits = refl;
   hexadecimal = refl;

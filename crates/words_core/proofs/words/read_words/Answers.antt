@@ -10,13 +10,12 @@ returns-in_default-clause-err c = inr (inl (names_none _ c.in_default.len_below)
 
 pub returns-in_err-spelled-clause-err : goal.returns-in_err-spelled-clause-err
 returns-in_err-spelled-clause-err c =
-    fault_is _ _ _ c.from_residual.ensures.1
-    (refused _ _ _ _ _ c.in-len1-up.len_at_least c.all_tools.ensures c.in-Some.ensures c.in_err-spelled.ensures)
+    fault_is _ _ _ c.from_residual.ensures.1 (refused _ _ c.in-len1-up.len_at_least c.all_tools.ensures c.in-Some.ensures c.in_err-spelled.ensures)
 
 pub returns : goal.returns
 returns c =
     let there =
-    returned _ _ _ _ _ c.settle.result c.in-len1-up.len_at_least c.all_tools.ensures c.in-Some.ensures c.in_ok-spelled.ensures
+    returned _ _ c.settle.result c.in-len1-up.len_at_least c.all_tools.ensures c.in-Some.ensures c.in_ok-spelled.ensures
     c.settle.ensures.ok c.settle.ensures.err in record {
       ok = there.0;
       err = there.1;

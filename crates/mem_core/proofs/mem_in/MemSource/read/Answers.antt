@@ -7,5 +7,5 @@ pub returns-clause-rest : goal.returns-clause-rest
 returns-clause-rest c =
     let s = c.self.inside in
     let within : s.given + c.min-n.result ≤ length s.bytes.items = omega arith in
-    read_on s.bytes.items s.given c.min-n.result (length c.args.buffer.now) c.max-self-inside.result c.max-self-inside-2.result s.reached s.asked s.last s.breaks_off s.is_open s.is_broken within (omega arith) (omega arith)
+    read_on s.bytes.items s.given c.min-n.result (length c.args.buffer.now) s.reached s.asked s.last s.breaks_off s.is_open s.is_broken within (omega arith) (omega arith)
     ∙ ap (gives (length c.args.buffer.now) c.min-n.result) c.self.view_is

@@ -21,7 +21,7 @@ index-requires c = grind (arith, common_steps)
 
 pub returns-clause-ok : goal.returns-clause-ok
 returns-clause-ok c told =
-    finds_now c.args.self.now c.self.inside.worlds.items c.self.inside.turns c.args.place c.self.inside.names.items c.world_in-world.result.now c.index.result.now c.find-found.result c.self.view_is
+    finds_now c.self.inside.turns c.args.place c.self.view_is
     c.self.invariant.1 (c.world_in-world.ensures ∙ ap (λ worlds. world_at worlds c.self.inside.turns) c.deref.ensures.value)
     (names_within _ _ c.args.place (ap (λ (those : MemWatchState). those.watched) c.self.view_is) c.requires) c.index.ensures
     (subst (λ name. Finds (seen_in c.world_in-world.result.now) name c.find-found.result) (c.as_str.ensures.value ∙ ap (λ (those : Watched). those.name) c.behind-self.view_is) c.find-found.ensures)

@@ -25,8 +25,7 @@ index_mut-requires-2 c = grind (arith, common_steps)
 pub returns-clause-ok : goal.returns-clause-ok
 returns-clause-ok c =
     let within = names_within _ _ c.args.place (ap (λ (those : MemWatchState). those.watched) c.self.view_is) c.requires in
-    reopens_now c.args.self.now c.self.inside.worlds.items c.self.inside.turns c.args.place c.self.inside.names.items c.world_in-world.result.now c.index_mut-2.result.now c.open.new.self c.file_of-file.result c.open.result c.self.view_is
-    c.self.invariant.1 (c.world_in-world.ensures ∙ ap (λ worlds. world_at worlds c.self.inside.turns) c.deref.ensures.value)
-    within c.index_mut-2.ensures.value
+    reopens_now c.self.inside.turns c.self.view_is
+    c.self.invariant.1 (c.world_in-world.ensures ∙ ap (λ worlds. world_at worlds c.self.inside.turns) c.deref.ensures.value) within c.index_mut-2.ensures.value
     (c.file_of-file.ensures ∙ ap (λ name. led_to c.world_in-world.result.now.links name) (c.as_str.ensures.value ∙ ap (λ (those : Watched). those.name) (c.behind-self.view_is ∙ name_there _ c.args.place _ within c.index.ensures ∙ sym (name_there _ c.args.place _ within c.index_mut-2.ensures.value))))
     c.open.ensures.opened c.open.ensures.found

@@ -8,4 +8,4 @@ pub invariant_of-result : goal.invariant_of-result
 invariant_of-result c =
     let first = subst AreSpans c.self.view_is c.self.invariant in
     let item = subst AreSpans c.item.view_is c.item.invariant in
-    rows_whole _ _ _ c.loop-from.invariant.rows (omega (arith, c.loop-from.invariant.count, c.places-from-end.ensures, c.requires)) (λ from to h. after_forward c.args.times c.args.self.now c.args.item.now from to first item)
+    rows_whole _ c.loop-from.invariant.rows (omega (arith, c.loop-from.invariant.count, c.places-from-end.ensures, c.requires)) (λ from to h. after_forward c.args.times from to first item)

@@ -6,7 +6,7 @@ use Rattle.ports_core.proofs.dir_out.DirOutOuts.broken.Goals as goal
 pub returns-in-Some : goal.returns-in-Some
 returns-in-Some g c =
     let next : c.args.slot ≡ suc (suc (c.args.slot - 2)) = omega arith in
-    c.is_broken-in-Some.ensures ∙ ap (λ slot. slot.is_broken) (file_there _ _ _ _ _ _ _ _ _ c.self.view_is next c.deref.ensures.value c.in-Some.ensures.found.0 c.in-Some.ensures.found.1)
+    c.is_broken-in-Some.ensures ∙ ap (λ slot. slot.is_broken) (file_there _ c.self.view_is next c.deref.ensures.value c.in-Some.ensures.found.0 c.in-Some.ensures.found.1)
 
 pub overflow_sub-result-in-None : goal.overflow_sub-result-in-None
 overflow_sub-result-in-None g c = grind (arith, common_steps)

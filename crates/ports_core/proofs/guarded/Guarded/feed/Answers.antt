@@ -14,7 +14,7 @@ pub returns-in_default-clause-cut : goal.returns-in_default-clause-cut
 returns-in_default-clause-cut g c = too_long g.S.Stage.Holds g.S.Stage.Owns g.S.Stage.work g.O.Outs.told c.args.self.now.stage _ (g.met.S.Stage.lawful _) c.args.piece.now
 
 pub returns-in_default-clause-refused : goal.returns-in_default-clause-refused
-returns-in_default-clause-refused g c = long (sym (ap (λ guard. guard.is_over) c.self.view_is) ∙ c.if-self.false) (is_long _ _ (length c.args.piece.now) _ c.self.view_is c.in_default.ensures) refl
+returns-in_default-clause-refused g c = long (sym (ap (λ guard. guard.is_over) c.self.view_is) ∙ c.if-self.false) (is_long (length c.args.piece.now) c.self.view_is c.in_default.ensures) refl
 
 pub returns-in-Ok-clause-holds : goal.returns-in-Ok-clause-holds
 returns-in-Ok-clause-holds g c = grind (arith, common_steps)

@@ -6,4 +6,4 @@ use Rattle.watch_core.proofs.NameLemmas.{readable_watchable}
 use Rattle.watch_core.proofs.dir_watch.DirWatchWatch.read_at.Goals as goal
 
 pub returns-in_default-clause-err : goal.returns-in_default-clause-err
-returns-in_default-clause-err g c = (refl, one_changes _ _ _ c.args.place (breaks (Read c.args.place)) _ _ c.self.view_is (readable_watchable _ c.args.place c.requires) c.index_mut.ensures.value c.in_default.ensures.broke)
+returns-in_default-clause-err g c = (refl, one_changes _ c.args.place (breaks (Read c.args.place)) c.self.view_is (readable_watchable _ c.args.place c.requires) c.index_mut.ensures.value c.in_default.ensures.broke)
