@@ -56,29 +56,29 @@ pub record Looked (told_in told : Bool) (ways : Ways) (before : List Look) (snap
 -- what the first look gives of a name, as its share
 
 -- the entries of a name after one look
-entries_first : (ways : Ways) (name : List ℕ) (look : Look) (led : Option ℕ) → look.snapshot.leads name ≡ led → entries_in ways name (look ∷ []) ≡ entries_led look.snapshot None led
-entries_first ways name look led is = append-nil _ ∙ ap (entries_led look.snapshot None) is
+entries_first : (ways : Ways) (name : List ℕ) (look : Look) {led : Option ℕ} → look.snapshot.leads name ≡ led → entries_in ways name (look ∷ []) ≡ entries_led look.snapshot None led
+entries_first ways name look is = append-nil _ ∙ ap (entries_led look.snapshot None) is
 
 -- what it gains of a file that was there
-pub gain_first : (ways : Ways) (name : List ℕ) (look : Look) (file : ℕ) → look.snapshot.leads name ≡ Some file → gain ways name [] look ≡ ways.start (look.snapshot.holds file)
-gain_first ways name look file leads = ap (gains_after ways.start []) (entries_first ways name look (Some file) leads) ∙ append-nil _
+pub gain_first : (ways : Ways) (name : List ℕ) (look : Look) {file : ℕ} → look.snapshot.leads name ≡ Some file → gain ways name [] look ≡ ways.start (look.snapshot.holds file)
+gain_first ways name look leads = ap (gains_after ways.start []) (entries_first ways name look leads) ∙ append-nil _
 
 pub quiet_first : (ways : Ways) (name : List ℕ) (look : Look) (led : Option ℕ) → look.snapshot.leads name ≡ led → said_at_look ways name [] look ≡ []
-quiet_first ways name look None is = ap (λ entries. map (λ notice. notice_of notice name) (notices_of entries)) (entries_first ways name look None is)
-quiet_first ways name look (Some file) is = ap (λ entries. map (λ notice. notice_of notice name) (notices_of entries)) (entries_first ways name look (Some file) is)
+quiet_first ways name look None is = ap (λ entries. map (λ notice. notice_of notice name) (notices_of entries)) (entries_first ways name look is)
+quiet_first ways name look (Some file) is = ap (λ entries. map (λ notice. notice_of notice name) (notices_of entries)) (entries_first ways name look is)
 
-pub front_taken : {X : Type 0} (bytes all : List X) → IsFront bytes all → take (length bytes) all ≡ bytes
-front_taken bytes all (rest, is) = ap (take (length bytes)) is ∙ take-append_seam bytes rest
+pub front_taken : {X : Type 0} {bytes : List X} (all : List X) → IsFront bytes all → take (length bytes) all ≡ bytes
+front_taken {bytes} all (rest, is) = ap (take (length bytes)) is ∙ take-append_seam bytes rest
 
 -- the first look at a name, with what is told of it
 
 -- the message of a failure is told after a share
-pub said_after : (told : Bool) (printer after : PrinterState) (share : Share) (line : List ℕ) (old mid new : List Slot) → Shared told printer share old after mid → IsFailure line → SaysOn told Tail line mid new
+pub said_after : (told : Bool) {printer after : PrinterState} {share : Share} (line : List ℕ) {old mid new : List Slot} → Shared told printer share old after mid → IsFailure line → SaysOn told Tail line mid new
     → Shared told printer (record share { messages = share.messages ++ line ∷ []; has_failed = true }) old after new
-said_after told printer after share line old mid new shared failure says = record {
+said_after told {printer} {share} line {old} {mid} {new} shared failure says = record {
   printer_is = shared.printer_is;
-  slots = wrote_as told _ _ _ _ old new (append-nil (share_text printer.headers printer.last share)) refl (wrote_both told _ [] share.messages (line ∷ []) old mid new shared.slots
-      (wrote_line told line mid new (λ output error others are. let said = says output error others are in (said.0, failure_said told line error said.0 failure said.1, said.2))));
+  slots = wrote_as told _ _ old new (append-nil (share_text printer.headers printer.last share)) refl (wrote_both told _ [] share.messages (line ∷ []) old mid new shared.slots
+      (wrote_line told line (λ output error others are. let said = says output error others are in (said.0, failure_said told line failure said.1, said.2))));
 }
 
 -- what was given for a name comes to its share
@@ -86,20 +86,20 @@ if_out : (printer : PrinterState) (name : List ℕ) (test : Bool) → ◌≡◌ 
 if_out printer name true = refl
 if_out printer name false = refl
 
-pub gives_shared : (told : Bool) (printer after : PrinterState) (name bytes : List ℕ) (lines : List (List ℕ)) (old new : List Slot) → Gives told printer name bytes lines old after new → Shared told printer (given_share false name bytes lines) old after new
-gives_shared told printer after name bytes lines old new gives = record {
+pub gives_shared : (told : Bool) {printer after : PrinterState} {name bytes : List ℕ} {lines : List (List ℕ)} {old new : List Slot} → Gives told printer name bytes lines old after new → Shared told printer (given_share false name bytes lines) old after new
+gives_shared told {printer} {name} {bytes} gives = record {
   printer_is = gives.printer_is ∙ if_out printer name (is_due printer name bytes);
   slots = gives.slots;
 }
 
 -- a share of nothing
-pub empty_shared : (told : Bool) (printer : PrinterState) (name : List ℕ) (slots : List Slot) → Shared told printer (no_share name) slots printer slots
-empty_shared told printer name slots = gives_shared told printer printer name [] [] slots slots (gives_nothing told printer name slots)
+pub empty_shared : (told : Bool) {printer : PrinterState} (name : List ℕ) {slots : List Slot} → Shared told printer (no_share name) slots printer slots
+empty_shared told name = gives_shared told (gives_nothing told)
 
 -- all that a look gives was given
-pub looked_whole : (told_in told : Bool) (ways : Ways) (before : List Look) (snapshot : Snapshot) (place : ℕ) (name : List ℕ) (printer after : PrinterState) (old new : List Slot) (bytes : List ℕ) (lines : List (List ℕ)) (len : ℕ) → Dues told_in ways before snapshot name (λ due said. (bytes ≡ due) × (lines ≡ said))
+pub looked_whole : {told_in : Bool} (told : Bool) {ways : Ways} {before : List Look} {snapshot : Snapshot} {place : ℕ} {name : List ℕ} {printer after : PrinterState} {old new : List Slot} (bytes : List ℕ) (lines : List (List ℕ)) (len : ℕ) → Dues told_in ways before snapshot name (λ due said. (bytes ≡ due) × (lines ≡ said))
     → Shared told printer (given_share (is_first before) name bytes lines) old after new → Looked told_in told ways before snapshot place name printer old after new (Through len) None
-looked_whole told_in told ways before snapshot place name printer after old new bytes lines len dues shared = record {
+looked_whole told {ways} {before} {snapshot} {name} bytes lines len dues shared = record {
   fate = sound;
   share = given_share (is_first before) name bytes lines;
   is_share = λ is fates. let due = dues is fates in
@@ -111,24 +111,24 @@ looked_whole told_in told ways before snapshot place name printer after old new 
 }
 
 -- a call failed: a beginning was given, and the message follows
-pub looked_failed : (told_in told : Bool) (ways : Ways) (before : List Look) (snapshot : Snapshot) (place : ℕ) (name : List ℕ) (printer after : PrinterState) (old mid new : List Slot) (bytes : List ℕ) (lines : List (List ℕ)) (line : List ℕ) (opened : Bool) (fate : Fate) (broke_by : Option Fault) → failed_by place fate None ≡ broke_by
+pub looked_failed : {told_in : Bool} (told : Bool) {ways : Ways} {before : List Look} {snapshot : Snapshot} {place : ℕ} {name : List ℕ} {printer after : PrinterState} {old mid new : List Slot} (bytes : List ℕ) (lines : List (List ℕ)) (line : List ℕ) (opened : Bool) (fate : Fate) {broke_by : Option Fault} → failed_by place fate None ≡ broke_by
     → ((fates : List Fate) → failed_share opened name (take (length bytes) (gain ways name before (record { snapshot = snapshot; fates = fates }))) (take (length lines) (said_at_look ways name before (record { snapshot = snapshot; fates = fates })) ++ line ∷ []) ≡ share_by ways name before (record { snapshot = snapshot; fates = fates }) fate)
     → (told_in ≡ true → (fates : List Fate) → IsFront bytes (gain ways name before (record { snapshot = snapshot; fates = fates })) × IsFront lines (said_at_look ways name before (record { snapshot = snapshot; fates = fates })))
     → Shared told printer (given_share opened name bytes lines) old after mid → IsFailure line → SaysOn told Tail line mid new → Looked told_in told ways before snapshot place name printer old after new Dropped broke_by
-looked_failed told_in told ways before snapshot place name printer after old mid new bytes lines line opened fate broke_by fault share_is fronts shared failure says = record {
+looked_failed told {ways} {before} {snapshot} {name} bytes lines line opened fate fault share_is fronts shared failure says = record {
   fate = fate;
   share = failed_share opened name bytes (lines ++ line ∷ []);
   is_share = λ is fates. let front = fronts is fates in
-      ap (λ those. failed_share opened name those (lines ++ line ∷ [])) (sym (front_taken bytes _ front.0)) ∙ ap (λ those. failed_share opened name (take (length bytes) (gain ways name before (record { snapshot = snapshot; fates = fates }))) (those ++ line ∷ [])) (sym (front_taken lines _ front.1)) ∙ share_is fates;
+      ap (λ those. failed_share opened name those (lines ++ line ∷ [])) (sym (front_taken _ front.0)) ∙ ap (λ those. failed_share opened name (take (length bytes) (gain ways name before (record { snapshot = snapshot; fates = fates }))) (those ++ line ∷ [])) (sym (front_taken _ front.1)) ∙ share_is fates;
   fault = fault;
   failed = refl;
-  shared = said_after told printer after (given_share opened name bytes lines) line old mid new shared failure says;
+  shared = said_after told line shared failure says;
 }
 
 -- following ended: a beginning was given
-pub looked_over : (told_in told : Bool) (ways : Ways) (before : List Look) (snapshot : Snapshot) (name : List ℕ) (printer : PrinterState) (old new : List Slot) (why : Fault) (bytes : List ℕ) (lines : List (List ℕ)) → Dues told_in ways before snapshot name (λ due said. IsFront bytes due × IsFront lines said)
+pub looked_over : {told_in : Bool} (told : Bool) {ways : Ways} {before : List Look} {snapshot : Snapshot} {name : List ℕ} {printer : PrinterState} {old new : List Slot} {why : Fault} (bytes : List ℕ) (lines : List (List ℕ)) → Dues told_in ways before snapshot name (λ due said. IsFront bytes due × IsFront lines said)
     → SharedShort told printer (given_share (is_first before) name bytes lines) old new why → Stopped told_in told ways before snapshot name printer old new why
-looked_over told_in told ways before snapshot name printer old new why bytes lines dues short = record {
+looked_over told {ways} {before} {snapshot} {name} bytes lines dues short = record {
   share = given_share (is_first before) name bytes lines;
   begins = λ is fates. let due = dues is fates in
       subst (BeginsShare (given_share (is_first before) name bytes lines)) (sym (ap (λ test. if test then missing_share name else given_share (is_first before) name (gain ways name before (record { snapshot = snapshot; fates = fates })) (said_at_look ways name before (record { snapshot = snapshot; fates = fates }))) due.0))
@@ -136,33 +136,33 @@ looked_over told_in told ways before snapshot name printer old new why bytes lin
   short = short;
 }
 
-pub meets_nothing : (told_in told : Bool) (ways : Ways) (snapshot : Snapshot) (place : ℕ) (name : List ℕ) (printer : PrinterState) (old new : List Slot) → (told_in ≡ true → snapshot.leads name ≡ None)
+pub meets_nothing : {told_in : Bool} (told : Bool) {ways : Ways} {snapshot : Snapshot} {place : ℕ} {name : List ℕ} {printer : PrinterState} {old new : List Slot} → (told_in ≡ true → snapshot.leads name ≡ None)
     → SaysOn told Tail (message_of Tail (Open place) name) old new → Looked told_in told ways [] snapshot place name printer old printer new Missing None
-meets_nothing told_in told ways snapshot place name printer old new leads says = record {
+meets_nothing told {ways} {snapshot} {name} leads says = record {
   fate = sound;
   share = missing_share name;
-  is_share = λ is fates. sym (rw (ap is_missing (entries_first ways name (record { snapshot = snapshot; fates = fates }) None (leads is))) refl);
+  is_share = λ is fates. sym (rw (ap is_missing (entries_first ways name (record { snapshot = snapshot; fates = fates }) (leads is))) refl);
   fault = refl;
   failed = refl;
-  shared = said_after told printer printer (no_share name) (message_of Tail (Open 0) name) old old new (empty_shared told printer name old) (name, inl refl) says;
+  shared = said_after told (message_of Tail (Open 0) name) (empty_shared told name) (name, inl refl) says;
 }
 
-pub meets_unopened : (told_in told : Bool) (ways : Ways) (snapshot : Snapshot) (place : ℕ) (name : List ℕ) (printer : PrinterState) (old new : List Slot)
+pub meets_unopened : {told_in : Bool} (told : Bool) {ways : Ways} {snapshot : Snapshot} {place : ℕ} {name : List ℕ} {printer : PrinterState} {old new : List Slot}
     → SaysOn told Tail (message_of Tail (Open place) name) old new → Looked told_in told ways [] snapshot place name printer old printer new Dropped (Some (Open place))
-meets_unopened told_in told ways snapshot place name printer old new says =
-    looked_failed told_in told ways [] snapshot place name printer printer old old new [] [] (message_of Tail (Open 0) name) false (unopened 0 0) (Some (Open place)) refl (λ fates. refl) (λ is fates. (front_nil _, front_nil _))
-    (empty_shared told printer name old) (name, inl refl) says
+meets_unopened told {name} says =
+    looked_failed told [] [] (message_of Tail (Open 0) name) false (unopened 0 0) refl (λ fates. refl) (λ is fates. (front_nil _, front_nil _))
+    (empty_shared told name) (name, inl refl) says
 
 -- what is due of a file that the first look finds
-first_dues : (ways : Ways) (snapshot : Snapshot) (name : List ℕ) (id : ℕ) → snapshot.leads name ≡ Some id → Dues true ways [] snapshot name (λ due said. (due ≡ ways.start (snapshot.holds id)) × (said ≡ []))
-first_dues ways snapshot name id leads is fates =
-    let look : Look = record { snapshot = snapshot; fates = fates } in (ap is_missing (entries_first ways name look (Some id) leads), (gain_first ways name look id leads, quiet_first ways name look (Some id) leads))
+first_dues : (ways : Ways) (snapshot : Snapshot) (name : List ℕ) {id : ℕ} → snapshot.leads name ≡ Some id → Dues true ways [] snapshot name (λ due said. (due ≡ ways.start (snapshot.holds id)) × (said ≡ []))
+first_dues ways snapshot name {id} leads is fates =
+    let look : Look = record { snapshot = snapshot; fates = fates } in (ap is_missing (entries_first ways name look leads), (gain_first ways name look leads, quiet_first ways name look (Some id) leads))
 
-first_fronts : (told_in : Bool) (ways : Ways) (snapshot : Snapshot) (name bytes : List ℕ) (lines : List (List ℕ)) → (told_in ≡ true → (id : ℕ) × (snapshot.leads name ≡ Some id) × IsFront bytes (ways.start (snapshot.holds id)) × IsFront lines [])
+first_fronts : {told_in : Bool} (ways : Ways) (snapshot : Snapshot) (name bytes : List ℕ) (lines : List (List ℕ)) → (told_in ≡ true → (id : ℕ) × (snapshot.leads name ≡ Some id) × IsFront bytes (ways.start (snapshot.holds id)) × IsFront lines [])
     → Dues told_in ways [] snapshot name (λ due said. IsFront bytes due × IsFront lines said)
-first_fronts told_in ways snapshot name bytes lines found is fates =
+first_fronts ways snapshot name bytes lines found is fates =
     let those = found is in
-    let due = first_dues ways snapshot name those.0 those.1 refl fates in
+    let due = first_dues ways snapshot name those.1 refl fates in
     (due.0, (subst (IsFront bytes) (sym due.1.0) those.2, subst (IsFront lines) (sym due.1.1) those.3))
 
 -- what the first look at a file gives
@@ -172,7 +172,7 @@ pub start_copied : (due due_found : List ℕ → List ℕ) {told_in told : Bool}
     → Ends {T = ℕ} told_in told inside name (due_found copied) [] old after new result → Ends {T = ℕ} told_in told printer name (due contents) [] old after new result
 start_copied due due_found {told_in} {told} {printer} {inside} {after} {name} {contents} {copied} {old} {new} {result} viewed same part ends =
     subst (λ (p : PrinterState). Ends {T = ℕ} told_in told p name (due contents) [] old after new result) viewed
-    (due_as told_in told inside after name (due_found copied) (due contents) [] [] old new result (λ is. (part is ∙ ap due same, refl)) ends)
+    (due_as told (due contents) [] (λ is. (part is ∙ ap due same, refl)) ends)
 
 -- after the header that a file is opened under none is due
 opened_not_due : (printer : PrinterState) (name bytes : List ℕ) → is_due (opened_under printer name) name bytes ≡ false
@@ -186,8 +186,7 @@ opened_share : (printer : PrinterState) (name bytes : List ℕ) (lines : List (L
     → (opened_under printer name ≡ record printer { last = header_after printer.headers printer.last (given_share true name bytes lines) })
     × (opening_under printer name ++ bytes ≡ share_text printer.headers printer.last (given_share true name bytes lines))
 opened_share printer name bytes lines = by printer.headers printer.last where
-  by : (headers : Bool) (last : Option (List ℕ))
-      → (opened_under (record { headers = headers; last = last }) name
+  by : (headers : Bool) (last : Option (List ℕ)) → (opened_under (record { headers = headers; last = last }) name
       ≡ record { headers = headers; last = header_after headers last (given_share true name bytes lines) })
       × (opening_under (record { headers = headers; last = last }) name ++ bytes ≡ share_text headers last (given_share true name bytes lines))
   by true last = (refl, refl)
@@ -197,17 +196,17 @@ opened_bytes : (printer : PrinterState) (name bytes : List ℕ) (lines : List (L
 opened_bytes printer name bytes lines = rw (opened_not_due printer name bytes) (opened_share printer name bytes lines).1
 
 -- the header, and then the start part
-opened_gives : (told : Bool) (printer after : PrinterState) (name bytes : List ℕ) (lines : List (List ℕ)) (old mid new : List Slot) → mid ≡ with_written 0 (told_of told (opening_under printer name)) old
+opened_gives : (told : Bool) {printer after : PrinterState} {name bytes : List ℕ} {lines : List (List ℕ)} {old mid new : List Slot} → mid ≡ with_written 0 (told_of told (opening_under printer name)) old
     → Gives told (opened_under printer name) name bytes lines mid after new → Shared told printer (given_share true name bytes lines) old after new
-opened_gives told printer after name bytes lines old mid new first gives = record {
+opened_gives told {printer} {name} {bytes} {lines} {old} {mid} {new} first gives = record {
   printer_is = gives.printer_is ∙ rw (opened_not_due printer name bytes) (opened_share printer name bytes lines).0;
-  slots = wrote_as told _ _ _ _ old new (opened_bytes printer name bytes lines) refl (wrote_both told _ _ [] lines old mid new (wrote_text told (opening_under printer name) old mid first) gives.slots);
+  slots = wrote_as told _ _ old new (opened_bytes printer name bytes lines) refl (wrote_both told _ _ [] lines old mid new (wrote_text told (opening_under printer name) old first) gives.slots);
 }
 
-opened_halts : (told : Bool) (printer : PrinterState) (name bytes : List ℕ) (lines : List (List ℕ)) (old mid new : List Slot) (why : Fault) → mid ≡ with_written 0 (told_of told (opening_under printer name)) old
+opened_halts : (told : Bool) {printer : PrinterState} {name bytes : List ℕ} {lines : List (List ℕ)} {old mid new : List Slot} {why : Fault} → mid ≡ with_written 0 (told_of told (opening_under printer name)) old
     → Halts told (opened_under printer name) name bytes lines mid new why → SharedShort told printer (given_share true name bytes lines) old new why
-opened_halts told printer name bytes lines old mid new why first halts =
-    record { slots = short_as told _ _ _ _ old new why (opened_bytes printer name bytes lines) refl (wrote_short told _ _ [] lines old mid new why (wrote_text told (opening_under printer name) old mid first) halts.slots) }
+opened_halts told {printer} {name} {bytes} {lines} {old} {mid} {new} {why} first halts =
+    record { slots = short_as told _ old new why (opened_bytes printer name bytes lines) refl (wrote_short told _ _ [] lines old mid new why (wrote_text told (opening_under printer name) old first) halts.slots) }
 
 -- where the name leads, once its file was opened
 pub led_file : {told : Bool} {snapshot : Snapshot} {old new : List Watched} {place : ℕ} {name : List ℕ} {is_there : Bool} → Reopens told snapshot old new place is_there → is_there ≡ true → (watched_at old place).name ≡ name
@@ -221,11 +220,11 @@ pub first_short : {told_in told : Bool} {ways : Ways} {snapshot : Snapshot} {nam
     → Short told (opening_under inside name) old new why → Stopped told_in told ways [] snapshot name printer old new why
 first_short {told_in} {told} {ways} {snapshot} {name} {printer} {inside} {old} {new} {why} viewed found short =
     subst (λ (p : PrinterState). Stopped told_in told ways [] snapshot name p old new why) viewed (
-    looked_over told_in told ways [] snapshot name inside old new why [] [] (first_fronts told_in ways snapshot name [] [] (λ is. ((found is).0, (found is).1, front_nil _, front_nil _)))
-    (record { slots = λ output error others is. (error, refl, subst (λ text. Short told text (output ∷ error ∷ others) new why) (opened_share inside name [] []).1 (short_more told (opening_under inside name) [] (output ∷ error ∷ others) new why (subst (λ those. Short told (opening_under inside name) those new why) is short))) }))
+    looked_over told [] [] (first_fronts ways snapshot name [] [] (λ is. ((found is).0, (found is).1, front_nil _, front_nil _)))
+    (record { slots = λ output error others is. (error, refl, subst (λ text. Short told text (output ∷ error ∷ others) new why) (opened_share inside name [] []).1 (short_more told [] (subst (λ those. Short told (opening_under inside name) those new why) is short))) }))
 
-held_file : (snapshot : Snapshot) (name contents : List ℕ) (id : ℕ) → snapshot.leads name ≡ Some id → contents ≡ held_at snapshot (snapshot.leads name) → contents ≡ snapshot.holds id
-held_file snapshot name contents id leads same = same ∙ ap (held_at snapshot) leads
+held_file : (snapshot : Snapshot) (name : List ℕ) {contents : List ℕ} {id : ℕ} → snapshot.leads name ≡ Some id → contents ≡ held_at snapshot (snapshot.leads name) → contents ≡ snapshot.holds id
+held_file snapshot name leads same = same ∙ ap (held_at snapshot) leads
 
 -- the file was opened, and its start part given
 pub first_whole : {told_in told : Bool} {ways : Ways} {snapshot : Snapshot} {place : ℕ} {name contents : List ℕ} {printer inside under after : PrinterState} {old mid new : List Slot} {len : ℕ} → inside ≡ printer
@@ -237,10 +236,10 @@ first_whole {told_in} {told} {ways} {snapshot} {place} {name} {contents} {printe
     (by (subst (λ (p : PrinterState). Ends {T = ℕ} told_in told p name (ways.start contents) [] mid after new (Ok len)) is_under ends)) where
       by : Ends {T = ℕ} told_in told (opened_under inside name) name (ways.start contents) [] mid after new (Ok len) → Looked told_in told ways [] snapshot place name inside old after new (Through len) None
       by (whole value bytes lines are gives) =
-          looked_whole told_in told ways [] snapshot place name inside after old new bytes lines len (λ is fates.
-          let due = first_dues ways snapshot name (found is).0 (found is).1 refl fates in
-          (due.0, ((are is).0 ∙ ap ways.start (held_file snapshot name contents (found is).0 (found is).1 (same is)) ∙ sym due.1.0, (are is).1 ∙ sym due.1.1)))
-          (opened_gives told inside after name bytes lines old mid new first gives)
+          looked_whole told bytes lines len (λ is fates.
+          let due = first_dues ways snapshot name (found is).1 refl fates in
+          (due.0, ((are is).0 ∙ ap ways.start (held_file snapshot name (found is).1 (same is)) ∙ sym due.1.0, (are is).1 ∙ sym due.1.1)))
+          (opened_gives told first gives)
 
 -- or a beginning of it, before reading failed or following cut_over
 pub data FirstCut (told_in told : Bool) (ways : Ways) (snapshot : Snapshot) (name : List ℕ) (printer : PrinterState) (old : List Slot) (after : PrinterState) (new : List Slot) : Stop → Type 0 where
@@ -255,8 +254,8 @@ first_cut {told_in} {told} {ways} {snapshot} {name} {contents} {printer} {inside
     subst (λ (p : PrinterState). FirstCut told_in told ways snapshot name p old after new stop) viewed
     (by stop (subst (λ (p : PrinterState). Ends {T = ℕ} told_in told p name (ways.start contents) [] mid after new (Err stop)) is_under ends)) where
       front : (bytes : List ℕ) (lines : List (List ℕ)) → (told_in ≡ true → IsFront bytes (ways.start contents) × IsFront lines []) → Dues told_in ways [] snapshot name (λ due said. IsFront bytes due × IsFront lines said)
-      front bytes lines are = first_fronts told_in ways snapshot name bytes lines (λ is. ((found is).0, (found is).1, subst (λ those. IsFront bytes (ways.start those)) (held_file snapshot name contents (found is).0 (found is).1 (same is)) (are is).0, (are is).1))
+      front bytes lines are = first_fronts ways snapshot name bytes lines (λ is. ((found is).0, (found is).1, subst (λ those. IsFront bytes (ways.start those)) (held_file snapshot name (found is).1 (same is)) (are is).0, (are is).1))
 
       by : (stop : Stop) → Ends {T = ℕ} told_in told (opened_under inside name) name (ways.start contents) [] mid after new (Err stop) → FirstCut told_in told ways snapshot name inside old after new stop
-      by _ (broke why bytes lines are gives) = cut_read why bytes lines (front bytes lines are) (opened_gives told inside after name bytes lines old mid new first gives)
-      by _ (ends_over why bytes lines are halts) = cut_over why (looked_over told_in told ways [] snapshot name inside old new why bytes lines (front bytes lines are) (opened_halts told inside name bytes lines old mid new why first halts))
+      by _ (broke why bytes lines are gives) = cut_read why bytes lines (front bytes lines are) (opened_gives told first gives)
+      by _ (ends_over why bytes lines are halts) = cut_over why (looked_over told bytes lines (front bytes lines are) (opened_halts told first halts))

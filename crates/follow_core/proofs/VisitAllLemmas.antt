@@ -38,55 +38,55 @@ pub record VisitedUpTo (told_in told : Bool) (ways : Ways) (looks : List Look) (
   pub rest : (other : ℕ) → place ≤ other → other < length names_now
       → Stands told_in ways looks (ways.first + other) (state_at names_now other).text (watched_at watched (ways.first + other)) (state_at names_now other).standing
 
-pub nothing_shared : (told : Bool) (printer : PrinterState) (slots : List Slot) → AllShared told printer [] slots printer slots
-nothing_shared told printer slots = record { printer_is = refl; slots = wrote_none told slots }
+pub nothing_shared : (told : Bool) (printer : PrinterState) {slots : List Slot} → AllShared told printer [] slots printer slots
+nothing_shared told printer {slots} = record { printer_is = refl; slots = wrote_none told slots }
 
 -- further shares
 
-text_all : (printer mid : PrinterState) (shares more : List Share) → mid ≡ record printer { last = last_header_from printer.headers printer.last shares }
+text_all : (printer : PrinterState) {mid : PrinterState} (shares more : List Share) → mid ≡ record printer { last = last_header_from printer.headers printer.last shares }
     → text_from printer.headers printer.last shares ++ text_from mid.headers mid.last more ≡ text_from printer.headers printer.last (shares ++ more)
-text_all printer mid shares more is =
+text_all printer shares more is =
     ap (λ (p : PrinterState). text_from printer.headers printer.last shares ++ text_from p.headers p.last more) is ∙ sym (text-append printer.headers printer.last shares more)
 
-pub all_both : (told : Bool) (printer mid after : PrinterState) (shares more : List Share) (old now new : List Slot) → AllShared told printer shares old mid now → AllShared told mid more now after new → AllShared told printer (shares ++ more) old after new
-all_both told printer mid after shares more old now new all rest = record {
+pub all_both : (told : Bool) {printer mid after : PrinterState} {shares : List Share} (more : List Share) {old now new : List Slot} → AllShared told printer shares old mid now → AllShared told mid more now after new → AllShared told printer (shares ++ more) old after new
+all_both told {printer} {shares} more {old} {now} {new} all rest = record {
   printer_is = rest.printer_is ∙ ap (λ (p : PrinterState). record p { last = last_header_from p.headers p.last more }) all.printer_is
       ∙ ap (λ last. record printer { last = last }) (sym (last-append printer.headers printer.last shares more));
-  slots = wrote_as told (text_from printer.headers printer.last shares ++ text_from mid.headers mid.last more) (text_from printer.headers printer.last (shares ++ more)) (messages_of shares ++ messages_of more) (messages_of (shares ++ more)) old new
-      (text_all printer mid shares more all.printer_is) (sym (messages-append shares more)) (wrote_both told _ _ _ _ old now new all.slots rest.slots);
+  slots = wrote_as told (text_from printer.headers printer.last (shares ++ more)) (messages_of shares ++ messages_of more) old new
+      (text_all printer shares more all.printer_is) (sym (messages-append shares more)) (wrote_both told _ _ _ _ old now new all.slots rest.slots);
 }
 
 -- the text and the lines of one share more
-text_one : (printer mid : PrinterState) (shares : List Share) (share : Share) → mid ≡ record printer { last = last_header_from printer.headers printer.last shares }
+text_one : (printer : PrinterState) {mid : PrinterState} (shares : List Share) (share : Share) → mid ≡ record printer { last = last_header_from printer.headers printer.last shares }
     → text_from printer.headers printer.last shares ++ share_text mid.headers mid.last share ≡ text_from printer.headers printer.last (shares ++ share ∷ [])
-text_one printer mid shares share is =
-    ap (λ rest. text_from printer.headers printer.last shares ++ rest) (sym (append-nil _)) ∙ text_all printer mid shares (share ∷ []) is
+text_one printer shares share is =
+    ap (λ rest. text_from printer.headers printer.last shares ++ rest) (sym (append-nil _)) ∙ text_all printer shares (share ∷ []) is
 
 lines_one : (shares : List Share) (share : Share) → messages_of shares ++ share.messages ≡ messages_of (shares ++ share ∷ [])
 lines_one shares share = ap (λ rest. messages_of shares ++ rest) (sym (append-nil share.messages)) ∙ sym (messages-append shares (share ∷ []))
 
-pub shared_more : (told : Bool) (printer mid after : PrinterState) (shares : List Share) (share : Share) (old now new : List Slot) → AllShared told printer shares old mid now → Shared told mid share now after new → AllShared told printer (shares ++ share ∷ []) old after new
-shared_more told printer mid after shares share old now new all one =
-    all_both told printer mid after shares (share ∷ []) old now new all
-    (record { printer_is = one.printer_is; slots = wrote_as told _ _ _ _ now new (sym (append-nil _)) (sym (append-nil _)) one.slots })
+pub shared_more : (told : Bool) {printer mid after : PrinterState} {shares : List Share} {share : Share} {old now new : List Slot} → AllShared told printer shares old mid now → Shared told mid share now after new → AllShared told printer (shares ++ share ∷ []) old after new
+shared_more told {share} {now} {new} all one =
+    all_both told (share ∷ []) all
+    (record { printer_is = one.printer_is; slots = wrote_as told _ _ now new (sym (append-nil _)) (sym (append-nil _)) one.slots })
 
-pub shared_short : (told : Bool) (printer mid : PrinterState) (shares : List Share) (share : Share) (old now new : List Slot) (why : Fault) → AllShared told printer shares old mid now → SharedShort told mid share now new why → AllShort told printer (shares ++ share ∷ []) old new why
-shared_short told printer mid shares share old now new why all one = record {
-  slots = short_as told (text_from printer.headers printer.last shares ++ share_text mid.headers mid.last share) (text_from printer.headers printer.last (shares ++ share ∷ [])) (messages_of shares ++ share.messages) (messages_of (shares ++ share ∷ [])) old new why
-      (text_one printer mid shares share all.printer_is) (lines_one shares share) (wrote_short told _ _ _ _ old now new why all.slots one.slots);
+pub shared_short : (told : Bool) {printer mid : PrinterState} {shares : List Share} {share : Share} {old now new : List Slot} {why : Fault} → AllShared told printer shares old mid now → SharedShort told mid share now new why → AllShort told printer (shares ++ share ∷ []) old new why
+shared_short told {printer} {shares} {share} {old} {now} {new} {why} all one = record {
+  slots = short_as told (text_from printer.headers printer.last (shares ++ share ∷ [])) old new why
+      (text_one printer shares share all.printer_is) (lines_one shares share) (wrote_short told _ _ _ _ old now new why all.slots one.slots);
 }
 
 -- names that were not looked at yet
 
-pub visited_none : (told_in told : Bool) (ways : Ways) (looks : List Look) (snapshot : Snapshot) (names : List NameState) (printer : PrinterState) (slots : List Slot) (watched : List Watched) → AllStand told_in ways looks names watched
+pub visited_none : {told_in : Bool} (told : Bool) {ways : Ways} {looks : List Look} {snapshot : Snapshot} {names : List NameState} {printer : PrinterState} {slots : List Slot} {watched : List Watched} → AllStand told_in ways looks names watched
     → VisitedUpTo told_in told ways looks snapshot 0 names printer slots printer slots watched names false
-visited_none told_in told ways looks snapshot names printer slots watched stand = record {
+visited_none told {ways} {printer} stand = record {
   fates = replicate ways.first sound;
   shares = [];
   count = length-replicate ways.first sound ∙ omega arith;
   are = λ t later. refl;
   is_failed = refl;
-  shared = nothing_shared told printer slots;
+  shared = nothing_shared told printer;
   same = refl;
   done = λ later other below. absurd (omega arith);
   rest = λ other above within. stand other within;
@@ -100,14 +100,14 @@ shares_one ways looks look from (first ∷ names) name =
     ap (λ rest. share_of ways looks look from first ∷ rest) (shares_one ways looks look (from + 1) names name
     ∙ ap (λ place. shares_at_look_from ways looks look (from + 1) names ++ share_of ways looks look place name ∷ []) (omega arith))
 
-fate_there : (snapshot : Snapshot) (fates : List Fate) (fate : Fate) (later : List Fate) (place : ℕ) → length fates ≡ place → fate_at place (record { snapshot = snapshot; fates = fates ++ fate ∷ later }) ≡ fate
-fate_there snapshot fates fate later place count = ap (λ n. slice_index_or (fates ++ fate ∷ later) n sound) (sym count) ∙ get_or-append_seam fates fate later sound
+fate_there : (snapshot : Snapshot) (fates : List Fate) {fate : Fate} (later : List Fate) {place : ℕ} → length fates ≡ place → fate_at place (record { snapshot = snapshot; fates = fates ++ fate ∷ later }) ≡ fate
+fate_there snapshot fates {fate} later count = ap (λ n. slice_index_or (fates ++ fate ∷ later) n sound) (sym count) ∙ get_or-append_seam fates fate later sound
 
 text_there : (names now : List NameState) (place : ℕ) → texts now ≡ texts names → place < length now → get_or (texts names) place [] ≡ (state_at now place).text
 text_there names now place same within = ap (λ those. get_or those place []) (sym same) ∙ get_or-map (λ (n : NameState). n.text) now place no_state [] within
 
-stands_same : (told : Bool) (ways : Ways) (looks : List Look) (place : ℕ) (name other : NameState) (watched those : Watched) → name ≡ other → watched ≡ those → Stands told ways looks place name.text watched name.standing → Stands told ways looks place other.text those other.standing
-stands_same told ways looks place name other watched those is same stands =
+stands_same : (told : Bool) (ways : Ways) (looks : List Look) (place : ℕ) {name : NameState} (other : NameState) {watched those : Watched} → name ≡ other → watched ≡ those → Stands told ways looks place name.text watched name.standing → Stands told ways looks place other.text those other.standing
+stands_same told ways looks place {name} other {those} is same stands =
     subst (λ (n : NameState). Stands told ways looks place n.text those n.standing) is (subst (λ w. Stands told ways looks place name.text w name.standing) same stands)
 
 pub texts_set : (names : List NameState) (place : ℕ) (default one : NameState) → place < length names → one.text ≡ (get_or names place default).text → texts (set names place one) ≡ texts names
@@ -130,24 +130,24 @@ shares_next ways looks look names now place same within =
     ∙ sym (shares_one ways looks look ways.first (take place (texts names)) (get_or (texts names) place []))
     ∙ ap (shares_at_look_from ways looks look ways.first) (sym (take-suc (texts names) place [] below))
 
-failed_one : (shares : List Share) (share : Share) (before failed : Bool) → any_failed shares ≡ before → share.has_failed ≡ failed → any_failed (shares ++ share ∷ []) ≡ (before || failed)
-failed_one shares share before failed is one = failed-append shares (share ∷ []) ∙ ap (λ first. first || (share.has_failed || false)) is ∙ ap (λ last. before || (last || false)) one ∙ ap (λ last. before || last) (or-false failed)
+failed_one : (shares : List Share) (share : Share) {before : Bool} (failed : Bool) → any_failed shares ≡ before → share.has_failed ≡ failed → any_failed (shares ++ share ∷ []) ≡ (before || failed)
+failed_one shares share {before} failed is one = failed-append shares (share ∷ []) ∙ ap (λ first. first || (share.has_failed || false)) is ∙ ap (λ last. before || (last || false)) one ∙ ap (λ last. before || last) (or-false failed)
 
-pub visited_more : (told_in told : Bool) (ways : Ways) (looks : List Look) (snapshot snapshot_now : Snapshot) (names now : List NameState) (default one : NameState) (place : ℕ) (printer mid after : PrinterState) (old slots new : List Slot) (watched watched_new : List Watched) (before failed : Bool)
+pub visited_more : {told_in : Bool} (told : Bool) {ways : Ways} {looks : List Look} {snapshot snapshot_now : Snapshot} {names now : List NameState} (default one : NameState) {place : ℕ} {printer mid after : PrinterState} {old slots new : List Slot} {watched watched_new : List Watched} {before : Bool} (failed : Bool)
     → place < length now → one.text ≡ (get_or now place default).text → KeepsOthers (ways.first + place) watched watched_new → snapshot_now ≡ snapshot
     → VisitedUpTo told_in told ways looks snapshot place names printer old mid slots watched now before
     → (Stands told_in ways looks (ways.first + place) (get_or now place default).text (watched_at watched (ways.first + place)) (get_or now place default).standing → Visited told_in told ways looks snapshot_now (ways.first + place) (get_or now place default).text mid slots after new (watched_at watched_new (ways.first + place)) one.standing failed)
-    → (next : ℕ) → suc place ≡ next → VisitedUpTo told_in told ways looks snapshot next names printer old after new watched_new (set now place one) (before || failed)
-visited_more told_in told ways looks snapshot snapshot_now names now default one place printer mid after old slots new watched watched_new before failed within same keeps seen sofar visit next is = subst (λ n. VisitedUpTo told_in told ways looks snapshot n names printer old after new watched_new (set now place one) (before || failed)) is (record {
+    → {next : ℕ} → suc place ≡ next → VisitedUpTo told_in told ways looks snapshot next names printer old after new watched_new (set now place one) (before || failed)
+visited_more {told_in} told {ways} {looks} {snapshot} {names} {now} default one {place} {printer} {mid} {after} {old} {slots} {new} {watched} {watched_new} {before} failed within same keeps seen sofar visit is = subst (λ n. VisitedUpTo told_in told ways looks snapshot n names printer old after new watched_new (set now place one) (before || failed)) is (record {
   fates = sofar.fates ++ visited.fate ∷ [];
   shares = sofar.shares ++ visited.share ∷ [];
   count = length-append sofar.fates (visited.fate ∷ []) ∙ ap (λ n. n + 1) sofar.count ∙ omega arith;
   are = λ t later. subst (λ those. sofar.shares ++ visited.share ∷ [] ≡ shares_at_look_from ways looks (record { snapshot = snapshot; fates = those }) ways.first (take (suc place) (texts names))) (sym (append_assoc sofar.fates (visited.fate ∷ []) later)) (both t later);
-  is_failed = failed_one sofar.shares visited.share before failed sofar.is_failed visited.is_failed;
-  shared = shared_more told printer mid after sofar.shares visited.share old slots new sofar.shared visited.shared;
+  is_failed = failed_one sofar.shares visited.share failed sofar.is_failed visited.is_failed;
+  shared = shared_more told sofar.shared visited.shared;
   same = texts_set now place default one within same ∙ sofar.same;
   done = λ later other below. subst (λ those. Stands told_in ways (looks ++ record { snapshot = snapshot; fates = those } ∷ []) (ways.first + other) (state_at (set now place one) other).text (watched_at watched_new (ways.first + other)) (state_at (set now place one) other).standing) (sym (append_assoc sofar.fates (visited.fate ∷ []) later)) (there later other below (cases_eq other place));
-  rest = λ other above inside. stands_same told_in ways looks (ways.first + other) (state_at now other) (state_at (set now place one) other) (watched_at watched (ways.first + other)) (watched_at watched_new (ways.first + other)) (sym (get_or-set_other now place other one no_state (differs other above))) (sym (kept other (differs other above)))
+  rest = λ other above inside. stands_same told_in ways looks (ways.first + other) (state_at (set now place one) other) (sym (get_or-set_other now place other one no_state (differs other above))) (sym (kept other (differs other above)))
       (sofar.rest other (omega arith) (subst (λ n. other < n) (length-set now place one) inside));
 }) where
   item : NameState
@@ -170,7 +170,7 @@ visited_more told_in told ways looks snapshot snapshot_now names now default one
   both t later =
       let look : Look = record { snapshot = snapshot; fates = sofar.fates ++ visited.fate ∷ later } in
       ap (λ front. front ++ visited.share ∷ []) (sofar.are t (visited.fate ∷ later))
-      ∙ ap (λ share. shares_at_look_from ways looks look ways.first (take place (texts names)) ++ share ∷ []) (visited.is_share t (sofar.fates ++ visited.fate ∷ later) (fate_there snapshot sofar.fates visited.fate later number sofar.count))
+      ∙ ap (λ share. shares_at_look_from ways looks look ways.first (take place (texts names)) ++ share ∷ []) (visited.is_share t (sofar.fates ++ visited.fate ∷ later) (fate_there snapshot sofar.fates later sofar.count))
       ∙ ap (λ (n : NameState). shares_at_look_from ways looks look ways.first (take place (texts names)) ++ share_of ways looks look number n.text ∷ []) found
       ∙ shares_next ways looks look names now place sofar.same within
 
@@ -178,18 +178,18 @@ visited_more told_in told ways looks snapshot snapshot_now names now default one
   differs other above at = omega arith
 
   there : (later : List Fate) (other : ℕ) → other < suc place → (other ≡ place) ⊎ (other ≡ place → ⊥) → Stands told_in ways (looks ++ record { snapshot = snapshot; fates = sofar.fates ++ visited.fate ∷ later } ∷ []) (ways.first + other) (state_at (set now place one) other).text (watched_at watched_new (ways.first + other)) (state_at (set now place one) other).standing
-  there later other below (inr elsewhere) = stands_same told_in ways (looks ++ record { snapshot = snapshot; fates = sofar.fates ++ visited.fate ∷ later } ∷ []) (ways.first + other) (state_at now other) (state_at (set now place one) other) (watched_at watched (ways.first + other)) (watched_at watched_new (ways.first + other)) (sym (get_or-set_other now place other one no_state elsewhere)) (sym (kept other elsewhere))
+  there later other below (inr elsewhere) = stands_same told_in ways (looks ++ record { snapshot = snapshot; fates = sofar.fates ++ visited.fate ∷ later } ∷ []) (ways.first + other) (state_at (set now place one) other) (sym (get_or-set_other now place other one no_state elsewhere)) (sym (kept other elsewhere))
       (sofar.done (visited.fate ∷ later) other (omega arith))
   there later other below (inl at) = subst (λ n. Stands told_in ways (looks ++ record { snapshot = snapshot; fates = sofar.fates ++ visited.fate ∷ later } ∷ []) (ways.first + n) (state_at (set now place one) n).text (watched_at watched_new (ways.first + n)) (state_at (set now place one) n).standing) (sym at)
       (subst (λ (n : NameState). Stands told_in ways (looks ++ record { snapshot = snapshot; fates = sofar.fates ++ visited.fate ∷ later } ∷ []) number n.text (watched_at watched_new number) n.standing) (sym (get_or-set_same now place one no_state within))
       (subst (λ name. Stands told_in ways (looks ++ record { snapshot = snapshot; fates = sofar.fates ++ visited.fate ∷ later } ∷ []) number name (watched_at watched_new number) one.standing) (sym same)
-      (visited.stands (sofar.fates ++ visited.fate ∷ later) (fate_there snapshot sofar.fates visited.fate later number sofar.count))))
+      (visited.stands (sofar.fates ++ visited.fate ∷ later) (fate_there snapshot sofar.fates later sofar.count))))
 
 -- all names
 
-pub visited_all : (told_in told : Bool) (ways : Ways) (looks : List Look) (snapshot : Snapshot) (names now : List NameState) (place : ℕ) (printer after : PrinterState) (old new : List Slot) (watched : List Watched) (failed : Bool) → place ≡ length now
+pub visited_all : {told_in : Bool} (told : Bool) {ways : Ways} {looks : List Look} {snapshot : Snapshot} {names now : List NameState} {place : ℕ} {printer after : PrinterState} {old new : List Slot} {watched : List Watched} (failed : Bool) → place ≡ length now
     → VisitedUpTo told_in told ways looks snapshot place names printer old after new watched now failed → VisitedAll told_in told ways looks snapshot names printer old after new watched now failed
-visited_all told_in told ways looks snapshot names now place printer after old new watched failed end sofar = record {
+visited_all {told_in} told {ways} {looks} {snapshot} {names} {now} {place} {watched} failed end sofar = record {
   fates = sofar.fates;
   shares = sofar.shares;
   are = λ t. sofar.are t [] ∙ ap (λ those. shares_at_look_from ways looks (record { snapshot = snapshot; fates = those }) ways.first (take place (texts names))) (append-nil sofar.fates)
@@ -201,12 +201,12 @@ visited_all told_in told ways looks snapshot names now place printer after old n
 }
 
 -- by what a name broke, as it stands
-pub broken_there : (told : Bool) (ways : Ways) (looks : List Look) (place : ℕ) (name : List ℕ) (watched : Watched) (standing : Standing) → Stands told ways looks place name watched standing → BrokeIn ways looks place watched.failed
-broken_there told ways looks place name watched New stands = unbroken_in ways looks place watched.failed (ap (λ (w : Watched). w.failed) stands.1) (ap (is_dropped place) stands.0)
-broken_there told ways looks place name watched (Followed position) stands = unbroken_in ways looks place watched.failed stands.unbroken stands.kept
-broken_there told ways looks place name watched Left stands = elim stands.why [
+pub broken_there : (told : Bool) {ways : Ways} {looks : List Look} {place : ℕ} (name : List ℕ) (watched : Watched) (standing : Standing) → Stands told ways looks place name watched standing → BrokeIn ways looks place watched.failed
+broken_there told {place} name watched New stands = unbroken_in watched.failed (ap (λ (w : Watched). w.failed) stands.1) (ap (is_dropped place) stands.0)
+broken_there told name watched (Followed position) stands = unbroken_in watched.failed stands.unbroken stands.kept
+broken_there told name watched Left stands = elim stands.why [
   | inl dropped ↦ dropped.1
-  | inr missed ↦ unbroken_in ways looks place watched.failed missed.unbroken missed.kept
+  | inr missed ↦ unbroken_in watched.failed missed.unbroken missed.kept
 ]
 
 -- opening a file breaks no name
@@ -218,12 +218,12 @@ opens_failed (name ∷ names) (suc place) zero file = refl
 opens_failed (name ∷ names) (suc place) (suc other) file = opens_failed names place other file
 
 -- a look that was stopped at a name
-pub visited_short : (told_in told : Bool) (ways : Ways) (looks : List Look) (snapshot snapshot_now : Snapshot) (names now : List NameState) (default : NameState) (place : ℕ) (printer mid : PrinterState) (old slots new : List Slot) (watched watched_new : List Watched) (before : Bool) (why : Fault)
+pub visited_short : {told_in : Bool} (told : Bool) {ways : Ways} {looks : List Look} {snapshot snapshot_now : Snapshot} {names now : List NameState} (default : NameState) {place : ℕ} {printer mid : PrinterState} {old slots new : List Slot} {watched watched_new : List Watched} {before : Bool} {why : Fault}
     → place < length now → snapshot_now ≡ snapshot → Opened (ways.first + place) watched watched_new
     → VisitedUpTo told_in told ways looks snapshot place names printer old mid slots watched now before
     → (Stands told_in ways looks (ways.first + place) (get_or now place default).text (watched_at watched (ways.first + place)) (get_or now place default).standing → (is_dropped (ways.first + place) looks ≡ false) × Stopped told_in told ways looks snapshot_now (get_or now place default).text mid slots new why)
     → StoppedAt told_in told ways looks snapshot (texts names) printer old watched_new new why
-visited_short told_in told ways looks snapshot snapshot_now names now default place printer mid old slots new watched watched_new before why within seen opened sofar stop = record {
+visited_short {told_in} told {ways} {looks} {snapshot} {names} {now} default {place} {mid} {slots} {new} {watched} {watched_new} {why} within seen opened sofar stop = record {
   fates = sofar.fates;
   place = place;
   count = sofar.count;
@@ -233,7 +233,7 @@ visited_short told_in told ways looks snapshot snapshot_now names now default pl
   are = λ t. sofar.are t [] ∙ ap (λ those. shares_at_look_from ways looks (record { snapshot = snapshot; fates = those }) ways.first (take place (texts names))) (append-nil sofar.fates);
   begins = λ t. subst (BeginsShare stopped.1.share) (share_is t) (stopped.1.begins t sofar.fates);
   broken = λ other inside. subst (BrokeIn ways (looks ++ look ∷ []) (ways.first + other)) (sym (same (ways.first + other))) (there other (subst (λ n. other < n) (length_texts names now sofar.same) inside) (cases_lt other place));
-  short = shared_short told printer mid sofar.shares stopped.1.share old slots new why sofar.shared stopped.1.short;
+  short = shared_short told sofar.shared stopped.1.short;
 } where
   item : NameState
   item = get_or now place default
@@ -262,15 +262,15 @@ visited_short told_in told ways looks snapshot snapshot_now names now default pl
   same other = ap (λ (those : List Watched). (watched_at those other).failed) opened.1 ∙ opens_failed watched number other opened.0
 
   there : (other : ℕ) → other < length now → (other < place) ⊎ (place ≤ other) → BrokeIn ways (looks ++ look ∷ []) (ways.first + other) (watched_at watched (ways.first + other)).failed
-  there other inside (inl less) = broken_there told_in ways (looks ++ look ∷ []) (ways.first + other) (state_at now other).text (watched_at watched (ways.first + other)) (state_at now other).standing
+  there other inside (inl less) = broken_there told_in (state_at now other).text (watched_at watched (ways.first + other)) (state_at now other).standing
       (subst (λ those. Stands told_in ways (looks ++ record { snapshot = snapshot; fates = those } ∷ []) (ways.first + other) (state_at now other).text (watched_at watched (ways.first + other)) (state_at now other).standing) (append-nil sofar.fates) (sofar.done [] other less))
   there other inside (inr more) =
       let count = sofar.count in
-      broken_sound ways looks look (ways.first + other) (watched_at watched (ways.first + other)).failed (get_or_past sofar.fates (ways.first + other) sound (omega (arith, count, more)))
-      (broken_there told_in ways looks (ways.first + other) (state_at now other).text (watched_at watched (ways.first + other)) (state_at now other).standing (sofar.rest other more inside))
+      broken_sound looks look (watched_at watched (ways.first + other)).failed (get_or_past sofar.fates (ways.first + other) sound (omega (arith, count, more)))
+      (broken_there told_in (state_at now other).text (watched_at watched (ways.first + other)) (state_at now other).standing (sofar.rest other more inside))
 
-pub next_ready : (first : ℕ) (names : List NameState) (one : NameState) (place : ℕ) (watched watched_new : List Watched) → place < length names → AllReady names first watched → KeepsOthers (first + place) watched watched_new → CanVisit one (watched_at watched_new (first + place)) → AllReady (set names place one) first watched_new
-next_ready first names one place watched watched_new within ready keeps can other inside = by (cases_eq other place) where
+pub next_ready : (first : ℕ) (names : List NameState) (one : NameState) (place : ℕ) {watched watched_new : List Watched} → place < length names → AllReady names first watched → KeepsOthers (first + place) watched watched_new → CanVisit one (watched_at watched_new (first + place)) → AllReady (set names place one) first watched_new
+next_ready first names one place {watched_new} within ready keeps can other inside = by (cases_eq other place) where
   by : (other ≡ place) ⊎ (other ≡ place → ⊥) → CanVisit (state_at (set names place one) other) (watched_at watched_new (first + other))
   by (inl at) = subst (λ n. CanVisit (state_at (set names place one) n) (watched_at watched_new (first + n))) (sym at) (subst (λ (n : NameState). CanVisit n (watched_at watched_new (first + place))) (sym (get_or-set_same names place one no_state within)) can)
   by (inr elsewhere) = subst (λ (n : NameState). CanVisit n (watched_at watched_new (first + other))) (sym (get_or-set_other names place other one no_state elsewhere)) (subst (CanVisit (state_at names other)) (sym (keeps.others (first + other) (λ at. elsewhere (omega (arith, at))))) (ready other (subst (λ n. other < n) (length-set names place one) inside)))

@@ -11,7 +11,7 @@ use Rattle.follow_core.proofs.FollowLemmas.{begun_looked, begun_stopped, begun_u
 use Rattle.follow_core.proofs.follow.Follow.make_look.Goals as goal
 
 pub returns-in-Err-clause-makes : goal.returns-in-Err-clause-makes
-returns-in-Err-clause-makes g c = makes_none (fresh_unbroken _ c.in-Err.ensures.err.1 c.in-Err.ensures.err.2) c.in-Err.ensures.err.0 c.begin.ensures.seen
+returns-in-Err-clause-makes g c = makes_none (fresh_unbroken c.in-Err.ensures.err.1 c.in-Err.ensures.err.2) c.in-Err.ensures.err.0 c.begin.ensures.seen
 
 pub returns-in-Err-turn-clause-makes : goal.returns-in-Err-turn-clause-makes
 returns-in-Err-turn-clause-makes g c = makes_none (begun_unbroken c.in_default.ensures.begins c.turn.ensures.watched) c.in-Err-turn.ensures.err.0 (c.in-Err-turn.ensures.err.1 ∙ c.begin.ensures.seen)
@@ -40,12 +40,12 @@ returns-in-Ok-clause-makes g c =
     let new : FollowState = record { by_name = f.by_name; start = f.start; names = (with_items f.names c.visit_all.new.names).items; first = f.first; printer = c.visit_all.new.visitor; stage = f.stage; has_failed = f.has_failed || c.in-Ok.failed } in
     let looking = ap (λ (state : FollowState). state.stage) c.self.view_is ∙ c.in_default.ensures.begins.stage in
     let names_are = with_items_is f.names c.visit_all.new.names (c.visit_all.auto.names ∙ c.deref_mut.ensures.len) in
-    let seen_is = shown (g.W.Watch.shows c.begin.new.watch) (g.W.Watch.shows c.args.watch.now) (g.W.Watch.seen c.args.watch.now) seen (g.W.Watch.seen c.turn.new.self) c.begin.ensures.shows c.begin.ensures.seen c.in_default-turn.ensures.ok in
+    let seen_is = shown c.begin.ensures.shows c.begin.ensures.seen c.in_default-turn.ensures.ok in
     record {
       looked = begun_looked c.in_default.ensures.begins seen_is.0
           (subst (λ (state : FollowState). LooksOn told_in told snapshot state watched slots new watched_new slots_new) c.self.view_is
-          (look_made told_in told snapshot old new watched watched_new slots slots_new c.in-Ok.failed looking refl refl refl looking refl (c.visit_all.ensures.count ∙ ap length c.turn.ensures.watched)
-          (visits_at told_in told snapshot (latest (g.W.Watch.seen c.turn.new.self)) old new c.deref_mut.result.now c.visit_all.new.names watched (g.W.Watch.watched c.turn.new.self) watched_new slots slots_new c.in-Ok.failed
+          (look_made told c.in-Ok.failed looking refl refl refl looking refl (c.visit_all.ensures.count ∙ ap length c.turn.ensures.watched)
+          (visits_at told old new c.in-Ok.failed
           c.deref_mut.ensures.value (sym names_are) c.turn.ensures.watched (ap latest c.in_default-turn.ensures.ok ∙ latest-last seen snapshot) c.in-Ok.ensures.visited)));
       stopped = tt;
       seen_is = c.visit_all.ensures.seen ∙ seen_is.1;
@@ -71,13 +71,13 @@ returns-in-Err-visit_all-clause-makes g c =
     let slots_new = g.O.Outs.slots c.visit_all.new.outs in
     let old : FollowState = record { by_name = f.by_name; start = f.start; names = f.names.items; first = f.first; printer = f.visitor; stage = f.stage; has_failed = f.has_failed } in
     let why = c.in-Err-visit_all.fault in
-    let seen_is = shown (g.W.Watch.shows c.begin.new.watch) (g.W.Watch.shows c.args.watch.now) (g.W.Watch.seen c.args.watch.now) seen (g.W.Watch.seen c.turn.new.self) c.begin.ensures.shows c.begin.ensures.seen c.in_default-turn.ensures.ok in
+    let seen_is = shown c.begin.ensures.shows c.begin.ensures.seen c.in_default-turn.ensures.ok in
     record {
       looked = tt;
       stopped = begun_stopped c.in_default.ensures.begins seen_is.0
           (subst (λ (state : FollowState). StopsOn told_in told snapshot state watched slots watched_new slots_new why) c.self.view_is
           (look_stopped (ap (λ (state : FollowState). state.stage) c.self.view_is ∙ c.in_default.ensures.begins.stage) (c.visit_all.ensures.count ∙ ap length c.turn.ensures.watched)
-          (halts_at told_in told snapshot (latest (g.W.Watch.seen c.turn.new.self)) old c.deref_mut.result.now watched (g.W.Watch.watched c.turn.new.self) watched_new slots slots_new why
+          (halts_at told old
           c.deref_mut.ensures.value c.turn.ensures.watched (ap latest c.in_default-turn.ensures.ok ∙ latest-last seen snapshot) c.in-Err-visit_all.ensures.stopped)));
       seen_is = tt;
       saw = inr (c.visit_all.ensures.seen ∙ seen_is.1);

@@ -12,7 +12,7 @@ returns-in-Ok-clause-visits g c first =
     let old : NameState = c.args.self.now in
     let watched = g.W.Watch.watched c.args.watch.now in
     let stood : old.standing ≡ New = ap (λ (name : NameState). name.standing) (sym c.self.view_is) ∙ c.in-New.is in
-    let can = can_as old (watched_at watched place) New stood c.requires.ready in
+    let can = can_as old (watched_at watched place) stood c.requires.ready in
     visit_made c.text.ensures stood can.0 can.1 c.leave.ensures.state c.leave.ensures.failed (c.in-Ok.ensures.looks first c.args.by_name)
 
 pub returns-in-Err-clause-visits : goal.returns-in-Err-clause-visits
@@ -28,7 +28,7 @@ returns-in-Ok-again-clause-visits g c first =
     let old : NameState = c.args.self.now in
     let watched = g.W.Watch.watched c.args.watch.now in
     let stood : old.standing ≡ Followed c.in-Followed.position = ap (λ (name : NameState). name.standing) (sym c.self.view_is) ∙ c.in-Followed.is in
-    let can = can_as old (watched_at watched place) (Followed c.in-Followed.position) stood c.requires.ready in
+    let can = can_as old (watched_at watched place) stood c.requires.ready in
     visit_made c.text-in-Followed.ensures stood can.0 can.1 c.leave-in-Ok-again.ensures.state c.leave-in-Ok-again.ensures.failed (c.in-Ok-again.ensures.looks first ways.start)
 
 pub returns-in-Err-again-clause-visits : goal.returns-in-Err-again-clause-visits
@@ -39,5 +39,4 @@ returns-in-Err-again-clause-visits g c first =
     visit_over c.text-in-Followed.ensures stood refl (c.in-Err-again.ensures.looks first ways.start)
 
 pub returns-in-Left-clause-visits : goal.returns-in-Left-clause-visits
-returns-in-Left-clause-visits g c first =
-    visit_left (ap (λ (name : NameState). name.standing) (sym c.self.view_is) ∙ c.in-Left.is) c.requires.ready
+returns-in-Left-clause-visits g c first = visit_left (ap (λ (name : NameState). name.standing) (sym c.self.view_is) ∙ c.in-Left.is) c.requires.ready
