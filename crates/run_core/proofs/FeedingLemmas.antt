@@ -21,11 +21,11 @@ use Rattle.run_core.specs.inner.Feeding.{EndsSo, finished, fell_short}
 -- a change of one input
 
 -- why an engine that is live is stopped
-stops : (work : Work) (read : List ℕ) (low high : Part) (needs : Needs) (Lacks : Type 0) (Ends : Fault → Type 0) (fault : Fault) (taken size : ℕ) (old new : List Slot) → is_verdict fault ≡ false → (2 ^ 63 ≤ taken + size → 2 ^ 63 ≤ length read)
+stops : (work : Work) (read : List ℕ) (low high : Part) (needs : Needs) (Lacks : Type 0) (Ends : Fault → Type 0) {fault : Fault} (taken : ℕ) {size : ℕ} {old new : List Slot} → is_verdict fault ≡ false → (2 ^ 63 ≤ taken + size → 2 ^ 63 ≤ length read)
     → IsCaused (IsMet work.means needs Lacks Ends old new) false taken size old new fault → Stops (call_of work needs read low high) new fault
-stops work read low high needs Lacks Ends _ taken size old new is long (engine.over is_over kept) = absurd (false≢true is_over)
-stops work read low high needs Lacks Ends _ taken size old new is long (engine.long live many kept) = long many
-stops work read low high needs Lacks Ends fault taken size old new is long (engine.met _ live why) = by_why fault is why where
+stops work read low high needs Lacks Ends taken is long (engine.over is_over kept) = absurd (false≢true is_over)
+stops work read low high needs Lacks Ends taken is long (engine.long live many kept) = long many
+stops work read low high needs Lacks Ends {fault} taken {old} {new} is long (engine.met _ live why) = by_why fault is why where
   by_why : (fault : Fault) → is_verdict fault ≡ false → IsMet work.means needs Lacks Ends old new fault → Stops (call_of work needs read low high) new fault
   by_why Memory is why = why.0
   by_why (Write slot) is why = (why.0, why.1, why.2.1)
@@ -36,10 +36,10 @@ stops work read low high needs Lacks Ends fault taken size old new is long (engi
   by_why fault is why = absurd why
 
 -- a verdict comes only where the work ends so
-pub judges : (means : Means) (needs : Needs) (Lacks : Type 0) (Ends : Fault → Type 0) (fault : Fault) (over : Bool) (taken size : ℕ) (old new : List Slot) → is_verdict fault ≡ true → IsCaused (IsMet means needs Lacks Ends old new) over taken size old new fault → Ends fault
-judges means needs Lacks Ends _ over taken size old new is (engine.over is_over kept) = absurd (false≢true is)
-judges means needs Lacks Ends _ over taken size old new is (engine.long live many kept) = absurd (false≢true is)
-judges means needs Lacks Ends fault over taken size old new is (engine.met _ live why) = by_why fault is why where
+pub judges : (means : Means) (needs : Needs) (Lacks : Type 0) (Ends : Fault → Type 0) {fault : Fault} (over : Bool) (taken : ℕ) {size : ℕ} {old new : List Slot} → is_verdict fault ≡ true → IsCaused (IsMet means needs Lacks Ends old new) over taken size old new fault → Ends fault
+judges means needs Lacks Ends over taken is (engine.over is_over kept) = absurd (false≢true is)
+judges means needs Lacks Ends over taken is (engine.long live many kept) = absurd (false≢true is)
+judges means needs Lacks Ends {fault} over taken {old} {new} is (engine.met _ live why) = by_why fault is why where
   by_why : (fault : Fault) → is_verdict fault ≡ true → IsMet means needs Lacks Ends old new fault → Ends fault
   by_why Suffixes is why = why
   by_why (NoMatch operand repetition) is why = why
@@ -47,17 +47,17 @@ judges means needs Lacks Ends fault over taken size old new is (engine.met _ liv
   by_why fault is why = absurd (false≢true is)
 
 -- a fault that doesn't stop is a verdict
-pub judging_of : (given fault : Fault) → given ≡ fault → not (is_verdict given) ≡ false → is_verdict fault ≡ true
-judging_of given fault is ends = ap is_verdict (sym is) ∙ not-false (is_verdict given) ends
+pub judging_of : {given fault : Fault} → given ≡ fault → not (is_verdict given) ≡ false → is_verdict fault ≡ true
+judging_of {given} is ends = ap is_verdict (sym is) ∙ not-false (is_verdict given) ends
 
 -- what a fault left within an input, and what was made of its files then
-short_of_piece : (told : Bool) (opening : Needs) (most : ℕ) (work : Work) (content : Content) (WasRead : List ℕ → Type 0) (x piece rest : List ℕ) (reached new before : List Slot) (fault : Fault) → IsLawful work → content.bytes ≡ (x ++ piece) ++ rest → length piece ≤ most → work.is_complete x ≡ false → WasRead (x ++ piece)
+short_of_piece : (told : Bool) {opening : Needs} {most : ℕ} {work : Work} {content : Content} (WasRead : List ℕ → Type 0) (x piece rest : List ℕ) {reached new before : List Slot} {fault : Fault} → IsLawful work → content.bytes ≡ (x ++ piece) ++ rest → length piece ≤ most → work.is_complete x ≡ false → WasRead (x ++ piece)
     → Ended told before (work.settled x) (work.settled (x ++ piece)) work.clears fault reached
     → (is_verdict fault ≡ false → Stops (call_of work work.means.feeding (x ++ piece) (work.settled x) (work.settled (x ++ piece))) reached fault) → (is_verdict fault ≡ true → IsSettled work (x ++ piece) fault)
     → (is_verdict fault ≡ true → new ≡ reached) → (is_verdict fault ≡ false → Swept work.clears (length before) reached new) → FedAs told before work opening most content WasRead new (Err fault)
-short_of_piece told opening most work content WasRead x piece rest reached new before fault lawful is within going read (engine.cut unjudged stop) why settles kept swept =
+short_of_piece told WasRead x piece rest {reached} {fault} lawful is within going read (engine.cut unjudged stop) why settles kept swept =
     stopped fault unjudged _ (feeds x piece rest is within going) read reached (why unjudged) stop (swept unjudged)
-short_of_piece told opening most work content WasRead x piece rest reached new before fault lawful is within going read (engine.judged judging first at cleared) why settles kept swept =
+short_of_piece told {work} WasRead x piece rest {before} {fault} lawful is within going read (engine.judged judging first at cleared) why settles kept swept =
     let stays : IsComplete work (x ++ piece) rest = lawful.stays (x ++ piece) rest (settles judging).0 in
     judged fault judging (or_right _ _ (ap work.is_complete is ∙ stays.still)) (ap work.verdict is ∙ stays.verdict_stays ∙ (settles judging).1) first
     (subst (λ part. OutputsAt told before part first) (sym stays.whole_stays ∙ ap work.whole (sym is)) at)
@@ -69,34 +69,34 @@ HasGot work content x Whole = (content.breaks_off ≡ false) × (work.is_complet
 HasGot work content x Enough = (work.is_complete x ≡ true) × ((rest : List ℕ) × (content.bytes ≡ x ++ rest))
 HasGot work content x Broken = ⊥
 
-got_all : (work : Work) (content : Content) (x : List ℕ) (fed : Fed) → HasGot work content x fed → HasAll work content x
-got_all work content x Whole got = to_end got.0 got.2
-got_all work content x Enough got = enough got.1.0 got.1.1 got.0
-got_all work content x Broken got = absurd got
+got_all : {work : Work} {content : Content} {x : List ℕ} (fed : Fed) → HasGot work content x fed → HasAll work content x
+got_all Whole got = to_end got.0 got.2
+got_all Enough got = enough got.1.0 got.1.1 got.0
+got_all Broken got = absurd got
 
-whole_at : (work : Work) (x rest : List ℕ) → IsLawful work → work.is_complete x ≡ true → work.whole (x ++ rest) ≡ work.whole x
-whole_at work x rest lawful done =
+whole_at : {work : Work} {x : List ℕ} (rest : List ℕ) → IsLawful work → work.is_complete x ≡ true → work.whole (x ++ rest) ≡ work.whole x
+whole_at {work} {x} rest lawful done =
     let here : IsComplete work x [] = lawful.stays x [] done in
     let there : IsComplete work x rest = lawful.stays x rest done in
     there.whole_stays ∙ sym here.whole_stays ∙ ap work.whole (append-nil x)
 
-fed_all : (told : Bool) (opening : Needs) (most : ℕ) (work : Work) (content : Content) (WasRead : List ℕ → Type 0) (x : List ℕ) (new before : List Slot) (fed : Fed) → IsLawful work → HasGot work content x fed → work.verdict x ≡ None → OutputsAt told before (work.whole x) new → FedAs told before work opening most content WasRead new (Ok fed)
-fed_all told opening most work content WasRead x new before Whole lawful got well at =
+fed_all : (told : Bool) {opening : Needs} {most : ℕ} {work : Work} {content : Content} (WasRead : List ℕ → Type 0) {x : List ℕ} {new before : List Slot} (fed : Fed) → IsLawful work → HasGot work content x fed → work.verdict x ≡ None → OutputsAt told before (work.whole x) new → FedAs told before work opening most content WasRead new (Ok fed)
+fed_all told {work} WasRead {new} {before} Whole lawful got well at =
     whole got.0 (ap work.is_complete got.2 ∙ got.1) (ap work.verdict got.2 ∙ well) (subst (λ bytes. OutputsAt told before (work.whole bytes) new) (sym got.2) at)
-fed_all told opening most work content WasRead x new before Enough lawful got well at =
+fed_all told {work} WasRead {x} {new} {before} Enough lawful got well at =
     let stays : IsComplete work x got.1.0 = lawful.stays x got.1.0 got.0 in
     had_enough (ap work.is_complete got.1.1 ∙ stays.still) (ap work.verdict got.1.1 ∙ stays.verdict_stays ∙ well)
-    (subst (λ part. OutputsAt told before part new) (sym (ap work.whole got.1.1 ∙ whole_at work x got.1.0 lawful got.0)) at)
-fed_all told opening most work content WasRead x new before Broken lawful got well at = absurd got
+    (subst (λ part. OutputsAt told before part new) (sym (ap work.whole got.1.1 ∙ whole_at got.1.0 lawful got.0)) at)
+fed_all told WasRead Broken lawful got well at = absurd got
 
-judged_all : (told : Bool) (opening : Needs) (most : ℕ) (work : Work) (content : Content) (WasRead : List ℕ → Type 0) (x : List ℕ) (reached new before : List Slot) (fed : Fed) (fault : Fault) → is_verdict fault ≡ true → IsLawful work → HasGot work content x fed → Judges work x fault → OutputsAt told before (work.whole x) reached → Swept work.clears (length before) reached new → FedAs told before work opening most content WasRead new (Err fault)
-judged_all told opening most work content WasRead x reached new before Whole fault judging lawful got verdict at swept =
+judged_all : (told : Bool) {opening : Needs} {most : ℕ} {work : Work} {content : Content} (WasRead : List ℕ → Type 0) {x : List ℕ} {reached new before : List Slot} (fed : Fed) {fault : Fault} → is_verdict fault ≡ true → IsLawful work → HasGot work content x fed → Judges work x fault → OutputsAt told before (work.whole x) reached → Swept work.clears (length before) reached new → FedAs told before work opening most content WasRead new (Err fault)
+judged_all told {work} WasRead {reached} {before} Whole {fault} judging lawful got verdict at swept =
     judged fault judging (or_left _ _ (ap not got.0)) (ap work.verdict got.2 ∙ verdict) reached (subst (λ bytes. OutputsAt told before (work.whole bytes) reached) (sym got.2) at) swept
-judged_all told opening most work content WasRead x reached new before Enough fault judging lawful got verdict at swept =
+judged_all told {work} WasRead {x} {reached} {before} Enough {fault} judging lawful got verdict at swept =
     let stays : IsComplete work x got.1.0 = lawful.stays x got.1.0 got.0 in
     judged fault judging (or_right _ _ (ap work.is_complete got.1.1 ∙ stays.still)) (ap work.verdict got.1.1 ∙ stays.verdict_stays ∙ verdict) reached
-    (subst (λ part. OutputsAt told before part reached) (sym (ap work.whole got.1.1 ∙ whole_at work x got.1.0 lawful got.0)) at) swept
-judged_all told opening most work content WasRead x reached new before Broken fault judging lawful got verdict at swept = absurd got
+    (subst (λ part. OutputsAt told before part reached) (sym (ap work.whole got.1.1 ∙ whole_at got.1.0 lawful got.0)) at) swept
+judged_all told WasRead Broken judging lawful got verdict at swept = absurd got
 
 -- the engine makes of x what it makes of z
 pub record MadeAlike (work : Work) (x z : List ℕ) : Type 0 where
@@ -104,29 +104,29 @@ pub record MadeAlike (work : Work) (x z : List ℕ) : Type 0 where
   pub whole : work.whole x ≡ work.whole z
   pub verdict : work.verdict x ≡ work.verdict z
 
-pub alike_itself : (work : Work) (x : List ℕ) → MadeAlike work x x
-alike_itself work x = record { settled = refl; whole = refl; verdict = refl }
+pub alike_itself : {work : Work} {x : List ℕ} → MadeAlike work x x
+alike_itself = record { settled = refl; whole = refl; verdict = refl }
 
 -- what is spare changes nothing
-pub alike_used : (work : Work) (x : List ℕ) (n : ℕ) (spare : IsSpare work x n) → IsLawful work → work.is_complete spare.used ≡ true → MadeAlike work x spare.used
-alike_used work x n spare lawful done =
+pub alike_used : {work : Work} {x : List ℕ} {n : ℕ} (spare : IsSpare work x n) → IsLawful work → work.is_complete spare.used ≡ true → MadeAlike work x spare.used
+alike_used {work} spare lawful done =
     let stays : IsComplete work spare.used spare.rest = lawful.stays spare.used spare.rest done in record {
       settled = ap work.settled spare.joined ∙ stays.settled_stays;
-      whole = ap work.whole spare.joined ∙ whole_at work spare.used spare.rest lawful done;
+      whole = ap work.whole spare.joined ∙ whole_at spare.rest lawful done;
       verdict = ap work.verdict spare.joined ∙ stays.verdict_stays;
     }
 
 -- What a fault left at the end, and what was made of its files then. The engine was fed x, of which z was used.
-short_of_end : (told : Bool) (opening : Needs) (most : ℕ) (work : Work) (content : Content) (WasRead : List ℕ → Type 0) (x z : List ℕ) (reached new before : List Slot) (fed : Fed) (fault : Fault) → IsLawful work → HasGot work content x fed → HasAll work content z → MadeAlike work x z → IsNeeded work.is_complete most z → WasRead z
+short_of_end : (told : Bool) {opening : Needs} {most : ℕ} {work : Work} {content : Content} (WasRead : List ℕ → Type 0) {x z : List ℕ} {reached new before : List Slot} (fed : Fed) {fault : Fault} → IsLawful work → HasGot work content x fed → HasAll work content z → MadeAlike work x z → IsNeeded work.is_complete most z → WasRead z
     → Ended told before (work.settled x) (work.whole x) work.clears fault reached
     → (is_verdict fault ≡ false → Stops (call_of work work.means.closing z (work.settled z) (work.whole z)) reached fault) → (is_verdict fault ≡ true → Judges work x fault)
     → (is_verdict fault ≡ true → new ≡ reached) → (is_verdict fault ≡ false → Swept work.clears (length before) reached new) → FedAs told before work opening most content WasRead new (Err fault)
-short_of_end told opening most work content WasRead x z reached new before fed fault lawful got all alike needed read (engine.cut unjudged stop) why verdict kept swept =
+short_of_end told {work} WasRead {x} {z} {reached} {before} fed {fault} lawful got all alike needed read (engine.cut unjudged stop) why verdict kept swept =
     stopped fault unjudged _ (closes z all needed) read reached (why unjudged)
     (subst (λ low. StoppedBetween told before low (work.whole z) fault reached) alike.settled (subst (λ high. StoppedBetween told before (work.settled x) high fault reached) alike.whole stop))
     (swept unjudged)
-short_of_end told opening most work content WasRead x z reached new before fed fault lawful got all alike needed read (engine.judged judging first at cleared) why verdict kept swept =
-    judged_all told opening most work content WasRead x first new before fed fault judging lawful got (verdict judging) at (subst (λ those. Swept work.clears (length before) first those) (sym (kept judging)) cleared)
+short_of_end told {work} WasRead {before} fed lawful got all alike needed read (engine.judged judging first at cleared) why verdict kept swept =
+    judged_all told WasRead fed judging lawful got (verdict judging) at (subst (λ those. Swept work.clears (length before) first those) (sym (kept judging)) cleared)
 
 module _ {S : Type 0} (Holds : S → List ℕ → Type 0) (Owns : S → ℕ → List Slot → Type 0) (work : S → Work) where
   -- the loop has fed the engine x
@@ -137,79 +137,78 @@ module _ {S : Type 0} (Holds : S → List ℕ → Type 0) (Owns : S → ℕ → 
     pub outputs : (before : List Slot) → Owns start.stage (length before) old → OutputsAt told before ((work start.stage).settled []) old → OutputsAt told before ((work now.stage).settled x) slots
     pub bound : now.fed < 2 ^ 63
 
-  pub begins : (told : Bool) (start : GuardState S) (old : List Slot) → HoldsIn Holds start [] → start.fed < 2 ^ 63 → Feeds told start start [] old old
-  begins told start old holds bound = record { same = refl; holds = holds; owns = λ first own. own; outputs = λ before own at. at; bound = bound }
+  pub begins : (told : Bool) {start : GuardState S} {old : List Slot} → HoldsIn Holds start [] → start.fed < 2 ^ 63 → Feeds told start start [] old old
+  begins told holds bound = record { same = refl; holds = holds; owns = λ first own. own; outputs = λ before own at. at; bound = bound }
 
   -- the engine and its outputs stand at what it was fed
-  pub stands : (told : Bool) (start now : GuardState S) (x : List ℕ) (old mid before : List Slot) → Feeds told start now x old mid → Owns start.stage (length before) old → OutputsAt told before ((work start.stage).settled []) old → StandsAt Holds Owns now.stage told before x ((work now.stage).settled x) mid
-  stands told start now x old mid before so_far own at = record { holds = so_far.holds.within; owns = so_far.owns (length before) own; outputs = so_far.outputs before own at }
+  pub stands : (told : Bool) {start now : GuardState S} {x : List ℕ} {old mid before : List Slot} → Feeds told start now x old mid → Owns start.stage (length before) old → OutputsAt told before ((work start.stage).settled []) old → StandsAt Holds Owns now.stage told before x ((work now.stage).settled x) mid
+  stands told {before} so_far own at = record { holds = so_far.holds.within; owns = so_far.owns (length before) own; outputs = so_far.outputs before own at }
 
-  pub goes_on : (told : Bool) (start now next : GuardState S) (x piece : List ℕ) (old mid new : List Slot) → Feeds told start now x old mid → work next.stage ≡ work now.stage → TakesIn (HoldsIn Holds) piece now next → PutsOut Holds Owns work now.stage piece told mid new → KeepsOwn Owns now.stage next.stage mid new → next.fed < 2 ^ 63 → Feeds told start next (x ++ piece) old new
-  goes_on told start now next x piece old mid new so_far same takes puts keeps bound = record {
+  pub goes_on : (told : Bool) {start now next : GuardState S} {x : List ℕ} (piece : List ℕ) {old mid new : List Slot} → Feeds told start now x old mid → work next.stage ≡ work now.stage → TakesIn (HoldsIn Holds) piece now next → PutsOut Holds Owns work now.stage piece told mid new → KeepsOwn Owns now.stage next.stage mid new → next.fed < 2 ^ 63 → Feeds told start next (x ++ piece) old new
+  goes_on told {x} piece {new} so_far same takes puts keeps bound = record {
     same = same ∙ so_far.same;
     holds = takes x so_far.holds;
     owns = λ first own. keeps first (so_far.owns first own);
-    outputs = λ before own at. subst (λ (those : Work). OutputsAt told before (those.settled (x ++ piece)) new) (sym same) (puts before x (stands told start now x old mid before so_far own at));
+    outputs = λ before own at. subst (λ (those : Work). OutputsAt told before (those.settled (x ++ piece)) new) (sym same) (puts before x (stands told so_far own at));
     bound = bound;
   }
 
   -- the loop ended at a fault of the engine, within the input
-  pub stopped_feeding : (laws : (s : S) → IsLawful (work s)) (told : Bool) (opening : Needs) (most : ℕ) (lack : Type 0) (start now next : GuardState S) (content : Content) (WasRead : List ℕ → Type 0) (x piece rest : List ℕ) (old mid reached new before : List Slot) (fault : Fault) → Feeds told start now x old mid → Owns start.stage (length before) old → OutputsAt told before ((work start.stage).settled []) old
+  pub stopped_feeding : (laws : (s : S) → IsLawful (work s)) (told : Bool) {opening : Needs} {most : ℕ} {lack : Type 0} {start now : GuardState S} (next : GuardState S) {content : Content} (WasRead : List ℕ → Type 0) {x : List ℕ} (piece rest : List ℕ) {old mid reached new before : List Slot} {fault : Fault} → Feeds told start now x old mid → Owns start.stage (length before) old → OutputsAt told before ((work start.stage).settled []) old
       → content.bytes ≡ (x ++ piece) ++ rest → length piece ≤ most → (work now.stage).is_complete x ≡ false → WasRead (x ++ piece) → CutsOff Holds Owns work now.stage piece told mid reached fault
       → IsCaused (IsMet (work now.stage).means (work now.stage).means.feeding lack (EndsWith Holds work now.stage piece) mid reached) now.is_over now.fed (length piece) mid reached fault
       → work next.stage ≡ work now.stage → (is_verdict fault ≡ false → KeepsOwn Owns now.stage next.stage mid reached) → (is_verdict fault ≡ true → new ≡ reached) → (is_verdict fault ≡ false → Clears Owns work next.stage reached new)
       → FedAs told before (work start.stage) opening most content WasRead new (Err fault)
-  stopped_feeding laws told opening most lack start now next content WasRead x piece rest old mid reached new before fault so_far own at is within going read cuts caused same owned kept cleared =
+  stopped_feeding laws told {opening} {most} {lack} {now} next {content} WasRead {x} piece rest {mid} {reached} {new} {before} {fault} so_far own at is within going read cuts caused same owned kept cleared =
       let why = subst (λ n. IsCaused (IsMet (work now.stage).means (work now.stage).means.feeding lack (EndsWith Holds work now.stage piece) mid reached) false n (length piece) mid reached fault) so_far.holds.count
       (subst (λ over. IsCaused (IsMet (work now.stage).means (work now.stage).means.feeding lack (EndsWith Holds work now.stage piece) mid reached) over now.fed (length piece) mid reached fault) so_far.holds.live caused) in
       subst (λ (those : Work). FedAs told before those opening most content WasRead new (Err fault)) so_far.same
-      (short_of_piece told opening most (work now.stage) content WasRead x piece rest reached new before fault (laws now.stage) is within going read (cuts before x (stands told start now x old mid before so_far own at))
-      (λ unjudged. stops (work now.stage) (x ++ piece) ((work now.stage).settled x) ((work now.stage).settled (x ++ piece)) (work now.stage).means.feeding lack (EndsWith Holds work now.stage piece) fault (length x) (length piece) mid reached unjudged (λ long. let size : length (x ++ piece) ≡ length x + length piece = length-append x piece in omega (arith, long)) why)
-      (λ judging. judges (work now.stage).means (work now.stage).means.feeding lack (EndsWith Holds work now.stage piece) fault _ _ _ mid reached judging caused x so_far.holds.within)
+      (short_of_piece told WasRead x piece rest (laws now.stage) is within going read (cuts before x (stands told so_far own at))
+      (λ unjudged. stops (work now.stage) (x ++ piece) ((work now.stage).settled x) ((work now.stage).settled (x ++ piece)) (work now.stage).means.feeding lack (EndsWith Holds work now.stage piece) (length x) unjudged (λ long. let size : length (x ++ piece) ≡ length x + length piece = length-append x piece in omega (arith, long)) why)
+      (λ judging. judges (work now.stage).means (work now.stage).means.feeding lack (EndsWith Holds work now.stage piece) _ _ judging caused x so_far.holds.within)
       kept
       (λ unjudged. subst (λ (those : Work). Swept those.clears (length before) reached new) same (cleared unjudged (length before) (owned unjudged (length before) (so_far.owns (length before) own)))))
 
   -- the loop ended with the input, or where nothing more can follow
-  pub ended : (laws : (s : S) → IsLawful (work s)) (told : Bool) (opening : Needs) (most : ℕ) (start now : GuardState S) (content : Content) (WasRead : List ℕ → Type 0) (x z : List ℕ) (old mid new before : List Slot) (fed : Fed) (result : Result Fed Fault) → Feeds told start now x old mid → Owns start.stage (length before) old → OutputsAt told before ((work start.stage).settled []) old → HasGot (work now.stage) content x fed → HasAll (work now.stage) content z → MadeAlike (work now.stage) x z → IsNeeded (work now.stage).is_complete most z → WasRead z
+  pub ended : (laws : (s : S) → IsLawful (work s)) (told : Bool) {opening : Needs} {most : ℕ} {start now : GuardState S} {content : Content} (WasRead : List ℕ → Type 0) {x z : List ℕ} {old mid new before : List Slot} {fed : Fed} {result : Result Fed Fault} → Feeds told start now x old mid → Owns start.stage (length before) old → OutputsAt told before ((work start.stage).settled []) old → HasGot (work now.stage) content x fed → HasAll (work now.stage) content z → MadeAlike (work now.stage) x z → IsNeeded (work now.stage).is_complete most z → WasRead z
       → EndsSo Holds Owns work told now fed mid new result → FedAs told before (work start.stage) opening most content WasRead new result
-  ended laws told opening most start now content WasRead x z old mid new before fed result so_far own at got all alike needed read (finished finishes) =
-      let done = finishes before x (stands told start now x old mid before so_far own at) in
-      subst (λ (those : Work). FedAs told before those opening most content WasRead new (Ok fed)) so_far.same (fed_all told opening most (work now.stage) content WasRead x new before fed (laws now.stage) got done.0 done.1)
-  ended laws told opening most start now content WasRead x z old mid new before fed result so_far own at got all alike needed read (fell_short fault reached short caused kept cleared) =
+  ended laws told {opening} {most} {now} {content} WasRead {x} {new} {before} {fed} so_far own at got all alike needed read (finished finishes) =
+      let done = finishes before x (stands told so_far own at) in
+      subst (λ (those : Work). FedAs told before those opening most content WasRead new (Ok fed)) so_far.same (fed_all told WasRead fed (laws now.stage) got done.0 done.1)
+  ended laws told {opening} {most} {now} {content} WasRead {x} {z} {mid} {new} {before} {fed} so_far own at got all alike needed read (fell_short fault reached short caused kept cleared) =
       let why = subst (λ over. IsCaused (IsMet (work now.stage).means (work now.stage).means.closing (Unit {0}) (EndsThere Holds work now.stage) mid reached) over now.fed 0 mid reached fault) so_far.holds.live caused in
       subst (λ (those : Work). FedAs told before those opening most content WasRead new (Err fault)) so_far.same
-      (short_of_end told opening most (work now.stage) content WasRead x z reached new before fed fault (laws now.stage) got all alike needed read (short before x (stands told start now x old mid before so_far own at))
-      (λ unjudged. stops (work now.stage) z ((work now.stage).settled z) ((work now.stage).whole z) (work now.stage).means.closing (Unit {0}) (EndsThere Holds work now.stage) fault now.fed 0 mid reached unjudged (λ long. absurd (let bound : now.fed < 2 ^ 63 = so_far.bound in omega (arith, bound, long))) why)
-      (λ judging. judges (work now.stage).means (work now.stage).means.closing (Unit {0}) (EndsThere Holds work now.stage) fault _ _ _ mid reached judging caused x so_far.holds.within)
-      kept
-      (λ unjudged. cleared unjudged (length before) (so_far.owns (length before) own)))
+      (short_of_end told WasRead fed (laws now.stage) got all alike needed read (short before x (stands told so_far own at))
+      (λ unjudged. stops (work now.stage) z ((work now.stage).settled z) ((work now.stage).whole z) (work now.stage).means.closing (Unit {0}) (EndsThere Holds work now.stage) now.fed unjudged (λ long. absurd (let bound : now.fed < 2 ^ 63 = so_far.bound in omega (arith, bound, long))) why)
+      (λ judging. judges (work now.stage).means (work now.stage).means.closing (Unit {0}) (EndsThere Holds work now.stage) _ _ judging caused x so_far.holds.within)
+      kept (λ unjudged. cleared unjudged (length before) (so_far.owns (length before) own)))
 
   -- the loop ended where the input broke off
-  pub broken_off : (told : Bool) (opening : Needs) (most : ℕ) (start now : GuardState S) (content : Content) (WasRead : List ℕ → Type 0) (x : List ℕ) (old slots new before : List Slot) → Feeds told start now x old slots → Owns start.stage (length before) old → OutputsAt told before ((work start.stage).settled []) old → content.bytes ≡ x → content.breaks_off ≡ true → (work now.stage).is_complete x ≡ false
+  pub broken_off : (told : Bool) {opening : Needs} {most : ℕ} {start now : GuardState S} {content : Content} (WasRead : List ℕ → Type 0) {x : List ℕ} {old slots new before : List Slot} → Feeds told start now x old slots → Owns start.stage (length before) old → OutputsAt told before ((work start.stage).settled []) old → content.bytes ≡ x → content.breaks_off ≡ true → (work now.stage).is_complete x ≡ false
       → Clears Owns work now.stage slots new → FedAs told before (work start.stage) opening most content WasRead new (Ok Broken)
-  broken_off told opening most start now content WasRead x old slots new before so_far own at all breaks going cleared =
+  broken_off told {opening} {most} {now} {content} WasRead {slots} {new} {before} so_far own at all breaks going cleared =
       subst (λ (those : Work). FedAs told before those opening most content WasRead new (Ok Broken)) so_far.same
       (broke_off breaks (ap (work now.stage).is_complete all ∙ going) slots
       (subst (λ bytes. OutputsAt told before ((work now.stage).settled bytes) slots) (sym all) (so_far.outputs before own at))
       (cleared (length before) (so_far.owns (length before) own)))
 
   -- an input without bytes: the engine is closed at once
-  pub closed_at_start : (laws : (s : S) → IsLawful (work s)) (told : Bool) (opening : Needs) (most : ℕ) (start : GuardState S) (old new before : List Slot) (fed : Fed) (result : Result Fed Fault) → HoldsIn Holds start [] → start.fed < 2 ^ 63 → Owns start.stage (length before) old → OutputsAt told before ((work start.stage).settled []) old → HasGot (work start.stage) empty [] fed
+  pub closed_at_start : (laws : (s : S) → IsLawful (work s)) (told : Bool) {opening : Needs} {most : ℕ} {start : GuardState S} {old new before : List Slot} {fed : Fed} {result : Result Fed Fault} → HoldsIn Holds start [] → start.fed < 2 ^ 63 → Owns start.stage (length before) old → OutputsAt told before ((work start.stage).settled []) old → HasGot (work start.stage) empty [] fed
       → EndsSo Holds Owns work told start fed old new result → FedAs told before (work start.stage) opening most empty (λ read. Unit {0}) new result
-  closed_at_start laws told opening most start old new before fed result holds bound own at got ends =
-      ended laws told opening most start start empty (λ read. Unit {0}) [] [] old old new before fed result (begins told start old holds bound) own at got (got_all (work start.stage) empty [] fed got) (alike_itself (work start.stage) []) (inl refl) tt ends
+  closed_at_start laws told {fed} holds bound own at got ends =
+      ended laws told (λ read. Unit {0}) (begins told holds bound) own at got (got_all fed got) (alike_itself) (inl refl) tt ends
 
   -- an input that ended, or was enough, didn't break off
-  pub ends_sound : (told : Bool) (engine : GuardState S) (fed : Fed) (old new : List Slot) (result : Result Fed Fault) (P : Type 0) → (fed ≡ Whole) ⊎ (fed ≡ Enough) → EndsSo Holds Owns work told engine fed old new result → IfOk result (λ found. found ≡ Broken → P)
-  ends_sound told engine fed old new result P sound (finished finishes) = λ is. absurd (elim sound [ inl one ↦ cc | inr other ↦ cc ])
-  ends_sound told engine fed old new result P sound (fell_short fault reached short caused kept cleared) = tt
+  pub ends_sound : (told : Bool) {engine : GuardState S} {fed : Fed} {old new : List Slot} {result : Result Fed Fault} (P : Type 0) → (fed ≡ Whole) ⊎ (fed ≡ Enough) → EndsSo Holds Owns work told engine fed old new result → IfOk result (λ found. found ≡ Broken → P)
+  ends_sound told P sound (finished finishes) = λ is. absurd (elim sound [ inl one ↦ cc | inr other ↦ cc ])
+  ends_sound told P sound (fell_short fault reached short caused kept cleared) = tt
 
   -- how a close ended, where what it gave up is known
-  pub close_short : (told : Bool) (engine mid : GuardState S) (fed : Fed) (old reached new : List Slot) (fault : Fault) → EndsShort Holds Owns work engine.stage told old reached fault
+  pub close_short : (told : Bool) {engine : GuardState S} (mid : GuardState S) {fed : Fed} {old reached new : List Slot} {fault : Fault} → EndsShort Holds Owns work engine.stage told old reached fault
       → IsCaused (IsMet (work engine.stage).means (work engine.stage).means.closing (Unit {0}) (EndsThere Holds work engine.stage) old reached) engine.is_over engine.fed 0 old reached fault
       → work mid.stage ≡ work engine.stage → (is_verdict fault ≡ false → KeepsOwn Owns engine.stage mid.stage old reached) → (is_verdict fault ≡ true → new ≡ reached) → (is_verdict fault ≡ false → Clears Owns work mid.stage reached new)
       → EndsSo Holds Owns work told engine fed old new (Err fault)
-  close_short told engine mid fed old reached new fault short caused same owned kept cleared =
+  close_short told mid {reached} {new} {fault} short caused same owned kept cleared =
       fell_short fault reached short caused kept (λ unjudged first own. subst (λ (those : Work). Swept those.clears first reached new) same (cleared unjudged first (owned unjudged first own)))
 
 -- what was read was needed
@@ -217,9 +216,9 @@ module _ {S : Type 0} (Holds : S → List ℕ → Type 0) (Owns : S → ℕ → 
 pub piece_within : (n most : ℕ) (buffer : List ℕ) → n ≤ most → length (take n buffer) ≤ most
 piece_within n most buffer within = omega (arith, length-take n buffer)
 
-pub needed_more : (is_complete : List ℕ → Bool) (most n : ℕ) (x buffer : List ℕ) → is_complete x ≡ false → n ≤ most → IsNeeded is_complete most (x ++ take n buffer)
-needed_more is_complete most n x buffer going within = inr (x, take n buffer, refl, piece_within n most buffer within, going)
+pub needed_more : {is_complete : List ℕ → Bool} {most : ℕ} (n : ℕ) (x buffer : List ℕ) → is_complete x ≡ false → n ≤ most → IsNeeded is_complete most (x ++ take n buffer)
+needed_more {most} n x buffer going within = inr (x, take n buffer, refl, piece_within n most buffer within, going)
 
 -- the same of the fault that is handed on
-pub given_so : (told : Bool) (before new : List Slot) (work : Work) (opening : Needs) (most : ℕ) (content : Content) (WasRead : List ℕ → Type 0) (given fault : Fault) → given ≡ fault → FedAs told before work opening most content WasRead new (Err fault) → FedAs told before work opening most content WasRead new (Err given)
-given_so told before new work opening most content WasRead given fault is fed = subst (λ those. FedAs told before work opening most content WasRead new (Err those)) (sym is) fed
+pub given_so : (told : Bool) {before new : List Slot} {work : Work} {opening : Needs} {most : ℕ} {content : Content} (WasRead : List ℕ → Type 0) {given fault : Fault} → given ≡ fault → FedAs told before work opening most content WasRead new (Err fault) → FedAs told before work opening most content WasRead new (Err given)
+given_so told {before} {new} {work} {opening} {most} {content} WasRead is fed = subst (λ those. FedAs told before work opening most content WasRead new (Err those)) (sym is) fed

@@ -34,8 +34,8 @@ pub out_on : (first : Part) (bytes : List ℕ) → record first { out = first.ou
 out_on first bytes = ap (λ (files : List File). record { out = first.out ++ bytes; files = files }) (sym (append-nil first.files))
 
 -- outputs that are at one part, and from there on at another, are at both
-pub at_after : (told : Bool) (base : List Slot) (first part : Part) (mid now : List Slot) → OutputsAt told base first mid → OutputsAt told mid part now → OutputsAt told base (after_part first part) now
-at_after told base first part mid now one two = record {
+pub at_after : (told : Bool) {base : List Slot} {first part : Part} {mid now : List Slot} → OutputsAt told base first mid → OutputsAt told mid part now → OutputsAt told base (after_part first part) now
+at_after told {base} {first} {part} {mid} one two = record {
   standard = one.standard;
   since = one.since ++ two.since;
   slots = two.slots ∙ ap (λ front. front ++ two.since) more ∙ append_assoc (with_written 0 (told_of told (first.out ++ part.out)) base) one.since two.since;
@@ -47,16 +47,16 @@ at_after told base first part mid now one two = record {
       ∙ changed_at-append 0 _ (with_written 0 (told_of told first.out) base) one.since (subst (λ n. 0 < n) (sym (length-changed_at 0 _ base)) one.standard)
       ∙ ap (λ front. front ++ one.since) (with_written-append 0 (told_of told first.out) (told_of told part.out) base ∙ ap (λ bytes. with_written 0 bytes base) (sym (told_of-append told first.out part.out)))
 
-order_after : (first low part high : List File) (place : ℕ) → InOrder low part high place → InOrder (first ++ low) (first ++ part) (first ++ high) (length first + place)
-order_after first low part high place order =
+order_after : (first : List File) {low part high : List File} {place : ℕ} → InOrder low part high place → InOrder (first ++ low) (first ++ part) (first ++ high) (length first + place)
+order_after first {low} {part} {high} {place} order =
     let past : suc (length first + place) ≡ length first + suc place = omega arith in record {
       done = take-append-add first part place ∙ ap (λ files. first ++ files) order.done ∙ sym (take-append-add first high place);
       untouched = ap (λ n. drop n (first ++ part)) past ∙ drop-append-add first part (suc place) ∙ order.untouched
           ∙ sym (ap (λ n. drop n (first ++ low)) past ∙ drop-append-add first low (suc place));
     }
 
-next_after : (first part high : Part) (name : List ℕ) → IsNext part high name → IsNext (after_part first part) (after_part first high) name
-next_after first part high name next = record {
+next_after : (first : Part) {part high : Part} (name : List ℕ) → IsNext part high name → IsNext (after_part first part) (after_part first high) name
+next_after first {part} name next = record {
   front = first.files ++ next.front;
   file = next.file;
   rest = next.rest;
@@ -65,25 +65,25 @@ next_after first part high name next = record {
   name_is = next.name_is;
 }
 
-from_after : (fault : Fault) (base mid place count : ℕ) (first : ℕ) → mid ≡ base + first → IsAt fault mid place count → IsAt fault base (first + place) (first + count)
-from_after (Write slot) base mid place count first is (inl here) = inl here
-from_after (Write slot) base mid place count first is (inr there) = inr (omega (arith, is, there))
-from_after (Open slot) base mid place count first is at = ap (λ n. first + n) at
-from_after fault base mid place count first is at = tt
+from_after : (fault : Fault) (base : ℕ) {mid : ℕ} (place count : ℕ) (first : ℕ) → mid ≡ base + first → IsAt fault mid place count → IsAt fault base (first + place) (first + count)
+from_after (Write slot) base place count first is (inl here) = inl here
+from_after (Write slot) base place count first is (inr there) = inr (omega (arith, is, there))
+from_after (Open slot) base place count first is at = ap (λ n. first + n) at
+from_after fault base place count first is at = tt
 
 -- what stopped after a part, stopped after it
-pub stop_after : (told : Bool) (base : List Slot) (first low high : Part) (fault : Fault) (mid now : List Slot) → OutputsAt told base first mid → StoppedBetween told mid low high fault now → StoppedBetween told base (after_part first low) (after_part first high) fault now
-stop_after told base first low high fault mid now at stop = record {
+pub stop_after : (told : Bool) {base : List Slot} {first low high : Part} {fault : Fault} {mid now : List Slot} → OutputsAt told base first mid → StoppedBetween told mid low high fault now → StoppedBetween told base (after_part first low) (after_part first high) fault now
+stop_after told {base} {first} {low} {high} {fault} {mid} {now} at stop = record {
   part = after_part first stop.part;
   above = begins_after first low stop.part stop.above;
   below = begins_after first stop.part high stop.below;
   place = length first.files + stop.place;
-  order = order_after first.files low.files stop.part.files high.files stop.place stop.order;
+  order = order_after first.files stop.order;
   reached = stop.reached;
-  outputs = at_after told base first stop.part mid stop.reached at stop.outputs;
-  marks = marks_by (IsNext stop.part high) (IsNext (after_part first stop.part) (after_part first high)) fault stop.reached now (next_after first stop.part high) stop.marks;
+  outputs = at_after told at stop.outputs;
+  marks = marks_by (IsNext stop.part high) (IsNext (after_part first stop.part) (after_part first high)) fault stop.reached now (next_after first) stop.marks;
   from = subst (λ n. IsAt fault (length base) (length first.files + stop.place) n) (sym (length-append first.files stop.part.files))
-      (from_after fault (length base) (length mid) stop.place (length stop.part.files) (length first.files) (outputs_count told base first mid at) stop.from);
+      (from_after fault (length base) stop.place (length stop.part.files) (length first.files) (outputs_count told base first mid at) stop.from);
 }
 
 -- where there is no file, none is to be removed
@@ -92,6 +92,6 @@ pub none_to_sweep : (clears : Bool) (first : ℕ) (slots : List Slot) → length
 none_to_sweep clears first slots past = swept_none clears first slots (λ place above. none_past slots place (omega (arith, past, above)))
 
 -- the same from another place, where it matters
-pub swept_from : (clears : Bool) (first other : ℕ) (old new : List Slot) → (clears ≡ true → first ≡ other) → Swept clears first old new → Swept clears other old new
-swept_from true first other old new same swept = subst (λ n. SweptFrom n old new) (same refl) swept
-swept_from false first other old new same swept = swept
+pub swept_from : (clears : Bool) {first : ℕ} (other : ℕ) (old new : List Slot) → (clears ≡ true → first ≡ other) → Swept clears first old new → Swept clears other old new
+swept_from true other old new same swept = subst (λ n. SweptFrom n old new) (same refl) swept
+swept_from false other old new same swept = swept

@@ -20,8 +20,8 @@ use Rattle.ports_core.proofs.InputsLemmas.{keeps_itself, sound_at}
 
 -- one input more
 
-pub last_source : (sources : List Source) (source : Source) → source_at (sources ++ source ∷ []) (length sources) ≡ source
-last_source sources source = get_or-append_seam sources source [] no_source
+pub last_source : (sources : List Source) {source : Source} → source_at (sources ++ source ∷ []) (length sources) ≡ source
+last_source sources {source} = get_or-append_seam sources source [] no_source
 
 one_more : (sources : List Source) (source : Source) → length (sources ++ source ∷ []) ≡ length sources + 1
 one_more sources source = length-append sources (source ∷ [])
@@ -34,8 +34,8 @@ asks_more most [] source little asked (suc place) = asked place
 asks_more most (first ∷ sources) source little asked zero = asked 0
 asks_more most (first ∷ sources) source little asked (suc place) = asks_more most sources source little (λ those. asked (suc those)) place
 
-pub asks_there : (most slot : ℕ) (old new : List Source) → KeepsOthers slot old new → ((source_at old slot).asked ≤ most → (source_at new slot).asked ≤ most) → AsksAtMost most old → AsksAtMost most new
-asks_there most slot old new keeps there asked place =
+pub asks_there : {most slot : ℕ} {old new : List Source} → KeepsOthers slot old new → ((source_at old slot).asked ≤ most → (source_at new slot).asked ≤ most) → AsksAtMost most old → AsksAtMost most new
+asks_there {most} {slot} {new} keeps there asked place =
     dite (ℕ_discrete place slot) (λ is. subst (λ n. (source_at new n).asked ≤ most) (sym is) (there (asked slot)))
     (λ differs. subst (λ (source : Source). source.asked ≤ most) (sym (keeps.others place differs)) (asked place))
 
@@ -49,8 +49,8 @@ unread_source true (Some slot) sources Q can holds = ((source_at sources slot).l
 unread_source false (Some slot) sources Q can holds = (empty, λ t. absurd (false≢true t), holds empty (sound_at sources slot can, λ t. absurd (false≢true t)))
 
 -- an input that could be read is still there
-pub still_within : (source : Option ℕ) (slot : ℕ) (old new : List Source) → source ≡ Some slot → IfSome source (λ slot. IsTrue (is_readable old slot)) → KeepsOthers slot old new → slot < length new
-still_within source slot old new is can keeps =
+pub still_within : {source : Option ℕ} {slot : ℕ} {old new : List Source} → source ≡ Some slot → IfSome source (λ slot. IsTrue (is_readable old slot)) → KeepsOthers slot old new → slot < length new
+still_within {slot} {old} is can keeps =
     let within : slot < length old = readable_within old slot (subst (λ from. IfSome from (λ slot. IsTrue (is_readable old slot))) is can) in
     omega (arith, within, keeps.count)
 
@@ -61,8 +61,8 @@ left_of told work most slot there sources P stops within uses (content, is, hold
     (content, is, (holds.0, λ ends. (within, (λ t. subst (λ (those : Content). Uses work most slot those (source_at sources slot)) (sym (is t)) (uses t ends), holds.1))))
 
 -- nothing was taken of an input that was just opened
-pub nothing_taken : (sources : List Source) (slot : ℕ) (content : Content) → source_at sources slot ≡ source_of content → IsUnread (source_at sources slot)
-nothing_taken sources slot content is = (ap (λ (source : Source). source.taken) is, ap (λ (source : Source). source.reached) is)
+pub nothing_taken : (sources : List Source) (slot : ℕ) {content : Content} → source_at sources slot ≡ source_of content → IsUnread (source_at sources slot)
+nothing_taken sources slot is = (ap (λ (source : Source). source.taken) is, ap (λ (source : Source). source.reached) is)
 
 -- how many names there can be
 
@@ -75,8 +75,8 @@ count_more count (name ∷ names) = let rest : next_slot count name ≤ count_af
 
 -- what taking a name leaves
 
-pub takes_dash : (most : ℕ) (was_read : Bool) (name : List ℕ) (old new : List Source) → is_dash name ≡ true → KeepsOther (standard_source was_read) old new → (AsksAtMost most old → AsksAtMost most new) → TakesOne most was_read name old new
-takes_dash most true name old new dash same asked = record {
+pub takes_dash : {most : ℕ} (was_read : Bool) {name : List ℕ} {old new : List Source} → is_dash name ≡ true → KeepsOther (standard_source was_read) old new → (AsksAtMost most old → AsksAtMost most new) → TakesOne most was_read name old new
+takes_dash true {name} {old} dash same asked = record {
   grown = omega (arith, ap length same);
   within = let here : next_slot (length old) name ≡ length old = ap (λ (b : Bool). if b then length old else length old + 1) dash in omega (arith, here, ap length same);
   files = λ place some within. ap (λ those. source_at those place) same;
@@ -84,7 +84,7 @@ takes_dash most true name old new dash same asked = record {
   again = λ was. ap (λ those. source_at those 0) same;
   asked = asked;
 }
-takes_dash most false name old new dash keeps asked = record {
+takes_dash false {name} {old} dash keeps asked = record {
   grown = omega (arith, keeps.count);
   within = let here : next_slot (length old) name ≡ length old = ap (λ (b : Bool). if b then length old else length old + 1) dash in omega (arith, here, keeps.count);
   files = λ place some within. keeps.others place (λ is. omega (arith, some, is));
@@ -94,8 +94,8 @@ takes_dash most false name old new dash keeps asked = record {
 }
 
 -- another source stands after those that were there
-takes_more : (most : ℕ) (was_read : Bool) (name : List ℕ) (old mid new : List Source) (source : Source) → is_dash name ≡ false → 0 < length old → source.asked ≤ most → mid ≡ old ++ source ∷ [] → KeepsOthers (length old) mid new → (AsksAtMost most mid → AsksAtMost most new) → TakesOne most was_read name old new
-takes_more most was_read name old mid new source differs some little is keeps asked =
+takes_more : {most : ℕ} {was_read : Bool} {name : List ℕ} {old mid new : List Source} (source : Source) → is_dash name ≡ false → 0 < length old → source.asked ≤ most → mid ≡ old ++ source ∷ [] → KeepsOthers (length old) mid new → (AsksAtMost most mid → AsksAtMost most new) → TakesOne most was_read name old new
+takes_more {most} {name} {old} {new} source differs some little is keeps asked =
     let count : length new ≡ length old + 1 = keeps.count ∙ ap length is ∙ one_more old source in
     let here : next_slot (length old) name ≡ length old + 1 = ap (λ (b : Bool). if b then length old else length old + 1) differs in
     let front : (place : ℕ) → place < length old → source_at new place ≡ source_at old place
@@ -108,13 +108,13 @@ takes_more most was_read name old mid new source differs some little is keeps as
       asked = λ before. asked (subst (AsksAtMost most) (sym is) (asks_more most old source little before));
     }
 
-pub takes_file : (told : Bool) (laid : ℕ → List ℕ → Option Content) (most : ℕ) (was_read : Bool) (name : List ℕ) (old mid new : List Source) (slot : ℕ) → is_dash name ≡ false → 0 < length old → Opens told laid old mid name slot → KeepsOthers slot mid new → (AsksAtMost most mid → AsksAtMost most new)
+pub takes_file : (told : Bool) {laid : ℕ → List ℕ → Option Content} {most : ℕ} {was_read : Bool} {name : List ℕ} {old mid new : List Source} {slot : ℕ} → is_dash name ≡ false → 0 < length old → Opens told laid old mid name slot → KeepsOthers slot mid new → (AsksAtMost most mid → AsksAtMost most new)
     → TakesOne most was_read name old new
-takes_file told laid most was_read name old mid new slot differs some opens keeps asked =
-    takes_more most was_read name old mid new (source_of opens.content) differs some (omega arith) opens.sources (subst (λ n. KeepsOthers n mid new) opens.number keeps) asked
+takes_file told {mid} {new} differs some opens keeps asked =
+    takes_more (source_of opens.content) differs some (omega arith) opens.sources (subst (λ n. KeepsOthers n mid new) opens.number keeps) asked
 
-takes_none : (most : ℕ) (was_read : Bool) (name : List ℕ) (old new : List Source) → new ≡ old → TakesOne most was_read name old new
-takes_none most was_read name old new same = record {
+takes_none : {most : ℕ} {was_read : Bool} {name : List ℕ} {old new : List Source} → new ≡ old → TakesOne most was_read name old new
+takes_none {most} {name} {old} same = record {
   grown = omega (arith, ap length same);
   within = let more : length old ≤ next_slot (length old) name = count_more (length old) (name ∷ []) in omega (arith, ap length same, more);
   files = λ place _ within. ap (λ those. source_at those place) same;
@@ -123,15 +123,15 @@ takes_none most was_read name old new same = record {
   asked = subst (AsksAtMost most) (sym same);
 }
 
-pub takes_missing : (told : Bool) (laid : ℕ → List ℕ → Option Content) (most : ℕ) (was_read : Bool) (name : List ℕ) (old new : List Source) (fault : Fault) → is_dash name ≡ false → 0 < length old → OpensNothing told laid old new name fault → TakesOne most was_read name old new
-takes_missing told laid most was_read name old new fault differs some (from.broke at number lies is) = takes_more most was_read name old new new missing differs some (omega arith) is (keeps_itself (length old) new) (λ asked. asked)
-takes_missing told laid most was_read name old new fault differs some (from.no_room is) = takes_none most was_read name old new is
+pub takes_missing : (told : Bool) {laid : ℕ → List ℕ → Option Content} {most : ℕ} {was_read : Bool} {name : List ℕ} {old new : List Source} {fault : Fault} → is_dash name ≡ false → 0 < length old → OpensNothing told laid old new name fault → TakesOne most was_read name old new
+takes_missing told {old} {new} differs some (from.broke at number lies is) = takes_more missing differs some (omega arith) is (keeps_itself (length old) new) (λ asked. asked)
+takes_missing told differs some (from.no_room is) = takes_none is
 
 -- a file that could not be opened is not open
-pub missing_done : (told : Bool) (work : Work) (most : ℕ) (old new : List Source) → new ≡ old ++ missing ∷ [] → IsDone told work most (Some (length old)) None new
-missing_done told work most old new is = (
+pub missing_done : (told : Bool) (work : Work) (most : ℕ) (old : List Source) {new : List Source} → new ≡ old ++ missing ∷ [] → IsDone told work most (Some (length old)) None new
+missing_done told work most old is = (
   omega (arith, ap length is, one_more old missing),
-  ap (λ those. (source_at those (length old)).is_open) is ∙ ap (λ (source : Source). source.is_open) (last_source old missing),
+  ap (λ those. (source_at those (length old)).is_open) is ∙ ap (λ (source : Source). source.is_open) (last_source old),
 )
 
 -- the inputs that were done stay so
@@ -144,24 +144,24 @@ abbrev pub StayDone : Bool → Work → ℕ → Bool → List Input → List Sou
 StayDone told work most was_read [] sources = Unit {0}
 StayDone told work most was_read (input ∷ inputs) sources = StaysDone told work most was_read input.slot input.content sources × StayDone told work most was_read inputs sources
 
-still_done_at : (told : Bool) (work : Work) (most room : ℕ) (was_read now_read : Bool) (name : List ℕ) (slot : Option ℕ) (content : Option Content) (old new : List Source) → (was_read ≡ true → now_read ≡ true) → TakesOne room was_read name old new
+still_done_at : (told : Bool) (work : Work) (most : ℕ) {room : ℕ} {was_read now_read : Bool} {name : List ℕ} (slot : Option ℕ) (content : Option Content) {old new : List Source} → (was_read ≡ true → now_read ≡ true) → TakesOne room was_read name old new
     → StaysDone told work most was_read slot content old → StaysDone told work most now_read slot content new
-still_done_at told work most room was_read now_read name None content old new reads takes done = tt
-still_done_at told work most room was_read now_read name (Some zero) content old new reads takes done =
+still_done_at told work most None content reads takes done = tt
+still_done_at told work most {was_read} (Some zero) content {old} {new} reads takes done =
     let is_read : was_read ≡ true = done.0 refl in
     let grown : length old ≤ length new = takes.grown in
     let within : 0 < length old = done.1.0 in
     (λ _. reads is_read, (omega (arith, grown, within), subst (IsLeft told work most 0 content) (sym (takes.again is_read)) done.1.1))
-still_done_at told work most room was_read now_read name (Some (suc slot)) content old new reads takes done =
+still_done_at told work most (Some (suc slot)) content {old} {new} reads takes done =
     let grown : length old ≤ length new = takes.grown in
     let within : suc slot < length old = done.1.0 in
     (λ is. absurd (omega (arith, is)), (omega (arith, grown, within), subst (IsLeft told work most (suc slot) content) (sym (takes.files (suc slot) (omega arith) within)) done.1.1))
 
-pub still_done : (told : Bool) (work : Work) (most room : ℕ) (was_read now_read : Bool) (name : List ℕ) (inputs : List Input) (old new : List Source) → (was_read ≡ true → now_read ≡ true) → TakesOne room was_read name old new
+pub still_done : (told : Bool) (work : Work) (most : ℕ) {room : ℕ} {was_read now_read : Bool} {name : List ℕ} (inputs : List Input) {old new : List Source} → (was_read ≡ true → now_read ≡ true) → TakesOne room was_read name old new
     → StayDone told work most was_read inputs old → StayDone told work most now_read inputs new
-still_done told work most room was_read now_read name [] old new reads takes done = tt
-still_done told work most room was_read now_read name (input ∷ inputs) old new reads takes done =
-    (still_done_at told work most room was_read now_read name input.slot input.content old new reads takes done.0, still_done told work most room was_read now_read name inputs old new reads takes done.1)
+still_done told work most [] reads takes done = tt
+still_done told work most (input ∷ inputs) reads takes done =
+    (still_done_at told work most input.slot input.content reads takes done.0, still_done told work most inputs reads takes done.1)
 
 pub done_more : (told : Bool) (work : Work) (most : ℕ) (was_read : Bool) (inputs : List Input) (input : Input) (sources : List Source) → StayDone told work most was_read inputs sources → StaysDone told work most was_read input.slot input.content sources
     → StayDone told work most was_read (inputs ++ input ∷ []) sources

@@ -31,47 +31,47 @@ pub record HasError (slots : List Slot) : Type 0 where
   pub are : slots ≡ output ∷ error ∷ since
   pub opened : is_open error.state ≡ true
 
-pub error_open : (slots : List Slot) → HasError slots → is_open (slot_at slots 1).state ≡ true
-error_open slots has = ap (λ those. is_open (slot_at those 1).state) has.are ∙ has.opened
+pub error_open : {slots : List Slot} → HasError slots → is_open (slot_at slots 1).state ≡ true
+error_open has = ap (λ those. is_open (slot_at those 1).state) has.are ∙ has.opened
 
-shape_of : (output error : Slot) (since slots : List Slot) → is_open error.state ≡ true → slots ≡ output ∷ error ∷ since → HasError slots
-shape_of output error since slots opened are = record { output = output; error = error; since = since; are = are; opened = opened }
+shape_of : {output error : Slot} {since slots : List Slot} → is_open error.state ≡ true → slots ≡ output ∷ error ∷ since → HasError slots
+shape_of {output} {error} {since} opened are = record { output = output; error = error; since = since; are = are; opened = opened }
 
-marked_error : (IsName : List ℕ → Type 0) (fault : Fault) (output error : Slot) (since now : List Slot) → is_open error.state ≡ true → Marks IsName fault (output ∷ error ∷ since) now → HasError now
-marked_error IsName (Write zero) output error since now opened marks = shape_of (breaks output) error since now opened marks.1
-marked_error IsName (Write (suc zero)) output error since now opened marks = shape_of output (breaks error) since now opened marks.1
-marked_error IsName (Write (suc (suc place))) output error since now opened marks = shape_of output error (with_broken place since) now opened marks.1
-marked_error IsName (Open slot) output error since now opened marks = shape_of output error (since ++ unopened marks.1.1 ∷ []) now opened marks.1.4
-marked_error IsName fault output error since now opened marks = shape_of output error since now opened marks
+marked_error : (IsName : List ℕ → Type 0) (fault : Fault) (output error : Slot) (since : List Slot) {now : List Slot} → is_open error.state ≡ true → Marks IsName fault (output ∷ error ∷ since) now → HasError now
+marked_error IsName (Write zero) output error since opened marks = shape_of opened marks.1
+marked_error IsName (Write (suc zero)) output error since opened marks = shape_of opened marks.1
+marked_error IsName (Write (suc (suc place))) output error since opened marks = shape_of opened marks.1
+marked_error IsName (Open slot) output error since opened marks = shape_of opened marks.1.4
+marked_error IsName fault output error since opened marks = shape_of opened marks
 
-pub stop_error : (told : Bool) (output error : Slot) (low high : Part) (fault : Fault) (now : List Slot) → is_open error.state ≡ true → StoppedBetween told (output ∷ error ∷ []) low high fault now → HasError now
-stop_error told output error low high fault now opened stop =
-    marked_error (IsNext stop.part high) fault (adds (told_of told stop.part.out) output) error stop.outputs.since now opened
+pub stop_error : (told : Bool) {output error : Slot} {low high : Part} {fault : Fault} {now : List Slot} → is_open error.state ≡ true → StoppedBetween told (output ∷ error ∷ []) low high fault now → HasError now
+stop_error told {output} {error} {high} {fault} {now} opened stop =
+    marked_error (IsNext stop.part high) fault (adds (told_of told stop.part.out) output) error stop.outputs.since opened
     (subst (λ slots. Marks (IsNext stop.part high) fault slots now) stop.outputs.slots stop.marks)
 
 -- a message changes standard error, and no other output
 
-pub said_at : (told : Bool) (tool : Tool) (text : List ℕ) (output error : Slot) (part : Part) (old new : List Slot) → OutputsAt told (output ∷ error ∷ []) part old → SaysOn told tool text old new
+pub said_at : (told : Bool) {tool : Tool} {text : List ℕ} {output error : Slot} {part : Part} {old new : List Slot} → OutputsAt told (output ∷ error ∷ []) part old → SaysOn told tool text old new
     → (after : Slot) × Says told tool text error after × OutputsAt told (output ∷ after ∷ []) part new
-said_at told tool text output error part old new at says =
+said_at told {output} {error} {part} at says =
     let said = says (adds (told_of told part.out) output) error at.since at.slots in
     (said.0, said.1, record { standard = lit< tt; since = at.since; slots = said.2; files = at.files })
 
-printed_named : (told : Bool) (text : List ℕ) (old new : Slot) → Prints told text old new → new.name ≡ old.name
-printed_named told text old new (whole sound is) = ap (λ slot. slot.name) is
-printed_named told text old new (cut sound n within is) = ap (λ slot. slot.name) is
-printed_named told text old new (passed broken is) = ap (λ slot. slot.name) is
+printed_named : (told : Bool) {text : List ℕ} {old new : Slot} → Prints told text old new → new.name ≡ old.name
+printed_named told (whole sound is) = ap (λ slot. slot.name) is
+printed_named told (cut sound n within is) = ap (λ slot. slot.name) is
+printed_named told (passed broken is) = ap (λ slot. slot.name) is
 
 -- an output that broke before the text says nothing of it
-printed_broken : (told : Bool) (text : List ℕ) (error new : Slot) → Prints told text (breaks error) new → new ≡ breaks error
-printed_broken told text error new (whole sound is) = absurd (false≢true (sym sound))
-printed_broken told text error new (cut sound n within is) = absurd (false≢true (sym sound))
-printed_broken told text error new (passed broken is) = is
+printed_broken : (told : Bool) {text : List ℕ} (error : Slot) {new : Slot} → Prints told text (breaks error) new → new ≡ breaks error
+printed_broken told error (whole sound is) = absurd (false≢true (sym sound))
+printed_broken told error (cut sound n within is) = absurd (false≢true (sym sound))
+printed_broken told error (passed broken is) = is
 
 -- it may as well have broken at the text's first byte
-prints_nothing : (told : Bool) (text : List ℕ) (error : Slot) (broken : Bool) → error.is_broken ≡ broken → 0 < length text → Prints told text error (breaks error)
-prints_nothing told text error true is some = passed is (ap (λ (b : Bool). record error { is_broken = b }) (sym is))
-prints_nothing told text error false is some =
+prints_nothing : (told : Bool) {text : List ℕ} {error : Slot} (broken : Bool) → error.is_broken ≡ broken → 0 < length text → Prints told text error (breaks error)
+prints_nothing told {error} true is some = passed is (ap (λ (b : Bool). record error { is_broken = b }) (sym is))
+prints_nothing told {error} false is some =
     cut is 0 some (ap (λ bytes. record error { written = bytes; is_broken = true }) (sym (ap (λ bytes. error.written ++ bytes) (told_of-nil told) ∙ append-nil error.written)))
 
 module _ (told : Bool) (tool : Tool) (text : List ℕ) (some : 0 < length text) where
@@ -80,19 +80,19 @@ module _ (told : Bool) (tool : Tool) (text : List ℕ) (some : 0 < length text) 
   ToldMark IsName fault output error since mid new =
       (after : Slot) × Says told tool text error after × Marks IsName fault (output ∷ after ∷ since) new × (output_named new fault ≡ output_named mid fault)
 
-  told_marked : (IsName : List ℕ → Type 0) (fault : Fault) (output error : Slot) (since mid new : List Slot) → Marks IsName fault (output ∷ error ∷ since) mid → SaysOn told tool text mid new → ToldMark IsName fault output error since mid new
-  told_marked IsName (Write zero) output error since mid new marks says =
+  told_marked : (IsName : List ℕ → Type 0) (fault : Fault) (output : Slot) {error : Slot} (since : List Slot) {mid : List Slot} (new : List Slot) → Marks IsName fault (output ∷ error ∷ since) mid → SaysOn told tool text mid new → ToldMark IsName fault output error since mid new
+  told_marked IsName (Write zero) output {error} since new marks says =
       let said = says (breaks output) error since marks.1 in
       (said.0, said.1, (marks.0, said.2), ap (λ slots. (slot_at slots 0).name) said.2 ∙ sym (ap (λ slots. (slot_at slots 0).name) marks.1))
-  told_marked IsName (Write (suc zero)) output error since mid new marks says =
+  told_marked IsName (Write (suc zero)) output {error} since new marks says =
       let said = says output (breaks error) since marks.1 in
-      let same : said.0 ≡ breaks error = printed_broken told said.1.said error said.0 said.1.printed in
+      let same : said.0 ≡ breaks error = printed_broken told error said.1.printed in
       let now : new ≡ output ∷ breaks error ∷ since = said.2 ∙ ap (λ slot. output ∷ slot ∷ since) same in
-      (breaks error, record { said = text; is = inl refl; printed = prints_nothing told text error error.is_broken refl some }, (marks.0, now), ap (λ slots. (slot_at slots 1).name) now ∙ sym (ap (λ slots. (slot_at slots 1).name) marks.1))
-  told_marked IsName (Write (suc (suc place))) output error since mid new marks says =
+      (breaks error, record { said = text; is = inl refl; printed = prints_nothing told error.is_broken refl some }, (marks.0, now), ap (λ slots. (slot_at slots 1).name) now ∙ sym (ap (λ slots. (slot_at slots 1).name) marks.1))
+  told_marked IsName (Write (suc (suc place))) output {error} since new marks says =
       let said = says output error (with_broken place since) marks.1 in
       (said.0, said.1, (marks.0, said.2), ap (λ slots. (slot_at slots (suc (suc place))).name) said.2 ∙ sym (ap (λ slots. (slot_at slots (suc (suc place))).name) marks.1))
-  told_marked IsName (Open slot) output error since mid new marks says =
+  told_marked IsName (Open slot) output {error} since new marks says =
       let said = says output error (since ++ unopened marks.1.1 ∷ []) marks.1.4 in (
         said.0,
         said.1,
@@ -100,14 +100,13 @@ module _ (told : Bool) (tool : Tool) (text : List ℕ) (some : 0 < length text) 
         ap (λ slots. (slot_at slots slot).name) said.2 ∙ ap (λ n. (slot_at (output ∷ said.0 ∷ (since ++ unopened marks.1.1 ∷ [])) n).name) marks.0
             ∙ sym (ap (λ slots. (slot_at slots slot).name) marks.1.4 ∙ ap (λ n. (slot_at (output ∷ error ∷ (since ++ unopened marks.1.1 ∷ [])) n).name) marks.0),
       )
-  told_marked IsName fault output error since mid new marks says =
-      let said = says output error since marks in (said.0, said.1, said.2, refl)
+  told_marked IsName fault output {error} since new marks says = let said = says output error since marks in (said.0, said.1, said.2, refl)
 
-  pub stop_said : (output error : Slot) (low high : Part) (fault : Fault) (mid new : List Slot) → StoppedBetween told (output ∷ error ∷ []) low high fault mid → SaysOn told tool text mid new
+  pub stop_said : {output error : Slot} {low high : Part} {fault : Fault} {mid new : List Slot} → StoppedBetween told (output ∷ error ∷ []) low high fault mid → SaysOn told tool text mid new
       → (after : Slot) × Says told tool text error after × StoppedBetween told (output ∷ after ∷ []) low high fault new × (output_named new fault ≡ output_named mid fault)
-  stop_said output error low high fault mid new stop says =
+  stop_said {output} {high} {fault} {mid} {new} stop says =
       let first = adds (told_of told stop.part.out) output in
-      let marked = told_marked (IsNext stop.part high) fault first error stop.outputs.since mid new (subst (λ slots. Marks (IsNext stop.part high) fault slots mid) stop.outputs.slots stop.marks) says in (
+      let marked = told_marked (IsNext stop.part high) fault first stop.outputs.since new (subst (λ slots. Marks (IsNext stop.part high) fault slots mid) stop.outputs.slots stop.marks) says in (
         marked.0,
         marked.1,
         record {
@@ -126,31 +125,31 @@ module _ (told : Bool) (tool : Tool) (text : List ℕ) (some : 0 < length text) 
 
 -- an output that is broken stays so, whatever is said
 
-printed_broken_still : (told : Bool) (text : List ℕ) (old new : Slot) → Prints told text old new → old.is_broken ≡ true → new.is_broken ≡ true
-printed_broken_still told text old new (whole sound is) broken = absurd (false≢true (sym sound ∙ broken))
-printed_broken_still told text old new (cut sound n within is) broken = absurd (false≢true (sym sound ∙ broken))
-printed_broken_still told text old new (passed was is) broken = ap (λ (slot : Slot). slot.is_broken) is ∙ broken
+printed_broken_still : (told : Bool) {text : List ℕ} {old new : Slot} → Prints told text old new → old.is_broken ≡ true → new.is_broken ≡ true
+printed_broken_still told (whole sound is) broken = absurd (false≢true (sym sound ∙ broken))
+printed_broken_still told (cut sound n within is) broken = absurd (false≢true (sym sound ∙ broken))
+printed_broken_still told (passed was is) broken = ap (λ (slot : Slot). slot.is_broken) is ∙ broken
 
-still_broken : (told : Bool) (tool : Tool) (text : List ℕ) (mid new : List Slot) (slot : ℕ) → HasError mid → SaysOn told tool text mid new → (slot_at mid slot).is_broken ≡ true → (slot_at new slot).is_broken ≡ true
-still_broken told tool text mid new zero has says broken =
+still_broken : (told : Bool) (tool : Tool) (text : List ℕ) {mid : List Slot} (new : List Slot) (slot : ℕ) → HasError mid → SaysOn told tool text mid new → (slot_at mid slot).is_broken ≡ true → (slot_at new slot).is_broken ≡ true
+still_broken told tool text new zero has says broken =
     let said = says has.output has.error has.since has.are in
     ap (λ slots. (slot_at slots 0).is_broken) said.2 ∙ sym (ap (λ slots. (slot_at slots 0).is_broken) has.are) ∙ broken
-still_broken told tool text mid new (suc zero) has says broken =
+still_broken told tool text new (suc zero) has says broken =
     let said = says has.output has.error has.since has.are in
-    ap (λ slots. (slot_at slots 1).is_broken) said.2 ∙ printed_broken_still told said.1.said has.error said.0 said.1.printed (sym (ap (λ slots. (slot_at slots 1).is_broken) has.are) ∙ broken)
-still_broken told tool text mid new (suc (suc place)) has says broken =
+    ap (λ slots. (slot_at slots 1).is_broken) said.2 ∙ printed_broken_still told said.1.printed (sym (ap (λ slots. (slot_at slots 1).is_broken) has.are) ∙ broken)
+still_broken told tool text new (suc (suc place)) has says broken =
     let said = says has.output has.error has.since has.are in
     ap (λ slots. (slot_at slots (suc (suc place))).is_broken) said.2 ∙ sym (ap (λ slots. (slot_at slots (suc (suc place))).is_broken) has.are) ∙ broken
 
 -- what stopped a step did so after the message too
-pub stops_still : (told : Bool) (tool : Tool) (text : List ℕ) (step : Step) (mid new : List Slot) (fault : Fault) → HasError mid → SaysOn told tool text mid new → Stops step mid fault → Stops step new fault
-stops_still told tool text step mid new (Write slot) has says stops = (stops.0, stops.1, still_broken told tool text mid new slot has says stops.2)
-stops_still told tool text step mid new fault has says stops = stops
+pub stops_still : (told : Bool) (tool : Tool) (text : List ℕ) (step : Step) {mid new : List Slot} (fault : Fault) → HasError mid → SaysOn told tool text mid new → Stops step mid fault → Stops step new fault
+stops_still told tool text step {new} (Write slot) has says stops = (stops.0, stops.1, still_broken told tool text new slot has says stops.2)
+stops_still told tool text step fault has says stops = stops
 
 -- what is said after files were removed
 
-swept_streams : (output error after : Slot) (since now : List Slot) (first : ℕ) → 2 ≤ first → SweptFrom first (output ∷ error ∷ since) (output ∷ error ∷ now) → SweptFrom first (output ∷ after ∷ since) (output ∷ after ∷ now)
-swept_streams output error after since now first past swept = record {
+swept_streams : {output error after : Slot} {since now : List Slot} {first : ℕ} → 2 ≤ first → SweptFrom first (output ∷ error ∷ since) (output ∷ error ∷ now) → SweptFrom first (output ∷ after ∷ since) (output ∷ after ∷ now)
+swept_streams {output} {after} {since} {now} {first} past swept = record {
   size = swept.size;
   before = same_before;
   cleared = cleared_still;
@@ -168,23 +167,23 @@ pub swept_error : (clears : Bool) (first : ℕ) (old new : List Slot) → 2 ≤ 
 swept_error false first old new past same = ap (λ slots. slot_at slots 1) same
 swept_error true first old new past swept = swept.before 1 (omega (arith, past))
 
-streams_left : (output error : Slot) (since mid : List Slot) (first : ℕ) → 2 ≤ first → SweptFrom first (output ∷ error ∷ since) mid → (now : List Slot) × (mid ≡ output ∷ error ∷ now)
-streams_left output error since [] first past swept = absurd (let none : 0 ≡ suc (suc (length since)) = swept.size in omega (arith, none))
-streams_left output error since (one ∷ []) first past swept = absurd (let few : 1 ≡ suc (suc (length since)) = swept.size in omega (arith, few))
-streams_left output error since (one ∷ two ∷ now) first past swept =
+streams_left : {output error : Slot} {since : List Slot} (mid : List Slot) {first : ℕ} → 2 ≤ first → SweptFrom first (output ∷ error ∷ since) mid → (now : List Slot) × (mid ≡ output ∷ error ∷ now)
+streams_left {since} [] past swept = absurd (let none : 0 ≡ suc (suc (length since)) = swept.size in omega (arith, none))
+streams_left {since} (one ∷ []) past swept = absurd (let few : 1 ≡ suc (suc (length since)) = swept.size in omega (arith, few))
+streams_left {output} (one ∷ two ∷ now) past swept =
     (now, ap (λ slot. slot ∷ two ∷ now) (swept.before 0 (omega (arith, past))) ∙ ap (λ slot. output ∷ slot ∷ now) (swept.before 1 (omega (arith, past))))
 
 module _ (told : Bool) (tool : Tool) (text : List ℕ) where
   -- a message after the files were removed changes standard error alone
-  pub said_swept : (clears : Bool) (output error : Slot) (part : Part) (reached mid new : List Slot) (first : ℕ) → 2 ≤ first → OutputsAt told (output ∷ error ∷ []) part reached → Swept clears first reached mid → SaysOn told tool text mid new
+  pub said_swept : (clears : Bool) {output error : Slot} {part : Part} {reached : List Slot} (mid new : List Slot) (first : ℕ) → 2 ≤ first → OutputsAt told (output ∷ error ∷ []) part reached → Swept clears first reached mid → SaysOn told tool text mid new
       → (after : Slot) × Says told tool text error after × ((now : List Slot) × OutputsAt told (output ∷ after ∷ []) part now × Swept clears first now new)
-  said_swept false output error part reached mid new first past at same says =
-      let said = said_at told tool text output error part mid new (subst (OutputsAt told (output ∷ error ∷ []) part) (sym same) at) says in
+  said_swept false {output} {error} {part} mid new first past at same says =
+      let said = said_at told (subst (OutputsAt told (output ∷ error ∷ []) part) (sym same) at) says in
       (said.0, said.1, (new, said.2, refl))
-  said_swept true output error part reached mid new first past at swept says =
+  said_swept true {output} {error} {part} mid new first past at swept says =
       let top = adds (told_of told part.out) output in
       let first_swept = subst (λ slots. SweptFrom first slots mid) at.slots swept in
-      let left = streams_left top error at.since mid first past first_swept in
+      let left = streams_left mid past first_swept in
       let said = says top error left.0 left.1 in (
         said.0,
         said.1,
@@ -192,13 +191,13 @@ module _ (told : Bool) (tool : Tool) (text : List ℕ) where
           top ∷ said.0 ∷ at.since,
           record { standard = lit< tt; since = at.since; slots = refl; files = at.files },
           subst (λ slots. SweptFrom first (top ∷ said.0 ∷ at.since) slots) (sym said.2)
-              (swept_streams top error said.0 at.since left.0 first past (subst (λ slots. SweptFrom first (top ∷ error ∷ at.since) slots) left.1 first_swept)),
+              (swept_streams past (subst (λ slots. SweptFrom first (top ∷ error ∷ at.since) slots) left.1 first_swept)),
         ),
       )
 
   -- the same text said of outputs with the same streams
-  said_too : (output error after : Slot) (since reached : List Slot) → reached ≡ output ∷ error ∷ since → Says told tool text error after → SaysOn told tool text reached (output ∷ after ∷ since)
-  said_too output error after since reached are said top other rest is =
+  said_too : {output error after : Slot} {since reached : List Slot} → reached ≡ output ∷ error ∷ since → Says told tool text error after → SaysOn told tool text reached (output ∷ after ∷ since)
+  said_too {output} {error} {after} {since} are said top other rest is =
       let same : output ∷ error ∷ since ≡ top ∷ other ∷ rest = sym are ∙ is in
       let was : error ≡ other = cc in
       (after, subst (λ from. Says told tool text from after) was said, cc)
@@ -218,32 +217,32 @@ pub record ToldStop (told : Bool) (tool : Tool) (text : List ℕ) (step : Step) 
   pub swept : Swept clears first reached new
   pub named : output_named new fault ≡ output_named mid fault
 
-pub stop_swept : (told : Bool) (tool : Tool) (text : List ℕ) (step : Step) (clears : Bool) (output error : Slot) (low high : Part) (fault : Fault) (reached mid new : List Slot) (first : ℕ) → 0 < length text → 2 ≤ first → is_open error.state ≡ true
+pub stop_swept : (told : Bool) {tool : Tool} {text : List ℕ} (step : Step) (clears : Bool) {output error : Slot} {low high : Part} {fault : Fault} {reached mid new : List Slot} {first : ℕ} → 0 < length text → 2 ≤ first → is_open error.state ≡ true
     → StoppedBetween told (output ∷ error ∷ []) low high fault reached → Stops step reached fault → Swept clears first reached mid → SaysOn told tool text mid new → ToldStop told tool text step output error low high fault clears first mid new
-stop_swept told tool text step false output error low high fault reached mid new first some past opened stop why same says =
+stop_swept told {tool} {text} step false {output} {error} {low} {high} {fault} {reached} {new} some past opened stop why same says =
     let here = subst (λ slots. StoppedBetween told (output ∷ error ∷ []) low high fault slots) (sym same) stop in
-    let said_so = stop_said told tool text some output error low high fault mid new here says in record {
+    let said_so = stop_said told tool text some here says in record {
       after = said_so.0;
       says = said_so.1;
       reached = new;
       stop = said_so.2;
-      why = stops_still told tool text step mid new fault (stop_error told output error low high fault mid opened here) says (subst (λ slots. Stops step slots fault) (sym same) why);
+      why = stops_still told tool text step fault (stop_error told opened here) says (subst (λ slots. Stops step slots fault) (sym same) why);
       swept = refl;
       named = said_so.3;
     }
-stop_swept told tool text step true output error low high fault reached mid new first some past opened stop why swept says =
-    let has = stop_error told output error low high fault reached opened stop in
+stop_swept told {tool} {text} step true {fault} {reached} {mid} {first} some past opened stop why swept says =
+    let has = stop_error told opened stop in
     let first_swept = subst (λ slots. SweptFrom first slots mid) has.are swept in
-    let left = streams_left has.output has.error has.since mid first past first_swept in
+    let left = streams_left mid past first_swept in
     let said = says has.output has.error left.0 left.1 in
     let now = has.output ∷ said.0 ∷ has.since in
-    let too = said_too told tool text has.output has.error said.0 has.since reached has.are said.1 in
-    let said_so = stop_said told tool text some output error low high fault reached now stop too in record {
+    let too = said_too told tool text has.are said.1 in
+    let said_so = stop_said told tool text some stop too in record {
       after = said_so.0;
       says = said_so.1;
       reached = now;
       stop = said_so.2;
-      why = stops_still told tool text step reached now fault has too why;
-      swept = subst (λ slots. SweptFrom first now slots) (sym said.2) (swept_streams has.output has.error said.0 has.since left.0 first past (subst (λ slots. SweptFrom first (has.output ∷ has.error ∷ has.since) slots) left.1 first_swept));
-      named = ap (λ slots. output_named slots fault) said.2 ∙ named_same fault has.output has.error said.0 left.0 (printed_named told said.1.said has.error said.0 said.1.printed) ∙ sym (ap (λ slots. output_named slots fault) left.1);
+      why = stops_still told tool text step fault has too why;
+      swept = subst (λ slots. SweptFrom first now slots) (sym said.2) (swept_streams past (subst (λ slots. SweptFrom first (has.output ∷ has.error ∷ has.since) slots) left.1 first_swept));
+      named = ap (λ slots. output_named slots fault) said.2 ∙ named_same fault has.output has.error said.0 left.0 (printed_named told said.1.printed) ∙ sym (ap (λ slots. output_named slots fault) left.1);
     }

@@ -12,8 +12,8 @@ use Rattle.ports_core.proofs.SpareLemmas.{none_spare}
 use Rattle.run_core.specs.Feeding.{IsUnread, Uses}
 
 -- a read into the front of a buffer
-pub gave_part : (left : Content) (size n : ℕ) (old part : List ℕ) → 0 < size → size ≤ length old → length part ≡ size → n ≤ size → Gave left (take size old) part n → Gave left old (part ++ drop size old) n
-gave_part left size n old part some within long few gave = record {
+pub gave_part : {left : Content} {size n : ℕ} {old part : List ℕ} → 0 < size → size ≤ length old → length part ≡ size → n ≤ size → Gave left (take size old) part n → Gave left old (part ++ drop size old) n
+gave_part {size} {n} {old} {part} some within long few gave = record {
   within = gave.within;
   front = take-append-le n part (drop size old) (omega (arith, long, few)) ∙ gave.front;
   rest = drop-append-le n part (drop size old) (omega (arith, long, few)) ∙ ap (λ those. those ++ drop size old) gave.rest
@@ -26,14 +26,14 @@ pub record HasTaken (x : List ℕ) (slot : ℕ) (start sources : List Source) : 
   pub taken : (source_at sources slot).taken ≡ (source_at start slot).taken ++ x
   pub far : IsUnread (source_at start slot) → (source_at sources slot).reached ≤ length x
 
-taken_next : (x buffer old_buffer : List ℕ) (slot size n : ℕ) (start sources new : List Source) → HasTaken x slot start sources → IsTrue (is_readable sources slot) → Gave (source_at sources slot).left old_buffer buffer n → new ≡ changed_at slot (gives size n) sources → with_next n (source_at sources slot) ≡ (source_at start slot).taken ++ (x ++ take n buffer)
-taken_next x buffer old_buffer slot size n start sources new took can gave is =
+taken_next : {x buffer old_buffer : List ℕ} {slot : ℕ} (size : ℕ) {n : ℕ} {start sources new : List Source} → HasTaken x slot start sources → IsTrue (is_readable sources slot) → Gave (source_at sources slot).left old_buffer buffer n → new ≡ changed_at slot (gives size n) sources → with_next n (source_at sources slot) ≡ (source_at start slot).taken ++ (x ++ take n buffer)
+taken_next {x} {slot} size {n} {start} {sources} took can gave is =
     ap (λ those. those ++ take n (source_at sources slot).left.bytes) took.taken ∙ append_assoc (source_at start slot).taken x (take n (source_at sources slot).left.bytes)
     ∙ ap (λ those. (source_at start slot).taken ++ (x ++ those)) (sym gave.front)
 
-pub takes_more : (x buffer old_buffer : List ℕ) (slot size n : ℕ) (start sources new : List Source) → HasTaken x slot start sources → IsTrue (is_readable sources slot) → Gave (source_at sources slot).left old_buffer buffer n → new ≡ changed_at slot (gives size n) sources → HasTaken (x ++ take n buffer) slot start new
-takes_more x buffer old_buffer slot size n start sources new took can gave is =
-    let next = taken_next x buffer old_buffer slot size n start sources new took can gave is in
+pub takes_more : {x buffer old_buffer : List ℕ} {slot : ℕ} (size : ℕ) {n : ℕ} {start sources new : List Source} → HasTaken x slot start sources → IsTrue (is_readable sources slot) → Gave (source_at sources slot).left old_buffer buffer n → new ≡ changed_at slot (gives size n) sources → HasTaken (x ++ take n buffer) slot start new
+takes_more {x} {buffer} {slot} size {n} {start} {sources} {new} took can gave is =
+    let next = taken_next size took can gave is in
     let after = changed_source slot (gives size n) sources new can is in record {
       taken = ap (λ (source : Source). source.taken) after ∙ next;
       far = λ unread.
@@ -44,13 +44,13 @@ takes_more x buffer old_buffer slot size n start sources new took can gave is =
     }
 
 -- a read gave as many as it says
-pub last_given : (old_buffer buffer : List ℕ) (slot size n : ℕ) (sources new : List Source) → IsTrue (is_readable sources slot) → Gave (source_at sources slot).left old_buffer buffer n → new ≡ changed_at slot (gives size n) sources → (source_at new slot).last ≡ n
-last_given old_buffer buffer slot size n sources new can gave is =
+pub last_given : {old_buffer buffer : List ℕ} (slot size : ℕ) {n : ℕ} (sources : List Source) {new : List Source} → IsTrue (is_readable sources slot) → Gave (source_at sources slot).left old_buffer buffer n → new ≡ changed_at slot (gives size n) sources → (source_at new slot).last ≡ n
+last_given slot size {n} sources {new} can gave is =
     ap (λ (source : Source). source.last) (changed_source slot (gives size n) sources new can is) ∙ length-take-le n (source_at sources slot).left.bytes gave.within
 
 -- a read that failed took nothing
-pub takes_none : (x : List ℕ) (slot size : ℕ) (start sources new : List Source) → HasTaken x slot start sources → IsTrue (is_readable sources slot) → new ≡ changed_at slot (fails size) sources → HasTaken x slot start new
-takes_none x slot size start sources new took can is =
+pub takes_none : {x : List ℕ} {slot : ℕ} (size : ℕ) {start sources new : List Source} → HasTaken x slot start sources → IsTrue (is_readable sources slot) → new ≡ changed_at slot (fails size) sources → HasTaken x slot start new
+takes_none {x} {slot} size {sources} {new} took can is =
     let after = changed_source slot (fails size) sources new can is in record {
       taken = ap (λ (source : Source). source.taken) after ∙ took.taken;
       far = λ unread. subst (λ far. far ≤ length x) (sym (ap (λ (source : Source). source.reached) after)) (took.far unread);
@@ -74,24 +74,24 @@ module _ {E : Type 0} (Holds : E → List ℕ → Type 0) (Ready : E → List Sl
 
 -- what is spare was given back
 
-back_at : (taken start used rest : List ℕ) (n : ℕ) → taken ≡ start ++ (used ++ rest) → length rest ≡ n → drop (length taken - n) taken ≡ rest
-back_at taken start used rest n is long =
+back_at : (taken start used : List ℕ) {rest : List ℕ} {n : ℕ} → taken ≡ start ++ (used ++ rest) → length rest ≡ n → drop (length taken - n) taken ≡ rest
+back_at taken start used {rest} {n} is long =
     let all : taken ≡ (start ++ used) ++ rest = is ∙ sym (append_assoc start used rest) in
     let at : length taken - n ≡ length (start ++ used) = omega (arith, ap length all ∙ length-append (start ++ used) rest, long) in
     ap (λ k. drop k taken) at ∙ ap (drop (length (start ++ used))) all ∙ drop_at (start ++ used) rest (length (start ++ used)) refl
 
-pub left_after : (work : Work) (x : List ℕ) (slot n : ℕ) (start sources new : List Source) (spare : IsSpare work x n) → HasTaken x slot start sources → IsTrue (is_readable sources slot) → new ≡ changed_at slot (gets_back n) sources → (source_at new slot).left.bytes ≡ spare.rest ++ (source_at sources slot).left.bytes
-left_after work x slot n start sources new spare took can is =
+pub left_after : {work : Work} {x : List ℕ} {slot n : ℕ} {start sources new : List Source} (spare : IsSpare work x n) → HasTaken x slot start sources → IsTrue (is_readable sources slot) → new ≡ changed_at slot (gets_back n) sources → (source_at new slot).left.bytes ≡ spare.rest ++ (source_at sources slot).left.bytes
+left_after {slot} {n} {start} {sources} {new} spare took can is =
     ap (λ (source : Source). source.left.bytes) (changed_source slot (gets_back n) sources new can is)
-    ∙ ap (λ those. those ++ (source_at sources slot).left.bytes) (back_at (source_at sources slot).taken (source_at start slot).taken spare.used spare.rest n (took.taken ∙ ap (λ those. (source_at start slot).taken ++ those) spare.joined) spare.long)
+    ∙ ap (λ those. those ++ (source_at sources slot).left.bytes) (back_at (source_at sources slot).taken (source_at start slot).taken spare.used (took.taken ∙ ap (λ those. (source_at start slot).taken ++ those) spare.joined) spare.long)
 
-pub read_used : (work : Work) (content : Content) (x : List ℕ) (slot n : ℕ) (start sources new : List Source) (spare : IsSpare work x n) → HasRead content x slot sources → HasTaken x slot start sources → IsTrue (is_readable sources slot) → new ≡ changed_at slot (gets_back n) sources → content.bytes ≡ spare.used ++ (source_at new slot).left.bytes
-read_used work content x slot n start sources new spare read took can is =
+pub read_used : {work : Work} {content : Content} {x : List ℕ} {slot n : ℕ} {start sources new : List Source} (spare : IsSpare work x n) → HasRead content x slot sources → HasTaken x slot start sources → IsTrue (is_readable sources slot) → new ≡ changed_at slot (gets_back n) sources → content.bytes ≡ spare.used ++ (source_at new slot).left.bytes
+read_used {slot} {sources} spare read took can is =
     read.bytes ∙ ap (λ those. those ++ (source_at sources slot).left.bytes) spare.joined ∙ append_assoc spare.used spare.rest (source_at sources slot).left.bytes
-    ∙ ap (λ those. spare.used ++ those) (sym (left_after work x slot n start sources new spare took can is))
+    ∙ ap (λ those. spare.used ++ those) (sym (left_after spare took can is))
 
-pub back_readable : (slot n : ℕ) (sources new : List Source) → new ≡ changed_at slot (gets_back n) sources → IsTrue (is_readable sources slot) → IsTrue (is_readable new slot)
-back_readable slot n sources new is can = ap (λ (source : Source). source.is_open && not source.is_broken) (changed_source slot (gets_back n) sources new can is) ∙ can
+pub back_readable : (slot n : ℕ) (sources : List Source) {new : List Source} → new ≡ changed_at slot (gets_back n) sources → IsTrue (is_readable sources slot) → IsTrue (is_readable new slot)
+back_readable slot n sources {new} is can = ap (λ (source : Source). source.is_open && not source.is_broken) (changed_source slot (gets_back n) sources new can is) ∙ can
 
 -- one byte at the most is a piece
 pub needed_within : (is_complete : List ℕ → Bool) (most : ℕ) (x : List ℕ) → 0 < most → IsNeeded is_complete 1 x → IsNeeded is_complete most x
@@ -101,8 +101,8 @@ needed_within is_complete most x room (inr (before, piece, is, few, going)) = in
 -- what a run leaves of an input
 
 -- all of it was read, and the output was not complete
-pub uses_all : (work : Work) (most slot : ℕ) (there : Content) (x : List ℕ) (source : Source) → there.bytes ≡ x ++ source.left.bytes → source.left.bytes ≡ [] → IsNeeded work.is_complete most x → work.is_complete x ≡ false → source.reached ≤ length x → Uses work most slot there source
-uses_all work most slot there x source joined none needed going few = record {
+pub uses_all : {work : Work} {most slot : ℕ} (there : Content) (x : List ℕ) {source : Source} → there.bytes ≡ x ++ source.left.bytes → source.left.bytes ≡ [] → IsNeeded work.is_complete most x → work.is_complete x ≡ false → source.reached ≤ length x → Uses work most slot there source
+uses_all there x joined none needed going few = record {
   read = x;
   joined = joined;
   enough = inl none;
@@ -112,8 +112,8 @@ uses_all work most slot there x source joined none needed going few = record {
 }
 
 -- the work ended with a fault within it
-pub uses_judged : (work : Work) (most slot : ℕ) (there : Content) (x : List ℕ) (source : Source) (fault : Fault) → there.bytes ≡ x ++ source.left.bytes → IsNeeded work.is_complete most x → work.is_complete x ≡ true → work.verdict x ≡ Some fault → source.reached ≤ length x → Uses work most slot there source
-uses_judged work most slot there x source fault joined needed complete verdict few = record {
+pub uses_judged : {work : Work} {most slot : ℕ} (there : Content) (x : List ℕ) {source : Source} {fault : Fault} → there.bytes ≡ x ++ source.left.bytes → IsNeeded work.is_complete most x → work.is_complete x ≡ true → work.verdict x ≡ Some fault → source.reached ≤ length x → Uses work most slot there source
+uses_judged there x joined needed complete verdict few = record {
   read = x;
   joined = joined;
   enough = inr complete;
@@ -123,9 +123,9 @@ uses_judged work most slot there x source fault joined needed complete verdict f
 }
 
 -- the output was complete, and what it doesn't use was given back
-pub uses_part : (work : Work) (most slot n : ℕ) (there : Content) (x : List ℕ) (start sources new : List Source) (spare : IsSpare work x n) → there.bytes ≡ spare.used ++ (source_at new slot).left.bytes → 0 < most → work.is_complete spare.used ≡ true → (slot ≡ 0 → n ≤ work.ahead) → HasTaken x slot start sources → IsUnread (source_at start slot) → IsTrue (is_readable sources slot) → new ≡ changed_at slot (gets_back n) sources
+pub uses_part : {work : Work} {most slot n : ℕ} (there : Content) {x : List ℕ} {start sources new : List Source} (spare : IsSpare work x n) → there.bytes ≡ spare.used ++ (source_at new slot).left.bytes → 0 < most → work.is_complete spare.used ≡ true → (slot ≡ 0 → n ≤ work.ahead) → HasTaken x slot start sources → IsUnread (source_at start slot) → IsTrue (is_readable sources slot) → new ≡ changed_at slot (gets_back n) sources
     → Uses work most slot there (source_at new slot)
-uses_part work most slot n there x start sources new spare joined room complete few took unread can is = record {
+uses_part {work} {most} {slot} {n} there {sources} {new} spare joined room complete few took unread can is = record {
   read = spare.used;
   joined = joined;
   enough = inr complete;

@@ -20,16 +20,16 @@ pieces-init g c =
     let now = c.load.new.self in
     let loads = c.load.ensures.loads in record {
       fed = loads.front;
-      feeds = loaded_feeds _ _ _ _ _ _ _ start now _ _ loads _ _ c.load.ensures.same c.load.ensures.fed c.load.ensures.live c.load.ensures.bound;
+      feeds = loaded_feeds _ _ _ _ _ _ _ start now _ _ loads c.load.ensures.same c.load.ensures.fed c.load.ensures.live c.load.ensures.bound;
       readable = loaded_readable _ _ _ _ _ _ _ start now _ _ loads c.requires.input;
       others = loaded_others _ _ _ _ _ _ _ start now _ _ loads;
       read = λ told. loaded_read _ _ _ _ _ _ _ start now _ _ loads told c.requires.input;
       took = λ told. loaded_taken _ _ _ _ _ _ _ start.stage now.stage _ _ loads told c.requires.input;
-      last = λ told. loaded_needed _ _ _ _ _ _ _ start now _ _ loads _;
+      last = λ told. loaded_needed _ _ _ _ _ _ _ start now _ _ loads;
       few = λ standard. loaded_few _ _ _ _ _ _ _ start.stage now.stage _ _ loads (g.met.S.Stage.lawful _);
       room = c.load.auto.buffer;
-      needed = loaded_needed _ _ _ _ _ _ _ start now _ _ loads _;
-      asked = λ within. loaded_asked _ _ _ _ _ _ _ start now _ _ loads _ c.requires.input within;
+      needed = loaded_needed _ _ _ _ _ _ _ start now _ _ loads;
+      asked = λ within. loaded_asked _ _ _ _ _ _ _ start now _ _ loads c.requires.input within;
       laid = c.load.ensures.laid;
       ready = loads.ready _ c.requires.output;
     }
@@ -56,17 +56,17 @@ returns-in-Err g c =
       ends = λ before opening own at.
           of_content g.I.Inputs.told _ (record { bytes = so_far.fed; breaks_off = true }) (source_at (g.I.Inputs.sources c.read_part.new.inputs) c.args.slot) _
           (λ told. let broke = read_broken _ _ _ _ (so_far.read told) (c.in-Err.ensures.break_off told) in
-          broken_off _ _ _ _ opening _ _ _ _ _ so_far.fed _ _ _ before so_far.feeds own at broke.0 broke.1 going c.abandon.ensures.swept)
-          (λ _. broken_off _ _ _ _ opening _ _ _ _ _ so_far.fed _ _ _ before so_far.feeds own at refl refl going c.abandon.ensures.swept)
+          broken_off _ _ _ _ _ so_far.feeds own at broke.0 broke.1 going c.abandon.ensures.swept)
+          (λ _. broken_off _ _ _ _ _ so_far.feeds own at refl refl going c.abandon.ensures.swept)
           (λ _. broken_now _ _ _ _ so_far.readable c.in-Err.ensures.err);
       others = keeps_again _ _ _ _ so_far.others (keeps_others _ _ _ _ c.in-Err.ensures.err);
       reads = λ told. (so_far.fed, so_far.needed, read_failed _ _ _ _ _ _ (so_far.read told) so_far.readable c.in-Err.ensures.err);
       used = λ told ends unread.
           let failed = c.in-Err.ensures.err in
-          uses_all _ _ _ _ so_far.fed _ (read_failed _ _ _ _ _ _ (so_far.read told) so_far.readable failed)
+          uses_all _ so_far.fed (read_failed _ _ _ _ _ _ (so_far.read told) so_far.readable failed)
           (ap (λ (source : Source). source.left.bytes) (changed_source _ _ _ _ so_far.readable failed) ∙ (c.in-Err.ensures.break_off told).no_more)
           so_far.needed (ap (λ (work : Work). work.is_complete so_far.fed) (sym so_far.feeds.same) ∙ going)
-          ((takes_none _ _ _ _ _ _ (so_far.took told) so_far.readable failed).far unread);
+          ((takes_none _ (so_far.took told) so_far.readable failed).far unread);
       asked = λ within. asked_at_end _ _ _ _ _ so_far.readable c.in-Err.ensures.err (omega (arith, c.piece_size-size.ensures.within, so_far.room)) (so_far.asked within);
       broke = λ is. broken_now _ _ _ _ so_far.readable c.in-Err.ensures.err;
       laid = c.read_part.ensures.kept ∙ so_far.laid;
@@ -84,13 +84,12 @@ returns-then-n-eq0 g c =
       ends = λ before opening own at.
           of_content g.I.Inputs.told _ (record { bytes = so_far.fed; breaks_off = false }) (source_at (g.I.Inputs.sources c.read_part.new.inputs) c.args.slot) _
           (λ told. let at_end = (c.in-Ok.ensures.bytes told).ended c.if-n-eq0.true (omega (arith, c.requires.room, so_far.room)) in
-          ended _ _ _ g.met.S.Stage.lawful _ opening _ _ _ _ _ so_far.fed so_far.fed _ _ _ before _ c.end.result so_far.feeds own at
-          (let all = read_to_end _ _ _ _ (so_far.read told) at_end.0 at_end.1 in (all.0, going, all.1))
-          (let all = read_to_end _ _ _ _ (so_far.read told) at_end.0 at_end.1 in to_end all.0 all.1) (alike_itself _ so_far.fed)
+          ended _ _ _ g.met.S.Stage.lawful _ _ so_far.feeds own at (let all = read_to_end _ _ _ _ (so_far.read told) at_end.0 at_end.1 in (all.0, going, all.1))
+          (let all = read_to_end _ _ _ _ (so_far.read told) at_end.0 at_end.1 in to_end all.0 all.1) (alike_itself)
           (subst (λ (those : Work). IsNeeded those.is_complete (length c.args.buffer.now) so_far.fed) (sym so_far.feeds.same) so_far.needed)
           (sound_at (g.I.Inputs.sources c.read_part.new.inputs) c.args.slot (still_readable _ _ _ _ c.in-Ok.n c.in-Ok.ensures.rest so_far.readable), λ _. read_none_more _ _ _ _ _ _ c.in-Ok.n (so_far.read told) so_far.readable c.if-n-eq0.true c.in-Ok.ensures.rest)
           c.end.ensures)
-          (λ untold. ended _ _ _ g.met.S.Stage.lawful _ opening _ _ _ _ _ so_far.fed so_far.fed _ _ _ before _ c.end.result so_far.feeds own at (refl, going, refl) (to_end refl refl) (alike_itself _ so_far.fed) (subst (λ (those : Work). IsNeeded those.is_complete (length c.args.buffer.now) so_far.fed) (sym so_far.feeds.same) so_far.needed) (sound_at (g.I.Inputs.sources c.read_part.new.inputs) c.args.slot (still_readable _ _ _ _ c.in-Ok.n c.in-Ok.ensures.rest so_far.readable), λ told. absurd (false≢true (sym untold ∙ told))) c.end.ensures)
+          (λ untold. ended _ _ _ g.met.S.Stage.lawful _ _ so_far.feeds own at (refl, going, refl) (to_end refl refl) (alike_itself) (subst (λ (those : Work). IsNeeded those.is_complete (length c.args.buffer.now) so_far.fed) (sym so_far.feeds.same) so_far.needed) (sound_at (g.I.Inputs.sources c.read_part.new.inputs) c.args.slot (still_readable _ _ _ _ c.in-Ok.n c.in-Ok.ensures.rest so_far.readable), λ told. absurd (false≢true (sym untold ∙ told))) c.end.ensures)
           (λ breaks. absurd (false≢true breaks));
       others = keeps_again _ _ _ _ so_far.others (keeps_others _ _ _ _ c.in-Ok.ensures.rest);
       reads = λ told. (so_far.fed, so_far.needed, read_none_more _ _ _ _ _ _ c.in-Ok.n (so_far.read told) so_far.readable c.if-n-eq0.true c.in-Ok.ensures.rest);
@@ -99,13 +98,13 @@ returns-then-n-eq0 g c =
           let none = (gave.ended c.if-n-eq0.true (omega (arith, c.requires.room, so_far.room))).0 in
           let after = changed_source _ _ _ _ so_far.readable c.in-Ok.ensures.rest in
           let nothing : take c.in-Ok.n c.read_part.new.buffer ≡ [] = ap (λ k. take k c.read_part.new.buffer) c.if-n-eq0.true in
-          uses_all _ _ _ _ so_far.fed _ (read_none_more _ _ _ _ _ _ c.in-Ok.n (so_far.read told) so_far.readable c.if-n-eq0.true c.in-Ok.ensures.rest)
+          uses_all _ so_far.fed (read_none_more _ _ _ _ _ _ c.in-Ok.n (so_far.read told) so_far.readable c.if-n-eq0.true c.in-Ok.ensures.rest)
           (ap (λ (source : Source). source.left.bytes) after ∙ ap (drop c.in-Ok.n) none ∙ ap (λ k. drop k []) c.if-n-eq0.true)
           so_far.needed (ap (λ (work : Work). work.is_complete so_far.fed) (sym so_far.feeds.same) ∙ going)
           (subst (λ x. (source_at (g.I.Inputs.sources c.read_part.new.inputs) c.args.slot).reached ≤ length x) (ap (λ more. so_far.fed ++ more) nothing ∙ append-nil so_far.fed)
-          ((takes_more _ _ _ _ _ c.in-Ok.n _ _ _ (so_far.took told) so_far.readable gave c.in-Ok.ensures.rest).far unread));
+          ((takes_more _ (so_far.took told) so_far.readable gave c.in-Ok.ensures.rest).far unread));
       asked = λ within. asked_again _ _ _ _ _ _ so_far.readable c.in-Ok.ensures.rest (omega (arith, c.piece_size-size.ensures.within, so_far.room)) (so_far.asked within);
-      broke = ends_sound _ _ _ _ _ _ _ _ c.end.result _ (inl refl) c.end.ensures;
+      broke = ends_sound _ _ _ _ _ (inl refl) c.end.ensures;
       laid = c.read_part.ensures.kept ∙ so_far.laid;
     }
 
@@ -115,22 +114,20 @@ pub pieces-preserved : goal.pieces-preserved
 pieces-preserved g c =
     let so_far = c.pieces.invariant in record {
       fed = so_far.fed ++ take c.in-Ok.n c.read_part.new.buffer;
-      feeds = goes_on _ _ _ _ _ _ _ so_far.fed (take c.in-Ok.n c.read_part.new.buffer) _ _ _ so_far.feeds c.in-Ok-feed.ensures.same c.in-Ok-feed.ensures.holds c.in-Ok-feed.ensures.outputs c.in-Ok-feed.ensures.owns c.in-Ok-feed.ensures.bound;
+      feeds = goes_on _ _ _ _ (take c.in-Ok.n c.read_part.new.buffer) so_far.feeds c.in-Ok-feed.ensures.same c.in-Ok-feed.ensures.holds c.in-Ok-feed.ensures.outputs c.in-Ok-feed.ensures.owns c.in-Ok-feed.ensures.bound;
       readable = still_readable _ _ _ _ c.in-Ok.n c.in-Ok.ensures.rest so_far.readable;
       others = keeps_again _ _ _ _ so_far.others (keeps_others _ _ _ _ c.in-Ok.ensures.rest);
       read = λ told. read_more _ _ _ _ _ _ _ _ _ (so_far.read told) so_far.readable (c.in-Ok.ensures.bytes told) c.in-Ok.ensures.rest;
-      took = λ told. takes_more _ _ _ _ _ c.in-Ok.n _ _ _ (so_far.took told) so_far.readable (c.in-Ok.ensures.bytes told) c.in-Ok.ensures.rest;
-      last = λ told. needed_more _ _ c.in-Ok.n so_far.fed c.read_part.new.buffer (ap (λ (work : Work). work.is_complete so_far.fed) (sym so_far.feeds.same) ∙ sym (c.done.ensures.complete so_far.fed so_far.feeds.holds) ∙ c.pieces-test.true) (omega (arith, last_given _ _ _ _ c.in-Ok.n _ _ so_far.readable (c.in-Ok.ensures.bytes told) c.in-Ok.ensures.rest));
-      few = λ standard n spare.
-          subst (λ (those : Work). n ≤ those.ahead) so_far.feeds.same
+      took = λ told. takes_more _ (so_far.took told) so_far.readable (c.in-Ok.ensures.bytes told) c.in-Ok.ensures.rest;
+      last = λ told. needed_more c.in-Ok.n so_far.fed c.read_part.new.buffer (ap (λ (work : Work). work.is_complete so_far.fed) (sym so_far.feeds.same) ∙ sym (c.done.ensures.complete so_far.fed so_far.feeds.holds) ∙ c.pieces-test.true) (omega (arith, last_given _ _ _ so_far.readable (c.in-Ok.ensures.bytes told) c.in-Ok.ensures.rest));
+      few = λ standard n spare. subst (λ (those : Work). n ≤ those.ahead) so_far.feeds.same
           (c.wanted.ensures.few so_far.fed (take c.in-Ok.n c.read_part.new.buffer) c.feed.new.self.stage n so_far.feeds.holds.within
           (sym (c.done.ensures.complete so_far.fed so_far.feeds.holds) ∙ c.pieces-test.true)
           (omega (arith, piece_within c.in-Ok.n _ c.read_part.new.buffer c.in-Ok.ensures.bound, c.piece_size-size.ensures.few standard))
-          c.in-Ok-feed.ensures.same
-          (c.in-Ok-feed.ensures.holds so_far.fed so_far.feeds.holds).within
+          c.in-Ok-feed.ensures.same (c.in-Ok-feed.ensures.holds so_far.fed so_far.feeds.holds).within
           (subst (λ (those : Work). IsSpare those (so_far.fed ++ take c.in-Ok.n c.read_part.new.buffer) n) (sym so_far.feeds.same) spare));
       room = c.read_part.ensures.room ∙ so_far.room;
-      needed = needed_more _ _ c.in-Ok.n so_far.fed c.read_part.new.buffer (ap (λ (work : Work). work.is_complete so_far.fed) (sym so_far.feeds.same) ∙ sym (c.done.ensures.complete so_far.fed so_far.feeds.holds) ∙ c.pieces-test.true) (omega (arith, c.in-Ok.ensures.bound, c.piece_size-size.ensures.within, c.pieces.invariant.room));
+      needed = needed_more c.in-Ok.n so_far.fed c.read_part.new.buffer (ap (λ (work : Work). work.is_complete so_far.fed) (sym so_far.feeds.same) ∙ sym (c.done.ensures.complete so_far.fed so_far.feeds.holds) ∙ c.pieces-test.true) (omega (arith, c.in-Ok.ensures.bound, c.piece_size-size.ensures.within, c.pieces.invariant.room));
       asked = λ within. asked_again _ _ _ _ _ _ so_far.readable c.in-Ok.ensures.rest (omega (arith, c.piece_size-size.ensures.within, so_far.room)) (so_far.asked within);
       laid = c.read_part.ensures.kept ∙ so_far.laid;
       ready = c.in-Ok-feed.ensures.ready;
@@ -149,29 +146,28 @@ returns-in-Err-feed g c =
           let within : length (take c.in-Ok.n c.read_part.new.buffer) ≤ length c.args.buffer.now = piece_within c.in-Ok.n _ c.read_part.new.buffer (omega (arith, c.in-Ok.ensures.bound, c.piece_size-size.ensures.within, so_far.room)) in
           of_content g.I.Inputs.told _ (record { bytes = so_far.fed ++ take c.in-Ok.n c.read_part.new.buffer; breaks_off = false }) (source_at (g.I.Inputs.sources c.read_part.new.inputs) c.args.slot) _
           (λ told. let more = (read_more _ _ _ _ _ _ _ _ _ (so_far.read told) so_far.readable (c.in-Ok.ensures.bytes told) c.in-Ok.ensures.rest).bytes in
-          given_so _ _ _ _ opening _ _ _ _ _ c.given_up.ensures.same (stopped_feeding _ _ _ g.met.S.Stage.lawful _ opening _ _ _ _ c.feed.new.self _ _ so_far.fed (take c.in-Ok.n c.read_part.new.buffer) _ _ _ _ _ before c.in-Err-feed.fault so_far.feeds own at
+          given_so _ _ c.given_up.ensures.same (stopped_feeding _ _ _ g.met.S.Stage.lawful _ c.feed.new.self _ (take c.in-Ok.n c.read_part.new.buffer) _ so_far.feeds own at
           more within going (sound_at (g.I.Inputs.sources c.read_part.new.inputs) c.args.slot (still_readable _ _ _ _ c.in-Ok.n c.in-Ok.ensures.rest so_far.readable), λ _. more)
           c.in-Err-feed.ensures.cut c.in-Err-feed.ensures.refused c.feed.ensures.same (λ unjudged. c.feed.ensures.owns) c.given_up.ensures.judged c.given_up.ensures.swept))
-          (λ untold. given_so _ _ _ _ opening _ _ _ _ _ c.given_up.ensures.same (stopped_feeding _ _ _ g.met.S.Stage.lawful _ opening _ _ _ _ c.feed.new.self _ _ so_far.fed (take c.in-Ok.n c.read_part.new.buffer) [] _ _ _ _ before c.in-Err-feed.fault so_far.feeds own at
+          (λ untold. given_so _ _ c.given_up.ensures.same (stopped_feeding _ _ _ g.met.S.Stage.lawful _ c.feed.new.self _ (take c.in-Ok.n c.read_part.new.buffer) [] so_far.feeds own at
           (sym (append-nil _)) within going (sound_at (g.I.Inputs.sources c.read_part.new.inputs) c.args.slot (still_readable _ _ _ _ c.in-Ok.n c.in-Ok.ensures.rest so_far.readable), λ told. absurd (false≢true (sym untold ∙ told))) c.in-Err-feed.ensures.cut c.in-Err-feed.ensures.refused c.feed.ensures.same (λ unjudged. c.feed.ensures.owns) c.given_up.ensures.judged c.given_up.ensures.swept))
           (λ breaks. absurd (false≢true breaks));
       others = keeps_again _ _ _ _ so_far.others (keeps_others _ _ _ _ c.in-Ok.ensures.rest);
       reads = λ told. (
         so_far.fed ++ take c.in-Ok.n c.read_part.new.buffer,
-        needed_more _ _ c.in-Ok.n so_far.fed c.read_part.new.buffer (ap (λ (work : Work). work.is_complete so_far.fed) (sym so_far.feeds.same) ∙ going) (omega (arith, c.in-Ok.ensures.bound, c.piece_size-size.ensures.within, so_far.room)),
+        needed_more c.in-Ok.n so_far.fed c.read_part.new.buffer (ap (λ (work : Work). work.is_complete so_far.fed) (sym so_far.feeds.same) ∙ going) (omega (arith, c.in-Ok.ensures.bound, c.piece_size-size.ensures.within, so_far.room)),
         (read_more _ _ _ _ _ _ _ _ _ (so_far.read told) so_far.readable (c.in-Ok.ensures.bytes told) c.in-Ok.ensures.rest).bytes,
       );
       used = λ told ends unread.
           let gave = c.in-Ok.ensures.bytes told in
-          let judging = judging_of _ _ c.given_up.ensures.same ends in
+          let judging = judging_of c.given_up.ensures.same ends in
           let settles : IsSettled (g.S.Stage.work c.pieces.engine.stage) (so_far.fed ++ take c.in-Ok.n c.read_part.new.buffer) c.in-Err-feed.fault
-          = judges (g.S.Stage.work c.pieces.engine.stage).means (g.S.Stage.work c.pieces.engine.stage).means.feeding _ (EndsWith g.S.Stage.Holds g.S.Stage.work c.pieces.engine.stage (take c.in-Ok.n c.read_part.new.buffer)) c.in-Err-feed.fault _ _ _ _ _ judging c.in-Err-feed.ensures.refused so_far.fed so_far.feeds.holds.within in
+          = judges (g.S.Stage.work c.pieces.engine.stage).means (g.S.Stage.work c.pieces.engine.stage).means.feeding _ (EndsWith g.S.Stage.Holds g.S.Stage.work c.pieces.engine.stage (take c.in-Ok.n c.read_part.new.buffer)) _ _ judging c.in-Err-feed.ensures.refused so_far.fed so_far.feeds.holds.within in
           subst (λ (those : Work). Uses those (length c.args.buffer.now) c.args.slot (source_at (g.I.Inputs.sources c.args.inputs.now) c.args.slot).left (source_at (g.I.Inputs.sources c.read_part.new.inputs) c.args.slot)) so_far.feeds.same
-          (uses_judged _ _ _ _ (so_far.fed ++ take c.in-Ok.n c.read_part.new.buffer) _ c.in-Err-feed.fault
+          (uses_judged _ (so_far.fed ++ take c.in-Ok.n c.read_part.new.buffer)
           (read_more _ _ _ _ _ _ _ _ _ (so_far.read told) so_far.readable gave c.in-Ok.ensures.rest).bytes
-          (needed_more _ _ c.in-Ok.n so_far.fed c.read_part.new.buffer going (omega (arith, c.in-Ok.ensures.bound, c.piece_size-size.ensures.within, so_far.room)))
-          settles.0 settles.1
-          ((takes_more _ _ _ _ _ c.in-Ok.n _ _ _ (so_far.took told) so_far.readable gave c.in-Ok.ensures.rest).far unread));
+          (needed_more c.in-Ok.n so_far.fed c.read_part.new.buffer going (omega (arith, c.in-Ok.ensures.bound, c.piece_size-size.ensures.within, so_far.room)))
+          settles.0 settles.1 ((takes_more _ (so_far.took told) so_far.readable gave c.in-Ok.ensures.rest).far unread));
       asked = λ within. asked_again _ _ _ _ _ _ so_far.readable c.in-Ok.ensures.rest (omega (arith, c.piece_size-size.ensures.within, so_far.room)) (so_far.asked within);
       broke = tt;
       laid = c.read_part.ensures.kept ∙ so_far.laid;
@@ -196,25 +192,25 @@ returns g c =
     let done : (g.S.Stage.work c.pieces.engine.stage).is_complete so_far.fed ≡ true = sym (c.done.ensures.complete so_far.fed so_far.feeds.holds) ∙ c.pieces-test.false in
     let spare = c.unused-unused.ensures so_far.fed so_far.feeds.holds in
     let back = c.give_back.ensures.rest in record {
-      broke = ends_sound _ _ _ _ _ _ _ _ c.end-2.result _ (inr refl) c.end-2.ensures;
+      broke = ends_sound _ _ _ _ _ (inr refl) c.end-2.ensures;
       ends = λ before opening own at.
           let used = complete_used _ so_far.fed _ spare done in
-          let sound = sound_at (g.I.Inputs.sources c.give_back.new.self) c.args.slot (back_readable _ _ _ _ back so_far.readable) in
+          let sound = sound_at (g.I.Inputs.sources c.give_back.new.self) c.args.slot (back_readable _ _ _ back so_far.readable) in
           of_content g.I.Inputs.told _ (record { bytes = so_far.fed; breaks_off = false }) (source_at (g.I.Inputs.sources c.give_back.new.self) c.args.slot) _
-          (λ told. let left = read_used _ _ so_far.fed _ _ _ _ _ spare (so_far.read told) (so_far.took told) so_far.readable back in
-          ended _ _ _ g.met.S.Stage.lawful _ opening _ _ _ _ _ so_far.fed spare.used _ _ _ before _ c.end-2.result so_far.feeds own at (done, (_, (so_far.read told).bytes)) (enough _ left used) (alike_used _ so_far.fed _ spare (g.met.S.Stage.lawful _) used)
+          (λ told. let left = read_used spare (so_far.read told) (so_far.took told) so_far.readable back in
+          ended _ _ _ g.met.S.Stage.lawful _ _ so_far.feeds own at (done, (_, (so_far.read told).bytes)) (enough _ left used) (alike_used spare (g.met.S.Stage.lawful _) used)
           (needed_within _ _ spare.used c.requires.room spare.needed) (sound, λ _. left) c.end-2.ensures)
-          (λ untold. ended _ _ _ g.met.S.Stage.lawful _ opening _ _ _ _ _ so_far.fed so_far.fed _ _ _ before _ c.end-2.result so_far.feeds own at (done, ([], sym (append-nil so_far.fed))) (enough [] (sym (append-nil so_far.fed)) done) (alike_itself _ so_far.fed)
+          (λ untold. ended _ _ _ g.met.S.Stage.lawful _ _ so_far.feeds own at (done, ([], sym (append-nil so_far.fed))) (enough [] (sym (append-nil so_far.fed)) done) (alike_itself)
           (subst (λ (those : Work). IsNeeded those.is_complete (length c.args.buffer.now) so_far.fed) (sym so_far.feeds.same) so_far.needed) (sound, λ told. absurd (false≢true (sym untold ∙ told))) c.end-2.ensures)
           (λ breaks. absurd (false≢true breaks));
       reads = λ told. (
         spare.used,
         subst (λ (those : Work). IsNeeded those.is_complete (length c.args.buffer.now) spare.used) so_far.feeds.same (needed_within _ _ spare.used c.requires.room spare.needed),
-        read_used _ _ so_far.fed _ _ _ _ _ spare (so_far.read told) (so_far.took told) so_far.readable back,
+        read_used spare (so_far.read told) (so_far.took told) so_far.readable back,
       );
       used = λ told ends unread.
           subst (λ (those : Work). Uses those (length c.args.buffer.now) c.args.slot (source_at (g.I.Inputs.sources c.args.inputs.now) c.args.slot).left (source_at (g.I.Inputs.sources c.give_back.new.self) c.args.slot)) so_far.feeds.same
-          (uses_part _ _ _ _ _ so_far.fed _ _ _ spare (read_used _ _ so_far.fed _ _ _ _ _ spare (so_far.read told) (so_far.took told) so_far.readable back) c.requires.room (complete_used _ so_far.fed _ spare done)
+          (uses_part _ spare (read_used spare (so_far.read told) (so_far.took told) so_far.readable back) c.requires.room (complete_used _ so_far.fed _ spare done)
           (λ standard. subst (λ (those : Work). c.unused-unused.result ≤ those.ahead) (sym so_far.feeds.same) (so_far.few standard _ (subst (λ (those : Work). IsSpare those so_far.fed c.unused-unused.result) so_far.feeds.same spare)))
           (so_far.took told) unread so_far.readable back);
       others = keeps_again _ _ _ _ so_far.others (keeps_others _ _ _ _ back);

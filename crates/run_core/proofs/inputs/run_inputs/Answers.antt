@@ -4,10 +4,10 @@ use Rattle.ports_core.proofs.Runs.{as_status}
 use Rattle.run_core.proofs.inputs.run_inputs.Goals as goal
 
 pub tell-requires : goal.tell-requires
-tell-requires g c = from_over _ _ _ _ _ (λ found took. stop_open _ _ _ _ _ _ _ took) c.in-Err.ensures.took
+tell-requires g c = from_over _ _ (λ found took. stop_open _ took) c.in-Err.ensures.took
 
 pub returns-in-Ok-clause-ends : goal.returns-in-Ok-clause-ends
-returns-in-Ok-clause-ends g c = over_too _ _ _ _ _ (λ found took. ran_through _ _ _ found _ _ c.in-Ok.failed _ (c.from.ensures ∙ as_status c.in-Ok.failed) took) c.in-Ok.ensures.took
+returns-in-Ok-clause-ends g c = over_too _ _ (λ found took. ran_through _ c.in-Ok.failed (c.from.ensures ∙ as_status c.in-Ok.failed) took) c.in-Ok.ensures.took
 
 pub returns-in-Err-clause-ends : goal.returns-in-Err-clause-ends
-returns-in-Err-clause-ends g c = over_too _ _ _ _ _ (λ found took. ran_into_as _ _ _ _ found _ _ _ c.in-Err.fault c.tool.ensures took c.tell.ensures) c.in-Err.ensures.took
+returns-in-Err-clause-ends g c = over_too _ _ (λ found took. ran_into_as _ c.tool.ensures took c.tell.ensures) c.in-Err.ensures.took

@@ -6,7 +6,7 @@ use Rattle.run_core.proofs.inputs.take_inputs.Goals as goal
 
 pub returns-in_err-buffer : goal.returns-in_err-buffer
 returns-in_err-buffer g c = record {
-  took = rw (handed_on _ _ c.from_residual.ensures.1) (no_memory_first _ _ _ _ _ _ _ c.requires.fresh c.requires.outputs);
+  took = rw (handed_on _ _ c.from_residual.ensures.1) (no_memory_first _ c.requires.fresh c.requires.outputs);
   opened = fresh_counts _ (map (λ name. name.now) c.args.names.now) c.requires.fresh;
   asked = fresh_asks _ _ c.requires.fresh;
   untouched = λ none. refl;
