@@ -334,7 +334,7 @@ stopped_again false told {name} {last} {opened} snapshot stands ends =
 
 pub stopped_looks : {by_name : Bool} {told_in told : Bool} {snapshot : Snapshot} {place : ℕ} {name : List ℕ} {position : ℕ} {watched watched_new : List Watched} {printer after : PrinterState} {slots slots_new : List Slot} {stop : Stop}
     → Catches told_in told snapshot place name position watched printer slots watched_new after slots_new (Err stop) → LooksAgain told_in told by_name snapshot place name position watched printer slots watched_new after slots_new (Err stop)
-stopped_looks {by_name} {told_in} {told} {snapshot} {place} {name} {position} {watched} {watched_new} {printer} {after} {slots} {slots_new} {stop} catches = record {
+stopped_looks {by_name} {told_in} {told} {snapshot} {place} {name} {watched} {watched_new} {stop} catches = record {
   ends = λ last stands. stopped_again by_name told snapshot stands (catches.ends last stands);
   len = tt;
   follows = keeps_follows ℕ ℕ told_in by_name (open_after_look by_name name (watched_at watched place).opened snapshot) place watched watched_new stop catches.keeps;
@@ -353,7 +353,7 @@ caught_looks {told_in} {told} {snapshot} {place} {name} {position} {watched} {wa
 pub led_looks : {by_name : Bool} {told_in told : Bool} {snapshot : Snapshot} {place : ℕ} {name : List ℕ} {position : ℕ} {watched watched_new : List Watched} {printer after : PrinterState} {slots slots_new : List Slot} {snapshot_mid : Snapshot} {watched_mid : List Watched} {mid : PrinterState} {slots_mid : List Slot} {len : ℕ} {result : Result ℕ Stop} → by_name ≡ true → snapshot_mid ≡ snapshot
     → Catches told_in told snapshot place name position watched printer slots watched_mid mid slots_mid (Ok len) → Leads told_in told snapshot_mid place name len watched_mid mid slots_mid watched_new after slots_new result
     → LooksAgain told_in told by_name snapshot place name position watched printer slots watched_new after slots_new result
-led_looks {told_in} {told} {snapshot} {place} {name} {position} {watched} {watched_new} {printer} {after} {slots} {slots_new} {snapshot_mid} {watched_mid} {mid} {slots_mid} {len} {result} is seen catches leads =
+led_looks {told_in} {told} {snapshot} {place} {name} {position} {watched} {watched_new} {printer} {after} {slots} {slots_new} {snapshot_mid} {mid} {slots_mid} {len} {result} is seen catches leads =
     subst (λ way. LooksAgain told_in told way snapshot place name position watched printer slots watched_new after slots_new result) (sym is) (record {
       ends = λ last stands. due_as told (bytes_again true name last snapshot opened) (lines_again true name last snapshot opened) (λ t. both_dues name snapshot (stands t))
           (goes_after told (lines_led name snapshot opened (snapshot.leads name)) (catches.ends last stands) led.ends);
@@ -374,22 +374,18 @@ readable_open names place some can = and_from (is_some (watched_at names place).
 -- ways out of catching up
 
 pub catches_none : {told_in told : Bool} {snapshot : Snapshot} {place : ℕ} {name : List ℕ} {position : ℕ} {watched watched_new : List Watched} {printer : PrinterState} {slots : List Slot} → (watched_at watched place).opened ≡ None → watched_new ≡ watched → Catches told_in told snapshot place name position watched printer slots watched_new printer slots (Ok position)
-catches_none {told_in} {told} {snapshot} {place} {name} {position} {watched} {watched_new} {printer} {slots} none same = record {
+catches_none {told} {snapshot} {place} {name} {watched} none same = record {
   ends = λ last stands. due_as told _ _ (λ t. let due = none_due name last (watched_at watched place).opened snapshot none (stands t) in (due.0, due.1)) (nothing_due told);
   len = λ t last stands. (none_due name last (watched_at watched place).opened snapshot none stands).2;
   keeps = same;
 }
 
 pub catches_broken : {told_in told : Bool} {snapshot : Snapshot} {place : ℕ} {name : List ℕ} {position : ℕ} {watched watched_new : List Watched} {printer : PrinterState} {slots : List Slot} {why : Fault} → why ≡ fault.Read place → watched_new ≡ changed_at place (breaks why) watched → Catches told_in told snapshot place name position watched printer slots watched_new printer slots (Err (Broke why))
-catches_broken {told_in} {told} {snapshot} {place} {name} {position} {watched} {watched_new} {printer} {slots} {why} is broken = record {
-  ends = λ last stands. broke_first told why;
-  len = tt;
-  keeps = (is, broken);
-}
+catches_broken {told} {why} is broken = record { ends = λ last stands. broke_first told why; len = tt; keeps = (is, broken) }
 
 pub catches_untold : {told_in told : Bool} {snapshot : Snapshot} {place : ℕ} {name : List ℕ} {position : ℕ} {watched watched_new : List Watched} {printer : PrinterState} {slots : List Slot} {slots_new : List Slot} {id len : ℕ} {why : Fault} → watched_new ≡ watched → (watched_at watched place).opened ≡ Some id → (told_in ≡ true → len ≡ length (open_contents snapshot (watched_at watched place)))
     → Ends {T = ℕ} told_in told printer name [] (lines_past name position len) slots printer slots_new (Err (Over why)) → Catches told_in told snapshot place name position watched printer slots watched_new printer slots_new (Err (Over why))
-catches_untold {told_in} {told} {snapshot} {place} {name} {position} {watched} {watched_new} {printer} {slots} {slots_new} {id} {len} {why} same some long lines = record {
+catches_untold {told} {snapshot} {place} {position} {watched} {len} {why} same some long lines = record {
   ends = λ last stands. ends_some told snapshot some (contents_open snapshot (watched_at watched place)) stands
       (caught_none told (open_contents snapshot (watched_at watched place)) position why long lines);
   len = tt;
@@ -400,7 +396,7 @@ pub catches_copied : {told_in told : Bool} {snapshot : Snapshot} {place : ℕ} {
     → (told_in ≡ true → len ≡ length (open_contents snapshot (watched_at watched place))) → copied ≡ open_contents snapshot (watched_at watched place) → from ≡ (if nat_lt len position then 0 else position)
     → Ends {T = ℕ} told_in told inside name [] (lines_past name position len) slots inside mid (Ok from) → Ends {T = ℕ} told_in told inside name (drop from copied) [] mid after slots_new result → IfOk result (λ n. n ≡ len) → Keeps {T = ℕ} place watched_mid watched_new result
     → Catches told_in told snapshot place name position watched printer slots watched_new after slots_new result
-catches_copied {told_in} {told} {snapshot} {place} {name} {position} {watched} {watched_new} {printer} {slots} {inside} {after} {mid} {slots_new} {watched_mid} {id} {len} {from} {copied} {result} viewed some same long are begins lines bytes count keeps = record {
+catches_copied {told_in} {told} {snapshot} {place} {name} {position} {watched} {watched_new} {slots} {after} {slots_new} {len} {copied} {result} viewed some same long are begins lines bytes count keeps = record {
   ends = λ last stands. subst (λ (p : PrinterState). Ends {T = ℕ} told_in told p name (bytes_open last snapshot (watched_at watched place).opened) (lines_open name last snapshot (watched_at watched place).opened) slots after slots_new result) viewed
       (ends_some told snapshot some (contents_open snapshot (watched_at watched place)) stands (caught told copied position long are begins lines bytes));
   len = IfOk-weaker result (λ n. n ≡ len) (λ n. told_in ≡ true → (last : Entry) → StandsAt last (watched_at watched place).opened position → n ≡ length (held_at snapshot (watched_at watched place).opened))
@@ -444,14 +440,14 @@ abbrev Changes : Bool → Snapshot → List Watched → ℕ → List ℕ → Opt
 Changes told snapshot watched place name change = told ≡ true → change_between (watched_at watched place).opened (snapshot.leads name) ≡ change
 
 pub leads_broken : {told_in told : Bool} {snapshot : Snapshot} {place : ℕ} {name : List ℕ} {position : ℕ} {watched watched_new : List Watched} {printer : PrinterState} {slots : List Slot} {why : Fault} → why ≡ fault.Open place → watched_new ≡ changed_at place (breaks why) watched → Leads told_in told snapshot place name position watched printer slots watched_new printer slots (Err (Broke why))
-leads_broken {told_in} {told} {snapshot} {place} {name} {position} {watched} {watched_new} {printer} {slots} {why} is broken = record {
+leads_broken {told_in} {told} {snapshot} {name} {why} is broken = record {
   ends = broke_first told why;
   len = tt;
   follows = follows_broken told_in (snapshot.leads name) refl is broken;
 }
 
 pub leads_same : {told_in told : Bool} {snapshot : Snapshot} {place : ℕ} {name : List ℕ} {position : ℕ} {watched watched_new : List Watched} {printer : PrinterState} {slots : List Slot} → Changes told_in snapshot watched place name None → watched_new ≡ watched → Leads told_in told snapshot place name position watched printer slots watched_new printer slots (Ok position)
-leads_same {told_in} {told} {snapshot} {place} {name} {position} {watched} {watched_new} {printer} {slots} none same = record {
+leads_same {told} {snapshot} {place} {name} {watched} none same = record {
   ends = due_as told _ _ (λ t. let nothing = nothing_led name snapshot (watched_at watched place).opened (snapshot.leads name) (none t) in (sym nothing.0, sym nothing.1)) (nothing_due told);
   len = λ t seen. seen ∙ ap (λ file. length (held_at snapshot file)) (sym (nothing_led name snapshot (watched_at watched place).opened (snapshot.leads name) (none t)).2);
   follows = ((watched_at watched place).opened, same ∙ sym (opens_same watched place), λ t. sym (nothing_led name snapshot (watched_at watched place).opened (snapshot.leads name) (none t)).2);
@@ -459,7 +455,7 @@ leads_same {told_in} {told} {snapshot} {place} {name} {position} {watched} {watc
 
 pub leads_untold : {told_in told : Bool} {snapshot : Snapshot} {place : ℕ} {name : List ℕ} {position : ℕ} {watched watched_new : List Watched} {printer : PrinterState} {slots : List Slot} {mid : List Slot} {change : Notice} {why : Fault} → Changes told_in snapshot watched place name (Some change) → Ends {T = Unit {0}} told_in told printer name [] (notice_of change name ∷ []) slots printer mid (Err (Over why)) → watched_new ≡ watched
     → Leads told_in told snapshot place name position watched printer slots watched_new printer mid (Err (Over why))
-leads_untold {told_in} {told} {snapshot} {place} {name} {position} {watched} {watched_new} {printer} {slots} {mid} {change} {why} changed line same = record {
+leads_untold {told} {snapshot} {place} {name} {watched} changed line same = record {
   ends = due_as told _ _ (λ t. (refl, sym (change_led name snapshot (watched_at watched place).opened (snapshot.leads name) (changed t)).1))
       (stops_early told (bytes_led snapshot (watched_at watched place).opened (snapshot.leads name)) [] line);
   len = tt;
@@ -468,7 +464,7 @@ leads_untold {told_in} {told} {snapshot} {place} {name} {position} {watched} {wa
 
 pub leads_unopened : {told_in told : Bool} {snapshot : Snapshot} {place : ℕ} {name : List ℕ} {position : ℕ} {watched watched_new : List Watched} {printer : PrinterState} {slots : List Slot} {watched_mid : List Watched} {mid : List Slot} {change : Notice} {value : Unit {0}} {why : Fault} → Changes told_in snapshot watched place name (Some change) → Ends {T = Unit {0}} told_in told printer name [] (notice_of change name ∷ []) slots printer mid (Ok value)
     → watched_mid ≡ watched → why ≡ fault.Open place → watched_new ≡ changed_at place (breaks why) watched_mid → Leads told_in told snapshot place name position watched printer slots watched_new printer mid (Err (Broke why))
-leads_unopened {told_in} {told} {snapshot} {place} {name} {position} {watched} {watched_new} {printer} {slots} {watched_mid} {mid} {change} {value} {why} changed line same is broken = record {
+leads_unopened {told_in} {told} {snapshot} {place} {name} {watched} {why} changed line same is broken = record {
   ends = ends_said told [] snapshot (watched_at watched place).opened (snapshot.leads name) changed (λ t. (refl, refl)) line (broke_first told why);
   len = tt;
   follows = follows_broken told_in (snapshot.leads name) same is broken;
@@ -476,7 +472,7 @@ leads_unopened {told_in} {told} {snapshot} {place} {name} {position} {watched} {
 
 pub leads_gone : {told_in told : Bool} {snapshot : Snapshot} {place : ℕ} {name : List ℕ} {position : ℕ} {watched watched_new : List Watched} {printer : PrinterState} {slots : List Slot} {mid : List Slot} {change : Notice} {value : Unit {0}} {is_there : Bool} → Changes told_in snapshot watched place name (Some change) → Ends {T = Unit {0}} told_in told printer name [] (notice_of change name ∷ []) slots printer mid (Ok value)
     → Reopens told_in snapshot watched watched_new place is_there → is_there ≡ false → (watched_at watched place).name ≡ name → Leads told_in told snapshot place name position watched printer slots watched_new printer mid (Ok 0)
-leads_gone {told_in} {told} {snapshot} {place} {name} {position} {watched} {watched_new} {printer} {slots} {mid} {change} {value} {is_there} changed line reopens gone named = record {
+leads_gone {told_in} {told} {snapshot} {place} {name} {watched} changed line reopens gone named = record {
   ends = ends_said told [] snapshot (watched_at watched place).opened (snapshot.leads name) changed (λ t. (held_nowhere told_in reopens gone named t, refl)) line
       (nothing_due told);
   len = λ t seen. ap length (held_nowhere told_in reopens gone named t);
@@ -486,7 +482,7 @@ leads_gone {told_in} {told} {snapshot} {place} {name} {position} {watched} {watc
 pub leads_there : {told_in told : Bool} {snapshot : Snapshot} {place : ℕ} {name : List ℕ} {position : ℕ} {watched watched_new : List Watched} {printer : PrinterState} {slots : List Slot} {now : Snapshot} {watched_mid : List Watched} {after : PrinterState} {mid slots_new : List Slot} {change : Notice} {value : Unit {0}} {is_there : Bool} {result : Result ℕ Stop} → Changes told_in snapshot watched place name (Some change) → Ends {T = Unit {0}} told_in told printer name [] (notice_of change name ∷ []) slots printer mid (Ok value)
     → now ≡ snapshot → IsTrue (is_watchable watched place) → Reopens told_in snapshot watched watched_mid place is_there → is_there ≡ true → (watched_at watched place).name ≡ name
     → Catches told_in told now place name 0 watched_mid printer mid watched_new after slots_new result → Leads told_in told snapshot place name position watched printer slots watched_new after slots_new result
-leads_there {told_in} {told} {snapshot} {place} {name} {position} {watched} {watched_new} {printer} {slots} {now} {watched_mid} {after} {mid} {slots_new} {change} {value} {is_there} {result} changed line seen can reopens there named catches = record {
+leads_there {told_in} {told} {snapshot} {place} {name} {position} {watched} {watched_new} {result} changed line seen can reopens there named catches = record {
   ends = ends_said told [] snapshot (watched_at watched place).opened (snapshot.leads name) changed (λ t. (refl, refl)) line
       (led_whole told seen can reopens there named catches.ends);
   len = len_whole told_in position result (position ≡ length (held_at snapshot (watched_at watched place).opened)) seen can reopens there named catches.len;

@@ -211,14 +211,14 @@ opened_halts told {printer} {name} {bytes} {lines} {old} {mid} {new} {why} first
 -- where the name leads, once its file was opened
 pub led_file : {told : Bool} {snapshot : Snapshot} {old new : List Watched} {place : ℕ} {name : List ℕ} {is_there : Bool} → Reopens told snapshot old new place is_there → is_there ≡ true → (watched_at old place).name ≡ name
     → told ≡ true → (id : ℕ) × (snapshot.leads name ≡ Some id)
-led_file {told} {snapshot} {old} {new} {place} {name} {is_there} reopens there named is = by (some_of reopens.file (reopens.found ∙ there)) where
+led_file {snapshot} {name} reopens there named is = by (some_of reopens.file (reopens.found ∙ there)) where
   by : (id : ℕ) × (reopens.file ≡ Some id) → (id : ℕ) × (snapshot.leads name ≡ Some id)
   by (id, file) = (id, sym (ap snapshot.leads named) ∙ sym (reopens.leads is) ∙ file)
 
 -- the file's header could not be written
 pub first_short : {told_in told : Bool} {ways : Ways} {snapshot : Snapshot} {name : List ℕ} {printer inside : PrinterState} {old new : List Slot} {why : Fault} → inside ≡ printer → (told_in ≡ true → (id : ℕ) × (snapshot.leads name ≡ Some id))
     → Short told (opening_under inside name) old new why → Stopped told_in told ways [] snapshot name printer old new why
-first_short {told_in} {told} {ways} {snapshot} {name} {printer} {inside} {old} {new} {why} viewed found short =
+first_short {told_in} {told} {ways} {snapshot} {name} {inside} {old} {new} {why} viewed found short =
     subst (λ (p : PrinterState). Stopped told_in told ways [] snapshot name p old new why) viewed (
     looked_over told [] [] (first_fronts ways snapshot name [] [] (λ is. ((found is).0, (found is).1, front_nil _, front_nil _)))
     (record { slots = λ output error others is. (error, refl, subst (λ text. Short told text (output ∷ error ∷ others) new why) (opened_share inside name [] []).1 (short_more told [] (subst (λ those. Short told (opening_under inside name) those new why) is short))) }))
@@ -231,7 +231,7 @@ pub first_whole : {told_in told : Bool} {ways : Ways} {snapshot : Snapshot} {pla
     → (told_in ≡ true → (id : ℕ) × (snapshot.leads name ≡ Some id)) → (told_in ≡ true → contents ≡ held_at snapshot (snapshot.leads name)) → mid ≡ with_written 0 (told_of told (opening_under inside name)) old → under ≡ opened_under inside name
     → Ends {T = ℕ} told_in told under name (ways.start contents) [] mid after new (Ok len)
     → Looked told_in told ways [] snapshot place name printer old after new (Through len) None
-first_whole {told_in} {told} {ways} {snapshot} {place} {name} {contents} {printer} {inside} {under} {after} {old} {mid} {new} {len} viewed found same first is_under ends =
+first_whole {told_in} {told} {ways} {snapshot} {place} {name} {contents} {inside} {after} {old} {mid} {new} {len} viewed found same first is_under ends =
     subst (λ (p : PrinterState). Looked told_in told ways [] snapshot place name p old after new (Through len) None) viewed
     (by (subst (λ (p : PrinterState). Ends {T = ℕ} told_in told p name (ways.start contents) [] mid after new (Ok len)) is_under ends)) where
       by : Ends {T = ℕ} told_in told (opened_under inside name) name (ways.start contents) [] mid after new (Ok len) → Looked told_in told ways [] snapshot place name inside old after new (Through len) None
@@ -250,7 +250,7 @@ pub data FirstCut (told_in told : Bool) (ways : Ways) (snapshot : Snapshot) (nam
 pub first_cut : {told_in told : Bool} {ways : Ways} {snapshot : Snapshot} {name contents : List ℕ} {printer inside under after : PrinterState} {old mid new : List Slot} {stop : Stop} → inside ≡ printer
     → (told_in ≡ true → (id : ℕ) × (snapshot.leads name ≡ Some id)) → (told_in ≡ true → contents ≡ held_at snapshot (snapshot.leads name)) → mid ≡ with_written 0 (told_of told (opening_under inside name)) old → under ≡ opened_under inside name
     → Ends {T = ℕ} told_in told under name (ways.start contents) [] mid after new (Err stop) → FirstCut told_in told ways snapshot name printer old after new stop
-first_cut {told_in} {told} {ways} {snapshot} {name} {contents} {printer} {inside} {under} {after} {old} {mid} {new} {stop} viewed found same first is_under ends =
+first_cut {told_in} {told} {ways} {snapshot} {name} {contents} {inside} {after} {old} {mid} {new} {stop} viewed found same first is_under ends =
     subst (λ (p : PrinterState). FirstCut told_in told ways snapshot name p old after new stop) viewed
     (by stop (subst (λ (p : PrinterState). Ends {T = ℕ} told_in told p name (ways.start contents) [] mid after new (Err stop)) is_under ends)) where
       front : (bytes : List ℕ) (lines : List (List ℕ)) → (told_in ≡ true → IsFront bytes (ways.start contents) × IsFront lines []) → Dues told_in ways [] snapshot name (λ due said. IsFront bytes due × IsFront lines said)

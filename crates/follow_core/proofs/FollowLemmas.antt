@@ -220,28 +220,28 @@ added_begins {old} {mid} {watched} {watched_mid} is = record {
 
 -- names of others, in the look after that
 pub not_own : {first number : ℕ} {names : List NameState} (follow : FollowState) (watched : List Watched) → follow.stage ≡ Looking → names ≡ follow.names → first ≡ follow.first → IsOther follow watched number → (place : ℕ) → place < length names → number ≡ first + place → ⊥
-not_own {first} {number} {names} follow watched looking names_are first_is other place within at =
+not_own {number} follow watched looking names_are first_is other place within at =
     subst (λ stage. IsOther (record follow { stage = stage }) watched number) looking other place (subst (λ (those : List NameState). place < length those) names_are within) (at ∙ ap (λ n. n + place) first_is)
 
 pub other_kept : {names : List (List ℕ)} {watched watched_new : List Watched} (follow : FollowState) (number : ℕ) → follow.stage ≡ Fresh → AddsSome names watched watched_new → IsOther follow watched number → watched_at watched_new number ≡ watched_at watched number
-other_kept {names} {watched} {watched_new} follow number fresh some other =
+other_kept {watched} follow number fresh some other =
     ap (λ those. watched_at those number) some.kept.1 ∙ get_or_append_left watched some.kept.0 no_name number (subst (λ stage. IsOther (record follow { stage = stage }) watched number) fresh other)
 
 -- a look that goes on from there
 
 pub begun_looked : {told_in told : Bool} {snapshot snapshot_mid : Snapshot} {old mid new : FollowState} {watched watched_mid watched_new : List Watched} {slots slots_new : List Slot} → Begins told_in old watched mid watched_mid → snapshot_mid ≡ snapshot
     → LooksOn told_in told snapshot_mid mid watched_mid slots new watched_new slots_new → LooksOn told_in told snapshot old watched slots new watched_new slots_new
-begun_looked {told_in} {told} {snapshot} {snapshot_mid} {old} {mid} {new} {watched} {watched_mid} {watched_new} {slots} {slots_new} begins same looks_on = subst (λ s. LooksOn told_in told s old watched slots new watched_new slots_new) same
+begun_looked {told_in} {told} {old} {new} {watched} {watched_new} {slots} {slots_new} begins same looks_on = subst (λ s. LooksOn told_in told s old watched slots new watched_new slots_new) same
     (λ ways headers names looks first holds. looks_on ways headers names looks first (begins.holds told ways headers names looks first slots holds))
 
 pub begun_stopped : {told_in told : Bool} {snapshot snapshot_mid : Snapshot} {old mid : FollowState} {watched watched_mid watched_new : List Watched} {slots slots_new : List Slot} {why : Fault} → Begins told_in old watched mid watched_mid → snapshot_mid ≡ snapshot
     → StopsOn told_in told snapshot_mid mid watched_mid slots watched_new slots_new why → StopsOn told_in told snapshot old watched slots watched_new slots_new why
-begun_stopped {told_in} {told} {snapshot} {snapshot_mid} {old} {mid} {watched} {watched_mid} {watched_new} {slots} {slots_new} {why} begins same stops = subst (λ s. StopsOn told_in told s old watched slots watched_new slots_new why) same
+begun_stopped {told_in} {told} {old} {watched} {watched_new} {slots} {slots_new} {why} begins same stops = subst (λ s. StopsOn told_in told s old watched slots watched_new slots_new why) same
     (λ ways headers names looks first holds. stops ways headers names looks first (begins.holds told ways headers names looks first slots holds))
 
 pub makes_none : {told_in told : Bool} {snapshot : Snapshot} {seen seen_new : List Snapshot} {old new : FollowState} {watched watched_new : List Watched} {slots : List Slot} {why : Fault} → Unbroken told_in told old watched slots watched_new → why ≡ fault.Memory → seen_new ≡ seen
     → MakesLook told_in told snapshot seen old watched slots seen_new new watched_new slots (Err why)
-makes_none {told_in} {told} {snapshot} {seen} {seen_new} {old} {new} {watched} {watched_new} {slots} {why} unbroken is same = record {
+makes_none {told_in} {told} {snapshot} {old} {watched} {watched_new} unbroken is same = record {
   looked = tt;
   stopped = look_refused told_in told snapshot old watched watched_new unbroken is refl;
   seen_is = tt;
@@ -313,11 +313,11 @@ can_print old watched slots live can = by old.stage live can where
   by Over live can = absurd (live refl)
 
 pub cause_is : {old : FollowState} {slots slots_new : List Slot} {why : Fault} (watched : List Watched) → (old.stage ≡ Over → ⊥) → CanLook old watched slots → HasStopped why slots_new → IsCause old slots slots_new why
-cause_is {old} {slots} {slots_new} {why} watched live can (inl memory, error) = subst (IsCause old slots slots_new) (sym memory) lacks_memory
-cause_is {old} {slots} {slots_new} {why} watched live can (inr (is, broken), error) = subst (IsCause old slots slots_new) (sym is) (output_broke (not-true _ (and_parts _ _ (can_print old watched slots live can).0).1, broken))
+cause_is {old} {slots} {slots_new} watched live can (inl memory, error) = subst (IsCause old slots slots_new) (sym memory) lacks_memory
+cause_is {old} {slots} {slots_new} watched live can (inr (is, broken), error) = subst (IsCause old slots slots_new) (sym is) (output_broke (not-true _ (and_parts _ _ (can_print old watched slots live can).0).1, broken))
 
 pub no_memory_is : {old : FollowState} {slots slots_new : List Slot} {why : Fault} → why ≡ fault.Memory → IsCause old slots slots_new why
-no_memory_is {old} {slots} {slots_new} {why} is = subst (IsCause old slots slots_new) (sym is) lacks_memory
+no_memory_is {old} {slots} {slots_new} is = subst (IsCause old slots slots_new) (sym is) lacks_memory
 
 -- by what the names broke
 
@@ -353,11 +353,11 @@ broken_are {told_in} told {ways} {names} {looks} {follow} {watched} holds = stag
 
 -- before the first look
 pub fresh_unbroken : {told_in told : Bool} {old : FollowState} {watched : List Watched} {slots : List Slot} {watched_new : List Watched} → old.stage ≡ Fresh → AddsSome (texts old.names) watched watched_new → Unbroken told_in told old watched slots watched_new
-fresh_unbroken {told_in} {told} {old} {watched} {slots} {watched_new} fresh adds ways headers names looks first holds =
+fresh_unbroken {told_in} {old} {watched} {watched_new} fresh adds ways headers names looks first holds =
     let stand = subst (StandsIn told_in ways looks old.names watched) fresh holds.stand in
     none_broken ways names watched watched_new stand.0 stand.2 (subst (λ those. IsFront watched_new (watched ++ map added those)) holds.same adds.front)
 
 -- the names are watched, and no call was made on one
 pub begun_unbroken : {told_in told : Bool} {old mid : FollowState} {watched watched_mid watched_new : List Watched} {slots : List Slot} → Begins told_in old watched mid watched_mid → watched_new ≡ watched_mid → Unbroken told_in told old watched slots watched_new
-begun_unbroken {told_in} {told} {old} {mid} {watched} {watched_mid} {watched_new} {slots} begins same ways headers names looks first holds =
+begun_unbroken {told} {slots} begins same ways headers names looks first holds =
     subst (AreBroken ways looks names) (sym same) (broken_are told (begins.holds told ways headers names looks first slots holds))

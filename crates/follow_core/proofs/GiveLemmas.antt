@@ -288,7 +288,7 @@ pub copy_broke : {told_in told : Bool} {printer : PrinterState} {name contents :
     {seen_old seen_now : List Snapshot} {watched_old watched_now : List Watched} {room : ℕ} {why : Fault}
     → Copying told_in told printer name contents from at len old mid now seen_old seen_now watched_old watched_now room
     → Ends {T = ℕ} told_in told printer name (drop from contents) [] old mid now (Err (Broke why))
-copy_broke {told_in} {told} {printer} {name} {contents} {from} {at} {len} {old} {mid} {now} {why} c =
+copy_broke {told} {contents} {from} {at} {why} c =
     broke why c.bytes []
     (λ told. (subst (λ bytes. IsFront bytes (drop from contents)) (sym (c.are told)) (front_taken_by (at - from) (drop from contents)), front_nil []))
     (gives_put told c.put)
@@ -307,7 +307,7 @@ copy_over told {printer} {name} {contents} {from} {at} {n} {old} {new} read_old 
 -- all was copied
 pub copy_done : {told_in told : Bool} {printer : PrinterState} {name contents : List ℕ} {from at len : ℕ} {old : List Slot} {mid : PrinterState} {now : List Slot} {seen_old seen_now : List Snapshot} {watched_old watched_now : List Watched} {room : ℕ}
     → Copying told_in told printer name contents from at len old mid now seen_old seen_now watched_old watched_now room → (told_in ≡ true → length contents ≤ at) → Ends {T = ℕ} told_in told printer name (drop from contents) [] old mid now (Ok len)
-copy_done {told_in} {told} {printer} {name} {contents} {from} {at} {len} {old} {mid} {now} c past =
+copy_done {told} {contents} {from} {at} {len} c past =
     whole len c.bytes [] (λ is. (c.are is ∙ take_all (at - from) (drop from contents) (let d : length (drop from contents) ≡ length contents - from = length-drop from contents in let p : length contents ≤ at = past is in omega (arith, d, p)), refl))
     (gives_put told c.put)
 

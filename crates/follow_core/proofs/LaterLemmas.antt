@@ -209,10 +209,7 @@ broken_first {place} failed is at = record { fault = is ∙ sym (ap (λ those. f
 -- or at a later one, which by itself opens nothing where names aren't followed
 pub broken_later : {ways : Ways} (looks : List Look) (look : Look) {place : ℕ} (failed : Option Fault) {why : Fault} {fate : Fate} → failed ≡ Some why → failed_by place fate None ≡ Some why → is_dropped place looks ≡ false → fate_at place look ≡ fate
     → (ways.by_name ≡ false → why ≡ Read place) → BrokeIn ways (looks ++ look ∷ []) place failed
-broken_later looks look {place} failed {why} is fault kept at read = record {
-  fault = is ∙ sym now;
-  opened = λ way. inr (now ∙ ap Some (read way));
-} where
+broken_later looks look {place} failed {why} is fault kept at read = record { fault = is ∙ sym now; opened = λ way. inr (now ∙ ap Some (read way)) } where
   now : failed_in place (looks ++ look ∷ []) ≡ Some why
   now = failed_more place looks look (none_of (failed_in place looks) kept) at ∙ fault
 

@@ -146,18 +146,18 @@ first_looks {told_in} {told} {ways} {snapshot} {place} {name} {printer} {after} 
 -- what the first look leaves open, where the name leads to a file and where it leads nowhere
 pub opened_leaves : {told : Bool} {snapshot now : Snapshot} {old mid new : List Watched} {place : ℕ} {name : List ℕ} {is_there : Bool} {len : ℕ} → now ≡ snapshot → IsTrue (is_watchable old place) → Reopens told snapshot old mid place is_there → is_there ≡ true → (watched_at old place).name ≡ name → new ≡ mid
     → (told ≡ true → len ≡ length (open_contents now (watched_at mid place))) → Leaves told snapshot (snapshot.leads name) place old new None (Through len) × IsThere told (snapshot.leads name) (Through len)
-opened_leaves {told} {snapshot} {now} {old} {mid} {new} {place} {name} {is_there} {len} seen can reopens there named same long = (
+opened_leaves {told} {snapshot} seen can reopens there named same long = (
   (reopens.file, same ∙ reopens.names, refl, λ t. (reopens.leads t ∙ ap snapshot.leads named, long t ∙ ap length (contents_led told seen can reopens named t))),
   λ t. ap is_some (sym (reopens.leads t ∙ ap snapshot.leads named)) ∙ reopens.found ∙ there,
 )
 
 missing_leaves : {told : Bool} {snapshot : Snapshot} {old new : List Watched} {place : ℕ} {name : List ℕ} {is_there : Bool} → Reopens told snapshot old new place is_there → is_there ≡ false → (watched_at old place).name ≡ name → Leaves told snapshot (snapshot.leads name) place old new None Missing
-missing_leaves {told} {snapshot} {old} {new} {place} {name} {is_there} reopens gone named =
+missing_leaves {snapshot} reopens gone named =
     (reopens.file, reopens.names, refl, λ t. (reopens.leads t ∙ ap snapshot.leads named, sym (reopens.leads t ∙ ap snapshot.leads named) ∙ none_of reopens.file (reopens.found ∙ gone)))
 
 pub first_over : {told_in told : Bool} {ways : Ways} {snapshot : Snapshot} {place : ℕ} {name : List ℕ} {printer after : PrinterState} {slots slots_new : List Slot} {old new : List Watched} {why : Fault}
     → Opened place old new → Stopped told_in told ways [] snapshot name printer slots slots_new why → Looks told_in told ways snapshot place name New old printer slots new after slots_new (Err why)
-first_over {told_in} {told} {ways} {snapshot} {place} {name} {printer} {after} {slots} {slots_new} {old} {new} {why} opened stopped = record {
+first_over {told_in} {told} {ways} {snapshot} {place} {name} {printer} {slots} {slots_new} {why} opened stopped = record {
   visited = tt;
   stopped = λ looks stands. (ap (is_dropped place) stands.0, subst (λ those. Stopped told_in told ways those snapshot name printer slots slots_new why) (sym stands.0) stopped);
   leaves = tt;
@@ -168,22 +168,22 @@ first_over {told_in} {told} {ways} {snapshot} {place} {name} {printer} {after} {
 
 pub first_missing : {told_in told : Bool} {ways : Ways} {snapshot : Snapshot} {place : ℕ} {name : List ℕ} {printer : PrinterState} {slots slots_new : List Slot} {old new : List Watched} {is_there : Bool} → Reopens told_in snapshot old new place is_there → is_there ≡ false → (watched_at old place).name ≡ name
     → SaysOn told Tail (message_of Tail (Open place) name) slots slots_new → Looks told_in told ways snapshot place name New old printer slots new printer slots_new (Ok Missing)
-first_missing {told_in} {told} {ways} {snapshot} {place} {name} {printer} {slots} {slots_new} reopens gone named says =
+first_missing {told} reopens gone named says =
     let leaves = missing_leaves reopens gone named in
     first_looks (meets_nothing told (λ t. (leaves.3 t).1) says) leaves tt
 
 pub first_unopened : {told_in told : Bool} {ways : Ways} {snapshot : Snapshot} {place : ℕ} {name : List ℕ} {printer : PrinterState} {slots slots_new : List Slot} {old new : List Watched} {why : Fault} {result : Result Came Fault} → why ≡ Open place → new ≡ changed_at place (breaks why) old
     → TellsStop told name slots slots_new (Broke why) result → Looks told_in told ways snapshot place name New old printer slots new printer slots_new result
-first_unopened {told_in} {told} {ways} {snapshot} {place} {name} {printer} {slots} {slots_new} {old} {new} {why} {result} is broken (tells, says) =
+first_unopened {told_in} {told} {ways} {snapshot} {place} {name} {printer} {slots} {slots_new} {old} {new} {why} is broken (tells, says) =
     subst (λ those. Looks told_in told ways snapshot place name New old printer slots new printer slots_new those) (sym tells)
     (first_looks (meets_unopened told (subst (λ those. SaysOn told Tail (message_of Tail those name) slots slots_new) is says)) ((watched_at old place).opened, why, broken ∙ ap (changed_at place (breaks why)) (sym (opens_same old place)), ap Some (sym is)) tt)
 
 pub first_fails : {told_in told : Bool} {ways : Ways} {snapshot : Snapshot} {place : ℕ} {name : List ℕ} {printer after : PrinterState} {slots mid slots_new : List Slot} {old watched_mid new : List Watched} {is_there : Bool} {stop : Stop} {result : Result Came Fault} → Reopens told_in snapshot old watched_mid place is_there
     → Keeps {T = ℕ} place watched_mid new (Err stop) → FirstCut told_in told ways snapshot name printer slots after mid stop → TellsStop told name mid slots_new stop result → Looks told_in told ways snapshot place name New old printer slots new after slots_new result
-first_fails {told_in} {told} {ways} {snapshot} {place} {name} {printer} {after} {slots} {mid} {slots_new} {old} {watched_mid} {new} {result} reopens keeps (cut_read why bytes lines are shared) (tells, says) =
+first_fails {told_in} {told} {ways} {snapshot} {place} {name} {printer} {after} {slots} {mid} {slots_new} {old} {new} reopens keeps (cut_read why bytes lines are shared) (tells, says) =
     subst (λ those. Looks told_in told ways snapshot place name New old printer slots new after slots_new those) (sym tells)
     (first_looks (looked_failed told bytes lines (message_of Tail (Read 0) name) true (unread (length lines) (length bytes)) refl (λ fates. refl) (λ is fates. (are is fates).1) shared (name, inr refl) (subst (λ those. SaysOn told Tail (message_of Tail those name) mid slots_new) keeps.0 says)) (reopens.file, why, keeps.1 ∙ ap (changed_at place (breaks why)) reopens.names, ap Some (sym keeps.0)) tt)
-first_fails {told_in} {told} {ways} {snapshot} {place} {name} {printer} {after} {slots} {mid} {slots_new} {old} {watched_mid} {new} {result} reopens keeps (cut_over why stopped) (tells, same) =
+first_fails {told_in} {told} {ways} {snapshot} {place} {name} {printer} {after} {slots} {slots_new} {old} {new} reopens keeps (cut_over why stopped) (tells, same) =
     subst (λ those. Looks told_in told ways snapshot place name New old printer slots new after slots_new those) (sym tells)
     (first_over (reopens.file, keeps ∙ reopens.names) (subst (λ those. Stopped told_in told ways [] snapshot name printer slots those why) (sym same) stopped))
 
@@ -250,7 +250,7 @@ only_read place {why} other (inr read) way same = sym (same_Some why other same)
 pub again_fails : {told_in told : Bool} {ways : Ways} {snapshot : Snapshot} {place : ℕ} {name : List ℕ} {position : ℕ} {old new : List Watched} {printer after : PrinterState} {slots mid slots_new : List Slot} (stop : Stop) {result : Result Came Fault}
     → LooksAgain told_in told ways.by_name snapshot place name position old printer slots new after mid (Err stop) → TellsStop told name mid slots_new stop result
     → Looks told_in told ways snapshot place name (Followed position) old printer slots new after slots_new result
-again_fails {told_in} {told} {ways} {snapshot} {place} {name} {position} {old} {new} {printer} {after} {slots} {mid} {slots_new} (Broke why) again (is, says) =
+again_fails {told_in} {told} {ways} {snapshot} {place} {name} {position} {old} {new} {printer} {after} {slots} {slots_new} (Broke why) again (is, says) =
     subst (λ those. Looks told_in told ways snapshot place name (Followed position) old printer slots new after slots_new those) (sym is) (record {
       visited = λ looks stands. later_visited told_in told ways snapshot place name position printer after slots slots_new old new (Some why) Dropped looks stands (λ before looks ready. (
         again_broke told refl ready again.follows.2 (again.ends (last_in ways name before looks) (λ t. ready t)) says,
@@ -260,7 +260,7 @@ again_fails {told_in} {told} {ways} {snapshot} {place} {name} {position} {old} {
       leaves = (Some why, (again.follows.0, why, again.follows.1, refl));
       halts = tt;
     })
-again_fails {told_in} {told} {ways} {snapshot} {place} {name} {position} {old} {new} {printer} {after} {slots} {mid} {slots_new} (Over why) again (is, same) =
+again_fails {told_in} {told} {ways} {snapshot} {place} {name} {position} {old} {new} {printer} {after} {slots} {slots_new} (Over why) again (is, same) =
     subst (λ those. Looks told_in told ways snapshot place name (Followed position) old printer slots new after slots_new those) (sym is) (record {
       visited = tt;
       stopped = λ looks stands. later_stopped told looks stands (λ before looks ready.
@@ -280,7 +280,7 @@ pub visit_made : {told_in told : Bool} {ways : Ways} {snapshot : Snapshot} {plac
     → text ≡ old.text → old.standing ≡ standing → (watched_at watched place).name ≡ old.text → (watched_at watched place).failed ≡ None → new ≡ record old { standing = standing_after ways.by_name came } → failed ≡ has_failed came
     → Looks told_in told ways snapshot place text standing watched printer slots watched_new after slots_new (Ok came)
     → Visits told_in told ways snapshot place old watched printer slots new watched_new after slots_new (Ok failed)
-visit_made {told_in} {told} {ways} {snapshot} {place} {text} {standing} {old} {new} {watched} {watched_new} {printer} {after} {slots} {slots_new} {came} {failed} same stood named unbroken is failed_is looks =
+visit_made {told_in} {told} {ways} {snapshot} {place} {text} {standing} {old} {watched} {watched_new} {printer} {after} {slots} {slots_new} {came} {failed} same stood named unbroken is failed_is looks =
     subst (λ (those : NameState). Visits told_in told ways snapshot place old watched printer slots those watched_new after slots_new (Ok failed)) (sym is)
     (subst (λ those. Visits told_in told ways snapshot place old watched printer slots (record old { standing = standing_after ways.by_name came }) watched_new after slots_new (Ok those)) (sym failed_is) (record {
       visited = seen.visited;
@@ -298,7 +298,7 @@ pub visit_over : {told_in told : Bool} {ways : Ways} {snapshot : Snapshot} {plac
     → text ≡ old.text → old.standing ≡ standing → new ≡ old
     → Looks told_in told ways snapshot place text standing watched printer slots watched_new after slots_new (Err why)
     → Visits told_in told ways snapshot place old watched printer slots new watched_new after slots_new (Err why)
-visit_over {told_in} {told} {ways} {snapshot} {place} {text} {standing} {old} {new} {watched} {watched_new} {printer} {after} {slots} {slots_new} {why} same stood is looks = record {
+visit_over {told_in} {told} {ways} {snapshot} {place} {text} {standing} {old} {watched} {watched_new} {printer} {after} {slots} {slots_new} {why} same stood is looks = record {
   visited = tt;
   stopped = (subst (λ those. Looks told_in told ways snapshot place old.text those watched printer slots watched_new after slots_new (Err why)) (sym stood)
       (subst (λ those. Looks told_in told ways snapshot place those standing watched printer slots watched_new after slots_new (Err why)) same looks)).stopped;
@@ -368,7 +368,7 @@ left_visited {told_in} told {ways} {snapshot} {place} {name} {watched} {looks} i
 
 pub visit_left : {told_in told : Bool} {ways : Ways} {snapshot : Snapshot} {place : ℕ} {name : NameState} {watched : List Watched} {printer : PrinterState} {slots : List Slot} → name.standing ≡ Left → CanVisit name (watched_at watched place)
     → Visits told_in told ways snapshot place name watched printer slots name watched printer slots (Ok false)
-visit_left {told_in} {told} {ways} {snapshot} {place} {name} {watched} {printer} {slots} left can = record {
+visit_left {told} left can = record {
   visited = λ looks stands. left_visited told left stands;
   stopped = tt;
   same = refl;
