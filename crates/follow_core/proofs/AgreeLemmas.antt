@@ -15,7 +15,7 @@ use Rattle.watch_core.specs.Edits.{Edit, append, truncate, replace, remove, Worl
 use Rattle.follow_core.specs.Run.{AreKept, name_text}
 use Rattle.follow_core.specs.Placing.{all_edits, IsUncut, AreSeen, AllSeen, Agree}
 use Rattle.follow_core.proofs.RunLemmas.{text_is_gains, later-append as gains-append}
-use Rattle.follow_core.proofs.LaterLemmas.{look_leaves}
+use Rattle.follow_core.proofs.LookLemmas.{look_leaves}
 use Rattle.watch_core.proofs.WorldLemmas.{append_leads, append_grows}
 
 -- a look more with_file no text

@@ -2,23 +2,22 @@
 use Rattle.std.proofs.Common.{◌≡◌, ℕ, ◌<◌, ◌≤◌, suc, nat_lt, Bool, true, false, List, [], ◌∷◌, ◌++◌, length, drop, Result, Ok, Err, refl, sym, ◌∙◌, ap, subst, arith, if◌then◌else◌, ◌==◌, zero, nat_le, not, ◌&&◌, IsTrue, map, Option, Some, None, IfOk, option_map, inl, inr}
 use Rattle.std.proofs.lemmas.Bool.{and_from, le-ltb, false≢true, lt-ltb, eqb-true, eq-eqb}
 use Rattle.std.proofs.lemmas.List.{append-nil, map-append}
-use Rattle.ports_core.specs.Slot.{Slot, is_open, adds, changed_at, told_of, with_written}
+use Rattle.ports_core.specs.Slot.{Slot, is_open, changed_at, with_written}
 use Rattle.ports_core.specs.declared.tool.Tool.{Tool}
-use Rattle.ports_core.specs.Message.{PrintsOn, Says, SaysOn}
+use Rattle.ports_core.specs.Message.{PrintsOn, SaysOn}
 use Rattle.ports_core.proofs.InputsLemmas.{changed_elsewhere}
 use Rattle.ports_core.proofs.SlotLemmas.{length-changed_at, changed_there}
 use Rattle.follow_core.specs.inner.Visits.{KeepsOthers}
 use Rattle.ports_core.proofs.MessageLemmas.{said_state}
 use Rattle.watch_core.proofs.NameLemmas.{watchable_within}
-use Rattle.follow_core.specs.Telling.{TellsAll}
 use Rattle.follow_core.specs.declared.visitor.Stop.{Stop}
 use Rattle.follow_core.specs.declared.visitor.Stop.TheVariants.{Broke, Over}
 use Rattle.follow_core.specs.declared.notice.Notice.TheVariants.{Truncated, Replaced}
 use Rattle.follow_core.specs.Notice.{notice_of, notices_later}
 use Rattle.follow_core.specs.Printing.{PrinterState, Short, no_room, broke as short_broke}
-use Rattle.follow_core.specs.inner.Giving.{text_under, Gives, Ends, whole, broke, over}
+use Rattle.follow_core.specs.inner.Giving.{Shared, Ends, whole, broke, over}
 use Rattle.follow_core.specs.Sharing.{WroteShort, CanPrint}
-use Rattle.follow_core.specs.Share.{IsFront}
+use Rattle.follow_core.specs.Share.{IsFront, Share}
 use Rattle.follow_core.specs.inner.Calls.{CanGoOn, HasStopped, Keeps, bytes_past, lines_past, held_at, Follows, bytes_led, change_between, lines_led, entry_open, bytes_again, bytes_open, lines_again, lines_open, Catches, Leads}
 use Rattle.follow_core.proofs.GiveLemmas.{tells_state, no_memory, gives_nothing, gives_line, halts_short, front_nil, stops_early, goes_after}
 use Rattle.ports_core.specs.declared.fault.Fault.{Fault}
@@ -39,82 +38,107 @@ use Rattle.ports_core.specs.declared.fault.Fault.TheVariants as fault
 -- what a call on a name gives, by what the calls in it give
 
 -- standard error stays open
-gives_can : (told : Bool) {printer after : PrinterState} {name bytes : List ℕ} {lines : List (List ℕ)} (old : List Slot) {new : List Slot} → Gives told printer name bytes lines old after new → CanPrint old → CanPrint new
-gives_can told [] gives can = absurd (false≢true can.0)
-gives_can told (output ∷ []) gives can = absurd (false≢true can.1)
-gives_can told {printer} {name} {bytes} {lines} (output ∷ error ∷ others) {new} gives can = by (gives.slots output error others refl) where
-  by : (last : Slot) × TellsAll told lines error last × (new ≡ adds (told_of told (text_under printer name bytes)) output ∷ last ∷ others) → CanPrint new
-  by (last, said, is) = subst CanPrint (sym is) (can.0, ap is_open (tells_state told lines error last said) ∙ can.1)
+gives_can : {told : Bool} {printer after : PrinterState} {share : Share} (old : List Slot) {new : List Slot} → Shared told printer share old after new
+    → CanPrint old → CanPrint new
+gives_can [] gives can = absurd (false≢true can.0)
+gives_can (output ∷ []) gives can = absurd (false≢true can.1)
+gives_can {told} {share} (output ∷ error ∷ others) gives can =
+    let (last, said, is) = gives.slots output error others refl in
+    subst CanPrint (sym is) (can.0, ap is_open (tells_state told share.messages error last said) ∙ can.1)
 
-short_error : (told : Bool) {text : List ℕ} {output error : Slot} {others new : List Slot} {why : Fault} → Short told text (output ∷ error ∷ others) new why → is_open error.state ≡ true → HasStopped why new
-short_error told (short_broke n part) can = subst (HasStopped (fault.Write 0)) (sym part.slots) (inr (refl, refl), can)
-short_error told (no_room n within is) can = subst (HasStopped fault.Memory) (sym is) (inl refl, can)
+short_error : {told : Bool} {text : List ℕ} {output error : Slot} {others new : List Slot} {why : Fault}
+    → Short told text (output ∷ error ∷ others) new why → is_open error.state ≡ true → HasStopped why new
+short_error (short_broke n part) can = subst (HasStopped (fault.Write 0)) (sym part.slots) (inr (refl, refl), can)
+short_error (no_room n within is) can = subst (HasStopped fault.Memory) (sym is) (inl refl, can)
 
 -- both streams can be used on, whatever was said or written
-pub said_can : (told : Bool) {tool : Tool} {text : List ℕ} (old : List Slot) {new : List Slot} → SaysOn told tool text old new → CanPrint old → CanPrint new
-said_can told [] says can = absurd (false≢true can.0)
-said_can told (output ∷ []) says can = absurd (false≢true can.1)
-said_can told {tool} {text} (output ∷ error ∷ others) {new} says can = by (says output error others refl) where
-  by : (after : Slot) × Says told tool text error after × (new ≡ output ∷ after ∷ others) → CanPrint new
-  by (after, said, is) = subst CanPrint (sym is) (can.0, ap is_open (said_state told tool text error after said) ∙ can.1)
+pub said_can : {told : Bool} {tool : Tool} {text : List ℕ} (old : List Slot) {new : List Slot} → SaysOn told tool text old new
+    → CanPrint old → CanPrint new
+said_can [] says can = absurd (false≢true can.0)
+said_can (output ∷ []) says can = absurd (false≢true can.1)
+said_can {told} {tool} {text} (output ∷ error ∷ others) says can =
+    let (after, said, is) = says output error others refl in
+    subst CanPrint (sym is) (can.0, ap is_open (said_state told tool text error after said) ∙ can.1)
 
 pub written_can : (bytes : List ℕ) (old : List Slot) {new : List Slot} → new ≡ with_written 0 bytes old → CanPrint old → CanPrint new
 written_can bytes [] is can = subst CanPrint (sym is) can
 written_can bytes (output ∷ others) is can = subst CanPrint (sym is) can
 
 -- why a beginning was written, and standard error is open
-pub wrote_error : (told : Bool) (text : List ℕ) (lines : List (List ℕ)) (old new : List Slot) (why : Fault) → WroteShort told text lines old new why → CanPrint old → HasStopped why new
-wrote_error told text lines [] new why short can = absurd (false≢true can.0)
-wrote_error told text lines (output ∷ []) new why short can = absurd (false≢true can.1)
-wrote_error told text lines (output ∷ error ∷ others) new why short can = by (short output error others refl) where
-  by : (last : Slot) × TellsAll told lines error last × Short told text (output ∷ last ∷ others) new why → HasStopped why new
-  by (last, said, part) = short_error told part (ap is_open (tells_state told lines error last said) ∙ can.1)
+pub wrote_error : {told : Bool} {text : List ℕ} (lines : List (List ℕ)) (old : List Slot) {new : List Slot} {why : Fault}
+    → WroteShort told text lines old new why → CanPrint old → HasStopped why new
+wrote_error lines [] short can = absurd (false≢true can.0)
+wrote_error lines (output ∷ []) short can = absurd (false≢true can.1)
+wrote_error {told} lines (output ∷ error ∷ others) short can =
+    let (last, said, part) = short output error others refl in
+    short_error part (ap is_open (tells_state told lines error last said) ∙ can.1)
 
-pub short_can : (told : Bool) {text : List ℕ} {old new : List Slot} {why : Fault} → Short told text old new why → CanPrint old → HasStopped why new
-short_can told {text} {old} {new} {why} short can =
-    wrote_error told text [] old new why (λ output error others is. (error, refl, subst (λ those. Short told text those new why) is short)) can
+pub short_can : {told : Bool} {text : List ℕ} {old new : List Slot} {why : Fault} → Short told text old new why → CanPrint old → HasStopped why new
+short_can {told} {text} {old} {new} {why} short can =
+    wrote_error [] old (λ output error others is. (error, refl, subst (λ those. Short told text those new why) is short)) can
 
-pub ends_can : {T : Type 0} {told_in : Bool} (told : Bool) {printer after : PrinterState} {name due : List ℕ} {lines : List (List ℕ)} {old new : List Slot} {result : Result T Stop} → Ends {T = T} told_in told printer name due lines old after new result → CanPrint old → CanGoOn result new
-ends_can told {old} (whole value bytes said are gives) can = gives_can told old gives can
-ends_can told {old} (broke why bytes said are gives) can = gives_can told old gives can
-ends_can told {printer} {name} {old} {new} (over why bytes said are halts) can =
-    wrote_error told (text_under printer name bytes) said old new why halts.slots can
+pub ends_can : {T : Type 0} {told_in told opened : Bool} {printer after : PrinterState} {name due : List ℕ} {lines : List (List ℕ)}
+    {old new : List Slot} {result : Result T Stop} → Ends {T = T} told_in told opened printer name due lines old after new result
+    → CanPrint old → CanGoOn result new
+ends_can {old} (whole value bytes said are gives) can = gives_can old gives can
+ends_can {old} (broke why bytes said are gives) can = gives_can old gives can
+ends_can {old} (over why bytes said are halts) can = wrote_error said old halts.slots can
 
 -- what is due may be said in another way
-pub due_as : {T : Type 0} {told_in : Bool} (told : Bool) {printer after : PrinterState} {name due : List ℕ} (other : List ℕ) {lines : List (List ℕ)} (more : List (List ℕ)) {old new : List Slot} {result : Result T Stop} → (told_in ≡ true → (due ≡ other) × (lines ≡ more))
-    → Ends {T = T} told_in told printer name due lines old after new result → Ends {T = T} told_in told printer name other more old after new result
-due_as told other more same (whole value bytes said are gives) = whole value bytes said (λ is. ((are is).0 ∙ (same is).0, (are is).1 ∙ (same is).1)) gives
-due_as told other more same (broke why bytes said are gives) = broke why bytes said (λ is. (subst (IsFront bytes) (same is).0 (are is).0, subst (IsFront said) (same is).1 (are is).1)) gives
-due_as told other more same (over why bytes said are halts) = over why bytes said (λ is. (subst (IsFront bytes) (same is).0 (are is).0, subst (IsFront said) (same is).1 (are is).1)) halts
+pub due_as : {T : Type 0} {told_in told opened : Bool} {printer after : PrinterState} {name due other : List ℕ} {lines more : List (List ℕ)}
+    {old new : List Slot} {result : Result T Stop} → (told_in ≡ true → (due ≡ other) × (lines ≡ more))
+    → Ends {T = T} told_in told opened printer name due lines old after new result
+    → Ends {T = T} told_in told opened printer name other more old after new result
+due_as same (whole value bytes said are gives) = whole value bytes said (λ is. ((are is).0 ∙ (same is).0, (are is).1 ∙ (same is).1)) gives
+due_as same (broke why bytes said are gives) =
+    broke why bytes said (λ is. (subst (IsFront bytes) (same is).0 (are is).0, subst (IsFront said) (same is).1 (are is).1)) gives
+due_as same (over why bytes said are halts) =
+    over why bytes said (λ is. (subst (IsFront bytes) (same is).0 (are is).0, subst (IsFront said) (same is).1 (are is).1)) halts
+
+-- what a struct prints under is its printer's
+pub ends_viewed : {told_in told opened : Bool} {printer inside after : PrinterState} {name due other : List ℕ} {lines : List (List ℕ)}
+    {old new : List Slot} {result : Result ℕ Stop} → inside ≡ printer → (told_in ≡ true → due ≡ other)
+    → Ends {T = ℕ} told_in told opened inside name due lines old after new result
+    → Ends {T = ℕ} told_in told opened printer name other lines old after new result
+ends_viewed {told_in} {told} {opened} {after} {name} {other} {lines} {old} {new} {result} viewed same ends =
+    subst (λ (p : PrinterState). Ends {T = ℕ} told_in told opened p name other lines old after new result) viewed (due_as (λ is. (same is, refl)) ends)
 
 -- another value in its place
-pub ends_as : {T U : Type 0} (told_in told : Bool) (printer after : PrinterState) (name due : List ℕ) (lines : List (List ℕ)) (old new : List Slot) (value : T) (other : U) → Ends {T = T} told_in told printer name due lines old after new (Ok value) → Ends {T = U} told_in told printer name due lines old after new (Ok other)
-ends_as told_in told printer after name due lines old new _ other (whole value bytes said are gives) = whole other bytes said are gives
+pub ends_as : {T U : Type 0} {told_in told opened : Bool} {printer after : PrinterState} {name due : List ℕ} {lines : List (List ℕ)}
+    {old new : List Slot} {value : T} {other : U} → Ends {T = T} told_in told opened printer name due lines old after new (Ok value)
+    → Ends {T = U} told_in told opened printer name due lines old after new (Ok other)
+ends_as {other} (whole value bytes said are gives) = whole other bytes said are gives
 
-pub ends_so : {T U : Type 0} {told_in : Bool} (told : Bool) {printer after : PrinterState} {name due : List ℕ} {lines : List (List ℕ)} {old new : List Slot} {stop : Stop} → Ends {T = T} told_in told printer name due lines old after new (Err stop) → Ends {T = U} told_in told printer name due lines old after new (Err stop)
-ends_so told (broke why bytes said are gives) = broke why bytes said are gives
-ends_so told (over why bytes said are halts) = over why bytes said are halts
+pub ends_so : {T U : Type 0} {told_in told opened : Bool} {printer after : PrinterState} {name due : List ℕ} {lines : List (List ℕ)}
+    {old new : List Slot} {stop : Stop} → Ends {T = T} told_in told opened printer name due lines old after new (Err stop)
+    → Ends {T = U} told_in told opened printer name due lines old after new (Err stop)
+ends_so (broke why bytes said are gives) = broke why bytes said are gives
+ends_so (over why bytes said are halts) = over why bytes said are halts
 
-pub nothing_due : {T : Type 0} {told_in : Bool} (told : Bool) {printer : PrinterState} {name : List ℕ} {slots : List Slot} {value : T} → Ends {T = T} told_in told printer name [] [] slots printer slots (Ok value)
-nothing_due told {value} = whole value [] [] (λ is. (refl, refl)) (gives_nothing told)
+pub nothing_due : {T : Type 0} {told_in told : Bool} {printer : PrinterState} {name : List ℕ} {slots : List Slot} {value : T}
+    → Ends {T = T} told_in told false printer name [] [] slots printer slots (Ok value)
+nothing_due {value} = whole value [] [] (λ is. (refl, refl)) gives_nothing
 
 -- the first call failed
-pub broke_first : {T : Type 0} {told_in : Bool} (told : Bool) {printer : PrinterState} {name due : List ℕ} {lines : List (List ℕ)} {slots : List Slot} (why : Fault) → Ends {T = T} told_in told printer name due lines slots printer slots (Err (Broke why))
-broke_first told {due} {lines} why = broke why [] [] (λ is. (front_nil due, front_nil lines)) (gives_nothing told)
+pub broke_first : {T : Type 0} {told_in told : Bool} {printer : PrinterState} {name due : List ℕ} {lines : List (List ℕ)} {slots : List Slot}
+    {why : Fault} → Ends {T = T} told_in told false printer name due lines slots printer slots (Err (Broke why))
+broke_first {due} {lines} {why} = broke why [] [] (λ is. (front_nil due, front_nil lines)) gives_nothing
 
 -- there was no memory for a line
-pub untold : {T : Type 0} {told_in : Bool} (told : Bool) {printer : PrinterState} {name due : List ℕ} {lines : List (List ℕ)} {slots : List Slot} {why : Fault} → why ≡ fault.Memory → Ends {T = T} told_in told printer name due lines slots printer slots (Err (Over why))
-untold told {due} {lines} is = rw is (over fault.Memory [] [] (λ is. (front_nil due, front_nil lines)) (halts_short told (no_memory told)))
+pub untold : {T : Type 0} {told_in told : Bool} {printer : PrinterState} {name due : List ℕ} {lines : List (List ℕ)} {slots : List Slot}
+    {why : Fault} → why ≡ fault.Memory → Ends {T = T} told_in told false printer name due lines slots printer slots (Err (Over why))
+untold {told} {due} {lines} is = rw is (over fault.Memory [] [] (λ is. (front_nil due, front_nil lines)) (halts_short (no_memory told)))
 
 -- a line was told
-pub tells : {told_in : Bool} (told : Bool) {printer : PrinterState} {name : List ℕ} (line : List ℕ) {text : List ℕ} {old new : List Slot} → text ≡ line → PrintsOn told text old new → Ends {T = Unit {0}} told_in told printer name [] (line ∷ []) old printer new (Ok tt)
-tells told line is prints = whole tt [] (line ∷ []) (λ _. (refl, refl)) (gives_line told line is prints)
+pub tells : {told_in told : Bool} {printer : PrinterState} {name line text : List ℕ} {old new : List Slot} → text ≡ line → PrintsOn told text old new
+    → Ends {T = Unit {0}} told_in told false printer name [] (line ∷ []) old printer new (Ok tt)
+tells {line} is prints = whole tt [] (line ∷ []) (λ _. (refl, refl)) (gives_line is prints)
 
 pub no_line : (name : List ℕ) (position len : ℕ) → position ≤ len → lines_past name position len ≡ []
 no_line name position len few = ap (λ t. if t then notice_of Truncated name ∷ [] else []) (le-ltb len position few)
 
-pub goes_on_here : {told_in : Bool} (told : Bool) {printer : PrinterState} {name : List ℕ} {slots : List Slot} {position : ℕ} (len : ℕ) → position ≤ len → Ends {T = ℕ} told_in told printer name [] (lines_past name position len) slots printer slots (Ok position)
-goes_on_here {told_in} told {printer} {name} {slots} {position} len few = subst (λ lines. Ends {T = ℕ} told_in told printer name [] lines slots printer slots (Ok position)) (sym (no_line name position len few)) (nothing_due told)
+pub goes_on_here : {told_in : Bool} (told : Bool) {printer : PrinterState} {name : List ℕ} {slots : List Slot} {position : ℕ} (len : ℕ) → position ≤ len → Ends {T = ℕ} told_in told false printer name [] (lines_past name position len) slots printer slots (Ok position)
+goes_on_here {told_in} told {printer} {name} {slots} {position} len few = subst (λ lines. Ends {T = ℕ} told_in told false printer name [] lines slots printer slots (Ok position)) (sym (no_line name position len few)) (nothing_due)
 
 pub line_due : (name : List ℕ) (position len : ℕ) → len < position → notice_of Truncated name ∷ [] ≡ lines_past name position len
 line_due name position len less = ap (λ t. if t then notice_of Truncated name ∷ [] else []) (sym (lt-ltb len position less))
@@ -124,20 +148,20 @@ pub caught_bytes : (position : ℕ) {len from : ℕ} (contents : List ℕ) → l
 caught_bytes position contents long is = grind (arith, nat_tests)
 
 pub caught : {told_in : Bool} (told : Bool) {printer after : PrinterState} {name contents : List ℕ} (copied : List ℕ) (position : ℕ) {len from : ℕ} {old mid new : List Slot} {result : Result ℕ Stop} → (told_in ≡ true → len ≡ length contents) → copied ≡ contents → from ≡ (if nat_lt len position then 0 else position)
-    → Ends {T = ℕ} told_in told printer name [] (lines_past name position len) old printer mid (Ok from) → Ends {T = ℕ} told_in told printer name (drop from copied) [] mid after new result
-    → Ends {T = ℕ} told_in told printer name (bytes_past position contents) (lines_past name position (length contents)) old after new result
+    → Ends {T = ℕ} told_in told false printer name [] (lines_past name position len) old printer mid (Ok from) → Ends {T = ℕ} told_in told false printer name (drop from copied) [] mid after new result
+    → Ends {T = ℕ} told_in told false printer name (bytes_past position contents) (lines_past name position (length contents)) old after new result
 caught told {name} {contents} copied position {from} long same is lines bytes =
-    due_as told (bytes_past position contents) (lines_past name position (length contents))
+    due_as
     (λ told. (ap (drop from) same ∙ caught_bytes position contents (long told) is, append-nil _ ∙ ap (lines_past name position) (long told)))
-    (goes_after told [] lines bytes)
+    (goes_after lines bytes)
 
 -- there was no memory for the line
 pub caught_none : {told_in : Bool} (told : Bool) {printer : PrinterState} {name : List ℕ} (contents : List ℕ) (position : ℕ) {len : ℕ} {old mid : List Slot} (why : Fault) → (told_in ≡ true → len ≡ length contents)
-    → Ends {T = ℕ} told_in told printer name [] (lines_past name position len) old printer mid (Err (Over why))
-    → Ends {T = ℕ} told_in told printer name (bytes_past position contents) (lines_past name position (length contents)) old printer mid (Err (Over why))
+    → Ends {T = ℕ} told_in told false printer name [] (lines_past name position len) old printer mid (Err (Over why))
+    → Ends {T = ℕ} told_in told false printer name (bytes_past position contents) (lines_past name position (length contents)) old printer mid (Err (Over why))
 caught_none told {name} contents position why long lines =
-    due_as told (bytes_past position contents) (lines_past name position (length contents))
-    (λ told. (refl, append-nil _ ∙ ap (lines_past name position) (long told))) (stops_early told (bytes_past position contents) [] lines)
+    due_as
+    (λ told. (refl, append-nil _ ∙ ap (lines_past name position) (long told))) (stops_early (bytes_past position contents) [] lines)
 
 -- what following a name to where it leads gives
 
@@ -188,13 +212,13 @@ reopens_as told {seen} {old} {new} {place} {is_there} s w reopens = subst (λ th
 -- it was told, and then something else ended so
 pub ends_said : {told_in : Bool} (told : Bool) {printer after : PrinterState} {name due : List ℕ} (more : List (List ℕ)) (snapshot : Snapshot) (opened led : Option ℕ) {change : Notice} {old mid new : List Slot} {value : Unit {0}} {result : Result ℕ Stop} → (told_in ≡ true → change_between opened led ≡ Some change)
     → (told_in ≡ true → (due ≡ held_at snapshot led) × (more ≡ []))
-    → Ends {T = Unit {0}} told_in told printer name [] (notice_of change name ∷ []) old printer mid (Ok value)
-    → Ends {T = ℕ} told_in told printer name due more mid after new result
-    → Ends {T = ℕ} told_in told printer name (bytes_led snapshot opened led) (lines_led name snapshot opened led) old after new result
+    → Ends {T = Unit {0}} told_in told false printer name [] (notice_of change name ∷ []) old printer mid (Ok value)
+    → Ends {T = ℕ} told_in told false printer name due more mid after new result
+    → Ends {T = ℕ} told_in told false printer name (bytes_led snapshot opened led) (lines_led name snapshot opened led) old after new result
 ends_said told {name} more snapshot opened led {change} is dues line ends =
-    due_as told (bytes_led snapshot opened led) (lines_led name snapshot opened led)
+    due_as
     (λ t. ((dues t).0 ∙ sym (change_led name snapshot opened led (is t)).0, ap (λ lines. notice_of change name ∷ lines) (dues t).1 ∙ sym (change_led name snapshot opened led (is t)).1))
-    (goes_after told more line ends)
+    (goes_after line ends)
 
 pub some_of : (file : Option ℕ) → is_some file ≡ true → (id : ℕ) × (file ≡ Some id)
 some_of None some = absurd (false≢true some)
@@ -234,10 +258,10 @@ pub watchable_there : (told : Bool) {snapshot : Snapshot} {old new : List Watche
 watchable_there told {old} {place} reopens can =
     ap (λ those. is_watchable those place) reopens.names ∙ ap (λ (those : Watched). is_none those.failed) (opened_there old place can) ∙ can
 
-pub follows_there : (told : Bool) {snapshot : Snapshot} {old mid : List Watched} (new : List Watched) {place : ℕ} {name : List ℕ} {is_there : Bool} (result : Result ℕ Stop) → Reopens told snapshot old mid place is_there → (watched_at old place).name ≡ name → Keeps {T = ℕ} place mid new result → Follows {T = ℕ} told true (snapshot.leads name) place old new result
-follows_there told {snapshot} new (Ok value) reopens is keeps = (reopens.file, keeps ∙ reopens.names, λ t. reopens.leads t ∙ ap snapshot.leads is)
-follows_there told new {place} (Err (Broke why)) reopens is keeps = (reopens.file, keeps.1 ∙ ap (changed_at place (breaks why)) reopens.names, inr keeps.0)
-follows_there told new (Err (Over why)) reopens is keeps = (reopens.file, keeps ∙ reopens.names)
+pub follows_there : (told by_name : Bool) {snapshot : Snapshot} {old mid : List Watched} (new : List Watched) {place : ℕ} {name : List ℕ} {is_there : Bool} (result : Result ℕ Stop) → Reopens told snapshot old mid place is_there → (watched_at old place).name ≡ name → Keeps {T = ℕ} place mid new result → Follows {T = ℕ} told by_name (snapshot.leads name) place old new result
+follows_there told by_name {snapshot} new (Ok value) reopens is keeps = (reopens.file, keeps ∙ reopens.names, λ t. reopens.leads t ∙ ap snapshot.leads is)
+follows_there told by_name new {place} (Err (Broke why)) reopens is keeps = (reopens.file, keeps.1 ∙ ap (changed_at place (breaks why)) reopens.names, inr keeps.0)
+follows_there told by_name new (Err (Over why)) reopens is keeps = (reopens.file, keeps ∙ reopens.names)
 
 -- a call that looks or opens failed, and the open file is as it was
 pub follows_broken : (told : Bool) (led : Option ℕ) {place : ℕ} {old now new : List Watched} {why : Fault} → now ≡ old → why ≡ fault.Open place → new ≡ changed_at place (breaks why) now → Follows {T = ℕ} told true led place old new (Err (Broke why))
@@ -308,29 +332,29 @@ keeps_follows T U told by_name led place old new (Broke why) keeps = ((watched_a
 keeps_follows T U told by_name led place old new (Over why) keeps = ((watched_at old place).opened, keeps ∙ sym (opens_same old place))
 
 ends_some : {told_in : Bool} (told : Bool) {printer after : PrinterState} {name contents : List ℕ} {last : Entry} {opened : Option ℕ} (snapshot : Snapshot) {position id : ℕ} {old new : List Slot} {result : Result ℕ Stop} → opened ≡ Some id → contents ≡ held_at snapshot opened → (told_in ≡ true → StandsAt last opened position)
-    → Ends {T = ℕ} told_in told printer name (bytes_past position contents) (lines_past name position (length contents)) old after new result
-    → Ends {T = ℕ} told_in told printer name (bytes_open last snapshot opened) (lines_open name last snapshot opened) old after new result
+    → Ends {T = ℕ} told_in told false printer name (bytes_past position contents) (lines_past name position (length contents)) old after new result
+    → Ends {T = ℕ} told_in told false printer name (bytes_open last snapshot opened) (lines_open name last snapshot opened) old after new result
 ends_some told {name} {last} {opened} snapshot {position} some are stands =
-    due_as told (bytes_open last snapshot opened) (lines_open name last snapshot opened)
+    due_as
     (λ is. let due = dues_open name last opened snapshot (ap is_some some) (stands is) in (ap (bytes_past position) are ∙ due.0, ap (λ those. lines_past name position (length those)) are ∙ due.1))
 
 -- a look again at a name, before it is told what failed
 pub record LooksAgain (told_in told by_name : Bool) (snapshot : Snapshot) (place : ℕ) (name : List ℕ) (position : ℕ) (watched : List Watched) (printer : PrinterState) (slots : List Slot)
     (watched_new : List Watched) (after : PrinterState) (slots_new : List Slot) (result : Result ℕ Stop) : Type 0 where
   pub ends : (last : Entry) → (told_in ≡ true → StandsAt last (watched_at watched place).opened position)
-      → Ends {T = ℕ} told_in told printer name (bytes_again by_name name last snapshot (watched_at watched place).opened) (lines_again by_name name last snapshot (watched_at watched place).opened) slots after slots_new result
+      → Ends {T = ℕ} told_in told false printer name (bytes_again by_name name last snapshot (watched_at watched place).opened) (lines_again by_name name last snapshot (watched_at watched place).opened) slots after slots_new result
   pub len : IfOk result (λ n. told_in ≡ true → (last : Entry) → StandsAt last (watched_at watched place).opened position → n ≡ length (held_at snapshot (open_after_look by_name name (watched_at watched place).opened snapshot)))
   pub follows : Follows {T = ℕ} told_in by_name (open_after_look by_name name (watched_at watched place).opened snapshot) place watched watched_new result
 
 -- what stops catching up stops the look
 stopped_again : (by_name : Bool) {told_in : Bool} (told : Bool) {printer after : PrinterState} {name : List ℕ} {last : Entry} {opened : Option ℕ} (snapshot : Snapshot) {position : ℕ} {old new : List Slot} {stop : Stop} → (told_in ≡ true → StandsAt last opened position)
-    → Ends {T = ℕ} told_in told printer name (bytes_open last snapshot opened) (lines_open name last snapshot opened) old after new (Err stop)
-    → Ends {T = ℕ} told_in told printer name (bytes_again by_name name last snapshot opened) (lines_again by_name name last snapshot opened) old after new (Err stop)
+    → Ends {T = ℕ} told_in told false printer name (bytes_open last snapshot opened) (lines_open name last snapshot opened) old after new (Err stop)
+    → Ends {T = ℕ} told_in told false printer name (bytes_again by_name name last snapshot opened) (lines_again by_name name last snapshot opened) old after new (Err stop)
 stopped_again true told {name} {last} {opened} snapshot stands ends =
-    due_as told (bytes_again true name last snapshot opened) (lines_again true name last snapshot opened) (λ is. both_dues name snapshot (stands is))
-    (stops_early told (bytes_led snapshot opened (snapshot.leads name)) (lines_led name snapshot opened (snapshot.leads name)) ends)
+    due_as (λ is. both_dues name snapshot (stands is))
+    (stops_early (bytes_led snapshot opened (snapshot.leads name)) (lines_led name snapshot opened (snapshot.leads name)) ends)
 stopped_again false told {name} {last} {opened} snapshot stands ends =
-    due_as told (bytes_again false name last snapshot opened) (lines_again false name last snapshot opened) (λ is. open_dues name last opened snapshot (stands is)) ends
+    due_as (λ is. open_dues name last opened snapshot (stands is)) ends
 
 pub stopped_looks : {by_name : Bool} {told_in told : Bool} {snapshot : Snapshot} {place : ℕ} {name : List ℕ} {position : ℕ} {watched watched_new : List Watched} {printer after : PrinterState} {slots slots_new : List Slot} {stop : Stop}
     → Catches told_in told snapshot place name position watched printer slots watched_new after slots_new (Err stop) → LooksAgain told_in told by_name snapshot place name position watched printer slots watched_new after slots_new (Err stop)
@@ -344,7 +368,7 @@ pub caught_looks : {by_name : Bool} {told_in told : Bool} {snapshot : Snapshot} 
     → Catches told_in told snapshot place name position watched printer slots watched_new after slots_new (Ok len) → LooksAgain told_in told by_name snapshot place name position watched printer slots watched_new after slots_new (Ok len)
 caught_looks {told_in} {told} {snapshot} {place} {name} {position} {watched} {watched_new} {printer} {after} {slots} {slots_new} {len} is catches =
     subst (λ way. LooksAgain told_in told way snapshot place name position watched printer slots watched_new after slots_new (Ok len)) (sym is) (record {
-      ends = λ last stands. due_as told (bytes_again false name last snapshot (watched_at watched place).opened) (lines_again false name last snapshot (watched_at watched place).opened)
+      ends = λ last stands. due_as
           (λ t. open_dues name last (watched_at watched place).opened snapshot (stands t)) (catches.ends last stands);
       len = catches.len;
       follows = ((watched_at watched place).opened, catches.keeps ∙ sym (opens_same watched place), λ t. refl);
@@ -355,8 +379,8 @@ pub led_looks : {by_name : Bool} {told_in told : Bool} {snapshot : Snapshot} {pl
     → LooksAgain told_in told by_name snapshot place name position watched printer slots watched_new after slots_new result
 led_looks {told_in} {told} {snapshot} {place} {name} {position} {watched} {watched_new} {printer} {after} {slots} {slots_new} {snapshot_mid} {mid} {slots_mid} {len} {result} is seen catches leads =
     subst (λ way. LooksAgain told_in told way snapshot place name position watched printer slots watched_new after slots_new result) (sym is) (record {
-      ends = λ last stands. due_as told (bytes_again true name last snapshot opened) (lines_again true name last snapshot opened) (λ t. both_dues name snapshot (stands t))
-          (goes_after told (lines_led name snapshot opened (snapshot.leads name)) (catches.ends last stands) led.ends);
+      ends = λ last stands. due_as (λ t. both_dues name snapshot (stands t))
+          (goes_after (catches.ends last stands) led.ends);
       len = IfOk-weaker result (λ n. told_in ≡ true → len ≡ length (held_at snapshot opened) → n ≡ length (held_at snapshot (snapshot.leads name)))
           (λ n. told_in ≡ true → (last : Entry) → StandsAt last opened position → n ≡ length (held_at snapshot (snapshot.leads name))) (λ n long t last stands. long t (catches.len t last stands)) led.len;
       follows = led.follows;
@@ -375,16 +399,16 @@ readable_open names place some can = and_from (is_some (watched_at names place).
 
 pub catches_none : {told_in told : Bool} {snapshot : Snapshot} {place : ℕ} {name : List ℕ} {position : ℕ} {watched watched_new : List Watched} {printer : PrinterState} {slots : List Slot} → (watched_at watched place).opened ≡ None → watched_new ≡ watched → Catches told_in told snapshot place name position watched printer slots watched_new printer slots (Ok position)
 catches_none {told} {snapshot} {place} {name} {watched} none same = record {
-  ends = λ last stands. due_as told _ _ (λ t. let due = none_due name last (watched_at watched place).opened snapshot none (stands t) in (due.0, due.1)) (nothing_due told);
+  ends = λ last stands. due_as (λ t. let due = none_due name last (watched_at watched place).opened snapshot none (stands t) in (due.0, due.1)) (nothing_due);
   len = λ t last stands. (none_due name last (watched_at watched place).opened snapshot none stands).2;
   keeps = same;
 }
 
 pub catches_broken : {told_in told : Bool} {snapshot : Snapshot} {place : ℕ} {name : List ℕ} {position : ℕ} {watched watched_new : List Watched} {printer : PrinterState} {slots : List Slot} {why : Fault} → why ≡ fault.Read place → watched_new ≡ changed_at place (breaks why) watched → Catches told_in told snapshot place name position watched printer slots watched_new printer slots (Err (Broke why))
-catches_broken {told} {why} is broken = record { ends = λ last stands. broke_first told why; len = tt; keeps = (is, broken) }
+catches_broken {told} {why} is broken = record { ends = λ last stands. broke_first; len = tt; keeps = (is, broken) }
 
 pub catches_untold : {told_in told : Bool} {snapshot : Snapshot} {place : ℕ} {name : List ℕ} {position : ℕ} {watched watched_new : List Watched} {printer : PrinterState} {slots : List Slot} {slots_new : List Slot} {id len : ℕ} {why : Fault} → watched_new ≡ watched → (watched_at watched place).opened ≡ Some id → (told_in ≡ true → len ≡ length (open_contents snapshot (watched_at watched place)))
-    → Ends {T = ℕ} told_in told printer name [] (lines_past name position len) slots printer slots_new (Err (Over why)) → Catches told_in told snapshot place name position watched printer slots watched_new printer slots_new (Err (Over why))
+    → Ends {T = ℕ} told_in told false printer name [] (lines_past name position len) slots printer slots_new (Err (Over why)) → Catches told_in told snapshot place name position watched printer slots watched_new printer slots_new (Err (Over why))
 catches_untold {told} {snapshot} {place} {position} {watched} {len} {why} same some long lines = record {
   ends = λ last stands. ends_some told snapshot some (contents_open snapshot (watched_at watched place)) stands
       (caught_none told (open_contents snapshot (watched_at watched place)) position why long lines);
@@ -394,10 +418,10 @@ catches_untold {told} {snapshot} {place} {position} {watched} {len} {why} same s
 
 pub catches_copied : {told_in told : Bool} {snapshot : Snapshot} {place : ℕ} {name : List ℕ} {position : ℕ} {watched watched_new : List Watched} {printer : PrinterState} {slots : List Slot} {inside after : PrinterState} {mid slots_new : List Slot} {watched_mid : List Watched} {id len from : ℕ} {copied : List ℕ} {result : Result ℕ Stop} → inside ≡ printer → (watched_at watched place).opened ≡ Some id → watched_mid ≡ watched
     → (told_in ≡ true → len ≡ length (open_contents snapshot (watched_at watched place))) → copied ≡ open_contents snapshot (watched_at watched place) → from ≡ (if nat_lt len position then 0 else position)
-    → Ends {T = ℕ} told_in told inside name [] (lines_past name position len) slots inside mid (Ok from) → Ends {T = ℕ} told_in told inside name (drop from copied) [] mid after slots_new result → IfOk result (λ n. n ≡ len) → Keeps {T = ℕ} place watched_mid watched_new result
+    → Ends {T = ℕ} told_in told false inside name [] (lines_past name position len) slots inside mid (Ok from) → Ends {T = ℕ} told_in told false inside name (drop from copied) [] mid after slots_new result → IfOk result (λ n. n ≡ len) → Keeps {T = ℕ} place watched_mid watched_new result
     → Catches told_in told snapshot place name position watched printer slots watched_new after slots_new result
 catches_copied {told_in} {told} {snapshot} {place} {name} {position} {watched} {watched_new} {slots} {after} {slots_new} {len} {copied} {result} viewed some same long are begins lines bytes count keeps = record {
-  ends = λ last stands. subst (λ (p : PrinterState). Ends {T = ℕ} told_in told p name (bytes_open last snapshot (watched_at watched place).opened) (lines_open name last snapshot (watched_at watched place).opened) slots after slots_new result) viewed
+  ends = λ last stands. subst (λ (p : PrinterState). Ends {T = ℕ} told_in told false p name (bytes_open last snapshot (watched_at watched place).opened) (lines_open name last snapshot (watched_at watched place).opened) slots after slots_new result) viewed
       (ends_some told snapshot some (contents_open snapshot (watched_at watched place)) stands (caught told copied position long are begins lines bytes));
   len = IfOk-weaker result (λ n. n ≡ len) (λ n. told_in ≡ true → (last : Entry) → StandsAt last (watched_at watched place).opened position → n ≡ length (held_at snapshot (watched_at watched place).opened))
       (λ n is t last stands. is ∙ long t ∙ ap length (contents_open snapshot (watched_at watched place))) count;
@@ -413,14 +437,14 @@ opened_stands told {old} {new} {place} can reopens there = by (some_of reopens.f
 
 led_whole : {told_in : Bool} (told : Bool) {printer after : PrinterState} {name : List ℕ} {snapshot now : Snapshot} {old new : List Watched} {place : ℕ} {is_there : Bool} {slots slots_new : List Slot} {result : Result ℕ Stop}
     → now ≡ snapshot → IsTrue (is_watchable old place) → Reopens told_in snapshot old new place is_there → is_there ≡ true → (watched_at old place).name ≡ name
-    → ((last : Entry) → (told_in ≡ true → StandsAt last (watched_at new place).opened 0) → Ends {T = ℕ} told_in told printer name (bytes_open last now (watched_at new place).opened) (lines_open name last now (watched_at new place).opened) slots after slots_new result)
-    → Ends {T = ℕ} told_in told printer name (held_at snapshot (snapshot.leads name)) [] slots after slots_new result
+    → ((last : Entry) → (told_in ≡ true → StandsAt last (watched_at new place).opened 0) → Ends {T = ℕ} told_in told false printer name (bytes_open last now (watched_at new place).opened) (lines_open name last now (watched_at new place).opened) slots after slots_new result)
+    → Ends {T = ℕ} told_in told false printer name (held_at snapshot (snapshot.leads name)) [] slots after slots_new result
 led_whole {told_in} told {name} {snapshot} {now} {new} {place} seen can reopens there named ends =
     let opened = opened_stands told_in can reopens there in
     let last : Entry = version (record { file = opened.0; contents = [] }) in
     let some : IsTrue (is_some (watched_at new place).opened) = ap is_some opened.1.file in
     let dues = dues_open name last (watched_at new place).opened now some opened.1 in
-    due_as told (held_at snapshot (snapshot.leads name)) [] (λ t. (
+    due_as (λ t. (
       sym dues.0 ∙ past_zero ∙ sym (contents_open now (watched_at new place)) ∙ contents_led told_in seen can reopens named t,
       sym dues.1 ∙ no_line name 0 (length (held_at now (watched_at new place).opened)) (omega arith),
     )) (ends last (λ t. opened.1))
@@ -441,50 +465,50 @@ Changes told snapshot watched place name change = told ≡ true → change_betwe
 
 pub leads_broken : {told_in told : Bool} {snapshot : Snapshot} {place : ℕ} {name : List ℕ} {position : ℕ} {watched watched_new : List Watched} {printer : PrinterState} {slots : List Slot} {why : Fault} → why ≡ fault.Open place → watched_new ≡ changed_at place (breaks why) watched → Leads told_in told snapshot place name position watched printer slots watched_new printer slots (Err (Broke why))
 leads_broken {told_in} {told} {snapshot} {name} {why} is broken = record {
-  ends = broke_first told why;
+  ends = broke_first;
   len = tt;
   follows = follows_broken told_in (snapshot.leads name) refl is broken;
 }
 
 pub leads_same : {told_in told : Bool} {snapshot : Snapshot} {place : ℕ} {name : List ℕ} {position : ℕ} {watched watched_new : List Watched} {printer : PrinterState} {slots : List Slot} → Changes told_in snapshot watched place name None → watched_new ≡ watched → Leads told_in told snapshot place name position watched printer slots watched_new printer slots (Ok position)
 leads_same {told} {snapshot} {place} {name} {watched} none same = record {
-  ends = due_as told _ _ (λ t. let nothing = nothing_led name snapshot (watched_at watched place).opened (snapshot.leads name) (none t) in (sym nothing.0, sym nothing.1)) (nothing_due told);
+  ends = due_as (λ t. let nothing = nothing_led name snapshot (watched_at watched place).opened (snapshot.leads name) (none t) in (sym nothing.0, sym nothing.1)) (nothing_due);
   len = λ t seen. seen ∙ ap (λ file. length (held_at snapshot file)) (sym (nothing_led name snapshot (watched_at watched place).opened (snapshot.leads name) (none t)).2);
   follows = ((watched_at watched place).opened, same ∙ sym (opens_same watched place), λ t. sym (nothing_led name snapshot (watched_at watched place).opened (snapshot.leads name) (none t)).2);
 }
 
-pub leads_untold : {told_in told : Bool} {snapshot : Snapshot} {place : ℕ} {name : List ℕ} {position : ℕ} {watched watched_new : List Watched} {printer : PrinterState} {slots : List Slot} {mid : List Slot} {change : Notice} {why : Fault} → Changes told_in snapshot watched place name (Some change) → Ends {T = Unit {0}} told_in told printer name [] (notice_of change name ∷ []) slots printer mid (Err (Over why)) → watched_new ≡ watched
+pub leads_untold : {told_in told : Bool} {snapshot : Snapshot} {place : ℕ} {name : List ℕ} {position : ℕ} {watched watched_new : List Watched} {printer : PrinterState} {slots : List Slot} {mid : List Slot} {change : Notice} {why : Fault} → Changes told_in snapshot watched place name (Some change) → Ends {T = Unit {0}} told_in told false printer name [] (notice_of change name ∷ []) slots printer mid (Err (Over why)) → watched_new ≡ watched
     → Leads told_in told snapshot place name position watched printer slots watched_new printer mid (Err (Over why))
 leads_untold {told} {snapshot} {place} {name} {watched} changed line same = record {
-  ends = due_as told _ _ (λ t. (refl, sym (change_led name snapshot (watched_at watched place).opened (snapshot.leads name) (changed t)).1))
-      (stops_early told (bytes_led snapshot (watched_at watched place).opened (snapshot.leads name)) [] line);
+  ends = due_as (λ t. (refl, sym (change_led name snapshot (watched_at watched place).opened (snapshot.leads name) (changed t)).1))
+      (stops_early (bytes_led snapshot (watched_at watched place).opened (snapshot.leads name)) [] line);
   len = tt;
   follows = ((watched_at watched place).opened, same ∙ sym (opens_same watched place));
 }
 
-pub leads_unopened : {told_in told : Bool} {snapshot : Snapshot} {place : ℕ} {name : List ℕ} {position : ℕ} {watched watched_new : List Watched} {printer : PrinterState} {slots : List Slot} {watched_mid : List Watched} {mid : List Slot} {change : Notice} {value : Unit {0}} {why : Fault} → Changes told_in snapshot watched place name (Some change) → Ends {T = Unit {0}} told_in told printer name [] (notice_of change name ∷ []) slots printer mid (Ok value)
+pub leads_unopened : {told_in told : Bool} {snapshot : Snapshot} {place : ℕ} {name : List ℕ} {position : ℕ} {watched watched_new : List Watched} {printer : PrinterState} {slots : List Slot} {watched_mid : List Watched} {mid : List Slot} {change : Notice} {value : Unit {0}} {why : Fault} → Changes told_in snapshot watched place name (Some change) → Ends {T = Unit {0}} told_in told false printer name [] (notice_of change name ∷ []) slots printer mid (Ok value)
     → watched_mid ≡ watched → why ≡ fault.Open place → watched_new ≡ changed_at place (breaks why) watched_mid → Leads told_in told snapshot place name position watched printer slots watched_new printer mid (Err (Broke why))
 leads_unopened {told_in} {told} {snapshot} {place} {name} {watched} {why} changed line same is broken = record {
-  ends = ends_said told [] snapshot (watched_at watched place).opened (snapshot.leads name) changed (λ t. (refl, refl)) line (broke_first told why);
+  ends = ends_said told [] snapshot (watched_at watched place).opened (snapshot.leads name) changed (λ t. (refl, refl)) line (broke_first);
   len = tt;
   follows = follows_broken told_in (snapshot.leads name) same is broken;
 }
 
-pub leads_gone : {told_in told : Bool} {snapshot : Snapshot} {place : ℕ} {name : List ℕ} {position : ℕ} {watched watched_new : List Watched} {printer : PrinterState} {slots : List Slot} {mid : List Slot} {change : Notice} {value : Unit {0}} {is_there : Bool} → Changes told_in snapshot watched place name (Some change) → Ends {T = Unit {0}} told_in told printer name [] (notice_of change name ∷ []) slots printer mid (Ok value)
+pub leads_gone : {told_in told : Bool} {snapshot : Snapshot} {place : ℕ} {name : List ℕ} {position : ℕ} {watched watched_new : List Watched} {printer : PrinterState} {slots : List Slot} {mid : List Slot} {change : Notice} {value : Unit {0}} {is_there : Bool} → Changes told_in snapshot watched place name (Some change) → Ends {T = Unit {0}} told_in told false printer name [] (notice_of change name ∷ []) slots printer mid (Ok value)
     → Reopens told_in snapshot watched watched_new place is_there → is_there ≡ false → (watched_at watched place).name ≡ name → Leads told_in told snapshot place name position watched printer slots watched_new printer mid (Ok 0)
 leads_gone {told_in} {told} {snapshot} {place} {name} {watched} changed line reopens gone named = record {
   ends = ends_said told [] snapshot (watched_at watched place).opened (snapshot.leads name) changed (λ t. (held_nowhere told_in reopens gone named t, refl)) line
-      (nothing_due told);
+      (nothing_due);
   len = λ t seen. ap length (held_nowhere told_in reopens gone named t);
   follows = (reopens.file, reopens.names, λ t. reopens.leads t ∙ ap snapshot.leads named);
 }
 
-pub leads_there : {told_in told : Bool} {snapshot : Snapshot} {place : ℕ} {name : List ℕ} {position : ℕ} {watched watched_new : List Watched} {printer : PrinterState} {slots : List Slot} {now : Snapshot} {watched_mid : List Watched} {after : PrinterState} {mid slots_new : List Slot} {change : Notice} {value : Unit {0}} {is_there : Bool} {result : Result ℕ Stop} → Changes told_in snapshot watched place name (Some change) → Ends {T = Unit {0}} told_in told printer name [] (notice_of change name ∷ []) slots printer mid (Ok value)
+pub leads_there : {told_in told : Bool} {snapshot : Snapshot} {place : ℕ} {name : List ℕ} {position : ℕ} {watched watched_new : List Watched} {printer : PrinterState} {slots : List Slot} {now : Snapshot} {watched_mid : List Watched} {after : PrinterState} {mid slots_new : List Slot} {change : Notice} {value : Unit {0}} {is_there : Bool} {result : Result ℕ Stop} → Changes told_in snapshot watched place name (Some change) → Ends {T = Unit {0}} told_in told false printer name [] (notice_of change name ∷ []) slots printer mid (Ok value)
     → now ≡ snapshot → IsTrue (is_watchable watched place) → Reopens told_in snapshot watched watched_mid place is_there → is_there ≡ true → (watched_at watched place).name ≡ name
     → Catches told_in told now place name 0 watched_mid printer mid watched_new after slots_new result → Leads told_in told snapshot place name position watched printer slots watched_new after slots_new result
 leads_there {told_in} {told} {snapshot} {place} {name} {position} {watched} {watched_new} {result} changed line seen can reopens there named catches = record {
   ends = ends_said told [] snapshot (watched_at watched place).opened (snapshot.leads name) changed (λ t. (refl, refl)) line
       (led_whole told seen can reopens there named catches.ends);
   len = len_whole told_in position result (position ≡ length (held_at snapshot (watched_at watched place).opened)) seen can reopens there named catches.len;
-  follows = follows_there told_in watched_new result reopens named catches.keeps;
+  follows = follows_there told_in true watched_new result reopens named catches.keeps;
 }

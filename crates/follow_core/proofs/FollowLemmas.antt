@@ -26,7 +26,7 @@ use Rattle.ports_core.specs.declared.fault.Fault.TheVariants as fault
 use Rattle.watch_core.specs.Snapshot.{Snapshot}
 use Rattle.watch_core.specs.Watched.{Watched, added, no_name, watched_at}
 use Rattle.std.specs.Prelude.{None, is_some}
-use Rattle.follow_core.proofs.LaterLemmas.{last_file, unbroken_in}
+use Rattle.follow_core.proofs.LookLemmas.{last_file, unbroken_in}
 use Rattle.follow_core.proofs.ShareLemmas.{failed-append, shares_more}
 use Rattle.follow_core.proofs.VisitAllLemmas.{all_both, broken_there, nothing_shared, same_length}
 
@@ -97,7 +97,7 @@ look_made {told_in} told {snapshot} {old} {new} {watched} {watched_new} {slots} 
     stand = subst (StandsIn told_in ways after new.names watched_new) (sym looking_new) (visited.stand, count ∙ (subst (StandsIn told_in ways looks old.names watched) looking holds.stand).1 ∙ ap (λ n. ways.first + n) (same_length old.names new.names visited.same));
     shares = holds.shares ++ visited.shares;
     are = λ t. ap (λ those. those ++ visited.shares) (holds.are t) ∙ ap (λ those. shares_of ways names looks ++ those) (visited.are t ∙ ap (λ those. shares_at_look ways those looks look) holds.same) ∙ sym (shares_more ways names looks look);
-    shared = all_both told visited.shares holds.shared visited.shared;
+    shared = all_both holds.shared visited.shared;
     failed = failed-append holds.shares visited.shares ∙ ap (λ before. before || any_failed visited.shares) holds.failed ∙ ap (λ now. old.has_failed || now) visited.is_failed ∙ sym has_failed;
   },
 ) where

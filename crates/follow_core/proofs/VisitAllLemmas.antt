@@ -1,27 +1,26 @@
 -- A look at one name after another.
-use Rattle.std.proofs.Common.{◌≡◌, ℕ, zero, suc, ◌<◌, ◌≤◌, ◌+◌, Bool, true, false, ◌||◌, List, [], ◌∷◌, ◌++◌, length, take, set, replicate, get_or, slice_index_or, refl, sym, ◌∙◌, ap, subst, arith, append_assoc, inl, inr, ◌⊎◌, Option, if◌then◌else◌}
+use Rattle.std.proofs.Common.{◌≡◌, ℕ, zero, suc, ◌<◌, ◌≤◌, ◌+◌, Bool, true, false, ◌||◌, List, [], ◌∷◌, ◌++◌, length, take, set, replicate, get_or, slice_index_or, refl, sym, ◌∙◌, ap, subst, arith, append_assoc, inl, inr, ◌⊎◌, Option, if◌then◌else◌, subst₂}
 use Rattle.std.proofs.Math.Bool.{or-false}
 use Rattle.std.proofs.lemmas.Bool.{cases_eq, cases_lt}
 use Rattle.std.proofs.lemmas.List.{append-nil, get_or_default, get_or-map, get_or-set_other, get_or-set_same, length-append, length-map, length-replicate, length-set, length-take-le, take_all, get_or_past}
 use Rattle.std.proofs.Math.Seq.{get_or-append_seam, map-set_same, take-suc}
-use Rattle.ports_core.specs.Slot.{Slot}
+use Rattle.ports_core.specs.Slot.{Slot, changed_at}
 use Rattle.follow_core.specs.FollowState.{AllReady}
 use Rattle.follow_core.specs.Followed.{any_failed, last_header_from, messages_of, share_text, text_from}
 use Rattle.follow_core.specs.Look.{Fate, Look, Ways, fate_at, is_dropped, sound}
 use Rattle.follow_core.specs.Share.{BeginsShare, Share, share_by, share_of, no_share, shares_at_look_from}
 use Rattle.follow_core.specs.inner.Visits.{Opened, Stopped, KeepsOthers, StoppedAt, Visited, VisitedAll}
 use Rattle.follow_core.specs.Printing.{PrinterState}
-use Rattle.follow_core.specs.Sharing.{AllShared, AllShort}
+use Rattle.follow_core.specs.Sharing.{AllShared, AllShort, Wrote}
 use Rattle.follow_core.specs.inner.Giving.{Shared, SharedShort}
 use Rattle.follow_core.specs.Standing.{AllStand, BrokeIn, CanVisit, NameState, Stands, no_state, state_at, texts}
-use Rattle.follow_core.proofs.GiveLemmas.{short_as, wrote_as, wrote_both, wrote_none, wrote_short}
+use Rattle.follow_core.proofs.GiveLemmas.{wrote_both, wrote_none, wrote_short}
 use Rattle.ports_core.specs.declared.fault.Fault.{Fault}
 use Rattle.watch_core.specs.Snapshot.{Snapshot}
 use Rattle.watch_core.specs.Watched.{Watched, opens, watched_at}
-use Rattle.ports_core.specs.Slot.{changed_at}
 use Rattle.follow_core.specs.declared.name.Standing.{Standing}
 use Rattle.follow_core.specs.declared.name.Standing.TheVariants.{New, Followed, Left}
-use Rattle.follow_core.proofs.LaterLemmas.{broken_sound, unbroken_in}
+use Rattle.follow_core.proofs.LookLemmas.{broken_sound, unbroken_in}
 use Rattle.follow_core.proofs.ShareLemmas.{failed-append, last-append, messages-append, text-append}
 
 -- The same of the first names, whatever becomes of the others at that look; those stand as before it.
@@ -48,32 +47,29 @@ text_all : (printer : PrinterState) {mid : PrinterState} (shares more : List Sha
 text_all printer shares more is =
     ap (λ (p : PrinterState). text_from printer.headers printer.last shares ++ text_from p.headers p.last more) is ∙ sym (text-append printer.headers printer.last shares more)
 
-pub all_both : (told : Bool) {printer mid after : PrinterState} {shares : List Share} (more : List Share) {old now new : List Slot} → AllShared told printer shares old mid now → AllShared told mid more now after new → AllShared told printer (shares ++ more) old after new
-all_both told {printer} {shares} more {old} {now} {new} all rest = record {
+pub all_both : {told : Bool} {printer mid after : PrinterState} {shares more : List Share} {old now new : List Slot} → AllShared told printer shares old mid now
+    → AllShared told mid more now after new → AllShared told printer (shares ++ more) old after new
+all_both {printer} {shares} {more} all rest = record {
   printer_is = rest.printer_is ∙ ap (λ (p : PrinterState). record p { last = last_header_from p.headers p.last more }) all.printer_is
       ∙ ap (λ last. record printer { last = last }) (sym (last-append printer.headers printer.last shares more));
-  slots = wrote_as told (text_from printer.headers printer.last (shares ++ more)) (messages_of shares ++ messages_of more) old new
-      (text_all printer shares more all.printer_is) (sym (messages-append shares more)) (wrote_both told _ _ _ _ old now new all.slots rest.slots);
+  slots = wrote_both _ _ _ _ _ (text_all printer shares more all.printer_is) (sym (messages-append shares more)) all.slots rest.slots;
 }
 
--- the text and the lines of one share more
-text_one : (printer : PrinterState) {mid : PrinterState} (shares : List Share) (share : Share) → mid ≡ record printer { last = last_header_from printer.headers printer.last shares }
-    → text_from printer.headers printer.last shares ++ share_text mid.headers mid.last share ≡ text_from printer.headers printer.last (shares ++ share ∷ [])
-text_one printer shares share is =
-    ap (λ rest. text_from printer.headers printer.last shares ++ rest) (sym (append-nil _)) ∙ text_all printer shares (share ∷ []) is
+-- one share more, or a beginning of it
 
-lines_one : (shares : List Share) (share : Share) → messages_of shares ++ share.messages ≡ messages_of (shares ++ share ∷ [])
-lines_one shares share = ap (λ rest. messages_of shares ++ rest) (sym (append-nil share.messages)) ∙ sym (messages-append shares (share ∷ []))
+pub shared_more : {told : Bool} {printer mid after : PrinterState} {shares : List Share} {share : Share} {old now new : List Slot}
+    → AllShared told printer shares old mid now → Shared told mid share now after new → AllShared told printer (shares ++ share ∷ []) old after new
+shared_more {told} {share} {now} {new} all one = all_both all (record {
+  printer_is = one.printer_is;
+  slots = subst₂ (λ text lines. Wrote told text lines now new) (sym (append-nil _)) (sym (append-nil _)) one.slots;
+})
 
-pub shared_more : (told : Bool) {printer mid after : PrinterState} {shares : List Share} {share : Share} {old now new : List Slot} → AllShared told printer shares old mid now → Shared told mid share now after new → AllShared told printer (shares ++ share ∷ []) old after new
-shared_more told {share} {now} {new} all one =
-    all_both told (share ∷ []) all
-    (record { printer_is = one.printer_is; slots = wrote_as told _ _ now new (sym (append-nil _)) (sym (append-nil _)) one.slots })
-
-pub shared_short : (told : Bool) {printer mid : PrinterState} {shares : List Share} {share : Share} {old now new : List Slot} {why : Fault} → AllShared told printer shares old mid now → SharedShort told mid share now new why → AllShort told printer (shares ++ share ∷ []) old new why
-shared_short told {printer} {shares} {share} {old} {now} {new} {why} all one = record {
-  slots = short_as told (text_from printer.headers printer.last (shares ++ share ∷ [])) old new why
-      (text_one printer shares share all.printer_is) (lines_one shares share) (wrote_short told _ _ _ _ old now new why all.slots one.slots);
+pub shared_short : {told : Bool} {printer mid : PrinterState} {shares : List Share} {share : Share} {old now new : List Slot} {why : Fault}
+    → AllShared told printer shares old mid now → SharedShort told mid share now new why → AllShort told printer (shares ++ share ∷ []) old new why
+shared_short {printer} {mid} {shares} {share} all one = record {
+  slots = wrote_short _ _ _ _ _ (ap (λ rest. text_from printer.headers printer.last shares ++ rest) (sym (append-nil (share_text mid.headers mid.last share)))
+      ∙ text_all printer shares (share ∷ []) all.printer_is)
+      (ap (λ rest. messages_of shares ++ rest) (sym (append-nil share.messages)) ∙ sym (messages-append shares (share ∷ []))) all.slots one.slots;
 }
 
 -- names that were not looked at yet
@@ -144,7 +140,7 @@ visited_more {told_in} told {ways} {looks} {snapshot} {names} {now} default one 
   count = length-append sofar.fates (visited.fate ∷ []) ∙ ap (λ n. n + 1) sofar.count ∙ omega arith;
   are = λ t later. subst (λ those. sofar.shares ++ visited.share ∷ [] ≡ shares_at_look_from ways looks (record { snapshot = snapshot; fates = those }) ways.first (take (suc place) (texts names))) (sym (append_assoc sofar.fates (visited.fate ∷ []) later)) (both t later);
   is_failed = failed_one sofar.shares visited.share failed sofar.is_failed visited.is_failed;
-  shared = shared_more told sofar.shared visited.shared;
+  shared = shared_more sofar.shared visited.shared;
   same = texts_set now place default one within same ∙ sofar.same;
   done = λ later other below. subst (λ those. Stands told_in ways (looks ++ record { snapshot = snapshot; fates = those } ∷ []) (ways.first + other) (state_at (set now place one) other).text (watched_at watched_new (ways.first + other)) (state_at (set now place one) other).standing) (sym (append_assoc sofar.fates (visited.fate ∷ []) later)) (there later other below (cases_eq other place));
   rest = λ other above inside. stands_same told_in ways looks (ways.first + other) (state_at (set now place one) other) (sym (get_or-set_other now place other one no_state (differs other above))) (sym (kept other (differs other above)))
@@ -233,7 +229,7 @@ visited_short {told_in} told {ways} {looks} {snapshot} {names} {now} default {pl
   are = λ t. sofar.are t [] ∙ ap (λ those. shares_at_look_from ways looks (record { snapshot = snapshot; fates = those }) ways.first (take place (texts names))) (append-nil sofar.fates);
   begins = λ t. subst (BeginsShare stopped.1.share) (share_is t) (stopped.1.begins t sofar.fates);
   broken = λ other inside. subst (BrokeIn ways (looks ++ look ∷ []) (ways.first + other)) (sym (same (ways.first + other))) (there other (subst (λ n. other < n) (length_texts names now sofar.same) inside) (cases_lt other place));
-  short = shared_short told sofar.shared stopped.1.short;
+  short = shared_short sofar.shared stopped.1.short;
 } where
   item : NameState
   item = get_or now place default

@@ -6,7 +6,7 @@ use Rattle.follow_core.specs.Look.{Fate, Look, Ways, entries_in, failed_by, fail
 use Rattle.follow_core.specs.Notice.{is_missing}
 use Rattle.follow_core.specs.Run.{AreKept, name_text}
 use Rattle.follow_core.specs.Share.{Share, gain, gains_from, missing_share, no_share, share_by, share_of, shares_from}
-use Rattle.follow_core.proofs.LaterLemmas.{failed_sound, looks_give_text}
+use Rattle.follow_core.proofs.LookLemmas.{failed_sound, looks_give_text}
 
 -- A name for which no call failed got all that the look gives.
 

@@ -1,5 +1,5 @@
 -- What one call on a name owes, and what is due of it.
-use Rattle.std.specs.Prelude.{◌≡◌, ◌⊎◌, ℕ, nat_lt, Bool, true, List, [], ◌∷◌, length, drop, map, Option, Some, None, Result, Ok, Err, if◌then◌else◌, IfOk, is_some}
+use Rattle.std.specs.Prelude.{◌≡◌, ◌⊎◌, ℕ, nat_lt, Bool, true, false, List, [], ◌∷◌, length, drop, map, Option, Some, None, Result, Ok, Err, if◌then◌else◌, IfOk, is_some}
 use Rattle.ports_core.specs.Slot.{Slot, changed_at, slot_at}
 use Rattle.ports_core.specs.declared.fault.Fault.{Fault}
 use Rattle.watch_core.specs.Snapshot.{Snapshot}
@@ -113,7 +113,7 @@ pub record Catches (told_in told : Bool) (snapshot : Snapshot) (place : ℕ) (na
     (after : PrinterState) (slots_new : List Slot)
     (result : Result ℕ Stop) : Type 0 where
   pub ends : (last : Entry) → (told_in ≡ true → StandsAt last (watched_at watched place).opened position)
-      → Ends {T = ℕ} told_in told printer name (bytes_open last snapshot (watched_at watched place).opened)
+      → Ends {T = ℕ} told_in told false printer name (bytes_open last snapshot (watched_at watched place).opened)
       (lines_open name last snapshot (watched_at watched place).opened) slots after slots_new result
   pub len : IfOk result (λ len. told_in ≡ true → (last : Entry)
       → StandsAt last (watched_at watched place).opened position
@@ -125,7 +125,7 @@ pub record Leads (told_in told : Bool) (snapshot : Snapshot) (place : ℕ) (name
     (watched : List Watched) (printer : PrinterState) (slots : List Slot) (watched_new : List Watched)
     (after : PrinterState) (slots_new : List Slot)
     (result : Result ℕ Stop) : Type 0 where
-  pub ends : Ends {T = ℕ} told_in told printer name
+  pub ends : Ends {T = ℕ} told_in told false printer name
       (bytes_led snapshot (watched_at watched place).opened (snapshot.leads name))
       (lines_led name snapshot (watched_at watched place).opened (snapshot.leads name)) slots after slots_new result
   pub len : IfOk result (λ len. told_in ≡ true → position ≡ length (held_at snapshot (watched_at watched place).opened)

@@ -29,4 +29,4 @@ returns-clause-catches g c = catches_copied c.self.view_is (sym c.open_id.ensure
     c.in-Ok-begin_at.ensures.from (c.in-Ok-begin_at.ensures.ends g.W.Watch.told c.self.inside.printer) c.copy.ensures.ends c.copy.ensures.len c.copy.ensures.keeps
 
 pub returns-clause-can : goal.returns-clause-can
-returns-clause-can g c = ends_can {T = ℕ} _ c.copy.ensures.ends c.in-Ok-begin_at.ensures.can
+returns-clause-can g c = ends_can {T = ℕ} c.copy.ensures.ends c.in-Ok-begin_at.ensures.can
