@@ -1,11 +1,9 @@
 -- A look at all names more, and one that was stopped.
 use Rattle.std.proofs.Math.Bool.{or-false as or_none, and-false as and_none}
-use Rattle.std.proofs.Common.{Err, ◌≡◌, ℕ, suc, ◌<◌, ◌+◌, Bool, true, false, not, ◌||◌, ◌&&◌, List, [], ◌∷◌, ◌++◌, length, map, slice_index_or, refl, sym, ◌∙◌, ap, subst, arith, inl, inr}
+use Rattle.std.proofs.Common.{Err, ◌≡◌, ℕ, suc, ◌<◌, ◌+◌, Bool, true, false, not, ◌||◌, ◌&&◌, List, [], ◌∷◌, ◌++◌, length, map, slice_index_or, refl, sym, ◌∙◌, ap, subst, arith, inl, inr, Ok, Result, subst₂}
 use Rattle.std.proofs.lemmas.Bool.{and_parts, false≢true, not-true}
 use Rattle.std.proofs.lemmas.List.{get_or-append-add, get_or-map, get_or_append_left, length-append, length-map}
-use Rattle.std.proofs.Math.Seq.{take-length}
-use Rattle.ports_core.specs.Slot.{Slot, adds, told_of}
-use Rattle.follow_core.specs.Telling.{TellsAll}
+use Rattle.ports_core.specs.Slot.{Slot, adds}
 use Rattle.follow_core.specs.declared.name.Standing.{Standing}
 use Rattle.follow_core.specs.declared.name.Standing.TheVariants.{New, Followed, Left}
 use Rattle.follow_core.specs.declared.follow.Stage.{Stage}
@@ -15,30 +13,28 @@ use Rattle.follow_core.specs.FollowState.{AllReady, CanLook, FollowState, Holds,
 use Rattle.follow_core.specs.inner.Calls.{HasStopped}
 use Rattle.follow_core.specs.inner.Looks.{AddsSome, Begins, MakesLook}
 use Rattle.follow_core.specs.Look.{Look, Ways, is_dropped, snapshots, ways_of}
-use Rattle.follow_core.specs.Printing.{PrinterState, Short, no_room}
+use Rattle.follow_core.specs.Printing.{PrinterState, Short}
 use Rattle.follow_core.specs.Share.{IsFront, shares_at_look, shares_of}
-use Rattle.follow_core.specs.Sharing.{AllShort, CanPrint, Wrote, WroteShort}
+use Rattle.follow_core.specs.Sharing.{AllShort, CanPrint}
 use Rattle.follow_core.specs.Standing.{AllStand, AreBroken, BrokeIn, CanVisit, IsFollowed, NameState, Stands, no_state, state_at, texts}
-use Rattle.follow_core.specs.inner.Visits.{any_goes_on, goes_on_as, StoppedAt, VisitedAll}
+use Rattle.follow_core.specs.inner.Visits.{any_goes_on, goes_on_as, StoppedAt, VisitedAll, VisitsAll}
 use Rattle.follow_core.specs.Version.{open_after}
 use Rattle.ports_core.specs.declared.fault.Fault.{Fault}
-use Rattle.ports_core.specs.declared.fault.Fault.TheVariants as fault
-use Rattle.watch_core.specs.Snapshot.{Snapshot}
+use Rattle.watch_core.specs.Snapshot.{Snapshot, latest}
 use Rattle.watch_core.specs.Watched.{Watched, added, no_name, watched_at}
 use Rattle.std.specs.Prelude.{None, is_some}
 use Rattle.follow_core.proofs.LookLemmas.{last_file, unbroken_in}
 use Rattle.follow_core.proofs.ShareLemmas.{failed-append, shares_more}
-use Rattle.follow_core.proofs.VisitAllLemmas.{all_both, broken_there, nothing_shared, same_length}
+use Rattle.follow_core.proofs.VisitAllLemmas.{all_both, broken_there, same_length}
+use Rattle.watch_core.proofs.NameLemmas.{latest-last}
+use Rattle.follow_core.proofs.GiveLemmas.{no_memory}
+use Rattle.ports_core.specs.declared.fault.Fault.TheVariants as fault
 
 -- memory was wanting after all of them
-wrote_stop : (told : Bool) (text : List ℕ) (lines : List (List ℕ)) (old new : List Slot) → Wrote told text lines old new → WroteShort told text lines old new fault.Memory
-wrote_stop told text lines old new wrote = λ output error others is. by output error others (wrote output error others is) where
-  by : (output error : Slot) (others : List Slot) → (error_after : Slot) × TellsAll told lines error error_after × (new ≡ adds (told_of told text) output ∷ error_after ∷ others)
-      → (error_after : Slot) × TellsAll told lines error error_after × Short told text (output ∷ error_after ∷ others) new fault.Memory
-  by output error others (error_after, said, are) = (error_after, said, no_room (length text) (omega arith) (are ∙ ap (λ those. adds (told_of told those) output ∷ error_after ∷ others) (sym (take-length text))))
-
-none_stop : (told : Bool) {printer : PrinterState} {slots : List Slot} → AllShort told printer [] slots slots fault.Memory
-none_stop told {printer} {slots} = record { slots = wrote_stop told [] [] slots slots (nothing_shared told printer).slots }
+none_stop : {told : Bool} {printer : PrinterState} {slots : List Slot} → AllShort told printer [] slots slots fault.Memory
+none_stop {told} {slots} = record {
+  slots = λ output error others is. (error, refl, subst (λ those. Short told [] those slots fault.Memory) is (no_memory told));
+}
 
 -- names that are looked at
 
@@ -46,36 +42,6 @@ stand_in : {told_in : Bool} (told : Bool) {ways : Ways} {headers : Bool} {names 
     → AllStand told_in (ways_of ways.first follow.by_name follow.start) looks follow.names watched
 stand_in {told_in} told {ways} {looks} {follow} {watched} looking holds =
     subst (λ way. AllStand told_in way looks follow.names watched) holds.asked (subst (StandsIn told_in ways looks follow.names watched) looking holds.stand).0
-
--- a look at all names was made
-abbrev pub Visits : (told_in told : Bool) → Snapshot → FollowState → List Watched → List Slot → FollowState → List Watched → List Slot → Bool → Type 0
-Visits told_in told snapshot old watched slots new watched_new slots_new failed = (from : ℕ) (looks : List Look) → (0 < length old.names → old.first ≡ from) → AllStand told_in (ways_of from old.by_name old.start) looks old.names watched
-    → VisitedAll told_in told (ways_of from old.by_name old.start) looks snapshot old.names old.printer slots new.printer slots_new watched_new new.names failed
-
--- it was stopped
-abbrev pub Halts : (told_in told : Bool) → Snapshot → FollowState → List Watched → List Slot → List Watched → List Slot → Fault → Type 0
-Halts told_in told snapshot old watched slots watched_new slots_new why = (from : ℕ) (looks : List Look) → (0 < length old.names → old.first ≡ from) → AllStand told_in (ways_of from old.by_name old.start) looks old.names watched
-    → StoppedAt told_in told (ways_of from old.by_name old.start) looks snapshot (texts old.names) old.printer slots watched_new slots_new why
-
-pub visits_at : {told_in : Bool} (told : Bool) {snapshot seen : Snapshot} (old new : FollowState) {names names_new : List NameState} {watched mid watched_new : List Watched} {slots slots_new : List Slot} (failed : Bool) → names ≡ old.names → names_new ≡ new.names → mid ≡ watched → seen ≡ snapshot
-    → ((from : ℕ) (looks : List Look) → (0 < length names → old.first ≡ from) → AllStand told_in (ways_of from old.by_name old.start) looks names mid
-    → VisitedAll told_in told (ways_of from old.by_name old.start) looks seen names old.printer slots new.printer slots_new watched_new names_new failed)
-    → Visits told_in told snapshot old watched slots new watched_new slots_new failed
-visits_at {told_in} told {snapshot} old new {names} {names_new} {watched} {mid} {watched_new} {slots} {slots_new} failed same also is at visits =
-    subst (λ those. V those new.names watched snapshot) same (subst (λ those. V names those watched snapshot) also (subst (λ those. V names names_new those snapshot) is (subst (λ s. V names names_new mid s) at visits))) where
-      V : List NameState → List NameState → List Watched → Snapshot → Type 0
-      V these after those s = (from : ℕ) (looks : List Look) → (0 < length these → old.first ≡ from) → AllStand told_in (ways_of from old.by_name old.start) looks these those
-          → VisitedAll told_in told (ways_of from old.by_name old.start) looks s these old.printer slots new.printer slots_new watched_new after failed
-
-pub halts_at : {told_in : Bool} (told : Bool) {snapshot seen : Snapshot} (old : FollowState) {names : List NameState} {watched mid watched_new : List Watched} {slots slots_new : List Slot} {why : Fault} → names ≡ old.names → mid ≡ watched → seen ≡ snapshot
-    → ((from : ℕ) (looks : List Look) → (0 < length names → old.first ≡ from) → AllStand told_in (ways_of from old.by_name old.start) looks names mid
-    → StoppedAt told_in told (ways_of from old.by_name old.start) looks seen (texts names) old.printer slots watched_new slots_new why)
-    → Halts told_in told snapshot old watched slots watched_new slots_new why
-halts_at {told_in} told {snapshot} old {names} {watched} {mid} {watched_new} {slots} {slots_new} {why} same is at halts =
-    subst (λ those. H those watched snapshot) same (subst (λ those. H names those snapshot) is (subst (λ s. H names mid s) at halts)) where
-      H : List NameState → List Watched → Snapshot → Type 0
-      H these those s = (from : ℕ) (looks : List Look) → (0 < length these → old.first ≡ from) → AllStand told_in (ways_of from old.by_name old.start) looks these those
-          → StoppedAt told_in told (ways_of from old.by_name old.start) looks s (texts these) old.printer slots watched_new slots_new why
 
 -- as many names
 length_names : (follow : FollowState) {names : List (List ℕ)} → texts follow.names ≡ names → length follow.names ≡ length names
@@ -86,34 +52,41 @@ first_there : {told_in : Bool} (told : Bool) {ways : Ways} {headers : Bool} {nam
     → 0 < length follow.names → follow.first ≡ ways.first
 first_there told {follow} looking holds some = holds.numbered looking (subst (λ n. 0 < n) (length_names follow holds.same) some)
 
-pub look_made : {told_in : Bool} (told : Bool) {snapshot : Snapshot} {old new : FollowState} {watched watched_new : List Watched} {slots slots_new : List Slot} (failed : Bool) → old.stage ≡ Looking
-    → new.by_name ≡ old.by_name → new.start ≡ old.start → new.first ≡ old.first → new.stage ≡ Looking → new.has_failed ≡ (old.has_failed || failed) → length watched_new ≡ length watched → Visits told_in told snapshot old watched slots new watched_new slots_new failed → LooksOn told_in told snapshot old watched slots new watched_new slots_new
-look_made {told_in} told {snapshot} {old} {new} {watched} {watched_new} {slots} {slots_new} failed looking by_name start first_is looking_new has_failed count visits ways headers names looks first holds = (
+look_made : {told_in told : Bool} {snapshot : Snapshot} {old : FollowState} {names : List NameState} {watched watched_new : List Watched}
+    {printer : PrinterState} {slots slots_new : List Slot} (failed : Bool) → old.stage ≡ Looking
+    → VisitsAll told_in told snapshot old.by_name old.start old.first old.names watched old.printer slots names watched_new printer slots_new (Ok failed)
+    → LooksOn told_in told snapshot old watched slots (record old { names = names; printer = printer; has_failed = old.has_failed || failed }) watched_new slots_new
+look_made {told_in} {told} {snapshot} {old} {names} {watched} {watched_new} {printer} {slots} {slots_new} failed looking visits ways headers asked looks first holds = (
   visited.fates,
   record {
-    asked = holds.asked ∙ ap (λ way. ways_of ways.first way old.start) (sym by_name) ∙ ap (ways_of ways.first new.by_name) (sym start);
+    asked = holds.asked;
     same = visited.same ∙ holds.same;
-    numbered = λ is some. first_is ∙ holds.numbered looking some;
-    stand = subst (StandsIn told_in ways after new.names watched_new) (sym looking_new) (visited.stand, count ∙ (subst (StandsIn told_in ways looks old.names watched) looking holds.stand).1 ∙ ap (λ n. ways.first + n) (same_length old.names new.names visited.same));
+    numbered = holds.numbered;
+    stand = subst (StandsIn told_in ways (looks ++ look ∷ []) names watched_new) (sym looking) (
+      visited.stand,
+      visits.count
+          ∙ (subst (StandsIn told_in ways looks old.names watched) looking holds.stand).1 ∙ ap (λ n. ways.first + n) (same_length old.names names visited.same),
+    );
     shares = holds.shares ++ visited.shares;
-    are = λ t. ap (λ those. those ++ visited.shares) (holds.are t) ∙ ap (λ those. shares_of ways names looks ++ those) (visited.are t ∙ ap (λ those. shares_at_look ways those looks look) holds.same) ∙ sym (shares_more ways names looks look);
+    are = λ t. ap (λ those. those ++ visited.shares) (holds.are t) ∙ ap (λ those. shares_of ways asked looks ++ those)
+        (visited.are t ∙ ap (λ those. shares_at_look ways those looks look) holds.same) ∙ sym (shares_more ways asked looks look);
     shared = all_both holds.shared visited.shared;
-    failed = failed-append holds.shares visited.shares ∙ ap (λ before. before || any_failed visited.shares) holds.failed ∙ ap (λ now. old.has_failed || now) visited.is_failed ∙ sym has_failed;
+    failed = failed-append holds.shares visited.shares ∙ ap (λ before. before || any_failed visited.shares) holds.failed
+        ∙ ap (λ now. old.has_failed || now) visited.is_failed;
   },
 ) where
-  visited : VisitedAll told_in told ways looks snapshot old.names old.printer slots new.printer slots_new watched_new new.names failed
-  visited = subst (λ way. VisitedAll told_in told way looks snapshot old.names old.printer slots new.printer slots_new watched_new new.names failed) (sym holds.asked)
-      (visits ways.first looks (first_there told looking holds) (stand_in told looking holds))
+  visited : VisitedAll told_in told ways looks snapshot old.names old.printer slots printer slots_new watched_new names failed
+  visited = subst (λ way. VisitedAll told_in told way looks snapshot old.names old.printer slots printer slots_new watched_new names failed) (sym holds.asked)
+      (visits.visited ways.first looks (first_there told looking holds) (stand_in told looking holds))
 
   look : Look
   look = record { snapshot = snapshot; fates = visited.fates }
 
-  after : List Look
-  after = looks ++ look ∷ []
-
-pub look_stopped : {told_in told : Bool} {snapshot : Snapshot} {old : FollowState} {watched watched_new : List Watched} {slots slots_new : List Slot} {why : Fault} → old.stage ≡ Looking → length watched_new ≡ length watched
-    → Halts told_in told snapshot old watched slots watched_new slots_new why → StopsOn told_in told snapshot old watched slots watched_new slots_new why
-look_stopped {told_in} {told} {snapshot} {old} {watched} {watched_new} {slots} {slots_new} {why} looking count halts ways headers names looks first holds = record {
+look_stopped : {told_in told : Bool} {snapshot : Snapshot} {old : FollowState} {names : List NameState} {watched watched_new : List Watched}
+    {printer : PrinterState} {slots slots_new : List Slot} {why : Fault} → old.stage ≡ Looking
+    → VisitsAll told_in told snapshot old.by_name old.start old.first old.names watched old.printer slots names watched_new printer slots_new (Err why)
+    → StopsOn told_in told snapshot old watched slots watched_new slots_new why
+look_stopped {told_in} {told} {snapshot} {old} {watched} {watched_new} {slots} {slots_new} {why} looking visits ways headers names looks first holds = record {
   shares = holds.shares;
   are = holds.are;
   printer = old.printer;
@@ -125,30 +98,16 @@ look_stopped {told_in} {told} {snapshot} {old} {watched} {watched_new} {slots} {
   short = stopped.short;
 } where
   stopped : StoppedAt told_in told ways looks snapshot names old.printer slots watched_new slots_new why
-  stopped = subst (λ those. StoppedAt told_in told ways looks snapshot those old.printer slots watched_new slots_new why) holds.same
-      (subst (λ way. StoppedAt told_in told way looks snapshot (texts old.names) old.printer slots watched_new slots_new why) (sym holds.asked)
-      (halts ways.first looks (first_there told looking holds) (stand_in told looking holds)))
+  stopped = subst₂ (λ way those. StoppedAt told_in told way looks snapshot those old.printer slots watched_new slots_new why) (sym holds.asked) holds.same
+      (visits.stopped ways.first looks (first_there told looking holds) (stand_in told looking holds))
 
   all : length watched_new ≡ ways.first + length names
-  all = count ∙ (subst (StandsIn told_in ways looks old.names watched) looking holds.stand).1 ∙ ap (λ n. ways.first + n) (length_names old holds.same)
+  all = visits.count ∙ (subst (StandsIn told_in ways looks old.names watched) looking holds.stand).1 ∙ ap (λ n. ways.first + n) (length_names old holds.same)
 
 -- whatever looks were made, the names broke just where they tell so
 abbrev pub Unbroken : (told_in told : Bool) → FollowState → List Watched → List Slot → List Watched → Type 0
 Unbroken told_in told old watched slots watched_new = (ways : Ways) (headers : Bool) (names : List (List ℕ)) (looks : List Look) (first : List Slot)
     → Holds told_in told ways headers names looks first old watched slots → AreBroken ways looks names watched_new
-
--- there was no memory to begin one
-look_refused : (told_in told : Bool) (snapshot : Snapshot) (old : FollowState) (watched watched_new : List Watched) {slots slots_new : List Slot} {why : Fault} → Unbroken told_in told old watched slots watched_new → why ≡ fault.Memory → slots_new ≡ slots → StopsOn told_in told snapshot old watched slots watched_new slots_new why
-look_refused told_in told snapshot old watched watched_new {slots} {slots_new} unbroken is same ways headers names looks first holds = record {
-  shares = holds.shares;
-  are = holds.are;
-  printer = old.printer;
-  reached = slots;
-  shared = holds.shared;
-  more = [];
-  begun = nothing (unbroken ways headers names looks first holds);
-  short = subst (AllShort told old.printer [] slots slots_new) (sym is) (subst (λ those. AllShort told old.printer [] slots those fault.Memory) (sym same) (none_stop told));
-}
 
 -- names that were added
 
@@ -219,44 +178,9 @@ added_begins {old} {mid} {watched} {watched_mid} is = record {
 }
 
 -- names of others, in the look after that
-pub not_own : {first number : ℕ} {names : List NameState} (follow : FollowState) (watched : List Watched) → follow.stage ≡ Looking → names ≡ follow.names → first ≡ follow.first → IsOther follow watched number → (place : ℕ) → place < length names → number ≡ first + place → ⊥
-not_own {number} follow watched looking names_are first_is other place within at =
-    subst (λ stage. IsOther (record follow { stage = stage }) watched number) looking other place (subst (λ (those : List NameState). place < length those) names_are within) (at ∙ ap (λ n. n + place) first_is)
-
-pub other_kept : {names : List (List ℕ)} {watched watched_new : List Watched} (follow : FollowState) (number : ℕ) → follow.stage ≡ Fresh → AddsSome names watched watched_new → IsOther follow watched number → watched_at watched_new number ≡ watched_at watched number
-other_kept {watched} follow number fresh some other =
-    ap (λ those. watched_at those number) some.kept.1 ∙ get_or_append_left watched some.kept.0 no_name number (subst (λ stage. IsOther (record follow { stage = stage }) watched number) fresh other)
-
--- a look that goes on from there
-
-pub begun_looked : {told_in told : Bool} {snapshot snapshot_mid : Snapshot} {old mid new : FollowState} {watched watched_mid watched_new : List Watched} {slots slots_new : List Slot} → Begins told_in old watched mid watched_mid → snapshot_mid ≡ snapshot
-    → LooksOn told_in told snapshot_mid mid watched_mid slots new watched_new slots_new → LooksOn told_in told snapshot old watched slots new watched_new slots_new
-begun_looked {told_in} {told} {old} {new} {watched} {watched_new} {slots} {slots_new} begins same looks_on = subst (λ s. LooksOn told_in told s old watched slots new watched_new slots_new) same
-    (λ ways headers names looks first holds. looks_on ways headers names looks first (begins.holds told ways headers names looks first slots holds))
-
-pub begun_stopped : {told_in told : Bool} {snapshot snapshot_mid : Snapshot} {old mid : FollowState} {watched watched_mid watched_new : List Watched} {slots slots_new : List Slot} {why : Fault} → Begins told_in old watched mid watched_mid → snapshot_mid ≡ snapshot
-    → StopsOn told_in told snapshot_mid mid watched_mid slots watched_new slots_new why → StopsOn told_in told snapshot old watched slots watched_new slots_new why
-begun_stopped {told_in} {told} {old} {watched} {watched_new} {slots} {slots_new} {why} begins same stops = subst (λ s. StopsOn told_in told s old watched slots watched_new slots_new why) same
-    (λ ways headers names looks first holds. stops ways headers names looks first (begins.holds told ways headers names looks first slots holds))
-
-pub makes_none : {told_in told : Bool} {snapshot : Snapshot} {seen seen_new : List Snapshot} {old new : FollowState} {watched watched_new : List Watched} {slots : List Slot} {why : Fault} → Unbroken told_in told old watched slots watched_new → why ≡ fault.Memory → seen_new ≡ seen
-    → MakesLook told_in told snapshot seen old watched slots seen_new new watched_new slots (Err why)
-makes_none {told_in} {told} {snapshot} {old} {watched} {watched_new} unbroken is same = record {
-  looked = tt;
-  stopped = look_refused told_in told snapshot old watched watched_new unbroken is refl;
-  seen_is = tt;
-  saw = inl same;
-  stage = tt;
-  ready = tt;
-  can = tt;
-}
-
--- what the look sees is what the watch shows
-pub shown : {shows_mid shows : ℕ → Snapshot} {seen seen_mid seen_new : List Snapshot} → shows_mid ≡ shows → seen_mid ≡ seen → seen_new ≡ seen_mid ++ shows_mid (length seen_mid) ∷ []
-    → (shows_mid (length seen_mid) ≡ shows (length seen)) × (seen_new ≡ seen ++ shows (length seen) ∷ [])
-shown {shows_mid} {shows} {seen} {seen_mid} shows_same same is =
-    let next = ap (λ (those : ℕ → Snapshot). those (length seen_mid)) shows_same ∙ ap (λ (those : List Snapshot). shows (length those)) same in
-    (next, is ∙ ap (λ (those : List Snapshot). those ++ shows_mid (length seen_mid) ∷ []) same ∙ ap (λ snapshot. seen ++ snapshot ∷ []) next)
+not_own : {number : ℕ} (follow : FollowState) (watched : List Watched) → follow.stage ≡ Looking → IsOther follow watched number
+    → (place : ℕ) → place < length follow.names → number ≡ follow.first + place → ⊥
+not_own {number} follow watched looking other = subst (λ stage. IsOther (record follow { stage = stage }) watched number) looking other
 
 -- whether a further look can give something
 
@@ -312,12 +236,9 @@ can_print old watched slots live can = by old.stage live can where
   by Looking live can = can.1
   by Over live can = absurd (live refl)
 
-pub cause_is : {old : FollowState} {slots slots_new : List Slot} {why : Fault} (watched : List Watched) → (old.stage ≡ Over → ⊥) → CanLook old watched slots → HasStopped why slots_new → IsCause old slots slots_new why
+cause_is : {old : FollowState} {slots slots_new : List Slot} {why : Fault} (watched : List Watched) → (old.stage ≡ Over → ⊥) → CanLook old watched slots → HasStopped why slots_new → IsCause old slots slots_new why
 cause_is {old} {slots} {slots_new} watched live can (inl memory, error) = subst (IsCause old slots slots_new) (sym memory) lacks_memory
 cause_is {old} {slots} {slots_new} watched live can (inr (is, broken), error) = subst (IsCause old slots slots_new) (sym is) (output_broke (not-true _ (and_parts _ _ (can_print old watched slots live can).0).1, broken))
-
-pub no_memory_is : {old : FollowState} {slots slots_new : List Slot} {why : Fault} → why ≡ fault.Memory → IsCause old slots slots_new why
-no_memory_is {old} {slots} {slots_new} is = subst (IsCause old slots slots_new) (sym is) lacks_memory
 
 -- by what the names broke
 
@@ -351,13 +272,122 @@ broken_are {told_in} told {ways} {names} {looks} {follow} {watched} holds = stag
   )
   stage Over stand = absurd stand
 
--- before the first look
-pub fresh_unbroken : {told_in told : Bool} {old : FollowState} {watched : List Watched} {slots : List Slot} {watched_new : List Watched} → old.stage ≡ Fresh → AddsSome (texts old.names) watched watched_new → Unbroken told_in told old watched slots watched_new
-fresh_unbroken {told_in} {old} {watched} {watched_new} fresh adds ways headers names looks first holds =
-    let stand = subst (StandsIn told_in ways looks old.names watched) fresh holds.stand in
-    none_broken ways names watched watched_new stand.0 stand.2 (subst (λ those. IsFront watched_new (watched ++ map added those)) holds.same adds.front)
+-- A look from where following stands
 
--- the names are watched, and no call was made on one
-pub begun_unbroken : {told_in told : Bool} {old mid : FollowState} {watched watched_mid watched_new : List Watched} {slots : List Slot} → Begins told_in old watched mid watched_mid → watched_new ≡ watched_mid → Unbroken told_in told old watched slots watched_new
-begun_unbroken {told} {slots} begins same ways headers names looks first holds =
-    subst (AreBroken ways looks names) (sym same) (broken_are told (begins.holds told ways headers names looks first slots holds))
+-- there was no memory to begin one: some names were added, or all, and no call was made on one
+pub makes_none : {told_in told : Bool} {snapshot : Snapshot} {seen seen_new : List Snapshot} {old new : FollowState} {watched watched_new : List Watched}
+    {slots : List Slot} {why : Fault} → Unbroken told_in told old watched slots watched_new
+    → ((number : ℕ) → IsOther old watched number → watched_at watched_new number ≡ watched_at watched number)
+    → (old.stage ≡ Over → ⊥) → CanLook old watched slots → why ≡ fault.Memory → seen_new ≡ seen
+    → MakesLook told_in told snapshot seen old watched slots seen_new new watched_new slots (Err why)
+makes_none {told_in} {told} {snapshot} {old} {watched} {watched_new} {slots} unbroken others live can is same = record {
+  looked = tt;
+  stopped = λ ways headers names looks first holds. record {
+    shares = holds.shares;
+    are = holds.are;
+    printer = old.printer;
+    reached = slots;
+    shared = holds.shared;
+    more = [];
+    begun = nothing (unbroken ways headers names looks first holds);
+    short = rw is none_stop;
+  };
+  seen_is = tt;
+  saw = inl same;
+  stage = tt;
+  ready = tt;
+  can = tt;
+  cause = rw is lacks_memory;
+  error = (can_print old watched slots live can).1;
+  others = others;
+}
+
+pub makes_few : {told_in told : Bool} {snapshot : Snapshot} {seen seen_new : List Snapshot} {old new : FollowState} {watched watched_new : List Watched}
+    {slots : List Slot} {why : Fault} → old.stage ≡ Fresh → AddsSome (texts old.names) watched watched_new
+    → (old.stage ≡ Over → ⊥) → CanLook old watched slots → why ≡ fault.Memory → seen_new ≡ seen
+    → MakesLook told_in told snapshot seen old watched slots seen_new new watched_new slots (Err why)
+makes_few {told_in} {old} {watched} {watched_new} fresh adds = makes_none
+    (λ ways headers names looks first holds.
+    let stand = subst (StandsIn told_in ways looks old.names watched) fresh holds.stand in
+    none_broken ways names watched watched_new stand.0 stand.2 (subst (λ those. IsFront watched_new (watched ++ map added those)) holds.same adds.front))
+    (λ number other. ap (λ those. watched_at those number) adds.kept.1
+    ∙ get_or_append_left watched adds.kept.0 no_name number (subst (λ stage. IsOther (record old { stage = stage }) watched number) fresh other))
+
+pub makes_all : {told_in told : Bool} {snapshot : Snapshot} {seen seen_new : List Snapshot} {old mid new : FollowState}
+    {watched watched_mid watched_new : List Watched} {slots : List Slot} {why : Fault} → Begins told_in old watched mid watched_mid → watched_new ≡ watched_mid
+    → (old.stage ≡ Over → ⊥) → CanLook old watched slots → why ≡ fault.Memory → seen_new ≡ seen
+    → MakesLook told_in told snapshot seen old watched slots seen_new new watched_new slots (Err why)
+makes_all {told} {slots} begins same = makes_none
+    (λ ways headers names looks first holds. subst (AreBroken ways looks names) (sym same) (broken_are told (begins.holds told ways headers names looks first slots holds)))
+    (λ number other. ap (λ those. watched_at those number) same ∙ (begins.others number other).1)
+
+abbrev pub as_made : Result Bool Fault → Result (Unit {0}) Fault
+as_made (Ok failed) = Ok tt
+as_made (Err why) = Err why
+
+abbrev pub or_failed : Bool → Result Bool Fault → Bool
+or_failed before (Ok failed) = before || failed
+or_failed before (Err why) = before
+
+-- the names were looked at, once they were watched and the watch saw what the files hold
+pub makes_look : {told_in told : Bool} {shows shows_mid : ℕ → Snapshot} {seen seen_mid seen_turned seen_new : List Snapshot} {old inside mid : FollowState}
+    {names names_new names_now : List NameState} {watched watched_mid watched_turned watched_new : List Watched} {printer : PrinterState}
+    {slots slots_new : List Slot} (result : Result Bool Fault) → (old.stage ≡ Over → ⊥) → CanLook old watched slots → inside ≡ mid
+    → Begins told_in old watched mid watched_mid → shows_mid ≡ shows → seen_mid ≡ seen → seen_turned ≡ seen_mid ++ shows_mid (length seen_mid) ∷ []
+    → watched_turned ≡ watched_mid → names ≡ inside.names → names_now ≡ names_new → seen_new ≡ seen_turned
+    → VisitsAll told_in told (latest seen_turned) inside.by_name inside.start inside.first names watched_turned inside.printer slots names_now watched_new printer
+    slots_new result
+    → MakesLook told_in told (shows (length seen)) seen old watched slots seen_new
+    (record inside { names = names_new; printer = printer; has_failed = or_failed inside.has_failed result }) watched_new slots_new (as_made result)
+makes_look {told_in} {told} {shows} {shows_mid} {seen} {seen_mid} {seen_turned} {seen_new} {old} {inside} {names_new} {watched} {watched_mid} {watched_turned} {watched_new} {printer} {slots} {slots_new} result live can view begin shows_same seen_same turned watched_same names_are names_now seen_is visits =
+    by result made where
+      begins : Begins told_in old watched inside watched_mid
+      begins = subst (λ (f : FollowState). Begins told_in old watched f watched_mid) (sym view) begin
+
+      next : shows_mid (length seen_mid) ≡ shows (length seen)
+      next = ap (λ (those : ℕ → Snapshot). those (length seen_mid)) shows_same ∙ ap (λ (those : List Snapshot). shows (length those)) seen_same
+
+      snapshot : Snapshot
+      snapshot = shows (length seen)
+
+      saw : seen_new ≡ seen ++ snapshot ∷ []
+      saw = seen_is ∙ turned ∙ ap (λ (those : List Snapshot). those ++ shows_mid (length seen_mid) ∷ []) seen_same ∙ ap (λ one. seen ++ one ∷ []) next
+
+      Made : Result Bool Fault → Type 0
+      Made those = VisitsAll told_in told snapshot inside.by_name inside.start inside.first inside.names watched_mid inside.printer slots names_new watched_new printer slots_new those
+
+      made : Made result
+      made = subst₂ (λ (s : Snapshot) w. VisitsAll told_in told s inside.by_name inside.start inside.first inside.names w inside.printer slots names_new watched_new printer slots_new result)
+          (ap latest turned ∙ latest-last seen_mid (shows_mid (length seen_mid)) ∙ next) watched_same
+          (subst₂ (λ these now. VisitsAll told_in told (latest seen_turned) inside.by_name inside.start inside.first these watched_turned inside.printer slots now watched_new printer slots_new result) names_are names_now visits)
+
+      others : {those : Result Bool Fault} → Made those → (number : ℕ) → IsOther old watched number → watched_at watched_new number ≡ watched_at watched number
+      others visits number other =
+          let (others, same) = begins.others number other in visits.others number (not_own inside watched_mid begins.stage others) ∙ same
+
+      by : (result : Result Bool Fault) → Made result → MakesLook told_in told snapshot seen old watched slots seen_new
+          (record inside { names = names_new; printer = printer; has_failed = or_failed inside.has_failed result }) watched_new slots_new (as_made result)
+      by (Ok failed) visits = record {
+        looked = λ ways headers names looks first holds. look_made failed begins.stage visits ways headers names looks first (begins.holds told ways headers names looks first slots holds);
+        stopped = tt;
+        seen_is = saw;
+        saw = tt;
+        stage = begins.stage;
+        ready = visits.ready;
+        can = visits.can;
+        cause = tt;
+        error = visits.can.1;
+        others = others visits;
+      }
+      by (Err why) visits = record {
+        looked = tt;
+        stopped = λ ways headers names looks first holds. look_stopped begins.stage visits ways headers names looks first (begins.holds told ways headers names looks first slots holds);
+        seen_is = tt;
+        saw = inr saw;
+        stage = tt;
+        ready = tt;
+        can = tt;
+        cause = cause_is watched live can visits.error;
+        error = visits.error.1;
+        others = others visits;
+      }

@@ -13,13 +13,16 @@ use Rattle.ports_core.specs.declared.fault.Fault.{Fault}
 use Rattle.watch_core.specs.Snapshot.{Snapshot}
 use Rattle.watch_core.specs.Watched.{Watched, opens, watched_at}
 use Rattle.follow_core.specs.Share.{BeginsShare, Share, share_by, share_of, shares_at_look, shares_at_look_from}
-use Rattle.follow_core.specs.Look.{Fate, Look, Ways, sound, fate_at, is_dropped}
+use Rattle.follow_core.specs.Look.{Fate, Look, Ways, sound, fate_at, is_dropped, ways_of}
 use Rattle.follow_core.specs.Printing.{PrinterState}
 use Rattle.follow_core.specs.inner.Giving.{Shared, SharedShort}
 use Rattle.follow_core.specs.declared.visitor.Stop.{Stop}
 use Rattle.follow_core.specs.declared.visitor.Stop.TheVariants.{Broke, Over}
 use Rattle.follow_core.specs.Followed.{any_failed}
-use Rattle.follow_core.specs.Sharing.{AllShared, AllShort}
+use Rattle.follow_core.specs.inner.Calls.{HasStopped}
+use Rattle.follow_core.specs.FollowState.{AllReady}
+use Rattle.follow_core.specs.declared.start.Start.{Start}
+use Rattle.follow_core.specs.Sharing.{AllShared, AllShort, CanPrint}
 
 -- how it stands after a look that it came through so
 abbrev pub standing_after : (by_name : Bool) → Came → Standing
@@ -162,3 +165,23 @@ pub record StoppedAt (told_in told : Bool) (ways : Ways) (looks : List Look) (sn
       → BrokeIn ways (looks ++ record { snapshot = snapshot; fates = fates } ∷ []) (ways.first + other)
       (watched_at watched (ways.first + other)).failed
   pub short : AllShort told printer (shares ++ share ∷ []) old new why
+
+-- What a look at all these names leaves, of which the first has this number, whatever looks were made before.
+pub record VisitsAll (told_in told : Bool) (snapshot : Snapshot) (by_name : Bool) (start : Start) (first : ℕ)
+    (names : List NameState) (watched : List Watched) (printer : PrinterState) (slots : List Slot)
+    (names_new : List NameState) (watched_new : List Watched) (printer_new : PrinterState) (slots_new : List Slot)
+    (result : Result Bool Fault) : Type 0 where
+  pub visited : IfOk result (λ failed. (from : ℕ) (looks : List Look) → (0 < length names → first ≡ from)
+      → AllStand told_in (ways_of from by_name start) looks names watched
+      → VisitedAll told_in told (ways_of from by_name start) looks snapshot names printer slots printer_new slots_new
+      watched_new names_new failed)
+  pub stopped : IfErr result (λ why. (from : ℕ) (looks : List Look) → (0 < length names → first ≡ from)
+      → AllStand told_in (ways_of from by_name start) looks names watched
+      → StoppedAt told_in told (ways_of from by_name start) looks snapshot (texts names) printer slots watched_new
+      slots_new why)
+  pub ready : OnOk result (AllReady names_new first watched_new)
+  pub count : length watched_new ≡ length watched
+  pub others : (number : ℕ) → ((place : ℕ) → place < length names → number ≡ first + place → ⊥)
+      → watched_at watched_new number ≡ watched_at watched number
+  pub can : OnOk result (CanPrint slots_new)
+  pub error : IfErr result (λ why. HasStopped why slots_new)

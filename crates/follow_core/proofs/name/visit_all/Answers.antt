@@ -27,31 +27,27 @@ visit-requires-clause-ready g c =
     let l = c.loop-place in
     subst (λ name. CanVisit name (watched_at (g.W.Watch.watched l.watch) (c.args.first + l.place))) (get_or_default l.names l.place _ c.index-names-place.result c.loop-place-test.true) (l.invariant.ready l.place c.loop-place-test.true)
 
-pub returns-in-Err-clause-stopped : goal.returns-in-Err-clause-stopped
-returns-in-Err-clause-stopped g c from looks same =
+pub returns-in-Err-clause-visits : goal.returns-in-Err-clause-visits
+returns-in-Err-clause-visits g c =
     let l = c.loop-place in
     let snapshot = latest (g.W.Watch.seen c.args.watch.now) in
     let ways : ℕ → Ways = λ first. ways_of first c.args.by_name c.args.start in
     let many : length c.args.names.now ≡ length l.names = same_length c.args.names.now l.names l.invariant.same in
     let test : l.place < length l.names = c.loop-place-test.true in
-    subst (λ first. AllStand g.W.Watch.told (ways first) looks c.args.names.now (g.W.Watch.watched c.args.watch.now) → StoppedAt g.W.Watch.told g.O.Outs.told (ways first) looks snapshot (texts c.args.names.now) c.args.visitor.now (g.O.Outs.slots c.args.outs.now) (g.W.Watch.watched c.visit.new.watch) (g.O.Outs.slots c.visit.new.outs) c.in-Err.fault)
-    (same (omega (arith, many, test))) (λ stand. visited_short g.O.Outs.told c.index-names-place.result
-    c.loop-place-test.true (ap latest l.invariant.seen) (c.in-Err.ensures.visits c.args.first).halts (l.invariant.visited c.args.first looks (λ some. refl) stand) ((c.in-Err.ensures.visits c.args.first).stopped looks))
-
-pub returns-in-Err-clause-texts : goal.returns-in-Err-clause-texts
-returns-in-Err-clause-texts g c = texts_set c.loop-place.names c.loop-place.place c.index-names-place.result c.visit.new.self c.loop-place-test.true (c.visit.ensures.visits c.args.first).same ∙ c.loop-place.invariant.same
-
-pub returns-in-Err-clause-count : goal.returns-in-Err-clause-count
-returns-in-Err-clause-count g c =
-    let halts = (c.in-Err.ensures.visits c.args.first).halts in (keeps_others (opens halts.0) halts.1).count ∙ c.loop-place.invariant.count
-
-pub returns-in-Err-clause-others : goal.returns-in-Err-clause-others
-returns-in-Err-clause-others g c number other =
-    let l = c.loop-place in
-    let many : length c.args.names.now ≡ length l.names = same_length c.args.names.now l.names l.invariant.same in
-    let test : l.place < length l.names = c.loop-place-test.true in
-    let halts = (c.in-Err.ensures.visits c.args.first).halts in
-    (keeps_others (opens halts.0) halts.1).others number (other l.place (omega (arith, many, test))) ∙ l.invariant.others number other
+    let visits = c.in-Err.ensures.visits c.args.first in
+    let others = keeps_others (opens visits.halts.0) visits.halts.1 in
+    record {
+      visited = tt;
+      stopped = λ from looks same. subst (λ first. AllStand g.W.Watch.told (ways first) looks c.args.names.now (g.W.Watch.watched c.args.watch.now)
+          → StoppedAt g.W.Watch.told g.O.Outs.told (ways first) looks snapshot (texts c.args.names.now) c.args.visitor.now (g.O.Outs.slots c.args.outs.now) (g.W.Watch.watched c.visit.new.watch) (g.O.Outs.slots c.visit.new.outs) c.in-Err.fault)
+          (same (omega (arith, many, test)))
+          (λ stand. visited_short g.O.Outs.told c.index-names-place.result test (ap latest l.invariant.seen) visits.halts (l.invariant.visited c.args.first looks (λ some. refl) stand) (visits.stopped looks));
+      ready = tt;
+      count = others.count ∙ l.invariant.count;
+      others = λ number other. others.others number (other l.place (omega (arith, many, test))) ∙ l.invariant.others number other;
+      can = tt;
+      error = c.in-Err.ensures.error;
+    }
 
 pub loop-place-preserved : goal.loop-place-preserved
 loop-place-preserved g c =
@@ -76,7 +72,15 @@ loop-place-preserved g c =
       shows = c.visit.ensures.shows ∙ l.invariant.shows;
     }
 
-pub returns-clause-visited : goal.returns-clause-visited
-returns-clause-visited g c from looks same stand =
+pub returns-clause-visits : goal.returns-clause-visits
+returns-clause-visits g c =
     let l = c.loop-place in
-    visited_all g.O.Outs.told l.has_failed (omega arith) (l.invariant.visited from looks same stand)
+    record {
+      visited = λ from looks same stand. visited_all g.O.Outs.told l.has_failed (omega arith) (l.invariant.visited from looks same stand);
+      stopped = tt;
+      ready = l.invariant.ready;
+      count = l.invariant.count;
+      others = l.invariant.others;
+      can = l.invariant.can;
+      error = tt;
+    }
