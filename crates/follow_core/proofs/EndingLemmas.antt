@@ -15,8 +15,7 @@ use Rattle.follow_core.specs.inner.Looks.{LookedAll}
 use Rattle.follow_core.specs.FollowState.{FollowState, Halted, Holds, LooksOn, SawOrNot, StopsOn, is_alive, new_state, opened_follow}
 use Rattle.follow_core.specs.Look.{Fate, Look, Ways, snapshots, ways_of}
 use Rattle.follow_core.specs.Standing.{texts}
-use Rattle.follow_core.proofs.FollowLemmas.{broken_are}
-use Rattle.follow_core.proofs.VisitAllLemmas.{nothing_shared}
+use Rattle.follow_core.proofs.FollowLemmas.{broken_are, nothing_shared}
 
 pub length_seen : (shows : ℕ → Snapshot) (n : ℕ) → length (seen_first shows n) ≡ n
 length_seen shows zero = refl

@@ -6,6 +6,5 @@ pub mod GiveLemmas
 pub mod CallLemmas
 pub mod StartLemmas
 pub mod VisitLemmas
-pub mod VisitAllLemmas
 pub mod FollowLemmas
 pub mod EndingLemmas

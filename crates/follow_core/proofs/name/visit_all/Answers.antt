@@ -6,7 +6,7 @@ use Rattle.follow_core.proofs.CallLemmas.{keeps_others}
 use Rattle.follow_core.specs.Look.{Ways, ways_of}
 use Rattle.follow_core.specs.Standing.{AllStand, texts, CanVisit}
 use Rattle.follow_core.specs.inner.Visits.{StoppedAt}
-use Rattle.follow_core.proofs.VisitAllLemmas.{VisitedUpTo, next_ready, same_length, texts_set, visited_all, visited_more, visited_none, visited_short}
+use Rattle.follow_core.proofs.FollowLemmas.{VisitedUpTo, next_ready, same_length, texts_set, visited_all, visited_more, visited_none, visited_short}
 use Rattle.follow_core.proofs.name.visit_all.Goals as goal
 
 pub loop-place-init : goal.loop-place-init
