@@ -1,15 +1,27 @@
--- Lemmas on how a run ends, by its words.
-use Rattle.std.proofs.Common.{◌≡◌, ◌≤◌, ℕ, Bool, true, false, List, [], ◌∷◌, length, map, Bor, Result, Ok, Err, Option, inl, inr, codes, refl, sym, ◌∙◌, ap, subst, arith}
+-- How a run ends, by its words.
+use Rattle.std.proofs.Common.{◌≡◌, ℕ, List, [], ◌∷◌, Option, Some, None, option_map, Result, Ok, Err, refl, sym, ◌∙◌, ap, ◌≤◌, Bool, true, false, length, map, Bor, inl, inr, codes, subst, arith, if◌then◌else◌}
+use Rattle.ports_core.specs.declared.fault.Fault.{Fault}
+use Rattle.ports_core.specs.declared.tool.Tool.{Tool}
+use Rattle.words_core.specs.declared.settings.Settings.{Settings}
+use Rattle.words_core.specs.declared.settings.Settings.TheVariants.{Tail, Split, Csplit, Head, Tee}
+use Rattle.words_core.specs.CsplitWords.{csplit_asked, HasBadOperand}
+use Rattle.words_core.specs.Given.{Given}
+use Rattle.words_core.specs.Spelling.{given_by, IsRefused}
+use Rattle.words_core.specs.SplitWords.{split_asked}
+use Rattle.words_core.specs.Value.{then_check}
+use Rattle.words_core.specs.TailWords.{tail_asked}
+use Rattle.words_core.specs.Table.{ToolRow, row_named, tools}
+use Rattle.words_core.specs.Words.{settings_for, settings_of, tool_settings, CanRun, HasBadOperands, follows, looks}
+use Rattle.tools_core.specs.Outcome.{speaker, or_cutters, CsplitEndsAs, DoesAsked, RefusesFor, RunEnds, RunEndsAt, TeeEndsAs, names_at, names_read}
+use Rattle.tools_core.specs.Tasks.{tool_of, csplit_task, head_task, tail_task, split_task, names_of, has_headers}
+use Rattle.words_core.proofs.LimitLemmas.{read-can}
 use Rattle.std.proofs.lemmas.Bool.{false≢true}
-use Rattle.ports_core.specs.Slot.{Slot}
+use Rattle.ports_core.specs.Slot.{Slot, changed_at, slot_at, streams}
 use Rattle.ports_core.specs.Source.{Content, Source, source_at, IsFresh}
 use Rattle.ports_core.specs.Text.{message_of}
-use Rattle.ports_core.specs.Message.{Says}
-use Rattle.ports_core.specs.declared.fault.Fault.{Fault}
-use Rattle.ports_core.specs.declared.fault.Fault.TheVariants.{Memory}
+use Rattle.ports_core.specs.Message.{Says, SaysOn}
+use Rattle.ports_core.specs.declared.fault.Fault.TheVariants.{Memory, Usage}
 use Rattle.ports_core.specs.declared.slot.Mode.{Mode}
-use Rattle.ports_core.specs.declared.tool.Tool.{Tool}
-use Rattle.ports_core.specs.declared.tool.Tool.TheVariants as tool
 use Rattle.ports_core.specs.Inputs.{BreaksOnly, KeepsOthers, OfContent, empty}
 use Rattle.run_core.specs.Input.{Input, World, Finds, standard_input}
 use Rattle.run_core.specs.Reading.{count_after}
@@ -21,22 +33,73 @@ use Rattle.run_core.proofs.NamesLemmas.{none_touched}
 use Rattle.seg_core.specs.declared.count.Count.{Count}
 use Rattle.seg_core.specs.declared.unit.Unit.{Unit as Counted}
 use Rattle.tee_core.specs.Run.{IsUnread, all_copied, EndsAs as TeeCopies}
-use Rattle.tee_core.specs.Run as copies
 use Rattle.words_core.specs.EndsAsked.{EndsAsked}
-use Rattle.words_core.specs.Spelling.{IsRefused}
 use Rattle.words_core.specs.CsplitAsked.{CsplitAsked}
-use Rattle.words_core.specs.CsplitWords.{HasBadOperand}
 use Rattle.words_core.specs.TeeAsked.{TeeAsked}
 use Rattle.operand_core.specs.Reading.{Asks, no_memory}
-use Rattle.operand_core.specs.declared.operand_fault.OperandFaultKind.TheVariants as kind
 use Rattle.operand_core.specs.declared.operand.Operand.{Operand}
 use Rattle.words_core.specs.declared.settings.Headers.{Headers}
-use Rattle.words_core.specs.declared.settings.Settings.{Settings}
-use Rattle.words_core.specs.declared.settings.Settings.TheVariants.{Head, Tail, Split, Csplit, Tee}
-use Rattle.words_core.specs.Words.{HasBadOperands, settings_of}
-use Rattle.tools_core.specs.Outcome.{CsplitEndsAs, DoesAsked, RefusesFor, RunEnds, RunEndsAt, TeeEndsAs, names_at, names_read, speaker}
-use Rattle.tools_core.specs.Tasks.{csplit_task, head_task, tail_task, split_task, names_of, tool_of}
-use Rattle.tools_core.proofs.SpeakerLemmas.{runs_as_named}
+use Rattle.ports_core.specs.declared.fault.UsageKind.TheVariants.{BadFollow}
+use Rattle.watch_core.specs.Snapshot.{Snapshot}
+use Rattle.watch_core.specs.Watched.{Watched}
+use Rattle.follow_core.specs.declared.start.Start.{Start}
+use Rattle.follow_core.specs.Ending.{FollowEndsAs, no_room as no_room_yet}
+use Rattle.follow_core.specs.Look.{ways_of}
+use Rattle.words_core.specs.declared.value.Followed.{Followed}
+use Rattle.tools_core.specs.Following.{FollowingEnds, FollowingEndsAt, FollowsAs, FollowsTail, is_name, start_of}
+use Rattle.tools_core.specs.Program.{ProgramEnds, ProgramEndsAt, looks_at}
+use Rattle.ports_core.specs.declared.tool.Tool.TheVariants as tool
+use Rattle.tee_core.specs.Run as copies
+use Rattle.operand_core.specs.declared.operand_fault.OperandFaultKind.TheVariants as kind
+
+-- The tool that runs is the one that the words name.
+
+tool_in : Result Settings Fault → Tool
+tool_in (Ok settings) = tool_of settings
+tool_in (Err fault) = tool.Cutters
+
+-- what is asked of a tool that may find more wrong with it
+by_check : {A : Type 0} (which : Tool) (make : A → Settings) → ((asked : A) → tool_of (make asked) ≡ which) → (asked : Result A Fault) (settings : Settings) → then_check asked (λ those. Ok (make those)) ≡ Ok settings → which ≡ tool_of settings
+unfolding tool_in
+by_check which make same (Ok asked) settings is = sym (same asked) ∙ ap tool_in is
+by_check which make same (Err fault) settings is = absurd (cc)
+
+by_tool : (which : Tool) (given : Given) (settings : Settings) → settings_for which given ≡ Ok settings → which ≡ tool_of settings
+unfolding tool_in
+by_tool tool.Head given settings is = ap tool_in is
+by_tool tool.Tail given settings is = by_check tool.Tail (λ asked. Tail asked) (λ asked. refl) (tail_asked given) settings is
+by_tool tool.Split given settings is = by_check tool.Split (λ asked. Split asked) (λ asked. refl) (split_asked given) settings is
+by_tool tool.Csplit given settings is = by_check tool.Csplit (λ asked. Csplit asked) (λ asked. refl) (csplit_asked given) settings is
+by_tool tool.Tee given settings is = ap tool_in is
+by_tool tool.Cutters given settings is = absurd (cc)
+
+by_given : (which : Tool) (given : Result Given Fault) (settings : Settings) → then_check given (settings_for which) ≡ Ok settings → which ≡ tool_of settings
+by_given which (Ok given) settings is = by_tool which given settings is
+by_given which (Err fault) settings is = absurd (cc)
+
+named : (row : Option ToolRow) (words : List (List ℕ)) (settings : Settings) → tool_settings words row ≡ Ok settings → or_cutters (option_map (λ row. row.tool) row) ≡ tool_of settings
+named (Some row) words settings is = by_given row.tool (given_by row words) settings is
+named None words settings is = absurd (cc)
+
+pub runs_as_named : (words : List (List ℕ)) (settings : Settings) → settings_of words ≡ Ok settings → speaker words ≡ tool_of settings
+runs_as_named [] settings is = absurd (cc)
+runs_as_named (name ∷ words) settings is = named (row_named tools name) words settings is
+
+-- What words ask for can be done.
+
+can_given : (row : ToolRow) (words : List (List ℕ)) (settings : Settings) (given : Result Given Fault) → given_by row words ≡ given → then_check given (settings_for row.tool) ≡ Ok settings → CanRun settings
+can_given row words settings (Ok given) read is = read-can row words given row.tool (Ok settings) read is
+can_given row words settings (Err fault) read is = absurd (cc)
+
+can_tool : (words : List (List ℕ)) (settings : Settings) (row : Option ToolRow) → tool_settings words row ≡ Ok settings → CanRun settings
+can_tool words settings (Some row) is = can_given row words settings (given_by row words) refl is
+can_tool words settings None is = absurd (cc)
+
+pub can_run : (words : List (List ℕ)) (settings : Settings) → settings_of words ≡ Ok settings → CanRun settings
+can_run [] settings is = absurd (cc)
+can_run (name ∷ words) settings is = can_tool words settings (row_named tools name) is
+
+-- Lemmas on how a run ends, by its words.
 
 pub tool_runs : (told_in told : Bool) (world : World) (words : List (List ℕ)) (settings : Settings) (old sources : List Source) (new : List Slot) (status : ℕ) → settings_of words ≡ Ok settings
     → RunsOver told_in world (names_of settings) (λ found. DoesAsked told_in told settings found sources new status)
@@ -197,3 +260,74 @@ counts_by count words settings is few = subst (λ (meant : Result Settings Fault
 
 pub counts_for : (count : ℕ) (settings same : Settings) (names : List (List ℕ)) → settings ≡ same → names ≡ names_of same → count ≤ count_after 1 names → count ≤ count_after 1 (names_of settings)
 counts_for count settings same names is named few = subst (λ those. count ≤ count_after 1 (names_of those)) (sym is) (subst (λ those. count ≤ count_after 1 those) named few)
+
+-- Lemmas on how a run that follows ends, by its words.
+
+-- what is followed is what the settings ask for
+pub follows_as : (told_in told : Bool) (asked : EndsAsked) (followed : Followed) (by_name : Bool) (start : Start) (headers : Bool) (names : List (List ℕ)) (looks : ℕ) (shows : ℕ → Snapshot) (first : List Slot) (seen : List Snapshot) (watched : List Watched) (new : List Slot) (status : ℕ)
+    → by_name ≡ is_name followed → start ≡ start_of asked → headers ≡ has_headers asked.headers asked.names → names ≡ asked.names → first ≡ streams
+    → FollowEndsAs told_in told (ways_of 0 by_name start) headers names looks shows first seen watched new status → FollowsAs told_in told asked followed looks shows seen watched new status
+follows_as told_in told asked followed by_name start headers names looks shows first seen watched new status name_is start_is headers_are names_are first_is ends =
+    subst (λ b. F b (start_of asked) (has_headers asked.headers asked.names) asked.names streams) name_is
+    (subst (λ (s : Start). F by_name s (has_headers asked.headers asked.names) asked.names streams) start_is
+    (subst (λ h. F by_name start h asked.names streams) headers_are
+    (subst (λ n. F by_name start headers n streams) names_are
+    (subst (λ f. F by_name start headers names f) first_is ends)))) where
+      F : Bool → Start → Bool → List (List ℕ) → List Slot → Type 0
+      F b s h n f = FollowEndsAs told_in told (ways_of 0 b s) h n looks shows f seen watched new status
+
+-- words that weren't read for want of memory, where they ask for this
+
+says_at : (told : Bool) (words : List (List ℕ)) (new : List Slot) (status : ℕ) → speaker words ≡ tool.Tail → RefusesFor told words Memory new status → SaysOn told tool.Tail (message_of tool.Tail Memory []) streams new
+says_at told words new status speaks refuses output error since are = (
+  refuses.error,
+  subst (λ slot. Says told tool.Tail (message_of tool.Tail Memory []) slot refuses.error) (ap (λ slots. slot_at slots 1) are)
+      (subst (λ (which : Tool). Says told which (message_of which Memory []) standard_error refuses.error) speaks refuses.says),
+  refuses.slots ∙ ap (changed_at 1 (λ _. refuses.error)) are,
+)
+
+unread : (told_in told : Bool) (words : List (List ℕ)) (asked : EndsAsked) (followed : Option Followed) (looks : ℕ) (shows : ℕ → Snapshot) (seen : List Snapshot) (watched : List Watched) (new : List Slot) (status : ℕ) → speaker words ≡ tool.Tail → seen ≡ [] → watched ≡ [] → RefusesFor told words Memory new status → FollowsTail told_in told words asked followed looks shows seen watched new status
+unread told_in told words asked (Some followed) looks shows seen watched new status speaks unseen unwatched refuses = no_room_yet unseen unwatched (says_at told words new status speaks refuses) refuses.failed
+unread told_in told words asked None looks shows seen watched new status speaks unseen unwatched refuses = (unseen, unwatched, refused_memory told words (Usage BadFollow 0) new status refuses)
+
+unread_files : (told_in told : Bool) (words : List (List ℕ)) (meant : Result Settings Fault) (looks : ℕ) (shows : ℕ → Snapshot) (seen : List Snapshot) (watched : List Watched) (new : List Slot) (status : ℕ) → settings_of words ≡ meant → seen ≡ [] → watched ≡ [] → RefusesFor told words Memory new status → FollowingEndsAt told_in told words looks shows seen watched new status meant
+unread_files told_in told words (Ok (Tail asked)) looks shows seen watched new status is unseen unwatched refuses = unread told_in told words asked.ends asked.followed looks shows seen watched new status (runs_as_named words (Tail asked) is) unseen unwatched refuses
+unread_files told_in told words (Ok (Csplit asked)) looks shows seen watched new status is unseen unwatched refuses = inr (unseen, unwatched, (Memory, lacks_memory asked, refuses))
+unread_files told_in told words (Ok asked) looks shows seen watched new status is unseen unwatched refuses = inl (tt, (unseen, unwatched, refused_memory told words (Usage BadFollow 0) new status refuses))
+unread_files told_in told words (Err fault) looks shows seen watched new status is unseen unwatched refuses = (unseen, unwatched, refused_memory told words fault new status refuses)
+
+-- operands that can't be read
+operands_unread : (told_in told : Bool) (words : List (List ℕ)) (settings : Settings) (fault : Fault) (looks : ℕ) (shows : ℕ → Snapshot) (seen : List Snapshot) (watched : List Watched) (new : List Slot) (status : ℕ) → HasBadOperands settings fault → seen ≡ [] → watched ≡ [] → RefusesFor told words fault new status → FollowingEndsAt told_in told words looks shows seen watched new status (Ok settings)
+operands_unread told_in told words (Csplit asked) fault looks shows seen watched new status bad unseen unwatched refuses = inr (unseen, unwatched, (fault, bad, refuses))
+operands_unread told_in told words asked fault looks shows seen watched new status bad unseen unwatched refuses = absurd bad
+
+pub refused_words : (told_in told : Bool) (words : List (List ℕ)) (fault : Fault) (looks : ℕ) (shows : ℕ → Snapshot) (seen : List Snapshot) (watched : List Watched) (new : List Slot) (status : ℕ) → IsRefused HasBadOperands (settings_of words) fault → seen ≡ [] → watched ≡ [] → RefusesFor told words fault new status → FollowingEnds told_in told words looks shows seen watched new status
+refused_words told_in told words fault looks shows seen watched new status (inr (inl is)) unseen unwatched refuses = subst (λ (meant : Result Settings Fault). FollowingEndsAt told_in told words looks shows seen watched new status meant) (sym is) (unseen, unwatched, refuses)
+refused_words told_in told words fault looks shows seen watched new status (inr (inr (settings, is, bad))) unseen unwatched refuses =
+    subst (λ (meant : Result Settings Fault). FollowingEndsAt told_in told words looks shows seen watched new status meant) (sym is) (operands_unread told_in told words settings fault looks shows seen watched new status bad unseen unwatched refuses)
+refused_words told_in told words fault looks shows seen watched new status (inl is) unseen unwatched refuses =
+    unread_files told_in told words (settings_of words) looks shows seen watched new status refl unseen unwatched (subst (λ why. RefusesFor told words why new status) is refuses)
+
+-- Which of both runs the words ask for.
+
+-- what the words ask for was followed
+pub program_follows : (told_in told_watched told : Bool) (words : List (List ℕ)) (settings : Settings) (laid : ℕ → List ℕ → Option Content) (sources : List Source) (shows : ℕ → Snapshot) (seen : List Snapshot) (watched : List Watched) (new : List Slot) (status : ℕ) → settings_of words ≡ Ok settings → follows settings ≡ true
+    → FollowingEndsAt told_watched told words (looks settings) shows seen watched new status (Ok settings) → ProgramEnds told_in told_watched told words laid sources sources shows seen watched new status
+program_follows told_in told_watched told words settings laid sources shows seen watched new status is asked ends =
+    subst (λ (which : Option ℕ). ProgramEndsAt told_in told_watched told words laid sources sources shows seen watched new status which) (sym (ap looks_at is ∙ ap (λ b. if b then Some (looks settings) else None) asked))
+    (refl, subst (λ (meant : Result Settings Fault). FollowingEndsAt told_watched told words (looks settings) shows seen watched new status meant) (sym is) ends)
+
+-- their tool ran over its inputs
+pub program_runs : (told_in told_watched told : Bool) (words : List (List ℕ)) (settings : Settings) (laid : ℕ → List ℕ → Option Content) (sources sources_new : List Source) (shows : ℕ → Snapshot) (seen : List Snapshot) (watched : List Watched) (new : List Slot) (status : ℕ) → settings_of words ≡ Ok settings → follows settings ≡ false → seen ≡ [] → watched ≡ []
+    → RunsOver told_in (world_of laid sources) (names_of settings) (λ found. DoesAsked told_in told settings found sources_new new status) → ProgramEnds told_in told_watched told words laid sources sources_new shows seen watched new status
+program_runs told_in told_watched told words settings laid sources sources_new shows seen watched new status is asked unseen unwatched does =
+    subst (λ (which : Option ℕ). ProgramEndsAt told_in told_watched told words laid sources sources_new shows seen watched new status which) (sym (ap looks_at is ∙ ap (λ b. if b then Some (looks settings) else None) asked))
+    (unseen, unwatched, tool_runs told_in told (world_of laid sources) words settings sources sources_new new status is does)
+
+-- what words leave that are refused, whichever run they ask for
+pub program_refuses : (told_in told_watched told : Bool) (words : List (List ℕ)) (laid : ℕ → List ℕ → Option Content) (sources : List Source) (shows : ℕ → Snapshot) (seen : List Snapshot) (watched : List Watched) (fault : Fault) (new : List Slot) (status : ℕ) → IsFresh sources → seen ≡ [] → watched ≡ [] → IsRefused HasBadOperands (settings_of words) fault → RefusesFor told words fault new status
+    → ProgramEnds told_in told_watched told words laid sources sources shows seen watched new status
+program_refuses told_in told_watched told words laid sources shows seen watched fault new status fresh unseen unwatched refused refuses = by (looks_at (settings_of words)) where
+  by : (asked : Option ℕ) → ProgramEndsAt told_in told_watched told words laid sources sources shows seen watched new status asked
+  by (Some looks) = (refl, refused_words told_watched told words fault looks shows seen watched new status refused unseen unwatched refuses)
+  by None = (unseen, unwatched, refused_or_memory told_in told laid sources words fault new status fresh refused refuses)

@@ -29,7 +29,7 @@ use Rattle.tools_core.specs.Tasks.{csplit_task, head_task, split_task, tail_task
 use Rattle.tools_core.specs.Promises.{Completes, Does, FindAlike, IsAlike, IsCopied, IsUnstopped, LeaveAlike, Run, SaysLines, Unstopped}
 use Rattle.tools_core.proofs.BeginLemmas.{slots_at}
 use Rattle.tools_core.proofs.PromiseLemmas.{did, well_done}
-use Rattle.tools_core.proofs.TeePromises.{bytes_at}
+use Rattle.tools_core.proofs.EndsPromises.{bytes_at}
 use Rattle.tools_core.proofs.ToldLemmas.{input_are, inputs_are}
 use Rattle.run_core.proofs.StopLemmas.{swept_error}
 

@@ -41,7 +41,7 @@ use Rattle.words_core.specs.SplitAsked.{SplitAsked}
 use Rattle.words_core.specs.SplitWords.{CanSplit, IsInLimits}
 use Rattle.tools_core.specs.Tasks.{naming_of, split_task}
 use Rattle.tools_core.specs.Promises.{Run, Does, HasInput, AreInOrder, AreListed, ArePieces, AreLinePieces, AreUncut, AreDealt, EndsLine, IsFilled, IsSound, contents_of, files_of, text_at}
-use Rattle.tools_core.proofs.CanLemmas.{can_run}
+use Rattle.tools_core.proofs.RunLemmas.{can_run}
 use Rattle.tools_core.proofs.PromiseLemmas.{did_one, one_done, slot_of}
 use Rattle.split_core.proofs.ShareLaws.{bytes_of_shares}
 

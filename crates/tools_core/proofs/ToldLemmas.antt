@@ -30,7 +30,7 @@ use Rattle.tools_core.specs.Outcome as outcome
 use Rattle.tools_core.specs.Tasks.{csplit_task, head_task, split_task, tail_task, tool_of}
 use Rattle.tools_core.specs.Promises.{IsCalled, IsTold, Ran, Run, SaysLines, failing}
 use Rattle.tools_core.proofs.PromiseLemmas.{ran_over}
-use Rattle.tools_core.proofs.SpeakerLemmas.{runs_as_named}
+use Rattle.tools_core.proofs.RunLemmas.{runs_as_named}
 
 -- One of the lines
 

@@ -1,6 +1,5 @@
 use Rattle.std.proofs.Common.{Bor, ℕ, List, map}
-use Rattle.tools_core.proofs.FollowingLemmas.{follows_as}
-use Rattle.tools_core.proofs.RunLemmas.{ends_names}
+use Rattle.tools_core.proofs.RunLemmas.{follows_as, ends_names}
 use Rattle.tools_core.proofs.follow.follow_tail.Goals as goal
 
 pub returns : goal.returns

@@ -5,8 +5,7 @@ use Rattle.run_core.proofs.NamesLemmas.{fresh_counts}
 use Rattle.run_core.specs.Input.{has_dash}
 use Rattle.tools_core.specs.Following.{FollowingEndsAt}
 use Rattle.tools_core.specs.Outcome.{names_at, names_read}
-use Rattle.tools_core.proofs.ProgramLemmas.{program_follows, program_refuses, program_runs}
-use Rattle.tools_core.proofs.RunLemmas.{asked_or_none, counts_by}
+use Rattle.tools_core.proofs.RunLemmas.{program_follows, program_refuses, program_runs, asked_or_none, counts_by}
 use Rattle.tools_core.proofs.program.run_words.Goals as goal
 
 -- files are followed

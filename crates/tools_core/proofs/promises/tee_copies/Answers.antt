@@ -1,4 +1,4 @@
-use Rattle.tools_core.proofs.TeePromises.{is_copied}
+use Rattle.tools_core.proofs.EndsPromises.{is_copied}
 use Rattle.tools_core.proofs.promises.tee_copies.Goals as goal
 
 pub returns-clause-output : goal.returns-clause-output

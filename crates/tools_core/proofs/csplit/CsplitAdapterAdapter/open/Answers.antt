@@ -1,8 +1,7 @@
 use Rattle.std.proofs.Common.{◌∙◌, refl, ap}
 use Rattle.ports_core.proofs.HandedOn.{fault_is}
 use Rattle.words_core.specs.CsplitAsked.{CsplitAsked}
-use Rattle.tools_core.proofs.CsplitLemmas.{csplit_opened, csplit_short}
-use Rattle.tools_core.proofs.AdapterLemmas.{no_memory}
+use Rattle.tools_core.proofs.AdapterLemmas.{csplit_opened, csplit_short, no_memory}
 use Rattle.tools_core.proofs.csplit.CsplitAdapterAdapter.open.Goals as goal
 
 pub returns-in_err-style-clause-err : goal.returns-in_err-style-clause-err
