@@ -34,7 +34,7 @@ use Rattle.run_core.specs.Feeding.{HasAll, IsCall, Step, enough, to_end, opens, 
 use Rattle.run_core.specs.Input.{Input}
 use Rattle.run_core.specs.RunEnds.{EndsAs, RunStep, as_defined, calling, heading, no_room, stopped}
 use Rattle.run_core.specs.Task.{Task, header_text}
-use Rattle.run_core.proofs.JoinedLemmas.{begins_after}
+use Rattle.run_core.proofs.StopLemmas.{begins_after}
 use Rattle.words_core.specs.SplitWords.{AreNamed}
 use Rattle.tools_core.specs.Promises.{BeginsAs}
 use Rattle.tools_core.proofs.PromiseLemmas.{ending, part_of, slot_of, slots_of, since_is, made_one}

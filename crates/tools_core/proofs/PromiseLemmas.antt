@@ -14,7 +14,7 @@ use Rattle.run_core.specs.Feeding.{is_enough}
 use Rattle.run_core.specs.Input.{Input, World, input_of, inputs_at, is_dash}
 use Rattle.run_core.specs.RunEnds.{EndsAs, as_defined, stopped, no_room}
 use Rattle.run_core.specs.Task.{Task, Outcome, after_part, header_text, joined, made_by, of_content, of_inputs, is_missing, verdict_messages}
-use Rattle.run_core.proofs.JoinedLemmas.{nothing_after}
+use Rattle.run_core.proofs.StopLemmas.{nothing_after}
 use Rattle.words_core.specs.declared.settings.Settings.{Settings}
 use Rattle.words_core.specs.Words.{settings_of}
 use Rattle.tools_core.specs.Outcome.{DoesAsked, RunEndsAt, RefusesOperands, names_at}

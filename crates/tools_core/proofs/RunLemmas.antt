@@ -29,7 +29,7 @@ use Rattle.run_core.specs.RunEnds.{EndsAs, no_room, RunsOver}
 use Rattle.ports_core.specs.Streams.{standard_error, streams_with}
 use Rattle.run_core.specs.RunSteps.{world_of}
 use Rattle.run_core.specs.Task.{Task}
-use Rattle.run_core.proofs.NamesLemmas.{none_touched}
+use Rattle.run_core.proofs.InputLemmas.{none_touched}
 use Rattle.seg_core.specs.declared.count.Count.{Count}
 use Rattle.seg_core.specs.declared.unit.Unit.{Unit as Counted}
 use Rattle.tee_core.specs.Run.{IsUnread, all_copied, EndsAs as TeeCopies}

@@ -6,10 +6,8 @@ use Rattle.ports_core.specs.Work.{Work, IsNeeded, IsSettled, IsSpare}
 use Rattle.ports_core.specs.Engine.{EndsWith}
 use Rattle.ports_core.proofs.SpareLemmas.{complete_used, spare_within}
 use Rattle.run_core.specs.Feeding.{Uses, enough, to_end}
-use Rattle.run_core.proofs.FeedingLemmas.{alike_itself, alike_used, judges, judging_of, broken_off, goes_on, stopped_feeding, ended, needed_more, piece_within, ends_sound, given_so}
+use Rattle.run_core.proofs.FeedingLemmas.{alike_itself, alike_used, judges, judging_of, broken_off, goes_on, stopped_feeding, ended, needed_more, piece_within, ends_sound, given_so, loaded_feeds, loaded_readable, loaded_others, loaded_read, loaded_needed, loaded_asked, back_readable, last_given, loaded_few, loaded_taken, needed_within, read_used, takes_more, takes_none, uses_all, uses_judged, uses_part}
 use Rattle.ports_core.proofs.InputsLemmas.{changed_source, sound_at, read_none_more, keeps_again, keeps_others, read_broken, of_content, still_readable, read_more, read_failed, read_to_end, asked_again, asked_at_end, broken_now}
-use Rattle.run_core.proofs.LoadLemmas.{loaded_feeds, loaded_readable, loaded_others, loaded_read, loaded_needed, loaded_asked}
-use Rattle.run_core.proofs.UsedLemmas.{back_readable, last_given, loaded_few, loaded_taken, needed_within, read_used, takes_more, takes_none, uses_all, uses_judged, uses_part}
 use Rattle.run_core.proofs.feeding.feed_input.Goals as goal
 
 -- what was taken in before the first piece

@@ -1,5 +1,5 @@
 use Rattle.std.proofs.Common.{◌∙◌}
-use Rattle.run_core.proofs.RunLemmas.{over_too, from_over, stop_open, ran_through, ran_into_as}
+use Rattle.run_core.proofs.InputLemmas.{over_too, from_over, stop_open, ran_through, ran_into_as}
 use Rattle.ports_core.proofs.Runs.{as_status}
 use Rattle.run_core.proofs.inputs.run_inputs.Goals as goal
 

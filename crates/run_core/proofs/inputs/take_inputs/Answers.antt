@@ -1,6 +1,6 @@
 use Rattle.std.proofs.Common.{◌∙◌, map, refl}
 use Rattle.ports_core.proofs.HandedOn.{handed_on}
-use Rattle.run_core.proofs.NamesLemmas.{fresh_counts, no_memory_first}
+use Rattle.run_core.proofs.InputLemmas.{fresh_counts, no_memory_first}
 use Rattle.ports_core.proofs.InputsLemmas.{fresh_asks}
 use Rattle.run_core.proofs.inputs.take_inputs.Goals as goal
 

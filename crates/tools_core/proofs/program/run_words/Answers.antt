@@ -1,7 +1,7 @@
 use Rattle.std.proofs.Common.{◌∙◌, Ok, Result, map, sym, ap, subst}
 use Rattle.ports_core.specs.declared.fault.Fault.{Fault}
 use Rattle.words_core.specs.declared.settings.Settings.{Settings}
-use Rattle.run_core.proofs.NamesLemmas.{fresh_counts}
+use Rattle.run_core.proofs.InputLemmas.{fresh_counts}
 use Rattle.run_core.specs.Input.{has_dash}
 use Rattle.tools_core.specs.Following.{FollowingEndsAt}
 use Rattle.tools_core.specs.Outcome.{names_at, names_read}

@@ -4,7 +4,7 @@ use Rattle.words_core.specs.declared.settings.Settings.{Settings}
 use Rattle.run_core.specs.Input.{has_dash}
 use Rattle.tools_core.specs.Outcome.{names_at, names_read}
 use Rattle.tools_core.proofs.RunLemmas.{tool_runs, refused_or_memory, asked_or_none, counts_by}
-use Rattle.run_core.proofs.NamesLemmas.{fresh_counts}
+use Rattle.run_core.proofs.InputLemmas.{fresh_counts}
 use Rattle.ports_core.proofs.InputsLemmas.{fresh_asks}
 use Rattle.tools_core.proofs.run.run.Goals as goal
 
