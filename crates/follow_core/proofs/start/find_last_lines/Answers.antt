@@ -2,7 +2,7 @@ use Rattle.std.proofs.Common.{◌≡◌, ◌∙◌, ◌-◌, ◌<◌, ap, arith,
 use Rattle.std.proofs.lemmas.Grind.{common_steps}
 use Rattle.watch_core.specs.Snapshot.{latest}
 use Rattle.watch_core.specs.Watched.{open_contents, watched_at}
-use Rattle.follow_core.proofs.StartLemmas.{all_wanted, begins_in, begins_last, block_read, room_kept, wanted_before}
+use Rattle.follow_core.proofs.StartLemmas.{contents_same, all_wanted, begins_in, begins_last, block_read, room_kept, wanted_before}
 use Rattle.follow_core.proofs.start.find_last_lines.Goals as goal
 
 pub loop-end-init : goal.loop-end-init
@@ -11,29 +11,25 @@ loop-end-init g c = grind (arith, common_steps)
 pub returns-in-Begins-clause-part : goal.returns-in-Begins-clause-part
 returns-in-Begins-clause-part g c told =
     let contents = open_contents (latest (g.W.Watch.seen c.args.watch.now)) (watched_at (g.W.Watch.watched c.args.watch.now) c.args.place) in
-    let now_contents = open_contents (latest (g.W.Watch.seen c.loop-end.watch)) (watched_at (g.W.Watch.watched c.loop-end.watch) c.args.place) in
-    let same : now_contents ≡ contents = ap (λ seen. open_contents (latest seen) (watched_at (g.W.Watch.watched c.loop-end.watch) c.args.place)) c.loop-end.invariant.seen ∙ ap (λ watched. open_contents (latest (g.W.Watch.seen c.args.watch.now)) (watched_at watched c.args.place)) c.loop-end.invariant.watched in
     let long : c.args.len ≡ length contents = c.requires.whole told in
     let more = c.loop-end-test.true in
     let within = c.loop-end.invariant.within in
     let size : c.min-size.result ≡ min c.loop-end.end (length c.loop-end.buffer) = c.min-size.ensures in
     begins_last contents (omega (arith, more, within, long)) (begins_in c.loop-end.end (c.loop-end.end - c.min-size.result) c.min-size.result contents
     (c.loop-end.invariant.lines told) (omega (arith, size)) (omega (arith, within, long))
-    (block_read c.loop-end.buffer c.read_block.new.block (c.loop-end.end - c.min-size.result) c.in_ok-n.n c.loop-end.end c.min-size.ensures c.in_ok-n.ensures.bound c.read_block.ensures.length same (c.in_ok-n.ensures.bytes told))
+    (block_read c.loop-end.buffer c.read_block.new.block (c.loop-end.end - c.min-size.result) c.in_ok-n.n c.loop-end.end c.min-size.ensures c.in_ok-n.ensures.bound c.read_block.ensures.length (contents_same c.args.place c.loop-end.invariant.seen c.loop-end.invariant.watched) (c.in_ok-n.ensures.bytes told))
     c.in-Begins.ensures)
 
 pub loop-end-preserved : goal.loop-end-preserved
 loop-end-preserved g c =
     let contents = open_contents (latest (g.W.Watch.seen c.args.watch.now)) (watched_at (g.W.Watch.watched c.args.watch.now) c.args.place) in
-    let now_contents = open_contents (latest (g.W.Watch.seen c.loop-end.watch)) (watched_at (g.W.Watch.watched c.loop-end.watch) c.args.place) in
-    let same : now_contents ≡ contents = ap (λ seen. open_contents (latest seen) (watched_at (g.W.Watch.watched c.loop-end.watch) c.args.place)) c.loop-end.invariant.seen ∙ ap (λ watched. open_contents (latest (g.W.Watch.seen c.args.watch.now)) (watched_at watched c.args.place)) c.loop-end.invariant.watched in
     let within = c.loop-end.invariant.within in
     let size : c.min-size.result ≡ min c.loop-end.end (length c.loop-end.buffer) = c.min-size.ensures in
     let fewer : c.in-Short.found < c.loop-end.wanted = c.in-Short.ensures.fewer in record {
       lines = λ told. let long : c.args.len ≡ length contents = c.requires.whole told in
           wanted_before c.args.count c.loop-end.end (c.loop-end.end - c.min-size.result) c.min-size.result contents
           (c.loop-end.invariant.lines told) (omega (arith, size)) (omega (arith, within, long))
-          (block_read c.loop-end.buffer c.read_block.new.block (c.loop-end.end - c.min-size.result) c.in_ok-n.n c.loop-end.end c.min-size.ensures c.in_ok-n.ensures.bound c.read_block.ensures.length same (c.in_ok-n.ensures.bytes told))
+          (block_read c.loop-end.buffer c.read_block.new.block (c.loop-end.end - c.min-size.result) c.in_ok-n.n c.loop-end.end c.min-size.ensures c.in_ok-n.ensures.bound c.read_block.ensures.length (contents_same c.args.place c.loop-end.invariant.seen c.loop-end.invariant.watched) (c.in_ok-n.ensures.bytes told))
           c.in-Short.ensures;
       some = omega (arith, fewer);
       within = omega (arith, within);

@@ -1,26 +1,22 @@
 use Rattle.std.proofs.Common.{◌≡◌, ◌∙◌, ◌-◌, ap, arith}
 use Rattle.watch_core.specs.Snapshot.{latest}
 use Rattle.watch_core.specs.Watched.{open_contents, watched_at}
-use Rattle.follow_core.proofs.StartLemmas.{block_read, passed_by, passed_in, room_kept}
+use Rattle.follow_core.proofs.StartLemmas.{contents_same, block_read, passed_by, passed_in, room_kept}
 use Rattle.follow_core.proofs.start.pass_lines.Goals as goal
 
 pub returns-in-Ends-clause-part : goal.returns-in-Ends-clause-part
 returns-in-Ends-clause-part g c told =
     let contents = open_contents (latest (g.W.Watch.seen c.args.watch.now)) (watched_at (g.W.Watch.watched c.args.watch.now) c.args.place) in
-    let now_contents = open_contents (latest (g.W.Watch.seen c.loop-at.watch)) (watched_at (g.W.Watch.watched c.loop-at.watch) c.args.place) in
-    let same : now_contents ≡ contents = ap (λ seen. open_contents (latest seen) (watched_at (g.W.Watch.watched c.loop-at.watch) c.args.place)) c.loop-at.invariant.seen ∙ ap (λ watched. open_contents (latest (g.W.Watch.seen c.args.watch.now)) (watched_at watched c.args.place)) c.loop-at.invariant.watched in
     passed_in c.loop-at.at c.min-size.result c.in-Ends.end contents
-    (block_read c.loop-at.buffer c.read_block.new.block c.loop-at.at c.in_ok-n.n (c.args.len - c.loop-at.at) c.min-size.ensures c.in_ok-n.ensures.bound c.read_block.ensures.length same (c.in_ok-n.ensures.bytes told))
+    (block_read c.loop-at.buffer c.read_block.new.block c.loop-at.at c.in_ok-n.n (c.args.len - c.loop-at.at) c.min-size.ensures c.in_ok-n.ensures.bound c.read_block.ensures.length (contents_same c.args.place c.loop-at.invariant.seen c.loop-at.invariant.watched) (c.in_ok-n.ensures.bytes told))
     c.in-Ends.ensures (c.loop-at.invariant.lines told)
 
 pub loop-at-preserved : goal.loop-at-preserved
 loop-at-preserved g c =
     let contents = open_contents (latest (g.W.Watch.seen c.args.watch.now)) (watched_at (g.W.Watch.watched c.args.watch.now) c.args.place) in
-    let now_contents = open_contents (latest (g.W.Watch.seen c.loop-at.watch)) (watched_at (g.W.Watch.watched c.loop-at.watch) c.args.place) in
-    let same : now_contents ≡ contents = ap (λ seen. open_contents (latest seen) (watched_at (g.W.Watch.watched c.loop-at.watch) c.args.place)) c.loop-at.invariant.seen ∙ ap (λ watched. open_contents (latest (g.W.Watch.seen c.args.watch.now)) (watched_at watched c.args.place)) c.loop-at.invariant.watched in
     let less = c.loop-at-test.true in record {
       lines = λ told. passed_by c.loop-at.at c.min-size.result contents
-          (block_read c.loop-at.buffer c.read_block.new.block c.loop-at.at c.in_ok-n.n (c.args.len - c.loop-at.at) c.min-size.ensures c.in_ok-n.ensures.bound c.read_block.ensures.length same (c.in_ok-n.ensures.bytes told))
+          (block_read c.loop-at.buffer c.read_block.new.block c.loop-at.at c.in_ok-n.n (c.args.len - c.loop-at.at) c.min-size.ensures c.in_ok-n.ensures.bound c.read_block.ensures.length (contents_same c.args.place c.loop-at.invariant.seen c.loop-at.invariant.watched) (c.in_ok-n.ensures.bytes told))
           c.in-Short.ensures (c.loop-at.invariant.lines told);
       seen = c.read_block.ensures.seen ∙ c.loop-at.invariant.seen;
       watched = c.in_ok-n.ensures.same ∙ c.loop-at.invariant.watched;
