@@ -246,9 +246,6 @@ contents_led told {snapshot} {old} {new} {place} seen can reopens is t =
     ∙ ap (open_contents snapshot) (opened_there old place can) ∙ contents_open snapshot (record (watched_at old place) { opened = reopens.file })
     ∙ ap (held_at snapshot) (reopens.leads t ∙ ap snapshot.leads is)
 
-pub past_zero : {contents : List ℕ} → bytes_past 0 contents ≡ contents
-past_zero = grind (arith, nat_tests)
-
 pub readable_there : (told : Bool) {snapshot : Snapshot} {old new : List Watched} {place : ℕ} {is_there : Bool} → Reopens told snapshot old new place is_there → is_there ≡ true → IsTrue (is_watchable old place) → IsTrue (is_readable new place)
 readable_there told {old} {place} reopens there can =
     ap (λ those. is_readable those place) reopens.names ∙ ap (λ (those : Watched). is_some those.opened && is_none those.failed) (opened_there old place can)
@@ -404,9 +401,6 @@ catches_none {told} {snapshot} {place} {name} {watched} none same = record {
   keeps = same;
 }
 
-pub catches_broken : {told_in told : Bool} {snapshot : Snapshot} {place : ℕ} {name : List ℕ} {position : ℕ} {watched watched_new : List Watched} {printer : PrinterState} {slots : List Slot} {why : Fault} → why ≡ fault.Read place → watched_new ≡ changed_at place (breaks why) watched → Catches told_in told snapshot place name position watched printer slots watched_new printer slots (Err (Broke why))
-catches_broken {told} {why} is broken = record { ends = λ last stands. broke_first; len = tt; keeps = (is, broken) }
-
 pub catches_untold : {told_in told : Bool} {snapshot : Snapshot} {place : ℕ} {name : List ℕ} {position : ℕ} {watched watched_new : List Watched} {printer : PrinterState} {slots : List Slot} {slots_new : List Slot} {id len : ℕ} {why : Fault} → watched_new ≡ watched → (watched_at watched place).opened ≡ Some id → (told_in ≡ true → len ≡ length (open_contents snapshot (watched_at watched place)))
     → Ends {T = ℕ} told_in told false printer name [] (lines_past name position len) slots printer slots_new (Err (Over why)) → Catches told_in told snapshot place name position watched printer slots watched_new printer slots_new (Err (Over why))
 catches_untold {told} {snapshot} {place} {position} {watched} {len} {why} same some long lines = record {
@@ -445,7 +439,7 @@ led_whole {told_in} told {name} {snapshot} {now} {new} {place} seen can reopens 
     let some : IsTrue (is_some (watched_at new place).opened) = ap is_some opened.1.file in
     let dues = dues_open name last (watched_at new place).opened now some opened.1 in
     due_as (λ t. (
-      sym dues.0 ∙ past_zero ∙ sym (contents_open now (watched_at new place)) ∙ contents_led told_in seen can reopens named t,
+      sym dues.0 ∙ (grind (arith, nat_tests)) ∙ sym (contents_open now (watched_at new place)) ∙ contents_led told_in seen can reopens named t,
       sym dues.1 ∙ no_line name 0 (length (held_at now (watched_at new place).opened)) (omega arith),
     )) (ends last (λ t. opened.1))
 

@@ -1,7 +1,7 @@
 use Rattle.std.proofs.Common.{◌∙◌, refl, sym, subst, ℕ, IsTrue, arith}
 use Rattle.std.proofs.lemmas.Grind.{common_steps}
 use Rattle.watch_core.specs.Watched.{is_readable}
-use Rattle.follow_core.proofs.CallLemmas.{catches_broken, catches_copied, catches_none, catches_untold, readable_open, ends_can}
+use Rattle.follow_core.proofs.CallLemmas.{broke_first, catches_copied, catches_none, catches_untold, readable_open, ends_can}
 use Rattle.follow_core.proofs.StartLemmas.{contents_same}
 use Rattle.follow_core.proofs.visitor.Visitor.catch_up.Goals as goal
 
@@ -12,7 +12,7 @@ pub open_len-requires : goal.open_len-requires
 open_len-requires g c = readable_open (g.W.Watch.watched c.args.watch.now) c.args.place (sym c.open_id.ensures ∙ c.in-Some.is) c.requires.watchable
 
 pub returns-in-Err-clause-catches : goal.returns-in-Err-clause-catches
-returns-in-Err-clause-catches g c = catches_broken c.in-Err.ensures.err.0 c.in-Err.ensures.err.1
+returns-in-Err-clause-catches g c = record { ends = λ last stands. broke_first; len = tt; keeps = (c.in-Err.ensures.err.0, c.in-Err.ensures.err.1) }
 
 pub returns-in-Err-begin_at-clause-catches : goal.returns-in-Err-begin_at-clause-catches
 returns-in-Err-begin_at-clause-catches g c = catches_untold c.in-Ok.ensures.same (sym c.open_id.ensures ∙ c.in-Some.is) c.in-Ok.ensures.ok (c.in-Err-begin_at.ensures.ends g.W.Watch.told c.args.self.now)
