@@ -343,9 +343,6 @@ read_used {slot} {sources} spare read took can is =
     read.bytes ∙ ap (λ those. those ++ (source_at sources slot).left.bytes) spare.joined ∙ append_assoc spare.used spare.rest (source_at sources slot).left.bytes
     ∙ ap (λ those. spare.used ++ those) (sym (left_after spare took can is))
 
-pub back_readable : (slot n : ℕ) (sources : List Source) {new : List Source} → new ≡ changed_at slot (gets_back n) sources → IsTrue (is_readable sources slot) → IsTrue (is_readable new slot)
-back_readable slot n sources {new} is can = ap (λ (source : Source). source.is_open && not source.is_broken) (changed_source slot (gets_back n) sources new can is) ∙ can
-
 -- one byte at the most is a piece
 pub needed_within : (is_complete : List ℕ → Bool) (most : ℕ) (x : List ℕ) → 0 < most → IsNeeded is_complete 1 x → IsNeeded is_complete most x
 needed_within is_complete most x room (inl none) = inl none

@@ -43,9 +43,6 @@ use Rattle.ports_core.specs.Source as from
 
 -- headers
 
-pub no_header : (told : Bool) {text : List ℕ} {old : List Slot} {fault : Fault} → fault ≡ Memory → HeaderFails told text old old fault
-no_header told {text} {old} is = subst (HeaderFails told text old old) (sym is) (no_room refl)
-
 pub broken_header : (told : Bool) {text said : List ℕ} {old new : List Slot} {n : ℕ} → said ≡ text → BrokeAfter told old new 0 said n → HeaderFails told text old new (Write 0)
 broken_header told {old} {new} {n} is cut = broke n (subst (λ bytes. BrokeAfter told old new 0 bytes n) is cut)
 
@@ -78,9 +75,6 @@ from_source told None sources A B Q more (one, two) = more _ one two
 from_source told (Some slot) sources A B Q more (content, there, both) = more content both.0 both.1
 
 -- what is made of an input, by how it ends
-
-breaks_short : (work : Work) (content : Content) → content.breaks_off ≡ true → work.is_complete content.bytes ≡ false → is_enough work content ≡ false
-breaks_short work content breaks going = ap (λ (b : Bool). not b || work.is_complete content.bytes) breaks ∙ going
 
 made_well : (task : Task) (is_first : Bool) (name : List ℕ) (content : Content) → is_enough task.work content ≡ true → task.work.verdict content.bytes ≡ None
     → of_content task is_first name (Some content) ≡ record { part = after_part (only_out (header_text task.with_header is_first name)) (task.work.whole content.bytes); messages = []; failed = false; sweeps = false }
@@ -143,7 +137,8 @@ module _ (told_in told : Bool) (task : Task) (most : ℕ) (is_first : Bool) (nam
   took_well done good (broke_off breaks going reached there swept) = absurd (elim good [ inl is ↦ cc | inr is ↦ cc ])
 
   pub took_broken : {content : Content} {old new : List Slot} {fed : Fed} → IsDone told_in task.work most source (Some content) sources → fed ≡ Broken → FedAs told mid task.work task.opening most content (Leaves told_in content source sources) old (Ok fed) → SaysOn told task.tool (message_of task.tool (Read 0) name) old new → TookSo content new (Ok (record progress { is_first = false; failed = true }))
-  took_broken {content} {old} {new} done is (broke_off breaks going reached there swept) says = went_badly content _ _ reached old new done (made_short task is_first name content (breaks_short task.work content breaks going)) there swept says
+  took_broken {content} {old} {new} done is (broke_off breaks going reached there swept) says = went_badly content _ _ reached old new done (made_short task is_first name content
+      (ap (λ (b : Bool). not b || task.work.is_complete content.bytes) breaks ∙ going)) there swept says
   took_broken done is ends says = absurd (cc)
 
   pub took_verdict : {content : Content} {old new : List Slot} {fault : Fault} → IsDone told_in task.work most source (Some content) sources → is_verdict fault ≡ true → FedAs told mid task.work task.opening most content (Leaves told_in content source sources) old (Err fault) → SaysOn told task.tool (message_of task.tool fault (task.subject fault)) old new → TookSo content new (Ok (record progress { is_first = false; failed = true }))
@@ -361,9 +356,6 @@ of_no_room {told_in} told {task} progress {laid} {name} {sources} {so_far} error
 
 -- the loop over names
 
-joined_assoc : (a b c : Outcome) → joined a (joined b c) ≡ joined (joined a b) c
-joined_assoc a b c = simp (append_assoc, or_assoc)
-
 joined_nothing : {a : Outcome} → joined a no_outcome ≡ a
 joined_nothing = simp (append-nil, or-false)
 
@@ -503,7 +495,7 @@ walk_goes_on {told_in} told {task} {world} {names} {name} {left} {progress} {nex
             unswept = λ some. sweeps_one ∙ false_from_ne_true one.sweeps (λ sweeps. omega (arith, some, ap length (only sweeps).0));
             first = ap (λ (p : Progress). p.is_first) is ∙ ap (λ (b : Bool). b && is_missing input.content) walked.first ∙ sym (and_push are_missing (λ (one : Input). is_missing one.content) refl (λ one inputs. refl) walked.done input);
             rest_made = λ rest. ap (of_inputs task true) (append_assoc walked.done (input ∷ []) rest) ∙ walked.rest_made (input ∷ rest)
-                ∙ joined_assoc walked.made one (of_inputs task (progress.is_first && is_missing input.content) rest)
+                ∙ (simp (append_assoc, or_assoc))
                 ∙ ap (λ (b : Bool). joined (joined walked.made one) (of_inputs task b rest)) (sym (ap (λ (p : Progress). p.is_first) is));
             rest_are = λ rest are_rest. subst (AreFrom false 1 names) (sym (append_assoc walked.done (input ∷ []) rest))
                 (walked.rest_are (input ∷ rest) (is_for, subst (λ (b : Bool). AreFrom b (next_slot (length sources) name) left rest) was (subst (λ n. AreFrom next.was_read n left rest) opened_it are_rest)));
