@@ -1,5 +1,5 @@
 -- What a call on a name gives, by what the calls in it give: the open file, and where the name leads.
-use Rattle.std.proofs.Common.{◌≡◌, ℕ, ◌<◌, ◌≤◌, suc, nat_lt, Bool, true, false, List, [], ◌∷◌, ◌++◌, length, drop, Result, Ok, Err, refl, sym, ◌∙◌, ap, subst, arith, if◌then◌else◌, ◌==◌, zero, nat_le, not, ◌&&◌, IsTrue, map, Option, Some, None, IfOk, option_map, inl, inr}
+use Rattle.std.proofs.Common.{◌≡◌, ℕ, ◌<◌, ◌≤◌, suc, nat_lt, Bool, true, false, List, [], ◌∷◌, ◌++◌, length, drop, Result, Ok, Err, refl, sym, ◌∙◌, ap, subst, arith, if◌then◌else◌, ◌==◌, zero, nat_le, not, ◌&&◌, IsTrue, map, Option, Some, None, IfOk, option_map, inl, inr, subst₂}
 use Rattle.std.proofs.lemmas.Bool.{and_from, le-ltb, false≢true, lt-ltb, eqb-true, eq-eqb}
 use Rattle.std.proofs.lemmas.List.{append-nil, map-append}
 use Rattle.ports_core.specs.Slot.{Slot, is_open, changed_at, with_written}
@@ -18,7 +18,7 @@ use Rattle.follow_core.specs.Printing.{PrinterState, Short, no_room, broke as sh
 use Rattle.follow_core.specs.inner.Giving.{Shared, Ends, whole, broke, over}
 use Rattle.follow_core.specs.Sharing.{WroteShort, CanPrint}
 use Rattle.follow_core.specs.Share.{IsFront, Share}
-use Rattle.follow_core.specs.inner.Calls.{CanGoOn, HasStopped, Keeps, bytes_past, lines_past, held_at, Follows, bytes_led, change_between, lines_led, entry_open, bytes_again, bytes_open, lines_again, lines_open, Catches, Leads}
+use Rattle.follow_core.specs.inner.Calls.{CanGoOn, HasStopped, Keeps, bytes_past, lines_past, held_at, Follows, bytes_led, change_between, lines_led, entry_open, bytes_again, lines_again, Catches, Leads}
 use Rattle.follow_core.proofs.GiveLemmas.{tells_state, no_memory, gives_nothing, gives_line, halts_short, front_nil, stops_early, goes_after}
 use Rattle.ports_core.specs.declared.fault.Fault.{Fault}
 use Rattle.watch_core.specs.Watched.{Watched, breaks, no_name, Finds, Reopens, file_seen, is_readable, is_watchable, open_contents, opens, watched_at}
@@ -147,22 +147,6 @@ line_due name position len less = ap (λ t. if t then notice_of Truncated name �
 pub caught_bytes : (position : ℕ) {len from : ℕ} (contents : List ℕ) → len ≡ length contents → from ≡ (if nat_lt len position then 0 else position) → drop from contents ≡ bytes_past position contents
 caught_bytes position contents long is = grind (arith, nat_tests)
 
-pub caught : {told_in : Bool} (told : Bool) {printer after : PrinterState} {name contents : List ℕ} (copied : List ℕ) (position : ℕ) {len from : ℕ} {old mid new : List Slot} {result : Result ℕ Stop} → (told_in ≡ true → len ≡ length contents) → copied ≡ contents → from ≡ (if nat_lt len position then 0 else position)
-    → Ends {T = ℕ} told_in told false printer name [] (lines_past name position len) old printer mid (Ok from) → Ends {T = ℕ} told_in told false printer name (drop from copied) [] mid after new result
-    → Ends {T = ℕ} told_in told false printer name (bytes_past position contents) (lines_past name position (length contents)) old after new result
-caught told {name} {contents} copied position {from} long same is lines bytes =
-    due_as
-    (λ told. (ap (drop from) same ∙ caught_bytes position contents (long told) is, append-nil _ ∙ ap (lines_past name position) (long told)))
-    (goes_after lines bytes)
-
--- there was no memory for the line
-pub caught_none : {told_in : Bool} (told : Bool) {printer : PrinterState} {name : List ℕ} (contents : List ℕ) (position : ℕ) {len : ℕ} {old mid : List Slot} (why : Fault) → (told_in ≡ true → len ≡ length contents)
-    → Ends {T = ℕ} told_in told false printer name [] (lines_past name position len) old printer mid (Err (Over why))
-    → Ends {T = ℕ} told_in told false printer name (bytes_past position contents) (lines_past name position (length contents)) old printer mid (Err (Over why))
-caught_none told {name} contents position why long lines =
-    due_as
-    (λ told. (refl, append-nil _ ∙ ap (lines_past name position) (long told))) (stops_early (bytes_past position contents) [] lines)
-
 -- what following a name to where it leads gives
 
 -- nothing is due where nothing changed
@@ -210,12 +194,12 @@ pub reopens_as : (told : Bool) {seen seen_old : List Snapshot} {now old new : Li
 reopens_as told {seen} {old} {new} {place} {is_there} s w reopens = subst (λ those. Reopens told (latest those) old new place is_there) s (subst (λ those. Reopens told (latest seen) those new place is_there) w reopens)
 
 -- it was told, and then something else ended so
-pub ends_said : {told_in : Bool} (told : Bool) {printer after : PrinterState} {name due : List ℕ} (more : List (List ℕ)) (snapshot : Snapshot) (opened led : Option ℕ) {change : Notice} {old mid new : List Slot} {value : Unit {0}} {result : Result ℕ Stop} → (told_in ≡ true → change_between opened led ≡ Some change)
+pub ends_said : {told_in told : Bool} {printer after : PrinterState} {name due : List ℕ} (more : List (List ℕ)) (snapshot : Snapshot) (opened led : Option ℕ) {change : Notice} {old mid new : List Slot} {value : Unit {0}} {result : Result ℕ Stop} → (told_in ≡ true → change_between opened led ≡ Some change)
     → (told_in ≡ true → (due ≡ held_at snapshot led) × (more ≡ []))
     → Ends {T = Unit {0}} told_in told false printer name [] (notice_of change name ∷ []) old printer mid (Ok value)
     → Ends {T = ℕ} told_in told false printer name due more mid after new result
     → Ends {T = ℕ} told_in told false printer name (bytes_led snapshot opened led) (lines_led name snapshot opened led) old after new result
-ends_said told {name} more snapshot opened led {change} is dues line ends =
+ends_said {name} more snapshot opened led {change} is dues line ends =
     due_as
     (λ t. ((dues t).0 ∙ sym (change_led name snapshot opened led (is t)).0, ap (λ lines. notice_of change name ∷ lines) (dues t).1 ∙ sym (change_led name snapshot opened led (is t)).1))
     (goes_after line ends)
@@ -245,6 +229,9 @@ contents_led told {snapshot} {old} {new} {place} seen can reopens is t =
     ap (λ those. open_contents those (watched_at new place)) seen ∙ ap (λ those. open_contents snapshot (watched_at those place)) reopens.names
     ∙ ap (open_contents snapshot) (opened_there old place can) ∙ contents_open snapshot (record (watched_at old place) { opened = reopens.file })
     ∙ ap (held_at snapshot) (reopens.leads t ∙ ap snapshot.leads is)
+
+past_zero : {contents : List ℕ} → bytes_past 0 contents ≡ contents
+past_zero = grind (arith, nat_tests)
 
 pub readable_there : (told : Bool) {snapshot : Snapshot} {old new : List Watched} {place : ℕ} {is_there : Bool} → Reopens told snapshot old new place is_there → is_there ≡ true → IsTrue (is_watchable old place) → IsTrue (is_readable new place)
 readable_there told {old} {place} reopens there can =
@@ -277,12 +264,14 @@ change_seen told snapshot old now place name found id result is opened same name
 not_shorter : (p n : ℕ) → nat_le p n ≡ not (nat_lt n p)
 not_shorter p n = grind (arith, nat_tests)
 
--- the dues of a call that catches up, as the entry's
-pub dues_open : (name : List ℕ) (last : Entry) (opened : Option ℕ) (snapshot : Snapshot) {position : ℕ} → IsTrue (is_some opened) → StandsAt last opened position
-    → (bytes_past position (held_at snapshot opened) ≡ bytes_open last snapshot opened) × (lines_past name position (length (held_at snapshot opened)) ≡ lines_open name last snapshot opened)
-dues_open name last None snapshot some stands = absurd (false≢true some)
-dues_open name gap (Some file) snapshot some stands = absurd (none-some file (sym stands.file))
-dues_open name (version v) (Some file) snapshot some stands =
+-- what the open file has past what was seen of it is what its entry adds
+past_open : (name : List ℕ) (last : Entry) (opened : Option ℕ) (snapshot : Snapshot) {position : ℕ} → StandsAt last opened position
+    → (bytes_past position (held_at snapshot opened) ≡ gains_later last (entries_open snapshot opened))
+    × (lines_past name position (length (held_at snapshot opened)) ≡ map (λ notice. notice_of notice name) (notices_later last (entries_open snapshot opened)))
+past_open name gap None snapshot stands = rw stands.seen (refl, refl)
+past_open name (version v) None snapshot stands = absurd (none-some v.file stands.file)
+past_open name gap (Some file) snapshot stands = absurd (none-some file (sym stands.file))
+past_open name (version v) (Some file) snapshot stands =
     let same = eq-eqb v.file file (sym (same_Some file v.file stands.file)) in
     rw (stands.seen, same, not_shorter (length v.contents) (length held)) (by (nat_lt (length held) (length v.contents))) where
       held : List ℕ
@@ -293,12 +282,10 @@ dues_open name (version v) (Some file) snapshot some stands =
       by true = (sym (append-nil _), refl)
       by false = (sym (append-nil _), refl)
 
--- where none is open nothing is due, and nothing was seen
-none_due : (name : List ℕ) (last : Entry) (opened : Option ℕ) (snapshot : Snapshot) {position : ℕ} → opened ≡ None → StandsAt last opened position
-    → ([] ≡ bytes_open last snapshot opened) × ([] ≡ lines_open name last snapshot opened) × (position ≡ length (held_at snapshot opened))
-none_due name last (Some file) snapshot none stands = absurd (none-some file (sym none))
-none_due name (version v) None snapshot none stands = absurd (none-some v.file (stands.file))
-none_due name gap None snapshot none stands = (refl, refl, stands.seen)
+-- where none is open nothing was seen
+none_seen : (last : Entry) {opened : Option ℕ} {position : ℕ} → StandsAt last opened position → opened ≡ None → position ≡ 0
+none_seen gap stands none = stands.seen
+none_seen (version v) stands none = absurd (none-some v.file (sym none ∙ stands.file))
 
 -- after the open file comes where the name leads
 last_open : (last : Entry) (opened : Option ℕ) (snapshot : Snapshot) {position : ℕ} → StandsAt last opened position → last_from last (entries_open snapshot opened) ≡ entry_open snapshot opened
@@ -307,33 +294,33 @@ last_open gap None snapshot stands = refl
 last_open (version v) None snapshot stands = absurd (none-some v.file (stands.file))
 
 both_dues : (name : List ℕ) {last : Entry} {opened : Option ℕ} (snapshot : Snapshot) {position : ℕ} → StandsAt last opened position
-    → (bytes_open last snapshot opened ++ bytes_led snapshot opened (snapshot.leads name) ≡ bytes_again true name last snapshot opened)
-    × (lines_open name last snapshot opened ++ lines_led name snapshot opened (snapshot.leads name) ≡ lines_again true name last snapshot opened)
-both_dues name {last} {opened} snapshot stands = (
-  ap (λ entry. bytes_open last snapshot opened ++ gains_later entry (entries_led snapshot opened (snapshot.leads name))) (sym (last_open last opened snapshot stands))
-      ∙ sym (gains-append last (entries_open snapshot opened) (entries_led snapshot opened (snapshot.leads name))),
-  ap (λ entry. lines_open name last snapshot opened ++ map (λ notice. notice_of notice name) (notices_later entry (entries_led snapshot opened (snapshot.leads name)))) (sym (last_open last opened snapshot stands))
-      ∙ sym (map-append (λ notice. notice_of notice name) (notices_later last (entries_open snapshot opened)) (notices_later (last_from last (entries_open snapshot opened)) (entries_led snapshot opened (snapshot.leads name))))
-      ∙ sym (ap (map (λ notice. notice_of notice name)) (notices-append last (entries_open snapshot opened) (entries_led snapshot opened (snapshot.leads name)))),
-)
+    → (bytes_past position (held_at snapshot opened) ++ bytes_led snapshot opened (snapshot.leads name) ≡ bytes_again true name last snapshot opened)
+    × (lines_past name position (length (held_at snapshot opened)) ++ lines_led name snapshot opened (snapshot.leads name)
+    ≡ lines_again true name last snapshot opened)
+both_dues name {last} {opened} snapshot stands =
+    let (bytes, lines) = past_open name last opened snapshot stands in
+    let had = entries_open snapshot opened in
+    let led = entries_led snapshot opened (snapshot.leads name) in
+    let at = sym (last_open last opened snapshot stands) in (
+      ap (λ those. those ++ bytes_led snapshot opened (snapshot.leads name)) bytes ∙ ap (λ entry. gains_later last had ++ gains_later entry led) at
+          ∙ sym (gains-append last had led),
+      ap (λ those. those ++ lines_led name snapshot opened (snapshot.leads name)) lines
+          ∙ ap (λ entry. map (λ notice. notice_of notice name) (notices_later last had) ++ map (λ notice. notice_of notice name) (notices_later entry led)) at
+          ∙ sym (map-append (λ notice. notice_of notice name) (notices_later last had) (notices_later (last_from last had) led))
+          ∙ sym (ap (map (λ notice. notice_of notice name)) (notices-append last had led)),
+    )
 
 -- where names aren't followed only the open file gives anything
 open_dues : (name : List ℕ) (last : Entry) (opened : Option ℕ) (snapshot : Snapshot) {position : ℕ} → StandsAt last opened position
-    → (bytes_open last snapshot opened ≡ bytes_again false name last snapshot opened) × (lines_open name last snapshot opened ≡ lines_again false name last snapshot opened)
-open_dues name last (Some file) snapshot stands = (refl, refl)
-open_dues name gap None snapshot stands = (refl, refl)
+    → (bytes_past position (held_at snapshot opened) ≡ bytes_again false name last snapshot opened)
+    × (lines_past name position (length (held_at snapshot opened)) ≡ lines_again false name last snapshot opened)
+open_dues name last (Some file) snapshot stands = past_open name last (Some file) snapshot stands
+open_dues name gap None snapshot stands = past_open name gap None snapshot stands
 open_dues name (version v) None snapshot stands = absurd (none-some v.file (stands.file))
 
 keeps_follows : (T U : Type 0) (told by_name : Bool) (led : Option ℕ) (place : ℕ) (old new : List Watched) (stop : Stop) → Keeps {T = T} place old new (Err stop) → Follows {T = U} told by_name led place old new (Err stop)
 keeps_follows T U told by_name led place old new (Broke why) keeps = ((watched_at old place).opened, keeps.1 ∙ ap (changed_at place (breaks why)) (sym (opens_same old place)), inr keeps.0)
 keeps_follows T U told by_name led place old new (Over why) keeps = ((watched_at old place).opened, keeps ∙ sym (opens_same old place))
-
-ends_some : {told_in : Bool} (told : Bool) {printer after : PrinterState} {name contents : List ℕ} {last : Entry} {opened : Option ℕ} (snapshot : Snapshot) {position id : ℕ} {old new : List Slot} {result : Result ℕ Stop} → opened ≡ Some id → contents ≡ held_at snapshot opened → (told_in ≡ true → StandsAt last opened position)
-    → Ends {T = ℕ} told_in told false printer name (bytes_past position contents) (lines_past name position (length contents)) old after new result
-    → Ends {T = ℕ} told_in told false printer name (bytes_open last snapshot opened) (lines_open name last snapshot opened) old after new result
-ends_some told {name} {last} {opened} snapshot {position} some are stands =
-    due_as
-    (λ is. let due = dues_open name last opened snapshot (ap is_some some) (stands is) in (ap (bytes_past position) are ∙ due.0, ap (λ those. lines_past name position (length those)) are ∙ due.1))
 
 -- a look again at a name, before it is told what failed
 pub record LooksAgain (told_in told by_name : Bool) (snapshot : Snapshot) (place : ℕ) (name : List ℕ) (position : ℕ) (watched : List Watched) (printer : PrinterState) (slots : List Slot)
@@ -344,165 +331,168 @@ pub record LooksAgain (told_in told by_name : Bool) (snapshot : Snapshot) (place
   pub follows : Follows {T = ℕ} told_in by_name (open_after_look by_name name (watched_at watched place).opened snapshot) place watched watched_new result
 
 -- what stops catching up stops the look
-stopped_again : (by_name : Bool) {told_in : Bool} (told : Bool) {printer after : PrinterState} {name : List ℕ} {last : Entry} {opened : Option ℕ} (snapshot : Snapshot) {position : ℕ} {old new : List Slot} {stop : Stop} → (told_in ≡ true → StandsAt last opened position)
-    → Ends {T = ℕ} told_in told false printer name (bytes_open last snapshot opened) (lines_open name last snapshot opened) old after new (Err stop)
-    → Ends {T = ℕ} told_in told false printer name (bytes_again by_name name last snapshot opened) (lines_again by_name name last snapshot opened) old after new (Err stop)
-stopped_again true told {name} {last} {opened} snapshot stands ends =
-    due_as (λ is. both_dues name snapshot (stands is))
+stopped_again : (by_name : Bool) {told_in told : Bool} {printer after : PrinterState} {name : List ℕ} {last : Entry} {opened : Option ℕ} (snapshot : Snapshot)
+    {position : ℕ} {old new : List Slot} {stop : Stop} → (told_in ≡ true → StandsAt last opened position)
+    → Ends {T = ℕ} told_in told false printer name (bytes_past position (held_at snapshot opened))
+    (lines_past name position (length (held_at snapshot opened))) old after new (Err stop)
+    → Ends {T = ℕ} told_in told false printer name (bytes_again by_name name last snapshot opened) (lines_again by_name name last snapshot opened) old after
+    new (Err stop)
+stopped_again true {name} {opened} snapshot stands ends = due_as (λ is. both_dues name snapshot (stands is))
     (stops_early (bytes_led snapshot opened (snapshot.leads name)) (lines_led name snapshot opened (snapshot.leads name)) ends)
-stopped_again false told {name} {last} {opened} snapshot stands ends =
-    due_as (λ is. open_dues name last opened snapshot (stands is)) ends
-
-pub stopped_looks : {by_name : Bool} {told_in told : Bool} {snapshot : Snapshot} {place : ℕ} {name : List ℕ} {position : ℕ} {watched watched_new : List Watched} {printer after : PrinterState} {slots slots_new : List Slot} {stop : Stop}
-    → Catches told_in told snapshot place name position watched printer slots watched_new after slots_new (Err stop) → LooksAgain told_in told by_name snapshot place name position watched printer slots watched_new after slots_new (Err stop)
-stopped_looks {by_name} {told_in} {told} {snapshot} {place} {name} {watched} {watched_new} {stop} catches = record {
-  ends = λ last stands. stopped_again by_name told snapshot stands (catches.ends last stands);
-  len = tt;
-  follows = keeps_follows ℕ ℕ told_in by_name (open_after_look by_name name (watched_at watched place).opened snapshot) place watched watched_new stop catches.keeps;
-}
-
-pub caught_looks : {by_name : Bool} {told_in told : Bool} {snapshot : Snapshot} {place : ℕ} {name : List ℕ} {position : ℕ} {watched watched_new : List Watched} {printer after : PrinterState} {slots slots_new : List Slot} {len : ℕ} → by_name ≡ false
-    → Catches told_in told snapshot place name position watched printer slots watched_new after slots_new (Ok len) → LooksAgain told_in told by_name snapshot place name position watched printer slots watched_new after slots_new (Ok len)
-caught_looks {told_in} {told} {snapshot} {place} {name} {position} {watched} {watched_new} {printer} {after} {slots} {slots_new} {len} is catches =
-    subst (λ way. LooksAgain told_in told way snapshot place name position watched printer slots watched_new after slots_new (Ok len)) (sym is) (record {
-      ends = λ last stands. due_as
-          (λ t. open_dues name last (watched_at watched place).opened snapshot (stands t)) (catches.ends last stands);
-      len = catches.len;
-      follows = ((watched_at watched place).opened, catches.keeps ∙ sym (opens_same watched place), λ t. refl);
-    })
-
-pub led_looks : {by_name : Bool} {told_in told : Bool} {snapshot : Snapshot} {place : ℕ} {name : List ℕ} {position : ℕ} {watched watched_new : List Watched} {printer after : PrinterState} {slots slots_new : List Slot} {snapshot_mid : Snapshot} {watched_mid : List Watched} {mid : PrinterState} {slots_mid : List Slot} {len : ℕ} {result : Result ℕ Stop} → by_name ≡ true → snapshot_mid ≡ snapshot
-    → Catches told_in told snapshot place name position watched printer slots watched_mid mid slots_mid (Ok len) → Leads told_in told snapshot_mid place name len watched_mid mid slots_mid watched_new after slots_new result
-    → LooksAgain told_in told by_name snapshot place name position watched printer slots watched_new after slots_new result
-led_looks {told_in} {told} {snapshot} {place} {name} {position} {watched} {watched_new} {printer} {after} {slots} {slots_new} {snapshot_mid} {mid} {slots_mid} {len} {result} is seen catches leads =
-    subst (λ way. LooksAgain told_in told way snapshot place name position watched printer slots watched_new after slots_new result) (sym is) (record {
-      ends = λ last stands. due_as (λ t. both_dues name snapshot (stands t))
-          (goes_after (catches.ends last stands) led.ends);
-      len = IfOk-weaker result (λ n. told_in ≡ true → len ≡ length (held_at snapshot opened) → n ≡ length (held_at snapshot (snapshot.leads name)))
-          (λ n. told_in ≡ true → (last : Entry) → StandsAt last opened position → n ≡ length (held_at snapshot (snapshot.leads name))) (λ n long t last stands. long t (catches.len t last stands)) led.len;
-      follows = led.follows;
-    }) where
-      opened : Option ℕ
-      opened = (watched_at watched place).opened
-
-      led : Leads told_in told snapshot place name len watched mid slots_mid watched_new after slots_new result
-      led = subst (λ (those : Snapshot). Leads told_in told those place name len watched mid slots_mid watched_new after slots_new result) seen
-          (subst (λ (those : List Watched). Leads told_in told snapshot_mid place name len those mid slots_mid watched_new after slots_new result) catches.keeps leads)
+stopped_again false {name} {last} {opened} snapshot stands ends = due_as (λ is. open_dues name last opened snapshot (stands is)) ends
 
 pub readable_open : (names : List Watched) (place : ℕ) {id : ℕ} → (watched_at names place).opened ≡ Some id → IsTrue (is_watchable names place) → IsTrue (is_readable names place)
 readable_open names place some can = and_from (is_some (watched_at names place).opened) (is_watchable names place) (ap is_some some) can
 
--- ways out of catching up
-
-pub catches_none : {told_in told : Bool} {snapshot : Snapshot} {place : ℕ} {name : List ℕ} {position : ℕ} {watched watched_new : List Watched} {printer : PrinterState} {slots : List Slot} → (watched_at watched place).opened ≡ None → watched_new ≡ watched → Catches told_in told snapshot place name position watched printer slots watched_new printer slots (Ok position)
-catches_none {told} {snapshot} {place} {name} {watched} none same = record {
-  ends = λ last stands. due_as (λ t. let due = none_due name last (watched_at watched place).opened snapshot none (stands t) in (due.0, due.1)) (nothing_due);
-  len = λ t last stands. (none_due name last (watched_at watched place).opened snapshot none stands).2;
-  keeps = same;
-}
-
-pub catches_untold : {told_in told : Bool} {snapshot : Snapshot} {place : ℕ} {name : List ℕ} {position : ℕ} {watched watched_new : List Watched} {printer : PrinterState} {slots : List Slot} {slots_new : List Slot} {id len : ℕ} {why : Fault} → watched_new ≡ watched → (watched_at watched place).opened ≡ Some id → (told_in ≡ true → len ≡ length (open_contents snapshot (watched_at watched place)))
-    → Ends {T = ℕ} told_in told false printer name [] (lines_past name position len) slots printer slots_new (Err (Over why)) → Catches told_in told snapshot place name position watched printer slots watched_new printer slots_new (Err (Over why))
-catches_untold {told} {snapshot} {place} {position} {watched} {len} {why} same some long lines = record {
-  ends = λ last stands. ends_some told snapshot some (contents_open snapshot (watched_at watched place)) stands
-      (caught_none told (open_contents snapshot (watched_at watched place)) position why long lines);
-  len = tt;
-  keeps = same;
-}
-
-pub catches_copied : {told_in told : Bool} {snapshot : Snapshot} {place : ℕ} {name : List ℕ} {position : ℕ} {watched watched_new : List Watched} {printer : PrinterState} {slots : List Slot} {inside after : PrinterState} {mid slots_new : List Slot} {watched_mid : List Watched} {id len from : ℕ} {copied : List ℕ} {result : Result ℕ Stop} → inside ≡ printer → (watched_at watched place).opened ≡ Some id → watched_mid ≡ watched
-    → (told_in ≡ true → len ≡ length (open_contents snapshot (watched_at watched place))) → copied ≡ open_contents snapshot (watched_at watched place) → from ≡ (if nat_lt len position then 0 else position)
-    → Ends {T = ℕ} told_in told false inside name [] (lines_past name position len) slots inside mid (Ok from) → Ends {T = ℕ} told_in told false inside name (drop from copied) [] mid after slots_new result → IfOk result (λ n. n ≡ len) → Keeps {T = ℕ} place watched_mid watched_new result
-    → Catches told_in told snapshot place name position watched printer slots watched_new after slots_new result
-catches_copied {told_in} {told} {snapshot} {place} {name} {position} {watched} {watched_new} {slots} {after} {slots_new} {len} {copied} {result} viewed some same long are begins lines bytes count keeps = record {
-  ends = λ last stands. subst (λ (p : PrinterState). Ends {T = ℕ} told_in told false p name (bytes_open last snapshot (watched_at watched place).opened) (lines_open name last snapshot (watched_at watched place).opened) slots after slots_new result) viewed
-      (ends_some told snapshot some (contents_open snapshot (watched_at watched place)) stands (caught told copied position long are begins lines bytes));
-  len = IfOk-weaker result (λ n. n ≡ len) (λ n. told_in ≡ true → (last : Entry) → StandsAt last (watched_at watched place).opened position → n ≡ length (held_at snapshot (watched_at watched place).opened))
-      (λ n is t last stands. is ∙ long t ∙ ap length (contents_open snapshot (watched_at watched place))) count;
-  keeps = subst (λ (those : List Watched). Keeps {T = ℕ} place those watched_new result) same keeps;
-}
-
--- catching up with a file that was just opened: all of it is given
-opened_stands : (told : Bool) {snapshot : Snapshot} {old new : List Watched} {place : ℕ} {is_there : Bool} → IsTrue (is_watchable old place) → (reopens : Reopens told snapshot old new place is_there) → is_there ≡ true
-    → (file : ℕ) × StandsAt (version (record { file = file; contents = [] })) (watched_at new place).opened 0
-opened_stands told {old} {new} {place} can reopens there = by (some_of reopens.file (reopens.found ∙ there)) where
-  by : (id : ℕ) × (reopens.file ≡ Some id) → (file : ℕ) × StandsAt (version (record { file = file; contents = [] })) (watched_at new place).opened 0
-  by (id, file) = (id, record { file = ap (λ those. (watched_at those place).opened) reopens.names ∙ ap (λ (w : Watched). w.opened) (opened_there old place can) ∙ file; seen = refl })
-
-led_whole : {told_in : Bool} (told : Bool) {printer after : PrinterState} {name : List ℕ} {snapshot now : Snapshot} {old new : List Watched} {place : ℕ} {is_there : Bool} {slots slots_new : List Slot} {result : Result ℕ Stop}
-    → now ≡ snapshot → IsTrue (is_watchable old place) → Reopens told_in snapshot old new place is_there → is_there ≡ true → (watched_at old place).name ≡ name
-    → ((last : Entry) → (told_in ≡ true → StandsAt last (watched_at new place).opened 0) → Ends {T = ℕ} told_in told false printer name (bytes_open last now (watched_at new place).opened) (lines_open name last now (watched_at new place).opened) slots after slots_new result)
-    → Ends {T = ℕ} told_in told false printer name (held_at snapshot (snapshot.leads name)) [] slots after slots_new result
-led_whole {told_in} told {name} {snapshot} {now} {new} {place} seen can reopens there named ends =
-    let opened = opened_stands told_in can reopens there in
-    let last : Entry = version (record { file = opened.0; contents = [] }) in
-    let some : IsTrue (is_some (watched_at new place).opened) = ap is_some opened.1.file in
-    let dues = dues_open name last (watched_at new place).opened now some opened.1 in
-    due_as (λ t. (
-      sym dues.0 ∙ (grind (arith, nat_tests)) ∙ sym (contents_open now (watched_at new place)) ∙ contents_led told_in seen can reopens named t,
-      sym dues.1 ∙ no_line name 0 (length (held_at now (watched_at new place).opened)) (omega arith),
-    )) (ends last (λ t. opened.1))
-
-len_whole : (told : Bool) {name : List ℕ} {snapshot now : Snapshot} {old new : List Watched} {place : ℕ} (position : ℕ) {is_there : Bool} (result : Result ℕ Stop) (Before : Type 0)
-    → now ≡ snapshot → IsTrue (is_watchable old place) → Reopens told snapshot old new place is_there → is_there ≡ true → (watched_at old place).name ≡ name
-    → IfOk result (λ n. told ≡ true → (last : Entry) → StandsAt last (watched_at new place).opened 0 → n ≡ length (held_at now (watched_at new place).opened))
-    → IfOk result (λ n. told ≡ true → Before → n ≡ length (held_at snapshot (snapshot.leads name)))
-len_whole told position (Err stop) Before seen can reopens there named long = tt
-len_whole told {now} {new} {place} position (Ok n) Before seen can reopens there named long = λ t before.
-    let opened = opened_stands told can reopens there in
-    long t (version (record { file = opened.0; contents = [] })) opened.1 ∙ ap length (sym (contents_open now (watched_at new place)) ∙ contents_led told seen can reopens named t)
-
--- ways out of following a name
-
 abbrev Changes : Bool → Snapshot → List Watched → ℕ → List ℕ → Option Notice → Type 0
 Changes told snapshot watched place name change = told ≡ true → change_between (watched_at watched place).opened (snapshot.leads name) ≡ change
 
-pub leads_broken : {told_in told : Bool} {snapshot : Snapshot} {place : ℕ} {name : List ℕ} {position : ℕ} {watched watched_new : List Watched} {printer : PrinterState} {slots : List Slot} {why : Fault} → why ≡ fault.Open place → watched_new ≡ changed_at place (breaks why) watched → Leads told_in told snapshot place name position watched printer slots watched_new printer slots (Err (Broke why))
-leads_broken {told_in} {told} {snapshot} {name} {why} is broken = record {
-  ends = broke_first;
-  len = tt;
-  follows = follows_broken told_in (snapshot.leads name) refl is broken;
-}
+module _ {told_in told : Bool} {snapshot : Snapshot} {place : ℕ} {name : List ℕ} {position : ℕ} {watched : List Watched} {printer : PrinterState} {slots : List Slot} where
+  -- ways out of a look again
 
-pub leads_same : {told_in told : Bool} {snapshot : Snapshot} {place : ℕ} {name : List ℕ} {position : ℕ} {watched watched_new : List Watched} {printer : PrinterState} {slots : List Slot} → Changes told_in snapshot watched place name None → watched_new ≡ watched → Leads told_in told snapshot place name position watched printer slots watched_new printer slots (Ok position)
-leads_same {told} {snapshot} {place} {name} {watched} none same = record {
-  ends = due_as (λ t. let nothing = nothing_led name snapshot (watched_at watched place).opened (snapshot.leads name) (none t) in (sym nothing.0, sym nothing.1)) (nothing_due);
-  len = λ t seen. seen ∙ ap (λ file. length (held_at snapshot file)) (sym (nothing_led name snapshot (watched_at watched place).opened (snapshot.leads name) (none t)).2);
-  follows = ((watched_at watched place).opened, same ∙ sym (opens_same watched place), λ t. sym (nothing_led name snapshot (watched_at watched place).opened (snapshot.leads name) (none t)).2);
-}
+  pub stopped_looks : {by_name : Bool} {watched_new : List Watched} {after : PrinterState} {slots_new : List Slot} {stop : Stop}
+      → Catches told_in told snapshot place name position watched printer slots watched_new after slots_new (Err stop)
+      → LooksAgain told_in told by_name snapshot place name position watched printer slots watched_new after slots_new (Err stop)
+  stopped_looks {by_name} {watched_new} {stop} catches = record {
+    ends = λ last stands. stopped_again by_name snapshot stands (catches.ends (λ t. none_seen last (stands t)));
+    len = tt;
+    follows = keeps_follows ℕ ℕ told_in by_name (open_after_look by_name name (watched_at watched place).opened snapshot) place watched watched_new stop catches.keeps;
+  }
 
-pub leads_untold : {told_in told : Bool} {snapshot : Snapshot} {place : ℕ} {name : List ℕ} {position : ℕ} {watched watched_new : List Watched} {printer : PrinterState} {slots : List Slot} {mid : List Slot} {change : Notice} {why : Fault} → Changes told_in snapshot watched place name (Some change) → Ends {T = Unit {0}} told_in told false printer name [] (notice_of change name ∷ []) slots printer mid (Err (Over why)) → watched_new ≡ watched
-    → Leads told_in told snapshot place name position watched printer slots watched_new printer mid (Err (Over why))
-leads_untold {told} {snapshot} {place} {name} {watched} changed line same = record {
-  ends = due_as (λ t. (refl, sym (change_led name snapshot (watched_at watched place).opened (snapshot.leads name) (changed t)).1))
-      (stops_early (bytes_led snapshot (watched_at watched place).opened (snapshot.leads name)) [] line);
-  len = tt;
-  follows = ((watched_at watched place).opened, same ∙ sym (opens_same watched place));
-}
+  pub caught_looks : {by_name : Bool} {watched_new : List Watched} {after : PrinterState} {slots_new : List Slot} {len : ℕ} → by_name ≡ false
+      → Catches told_in told snapshot place name position watched printer slots watched_new after slots_new (Ok len)
+      → LooksAgain told_in told by_name snapshot place name position watched printer slots watched_new after slots_new (Ok len)
+  caught_looks {watched_new} {after} {slots_new} {len} is catches =
+      subst (λ way. LooksAgain told_in told way snapshot place name position watched printer slots watched_new after slots_new (Ok len)) (sym is) (record {
+        ends = λ last stands. due_as (λ t. open_dues name last (watched_at watched place).opened snapshot (stands t)) (catches.ends (λ t. none_seen last (stands t)));
+        len = λ t last stands. catches.len t (none_seen last stands);
+        follows = ((watched_at watched place).opened, catches.keeps ∙ sym (opens_same watched place), λ t. refl);
+      })
 
-pub leads_unopened : {told_in told : Bool} {snapshot : Snapshot} {place : ℕ} {name : List ℕ} {position : ℕ} {watched watched_new : List Watched} {printer : PrinterState} {slots : List Slot} {watched_mid : List Watched} {mid : List Slot} {change : Notice} {value : Unit {0}} {why : Fault} → Changes told_in snapshot watched place name (Some change) → Ends {T = Unit {0}} told_in told false printer name [] (notice_of change name ∷ []) slots printer mid (Ok value)
-    → watched_mid ≡ watched → why ≡ fault.Open place → watched_new ≡ changed_at place (breaks why) watched_mid → Leads told_in told snapshot place name position watched printer slots watched_new printer mid (Err (Broke why))
-leads_unopened {told_in} {told} {snapshot} {place} {name} {watched} {why} changed line same is broken = record {
-  ends = ends_said told [] snapshot (watched_at watched place).opened (snapshot.leads name) changed (λ t. (refl, refl)) line (broke_first);
-  len = tt;
-  follows = follows_broken told_in (snapshot.leads name) same is broken;
-}
+  pub led_looks : {by_name : Bool} {snapshot_mid : Snapshot} {watched_mid watched_new : List Watched} {mid after : PrinterState} {slots_mid slots_new : List Slot}
+      {len : ℕ} {result : Result ℕ Stop} → by_name ≡ true → snapshot_mid ≡ snapshot
+      → Catches told_in told snapshot place name position watched printer slots watched_mid mid slots_mid (Ok len)
+      → Leads told_in told snapshot_mid place name len watched_mid mid slots_mid watched_new after slots_new result
+      → LooksAgain told_in told by_name snapshot place name position watched printer slots watched_new after slots_new result
+  led_looks {watched_new} {mid} {after} {slots_mid} {slots_new} {len} {result} is seen catches leads =
+      subst (λ way. LooksAgain told_in told way snapshot place name position watched printer slots watched_new after slots_new result) (sym is) (record {
+        ends = λ last stands. due_as (λ t. both_dues name snapshot (stands t)) (goes_after (catches.ends (λ t. none_seen last (stands t))) led.ends);
+        len = IfOk-weaker result (λ n. told_in ≡ true → len ≡ length (held_at snapshot opened) → n ≡ length (held_at snapshot (snapshot.leads name))) _
+            (λ n long t last stands. long t (catches.len t (none_seen last stands))) led.len;
+        follows = led.follows;
+      }) where
+        opened : Option ℕ
+        opened = (watched_at watched place).opened
 
-pub leads_gone : {told_in told : Bool} {snapshot : Snapshot} {place : ℕ} {name : List ℕ} {position : ℕ} {watched watched_new : List Watched} {printer : PrinterState} {slots : List Slot} {mid : List Slot} {change : Notice} {value : Unit {0}} {is_there : Bool} → Changes told_in snapshot watched place name (Some change) → Ends {T = Unit {0}} told_in told false printer name [] (notice_of change name ∷ []) slots printer mid (Ok value)
-    → Reopens told_in snapshot watched watched_new place is_there → is_there ≡ false → (watched_at watched place).name ≡ name → Leads told_in told snapshot place name position watched printer slots watched_new printer mid (Ok 0)
-leads_gone {told_in} {told} {snapshot} {place} {name} {watched} changed line reopens gone named = record {
-  ends = ends_said told [] snapshot (watched_at watched place).opened (snapshot.leads name) changed (λ t. (held_nowhere told_in reopens gone named t, refl)) line
-      (nothing_due);
-  len = λ t seen. ap length (held_nowhere told_in reopens gone named t);
-  follows = (reopens.file, reopens.names, λ t. reopens.leads t ∙ ap snapshot.leads named);
-}
+        led : Leads told_in told snapshot place name len watched mid slots_mid watched_new after slots_new result
+        led = subst₂ (λ (s : Snapshot) w. Leads told_in told s place name len w mid slots_mid watched_new after slots_new result) seen catches.keeps leads
 
-pub leads_there : {told_in told : Bool} {snapshot : Snapshot} {place : ℕ} {name : List ℕ} {position : ℕ} {watched watched_new : List Watched} {printer : PrinterState} {slots : List Slot} {now : Snapshot} {watched_mid : List Watched} {after : PrinterState} {mid slots_new : List Slot} {change : Notice} {value : Unit {0}} {is_there : Bool} {result : Result ℕ Stop} → Changes told_in snapshot watched place name (Some change) → Ends {T = Unit {0}} told_in told false printer name [] (notice_of change name ∷ []) slots printer mid (Ok value)
-    → now ≡ snapshot → IsTrue (is_watchable watched place) → Reopens told_in snapshot watched watched_mid place is_there → is_there ≡ true → (watched_at watched place).name ≡ name
-    → Catches told_in told now place name 0 watched_mid printer mid watched_new after slots_new result → Leads told_in told snapshot place name position watched printer slots watched_new after slots_new result
-leads_there {told_in} {told} {snapshot} {place} {name} {position} {watched} {watched_new} {result} changed line seen can reopens there named catches = record {
-  ends = ends_said told [] snapshot (watched_at watched place).opened (snapshot.leads name) changed (λ t. (refl, refl)) line
-      (led_whole told seen can reopens there named catches.ends);
-  len = len_whole told_in position result (position ≡ length (held_at snapshot (watched_at watched place).opened)) seen can reopens there named catches.len;
-  follows = follows_there told_in true watched_new result reopens named catches.keeps;
-}
+  -- ways out of catching up
+
+  pub catches_none : (watched_at watched place).opened ≡ None → Catches told_in told snapshot place name position watched printer slots watched printer slots (Ok position)
+  catches_none none = record {
+    ends = λ seen. due_as (λ t. rw (none, seen t none) (refl, refl)) nothing_due;
+    len = λ t seen. seen none ∙ ap (λ file. length (held_at snapshot file)) (sym none);
+    keeps = refl;
+  }
+
+  pub catches_untold : {watched_new : List Watched} {slots_new : List Slot} {len : ℕ} {why : Fault} → watched_new ≡ watched
+      → (told_in ≡ true → len ≡ length (open_contents snapshot (watched_at watched place)))
+      → Ends {T = ℕ} told_in told false printer name [] (lines_past name position len) slots printer slots_new (Err (Over why))
+      → Catches told_in told snapshot place name position watched printer slots watched_new printer slots_new (Err (Over why))
+  catches_untold same long lines = record {
+    ends = λ seen. due_as (λ t. (refl, append-nil _ ∙ ap (lines_past name position) (long t ∙ ap length (contents_open snapshot (watched_at watched place)))))
+        (stops_early (bytes_past position (held_at snapshot (watched_at watched place).opened)) [] lines);
+    len = tt;
+    keeps = same;
+  }
+
+  -- a line where the file is shorter, and then the bytes: from the front there, else from the position on
+  pub catches_copied : {watched_mid watched_new : List Watched} {inside after : PrinterState} {mid slots_new : List Slot} {len from : ℕ} {copied : List ℕ}
+      {result : Result ℕ Stop} → inside ≡ printer → watched_mid ≡ watched → (told_in ≡ true → len ≡ length (open_contents snapshot (watched_at watched place)))
+      → copied ≡ open_contents snapshot (watched_at watched place) → from ≡ (if nat_lt len position then 0 else position)
+      → Ends {T = ℕ} told_in told false inside name [] (lines_past name position len) slots inside mid (Ok from)
+      → Ends {T = ℕ} told_in told false inside name (drop from copied) [] mid after slots_new result → IfOk result (λ n. n ≡ len)
+      → Keeps {T = ℕ} place watched_mid watched_new result
+      → Catches told_in told snapshot place name position watched printer slots watched_new after slots_new result
+  catches_copied {watched_new} {after} {slots_new} {len} {from} {result} viewed same long are begins lines bytes count keeps = record {
+    ends = λ seen. subst (λ (p : PrinterState). Ends {T = ℕ} told_in told false p name (bytes_past position held) (lines_past name position (length held)) slots after slots_new result) viewed
+        (due_as (λ t. (ap (drop from) (are ∙ holds) ∙ caught_bytes position held (size t) begins, append-nil _ ∙ ap (lines_past name position) (size t))) (goes_after lines bytes));
+    len = IfOk-weaker result (λ n. n ≡ len) _ (λ n is t seen. is ∙ size t) count;
+    keeps = subst (λ (those : List Watched). Keeps {T = ℕ} place those watched_new result) same keeps;
+  } where
+    held : List ℕ
+    held = held_at snapshot (watched_at watched place).opened
+
+    holds : open_contents snapshot (watched_at watched place) ≡ held
+    holds = contents_open snapshot (watched_at watched place)
+
+    size : told_in ≡ true → len ≡ length held
+    size t = long t ∙ ap length holds
+
+  -- ways out of following a name
+
+  pub leads_broken : {watched_new : List Watched} {why : Fault} → why ≡ fault.Open place → watched_new ≡ changed_at place (breaks why) watched
+      → Leads told_in told snapshot place name position watched printer slots watched_new printer slots (Err (Broke why))
+  leads_broken is broken = record { ends = broke_first; len = tt; follows = follows_broken told_in (snapshot.leads name) refl is broken }
+
+  pub leads_same : {watched_new : List Watched} → Changes told_in snapshot watched place name None → watched_new ≡ watched
+      → Leads told_in told snapshot place name position watched printer slots watched_new printer slots (Ok position)
+  leads_same none same = record {
+    ends = due_as (λ t. (sym (nothing t).0, sym (nothing t).1)) nothing_due;
+    len = λ t seen. seen ∙ ap (λ file. length (held_at snapshot file)) (sym (nothing t).2);
+    follows = ((watched_at watched place).opened, same ∙ sym (opens_same watched place), λ t. sym (nothing t).2);
+  } where
+    nothing : told_in ≡ true → (bytes_led snapshot (watched_at watched place).opened (snapshot.leads name) ≡ [])
+        × (lines_led name snapshot (watched_at watched place).opened (snapshot.leads name) ≡ []) × (snapshot.leads name ≡ (watched_at watched place).opened)
+    nothing t = nothing_led name snapshot (watched_at watched place).opened (snapshot.leads name) (none t)
+
+  pub leads_untold : {watched_new : List Watched} {mid : List Slot} {change : Notice} {why : Fault} → Changes told_in snapshot watched place name (Some change)
+      → Ends {T = Unit {0}} told_in told false printer name [] (notice_of change name ∷ []) slots printer mid (Err (Over why)) → watched_new ≡ watched
+      → Leads told_in told snapshot place name position watched printer slots watched_new printer mid (Err (Over why))
+  leads_untold changed line same = record {
+    ends = due_as (λ t. (refl, sym (change_led name snapshot (watched_at watched place).opened (snapshot.leads name) (changed t)).1))
+        (stops_early (bytes_led snapshot (watched_at watched place).opened (snapshot.leads name)) [] line);
+    len = tt;
+    follows = ((watched_at watched place).opened, same ∙ sym (opens_same watched place));
+  }
+
+  pub leads_unopened : {watched_mid watched_new : List Watched} {mid : List Slot} {change : Notice} {value : Unit {0}} {why : Fault}
+      → Changes told_in snapshot watched place name (Some change)
+      → Ends {T = Unit {0}} told_in told false printer name [] (notice_of change name ∷ []) slots printer mid (Ok value)
+      → watched_mid ≡ watched → why ≡ fault.Open place → watched_new ≡ changed_at place (breaks why) watched_mid
+      → Leads told_in told snapshot place name position watched printer slots watched_new printer mid (Err (Broke why))
+  leads_unopened changed line same is broken = record {
+    ends = ends_said [] snapshot (watched_at watched place).opened (snapshot.leads name) changed (λ t. (refl, refl)) line broke_first;
+    len = tt;
+    follows = follows_broken told_in (snapshot.leads name) same is broken;
+  }
+
+  pub leads_gone : {watched_new : List Watched} {mid : List Slot} {change : Notice} {value : Unit {0}} {is_there : Bool}
+      → Changes told_in snapshot watched place name (Some change)
+      → Ends {T = Unit {0}} told_in told false printer name [] (notice_of change name ∷ []) slots printer mid (Ok value)
+      → Reopens told_in snapshot watched watched_new place is_there → is_there ≡ false → (watched_at watched place).name ≡ name
+      → Leads told_in told snapshot place name position watched printer slots watched_new printer mid (Ok 0)
+  leads_gone changed line reopens gone named = record {
+    ends = ends_said [] snapshot (watched_at watched place).opened (snapshot.leads name) changed
+        (λ t. (held_nowhere told_in reopens gone named t, refl)) line nothing_due;
+    len = λ t seen. ap length (held_nowhere told_in reopens gone named t);
+    follows = (reopens.file, reopens.names, λ t. reopens.leads t ∙ ap snapshot.leads named);
+  }
+
+  -- a file that was just opened is given whole
+  pub leads_there : {now : Snapshot} {watched_mid watched_new : List Watched} {after : PrinterState} {mid slots_new : List Slot} {change : Notice}
+      {value : Unit {0}} {is_there : Bool} {result : Result ℕ Stop} → Changes told_in snapshot watched place name (Some change)
+      → Ends {T = Unit {0}} told_in told false printer name [] (notice_of change name ∷ []) slots printer mid (Ok value)
+      → now ≡ snapshot → IsTrue (is_watchable watched place) → Reopens told_in snapshot watched watched_mid place is_there → (watched_at watched place).name ≡ name
+      → Catches told_in told now place name 0 watched_mid printer mid watched_new after slots_new result
+      → Leads told_in told snapshot place name position watched printer slots watched_new after slots_new result
+  leads_there {now} {watched_mid} {watched_new} {result} changed line seen can reopens named catches = record {
+    ends = ends_said [] snapshot (watched_at watched place).opened (snapshot.leads name) changed (λ t. (refl, refl)) line
+        (due_as (λ t. (past_zero ∙ whole_of t, no_line name 0 (length (held_at now (watched_at watched_mid place).opened)) (omega arith))) (catches.ends (λ t none. refl)));
+    len = IfOk-weaker result (λ n. told_in ≡ true → ((watched_at watched_mid place).opened ≡ None → ◌≡◌ {A = ℕ} 0 0) → n ≡ length (held_at now (watched_at watched_mid place).opened)) _
+        (λ n long t before. long t (λ none. refl) ∙ ap length (whole_of t)) catches.len;
+    follows = follows_there told_in true watched_new result reopens named catches.keeps;
+  } where
+    whole_of : told_in ≡ true → held_at now (watched_at watched_mid place).opened ≡ held_at snapshot (snapshot.leads name)
+    whole_of t = sym (contents_open now (watched_at watched_mid place)) ∙ contents_led told_in seen can reopens named t

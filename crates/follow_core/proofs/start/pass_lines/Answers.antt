@@ -1,4 +1,4 @@
-use Rattle.std.proofs.Common.{◌≡◌, ◌∙◌, ◌-◌, ap, arith}
+use Rattle.std.proofs.Common.{◌∙◌, ◌-◌, arith}
 use Rattle.watch_core.specs.Snapshot.{latest}
 use Rattle.watch_core.specs.Watched.{open_contents, watched_at}
 use Rattle.follow_core.proofs.StartLemmas.{contents_same, block_read, passed_by, passed_in, room_kept}

@@ -1,4 +1,4 @@
-use Rattle.std.proofs.Common.{◌∙◌, ◌+◌, ◌-◌, length, take, drop, ap, subst}
+use Rattle.std.proofs.Common.{◌∙◌, ◌+◌, ◌-◌, length, take, drop, subst}
 use Rattle.watch_core.specs.Snapshot.{latest}
 use Rattle.watch_core.specs.Watched.{open_contents, watched_at, GaveFrom}
 use Rattle.follow_core.proofs.StartLemmas.{contents_same, fill_ends, fill_more}
