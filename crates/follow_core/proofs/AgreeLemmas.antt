@@ -15,7 +15,7 @@ use Rattle.watch_core.specs.Edits.{Edit, append, truncate, replace, remove, Worl
 use Rattle.follow_core.specs.Run.{AreKept, name_text}
 use Rattle.follow_core.specs.Placing.{all_edits, IsUncut, AreSeen, AllSeen, Agree}
 use Rattle.follow_core.proofs.RunLemmas.{text_is_gains, later-append as gains-append}
-use Rattle.follow_core.proofs.LaterLemmas.{look_leaves}
+use Rattle.follow_core.proofs.LookLemmas.{look_leaves}
 use Rattle.watch_core.proofs.WorldLemmas.{append_leads, append_grows}
 
 -- a look more with_file no text
@@ -73,15 +73,15 @@ record Sound (world : World) : Type 0 where
   known : (name : List ℕ) (file : ℕ) → led_to world.links name ≡ Some file → file < length world.files
   one : (name other : List ℕ) (file : ℕ) → led_to world.links name ≡ Some file → led_to world.links other ≡ Some file → name ≡ other
 
-sound_changes : (world : World) (file : Option ℕ) (change : List ℕ → List ℕ) → Sound world → Sound (with_file file change world)
-sound_changes world None change sound = sound
-sound_changes world (Some file) change sound = record {
+sound_changes : {world : World} (file : Option ℕ) (change : List ℕ → List ℕ) → Sound world → Sound (with_file file change world)
+sound_changes None change sound = sound
+sound_changes {world} (Some file) change sound = record {
   known = λ name other is. subst (λ n. other < n) (sym (length-changed_at file change world.files)) (sound.known name other is);
   one = sound.one;
 }
 
-sound_replace : (world : World) (name bytes : List ℕ) → Sound world → Sound (edited (replace name bytes) world)
-sound_replace world name bytes sound = record { known = λ a file is. knows a file (bytes_eq name a) is; one = λ a b file is also. ones a b file (bytes_eq name a) (bytes_eq name b) refl refl is also } where
+sound_replace : {world : World} (name bytes : List ℕ) → Sound world → Sound (edited (replace name bytes) world)
+sound_replace {world} name bytes sound = record { known = λ a file is. knows a file (bytes_eq name a) is; one = λ a b file is also. ones a b file (bytes_eq name a) (bytes_eq name b) refl refl is also } where
   knows : (a : List ℕ) (file : ℕ) (test : Bool) → (if test then Some (length world.files) else led_to world.links a) ≡ Some file → file < length (world.files ++ bytes ∷ [])
   knows a file true is = let n = length-append world.files (bytes ∷ []) in let e : length world.files ≡ file = cc in omega (arith, n, e)
   knows a file false is = let n = length-append world.files (bytes ∷ []) in let k : file < length world.files = sound.known a file is in omega (arith, n, k)
@@ -92,8 +92,8 @@ sound_replace world name bytes sound = record { known = λ a file is. knows a fi
   ones a b file false true same also is one = absurd (let e : length world.files ≡ file = cc in let k : file < length world.files = sound.known a file is in omega (arith, e, k))
   ones a b file false false same also is one = sound.one a b file is one
 
-sound_remove : (world : World) (name : List ℕ) → Sound world → Sound (edited (remove name) world)
-sound_remove world name sound = record { known = λ a file is. knows a file (bytes_eq name a) is; one = λ a b file is also. ones a b file (bytes_eq name a) (bytes_eq name b) is also } where
+sound_remove : {world : World} (name : List ℕ) → Sound world → Sound (edited (remove name) world)
+sound_remove {world} name sound = record { known = λ a file is. knows a file (bytes_eq name a) is; one = λ a b file is also. ones a b file (bytes_eq name a) (bytes_eq name b) is also } where
   knows : (a : List ℕ) (file : ℕ) (test : Bool) → (if test then None else led_to world.links a) ≡ Some file → file < length world.files
   knows a file true is = absurd (cc)
   knows a file false is = sound.known a file is
@@ -103,15 +103,15 @@ sound_remove world name sound = record { known = λ a file is. knows a file (byt
   ones a b file false true is one = absurd (cc)
   ones a b file false false is one = sound.one a b file is one
 
-sound_edited : (world : World) (edit : Edit) → Sound world → Sound (edited edit world)
-sound_edited world (append name bytes) sound = sound_changes world (led_to world.links name) (λ held. held ++ bytes) sound
-sound_edited world (truncate name n) sound = sound_changes world (led_to world.links name) (λ held. take n held) sound
-sound_edited world (replace name bytes) sound = sound_replace world name bytes sound
-sound_edited world (remove name) sound = sound_remove world name sound
+sound_edited : {world : World} (edit : Edit) → Sound world → Sound (edited edit world)
+sound_edited {world} (append name bytes) sound = sound_changes (led_to world.links name) (λ held. held ++ bytes) sound
+sound_edited {world} (truncate name n) sound = sound_changes (led_to world.links name) (λ held. take n held) sound
+sound_edited (replace name bytes) sound = sound_replace name bytes sound
+sound_edited (remove name) sound = sound_remove name sound
 
 sound_all : (world : World) (edits : List Edit) → Sound world → Sound (edited_by edits world)
 sound_all world [] sound = sound
-sound_all world (edit ∷ edits) sound = sound_all (edited edit world) edits (sound_edited world edit sound)
+sound_all world (edit ∷ edits) sound = sound_all (edited edit world) edits (sound_edited {world = world} edit sound)
 
 one_append : (world : World) (other bytes : List ℕ) (file : ℕ) → IsBeginning ((seen_in world).holds file) ((seen_in (edited (append other bytes) world)).holds file)
 one_append world other bytes file = elim (append_grows world other bytes file) [
@@ -131,7 +131,7 @@ uncut world name file (replace other bytes ∷ []) sound leads no_cut seen =
 uncut world name file (remove other ∷ []) sound leads no_cut seen = begins_itself _
 uncut world name file (append other bytes ∷ []) sound leads no_cut seen = one_append world other bytes file
 uncut world name file (append other bytes ∷ next ∷ edits) sound leads no_cut seen =
-    begins_trans _ _ _ (one_append world other bytes file) (uncut (edited (append other bytes) world) name file (next ∷ edits) (sound_edited world (append other bytes) sound) (append_leads world other bytes name ∙ leads) no_cut seen.1)
+    begins_trans _ _ _ (one_append world other bytes file) (uncut (edited (append other bytes) world) name file (next ∷ edits) (sound_edited {world = world} (append other bytes) sound) (append_leads world other bytes name ∙ leads) no_cut seen.1)
 uncut world name file (truncate other n ∷ (next ∷ edits)) sound leads no_cut seen = elim seen [ ]
 uncut world name file (replace other bytes ∷ (next ∷ edits)) sound leads no_cut seen = elim seen [ ]
 uncut world name file (remove other ∷ (next ∷ edits)) sound leads no_cut seen = elim seen [ ]
@@ -168,8 +168,8 @@ matches_now true name (version v) snapshot = by (snapshot.leads name) where
   by None = tt
   by (Some file) = some file (is_file file (Some v.file))
 
-stays_now : (by_name : Bool) (name : List ℕ) (last : Entry) (world : World) → Sound world → Stays by_name name world (last_seen by_name name last (seen_in world))
-stays_now by_name name last world sound = record {
+stays_now : {by_name : Bool} {name : List ℕ} (last : Entry) {world : World} → Sound world → Stays by_name name world (last_seen by_name name last (seen_in world))
+stays_now {by_name} {name} last {world} sound = record {
   sound = sound;
   leads = λ is. by by_name is;
   matches = matches_now by_name name last (seen_in world);
@@ -188,11 +188,11 @@ same_first : (by_name : Bool) (name : List ℕ) (last : Entry) (snapshot : Snaps
 same_first by_name name last snapshot looks others same =
     gained_first by_name name last snapshot looks ∙ ap (λ x. gains_later last (entries_at_look by_name name (file_of last) snapshot) ++ x) same ∙ sym (gained_first by_name name last snapshot others)
 
-idle_look : (by_name : Bool) (name : List ℕ) (last : Entry) (world : World) (looks : List Snapshot) → Stays by_name name world last → gained by_name name last (seen_in world ∷ looks) ≡ gained by_name name last looks
-idle_look false name gap world looks stays = refl
-idle_look true name gap world looks stays = ap (λ led. gains_later gap (entries_led (seen_in world) None led ++ entries_later true name led looks)) (stays.leads refl)
-idle_look false name (version v) world looks stays = still v (seen_in world) (entries_later false name (Some v.file) looks) stays.matches
-idle_look true name (version v) world looks stays =
+idle_look : (by_name : Bool) {name : List ℕ} (last : Entry) {world : World} (looks : List Snapshot) → Stays by_name name world last → gained by_name name last (seen_in world ∷ looks) ≡ gained by_name name last looks
+idle_look false gap looks stays = refl
+idle_look true {name} gap {world} looks stays = ap (λ led. gains_later gap (entries_led (seen_in world) None led ++ entries_later true name led looks)) (stays.leads refl)
+idle_look false {name} (version v) {world} looks stays = still v (seen_in world) (entries_later false name (Some v.file) looks) stays.matches
+idle_look true {name} (version v) {world} looks stays =
     ap (λ led. gains_later (version v) ((version_in (seen_in world) v.file ∷ entries_led (seen_in world) (Some v.file) led) ++ entries_later true name led looks)) (stays.leads refl)
     ∙ ap (λ entries. gains_later (version v) ((version_in (seen_in world) v.file ∷ entries) ++ entries_later true name (Some v.file) looks)) (led_same (seen_in world) v.file)
     ∙ still v (seen_in world) (entries_later true name (Some v.file) looks) stays.matches
@@ -206,16 +206,16 @@ abbrev Refines : Bool → List ℕ → List (List Edit) → Type 0
 Refines by_name name groups = (world : World) (last : Entry) → Stays by_name name world last → gained by_name name last (snapshots_from world groups) ≡ gained by_name name last (snapshots_from world (singles (all_edits groups)))
 
 one_group : (by_name : Bool) (name : List ℕ) (group : List Edit) (groups : List (List Edit)) → AreSeen group → Refines by_name name groups → Refines by_name name (group ∷ groups)
-one_group by_name name [] groups seen rest world last stays = idle_look by_name name last world _ stays ∙ rest world last stays
+one_group by_name name [] groups seen rest world last stays = idle_look by_name last _ stays ∙ rest world last stays
 one_group by_name name (edit ∷ []) groups seen rest world last stays =
-    same_first by_name name last (seen_in (edited edit world)) _ _ (rest (edited edit world) _ (stays_now by_name name last (edited edit world) (sound_edited world edit stays.sound)))
+    same_first by_name name last (seen_in (edited edit world)) _ _ (rest (edited edit world) _ (stays_now last (sound_edited edit stays.sound)))
 one_group by_name name (append other bytes ∷ next ∷ edits) groups seen rest world last stays =
     sym (one_look_more by_name name last (seen_in (edited (append other bytes) world)) (seen_in (edited_by (next ∷ edits) (edited (append other bytes) world))) (snapshots_from (edited_by (next ∷ edits) (edited (append other bytes) world)) groups) (λ is. append_leads world other bytes name ∙ stays.leads is) grows)
-    ∙ same_first by_name name last (seen_in (edited (append other bytes) world)) (snapshots_from (edited (append other bytes) world) ((next ∷ edits) ∷ groups)) (snapshots_from (edited (append other bytes) world) (singles (all_edits ((next ∷ edits) ∷ groups)))) (one_group by_name name (next ∷ edits) groups seen.1 rest (edited (append other bytes) world) _ (stays_now by_name name last (edited (append other bytes) world) (sound_edited world (append other bytes) stays.sound))) where
+    ∙ same_first by_name name last (seen_in (edited (append other bytes) world)) (snapshots_from (edited (append other bytes) world) ((next ∷ edits) ∷ groups)) (snapshots_from (edited (append other bytes) world) (singles (all_edits ((next ∷ edits) ∷ groups)))) (one_group by_name name (next ∷ edits) groups seen.1 rest (edited (append other bytes) world) _ (stays_now last (sound_edited (append other bytes) stays.sound))) where
       grows : (v : Version) → last ≡ version v → ((seen_in (edited (append other bytes) world)).holds v.file ≡ v.contents) ⊎ (IsBeginning v.contents ((seen_in (edited (append other bytes) world)).holds v.file) × IsBeginning ((seen_in (edited (append other bytes) world)).holds v.file) ((seen_in (edited_by (next ∷ edits) (edited (append other bytes) world))).holds v.file))
       grows v is = let was : (seen_in world).holds v.file ≡ v.contents = subst (Matches (seen_in world)) is stays.matches in elim (append_grows world other bytes v.file) [
         | inl same ↦ inl (same ∙ was)
-        | inr both ↦ inr ((bytes, both.1 ∙ ap (λ held. held ++ bytes) was), uncut (edited (append other bytes) world) other v.file (next ∷ edits) (sound_edited world (append other bytes) stays.sound) (append_leads world other bytes other ∙ both.0) seen.0 seen.1)
+        | inr both ↦ inr ((bytes, both.1 ∙ ap (λ held. held ++ bytes) was), uncut (edited (append other bytes) world) other v.file (next ∷ edits) (sound_edited (append other bytes) stays.sound) (append_leads world other bytes other ∙ both.0) seen.0 seen.1)
       ]
 one_group by_name name (truncate other n ∷ next ∷ edits) groups seen rest world last stays = elim seen [ ]
 one_group by_name name (replace other bytes ∷ next ∷ edits) groups seen rest world last stays = elim seen [ ]
@@ -226,11 +226,11 @@ refines by_name name [] seen world last stays = refl
 refines by_name name (group ∷ groups) seen world last stays = one_group by_name name group groups seen.0 (refines by_name name groups seen.1) world last stays
 
 -- after the first look
-from_first : (start : List ℕ → List ℕ) (by_name : Bool) (name : List ℕ) (world : World) (groups : List (List Edit)) → Sound world → AllSeen groups → (led : Option ℕ) → led_to world.links name ≡ led
+from_first : (start : List ℕ → List ℕ) (by_name : Bool) (name : List ℕ) {world : World} (groups : List (List Edit)) → Sound world → AllSeen groups → (led : Option ℕ) → led_to world.links name ≡ led
     → gains_after start [] (entries_led (seen_in world) None led ++ entries_later by_name name led (snapshots_from world groups))
     ≡ gains_after start [] (entries_led (seen_in world) None led ++ entries_later by_name name led (snapshots_from world (singles (all_edits groups))))
-from_first start by_name name world groups sound seen None is = refines by_name name groups seen world gap (record { sound = sound; leads = λ _. is; matches = tt })
-from_first start by_name name world groups sound seen (Some file) is =
+from_first start by_name name {world} groups sound seen None is = refines by_name name groups seen world gap (record { sound = sound; leads = λ _. is; matches = tt })
+from_first start by_name name {world} groups sound seen (Some file) is =
     ap (λ x. start ((seen_in world).holds file) ++ x) (refines by_name name groups seen world (version_in (seen_in world) file) (record { sound = sound; leads = λ _. is; matches = refl }))
 
 no_world : Sound empty_world
@@ -240,7 +240,7 @@ text_of_singles : (start : List ℕ → List ℕ) (by_name : Bool) (name : List 
     → name_text start (entries_of by_name name (snapshots_of (first ∷ groups))) ≡ gains_after start [] (entries_of by_name name (snapshots_of (first ∷ singles (all_edits groups))))
 text_of_singles start by_name name first groups seen kept =
     text_is_gains start (entries_of by_name name (snapshots_of (first ∷ groups))) kept
-    ∙ from_first start by_name name (edited_by first empty_world) groups (sound_all empty_world first no_world) seen (led_to (edited_by first empty_world).links name) refl
+    ∙ from_first start by_name name groups (sound_all empty_world first no_world) seen (led_to (edited_by first empty_world).links name) refl
 
 -- Two placings of looks give the same text.
 pub agree : (start : List ℕ → List ℕ) (by_name : Bool) (name : List ℕ) (first : List Edit) (one other : List (List Edit)) → Agree start by_name name first one other

@@ -1,119 +1,345 @@
--- A look at all names more, and one that was stopped.
-use Rattle.std.proofs.Math.Bool.{or-false as or_none, and-false as and_none}
-use Rattle.std.proofs.Common.{Err, ◌≡◌, ℕ, suc, ◌<◌, ◌+◌, Bool, true, false, not, ◌||◌, ◌&&◌, List, [], ◌∷◌, ◌++◌, length, map, slice_index_or, refl, sym, ◌∙◌, ap, subst, arith, inl, inr}
-use Rattle.std.proofs.lemmas.Bool.{and_parts, false≢true, not-true}
-use Rattle.std.proofs.lemmas.List.{get_or-append-add, get_or-map, get_or_append_left, length-append, length-map}
-use Rattle.std.proofs.Math.Seq.{take-length}
-use Rattle.ports_core.specs.Slot.{Slot, adds, told_of}
-use Rattle.follow_core.specs.Telling.{TellsAll}
+-- A look at all names: at one after another, one look more, and one that was stopped.
+use Rattle.std.proofs.Common.{◌≡◌, ℕ, zero, suc, ◌<◌, ◌≤◌, ◌+◌, Bool, true, false, ◌||◌, List, [], ◌∷◌, ◌++◌, length, take, set, replicate, get_or, slice_index_or, refl, sym, ◌∙◌, ap, subst, arith, append_assoc, inl, inr, ◌⊎◌, Option, if◌then◌else◌, subst₂, Err, not, ◌&&◌, map, Ok, Result}
+use Rattle.std.proofs.Math.Bool.{or-false, or-false as or_none, and-false as and_none}
+use Rattle.std.proofs.lemmas.Bool.{cases_eq, cases_lt, and_parts, false≢true, not-true}
+use Rattle.std.proofs.lemmas.List.{append-nil, get_or_default, get_or-map, get_or-set_other, get_or-set_same, length-append, length-map, length-replicate, length-set, length-take-le, take_all, get_or_past, get_or-append-add, get_or_append_left}
+use Rattle.std.proofs.Math.Seq.{get_or-append_seam, map-set_same, take-suc}
+use Rattle.ports_core.specs.Slot.{Slot, changed_at, adds}
+use Rattle.follow_core.specs.FollowState.{AllReady, CanLook, FollowState, Holds, IsCause, IsOther, LooksOn, StandsIn, StopsOn, goes_on_at, is_alive, is_alive_from, new_state, nothing, up_to, lacks_memory, output_broke}
+use Rattle.follow_core.specs.Followed.{any_failed, last_header_from, messages_of, share_text, text_from}
+use Rattle.follow_core.specs.Look.{Fate, Look, Ways, fate_at, is_dropped, sound, snapshots, ways_of}
+use Rattle.follow_core.specs.Share.{BeginsShare, Share, share_by, share_of, no_share, shares_at_look_from, IsFront, shares_at_look, shares_of}
+use Rattle.follow_core.specs.inner.Visits.{Opened, Stopped, KeepsOthers, StoppedAt, Visited, VisitedAll, any_goes_on, goes_on_as, VisitsAll}
+use Rattle.follow_core.specs.Printing.{PrinterState, Short}
+use Rattle.follow_core.specs.Sharing.{AllShared, AllShort, Wrote, CanPrint}
+use Rattle.follow_core.specs.inner.Giving.{Shared, SharedShort}
+use Rattle.follow_core.specs.Standing.{AllStand, BrokeIn, CanVisit, NameState, Stands, no_state, state_at, texts, AreBroken, IsFollowed}
+use Rattle.follow_core.proofs.GiveLemmas.{wrote_both, wrote_none, wrote_short, no_memory}
+use Rattle.ports_core.specs.declared.fault.Fault.{Fault}
+use Rattle.watch_core.specs.Snapshot.{Snapshot, latest}
+use Rattle.watch_core.specs.Watched.{Watched, opens, watched_at, added, no_name}
 use Rattle.follow_core.specs.declared.name.Standing.{Standing}
 use Rattle.follow_core.specs.declared.name.Standing.TheVariants.{New, Followed, Left}
+use Rattle.follow_core.proofs.LookLemmas.{broken_sound, unbroken_in, last_file}
+use Rattle.follow_core.proofs.ShareLemmas.{failed-append, last-append, messages-append, text-append, shares_more}
 use Rattle.follow_core.specs.declared.follow.Stage.{Stage}
 use Rattle.follow_core.specs.declared.follow.Stage.TheVariants.{Fresh, Looking, Over}
-use Rattle.follow_core.specs.Followed.{any_failed}
-use Rattle.follow_core.specs.FollowState.{AllReady, CanLook, FollowState, Holds, IsCause, IsOther, LooksOn, StandsIn, StopsOn, goes_on_at, is_alive, is_alive_from, new_state, nothing, up_to, lacks_memory, output_broke}
 use Rattle.follow_core.specs.inner.Calls.{HasStopped}
 use Rattle.follow_core.specs.inner.Looks.{AddsSome, Begins, MakesLook}
-use Rattle.follow_core.specs.Look.{Look, Ways, is_dropped, snapshots, ways_of}
-use Rattle.follow_core.specs.Printing.{PrinterState, Short, fresh_printer, no_room}
-use Rattle.follow_core.specs.Share.{IsFront, shares_at_look, shares_of}
-use Rattle.follow_core.specs.Sharing.{AllShort, CanPrint, Wrote, WroteShort}
-use Rattle.follow_core.specs.Standing.{AllStand, AreBroken, BrokeIn, CanVisit, IsFollowed, NameState, Stands, no_state, state_at, texts}
-use Rattle.follow_core.specs.inner.Visits.{any_goes_on, goes_on_as, StoppedAt, VisitedAll}
 use Rattle.follow_core.specs.Version.{open_after}
-use Rattle.ports_core.specs.declared.fault.Fault.{Fault}
-use Rattle.ports_core.specs.declared.fault.Fault.TheVariants as fault
-use Rattle.watch_core.specs.Snapshot.{Snapshot}
-use Rattle.watch_core.specs.Watched.{Watched, added, no_name, watched_at}
 use Rattle.std.specs.Prelude.{None, is_some}
-use Rattle.follow_core.proofs.LaterLemmas.{last_file, unbroken_in}
-use Rattle.follow_core.proofs.ShareLemmas.{failed-append, shares_more}
-use Rattle.follow_core.proofs.VisitAllLemmas.{all_both, broken_there, nothing_shared, same_length}
+use Rattle.watch_core.proofs.NameLemmas.{latest-last}
+use Rattle.ports_core.specs.declared.fault.Fault.TheVariants as fault
+
+-- A look at one name after another.
+
+-- The same of the first names, whatever becomes of the others at that look; those stand as before it.
+pub record VisitedUpTo (told_in told : Bool) (ways : Ways) (looks : List Look) (snapshot : Snapshot) (place : ℕ) (names : List NameState) (printer : PrinterState) (old : List Slot) (after : PrinterState) (new : List Slot) (watched : List Watched) (names_now : List NameState) (failed : Bool) : Type 0 where
+  pub fates : List Fate
+  pub shares : List Share
+  pub count : length fates ≡ ways.first + place
+  pub are : told_in ≡ true → (later : List Fate) → shares ≡ shares_at_look_from ways looks (record { snapshot = snapshot; fates = fates ++ later }) ways.first (take place (texts names))
+  pub is_failed : any_failed shares ≡ failed
+  pub shared : AllShared told printer shares old after new
+  pub same : texts names_now ≡ texts names
+  pub done : (later : List Fate) (other : ℕ) → other < place
+      → Stands told_in ways (looks ++ record { snapshot = snapshot; fates = fates ++ later } ∷ []) (ways.first + other) (state_at names_now other).text (watched_at watched (ways.first + other)) (state_at names_now other).standing
+  pub rest : (other : ℕ) → place ≤ other → other < length names_now
+      → Stands told_in ways looks (ways.first + other) (state_at names_now other).text (watched_at watched (ways.first + other)) (state_at names_now other).standing
+
+pub nothing_shared : (told : Bool) (printer : PrinterState) {slots : List Slot} → AllShared told printer [] slots printer slots
+nothing_shared told printer {slots} = record { printer_is = refl; slots = wrote_none told slots }
+
+-- further shares
+
+text_all : (printer : PrinterState) {mid : PrinterState} (shares more : List Share) → mid ≡ record printer { last = last_header_from printer.headers printer.last shares }
+    → text_from printer.headers printer.last shares ++ text_from mid.headers mid.last more ≡ text_from printer.headers printer.last (shares ++ more)
+text_all printer shares more is =
+    ap (λ (p : PrinterState). text_from printer.headers printer.last shares ++ text_from p.headers p.last more) is ∙ sym (text-append printer.headers printer.last shares more)
+
+pub all_both : {told : Bool} {printer mid after : PrinterState} {shares more : List Share} {old now new : List Slot} → AllShared told printer shares old mid now
+    → AllShared told mid more now after new → AllShared told printer (shares ++ more) old after new
+all_both {printer} {shares} {more} all rest = record {
+  printer_is = rest.printer_is ∙ ap (λ (p : PrinterState). record p { last = last_header_from p.headers p.last more }) all.printer_is
+      ∙ ap (λ last. record printer { last = last }) (sym (last-append printer.headers printer.last shares more));
+  slots = wrote_both _ _ _ _ _ (text_all printer shares more all.printer_is) (sym (messages-append shares more)) all.slots rest.slots;
+}
+
+-- one share more, or a beginning of it
+
+pub shared_more : {told : Bool} {printer mid after : PrinterState} {shares : List Share} {share : Share} {old now new : List Slot}
+    → AllShared told printer shares old mid now → Shared told mid share now after new → AllShared told printer (shares ++ share ∷ []) old after new
+shared_more {told} {share} {now} {new} all one = all_both all (record {
+  printer_is = one.printer_is;
+  slots = subst₂ (λ text lines. Wrote told text lines now new) (sym (append-nil _)) (sym (append-nil _)) one.slots;
+})
+
+pub shared_short : {told : Bool} {printer mid : PrinterState} {shares : List Share} {share : Share} {old now new : List Slot} {why : Fault}
+    → AllShared told printer shares old mid now → SharedShort told mid share now new why → AllShort told printer (shares ++ share ∷ []) old new why
+shared_short {printer} {mid} {shares} {share} all one = record {
+  slots = wrote_short _ _ _ _ _ (ap (λ rest. text_from printer.headers printer.last shares ++ rest) (sym (append-nil (share_text mid.headers mid.last share)))
+      ∙ text_all printer shares (share ∷ []) all.printer_is)
+      (ap (λ rest. messages_of shares ++ rest) (sym (append-nil share.messages)) ∙ sym (messages-append shares (share ∷ []))) all.slots one.slots;
+}
+
+-- names that were not looked at yet
+
+pub visited_none : {told_in : Bool} (told : Bool) {ways : Ways} {looks : List Look} {snapshot : Snapshot} {names : List NameState} {printer : PrinterState} {slots : List Slot} {watched : List Watched} → AllStand told_in ways looks names watched
+    → VisitedUpTo told_in told ways looks snapshot 0 names printer slots printer slots watched names false
+visited_none told {ways} {printer} stand = record {
+  fates = replicate ways.first sound;
+  shares = [];
+  count = length-replicate ways.first sound ∙ omega arith;
+  are = λ t later. refl;
+  is_failed = refl;
+  shared = nothing_shared told printer;
+  same = refl;
+  done = λ later other below. absurd (omega arith);
+  rest = λ other above within. stand other within;
+}
+
+-- one name more
+
+shares_one : (ways : Ways) (looks : List Look) (look : Look) (from : ℕ) (names : List (List ℕ)) (name : List ℕ) → shares_at_look_from ways looks look from (names ++ name ∷ []) ≡ shares_at_look_from ways looks look from names ++ share_of ways looks look (from + length names) name ∷ []
+shares_one ways looks look from [] name = ap (λ place. share_of ways looks look place name ∷ []) (omega arith)
+shares_one ways looks look from (first ∷ names) name =
+    ap (λ rest. share_of ways looks look from first ∷ rest) (shares_one ways looks look (from + 1) names name
+    ∙ ap (λ place. shares_at_look_from ways looks look (from + 1) names ++ share_of ways looks look place name ∷ []) (omega arith))
+
+fate_there : (snapshot : Snapshot) (fates : List Fate) {fate : Fate} (later : List Fate) {place : ℕ} → length fates ≡ place → fate_at place (record { snapshot = snapshot; fates = fates ++ fate ∷ later }) ≡ fate
+fate_there snapshot fates {fate} later count = ap (λ n. slice_index_or (fates ++ fate ∷ later) n sound) (sym count) ∙ get_or-append_seam fates fate later sound
+
+text_there : (names now : List NameState) (place : ℕ) → texts now ≡ texts names → place < length now → get_or (texts names) place [] ≡ (state_at now place).text
+text_there names now place same within = ap (λ those. get_or those place []) (sym same) ∙ get_or-map (λ (n : NameState). n.text) now place no_state [] within
+
+stands_same : (told : Bool) (ways : Ways) (looks : List Look) (place : ℕ) {name : NameState} (other : NameState) {watched those : Watched} → name ≡ other → watched ≡ those → Stands told ways looks place name.text watched name.standing → Stands told ways looks place other.text those other.standing
+stands_same told ways looks place {name} other {those} is same stands =
+    subst (λ (n : NameState). Stands told ways looks place n.text those n.standing) is (subst (λ w. Stands told ways looks place name.text w name.standing) same stands)
+
+pub texts_set : (names : List NameState) (place : ℕ) (default one : NameState) → place < length names → one.text ≡ (get_or names place default).text → texts (set names place one) ≡ texts names
+texts_set names place default one within same = map-set_same (λ (n : NameState). n.text) names place one default same
+
+pub length_texts : (names now : List NameState) → texts now ≡ texts names → length (texts names) ≡ length now
+length_texts names now same = ap length (sym same) ∙ length-map now (λ (n : NameState). n.text)
+
+pub same_length : (names now : List NameState) → texts now ≡ texts names → length names ≡ length now
+same_length names now same = sym (length-map names (λ (n : NameState). n.text)) ∙ length_texts names now same
+
+-- the shares of the names before a place, and of the one at it
+shares_next : (ways : Ways) (looks : List Look) (look : Look) (names now : List NameState) (place : ℕ) → texts now ≡ texts names → place < length now
+    → shares_at_look_from ways looks look ways.first (take place (texts names)) ++ share_of ways looks look (ways.first + place) (state_at now place).text ∷ [] ≡ shares_at_look_from ways looks look ways.first (take (suc place) (texts names))
+shares_next ways looks look names now place same within =
+    let count : length (take place (texts names)) ≡ place = length-take-le place (texts names) (subst (λ n. place ≤ n) (sym (length_texts names now same)) (omega arith)) in
+    let below : place < length (texts names) = subst (λ n. place < n) (sym (length_texts names now same)) within in
+    ap (λ name. shares_at_look_from ways looks look ways.first (take place (texts names)) ++ share_of ways looks look (ways.first + place) name ∷ []) (sym (text_there names now place same within))
+    ∙ ap (λ n. shares_at_look_from ways looks look ways.first (take place (texts names)) ++ share_of ways looks look (ways.first + n) (get_or (texts names) place []) ∷ []) (sym count)
+    ∙ sym (shares_one ways looks look ways.first (take place (texts names)) (get_or (texts names) place []))
+    ∙ ap (shares_at_look_from ways looks look ways.first) (sym (take-suc (texts names) place [] below))
+
+failed_one : (shares : List Share) (share : Share) {before : Bool} (failed : Bool) → any_failed shares ≡ before → share.has_failed ≡ failed → any_failed (shares ++ share ∷ []) ≡ (before || failed)
+failed_one shares share {before} failed is one = failed-append shares (share ∷ []) ∙ ap (λ first. first || (share.has_failed || false)) is ∙ ap (λ last. before || (last || false)) one ∙ ap (λ last. before || last) (or-false failed)
+
+pub visited_more : {told_in : Bool} (told : Bool) {ways : Ways} {looks : List Look} {snapshot snapshot_now : Snapshot} {names now : List NameState} (default one : NameState) {place : ℕ} {printer mid after : PrinterState} {old slots new : List Slot} {watched watched_new : List Watched} {before : Bool} (failed : Bool)
+    → place < length now → one.text ≡ (get_or now place default).text → KeepsOthers (ways.first + place) watched watched_new → snapshot_now ≡ snapshot
+    → VisitedUpTo told_in told ways looks snapshot place names printer old mid slots watched now before
+    → (Stands told_in ways looks (ways.first + place) (get_or now place default).text (watched_at watched (ways.first + place)) (get_or now place default).standing → Visited told_in told ways looks snapshot_now (ways.first + place) (get_or now place default).text mid slots after new (watched_at watched_new (ways.first + place)) one.standing failed)
+    → {next : ℕ} → suc place ≡ next → VisitedUpTo told_in told ways looks snapshot next names printer old after new watched_new (set now place one) (before || failed)
+visited_more {told_in} told {ways} {looks} {snapshot} {names} {now} default one {place} {printer} {mid} {after} {old} {slots} {new} {watched} {watched_new} {before} failed within same keeps seen sofar visit is = subst (λ n. VisitedUpTo told_in told ways looks snapshot n names printer old after new watched_new (set now place one) (before || failed)) is (record {
+  fates = sofar.fates ++ visited.fate ∷ [];
+  shares = sofar.shares ++ visited.share ∷ [];
+  count = length-append sofar.fates (visited.fate ∷ []) ∙ ap (λ n. n + 1) sofar.count ∙ omega arith;
+  are = λ t later. subst (λ those. sofar.shares ++ visited.share ∷ [] ≡ shares_at_look_from ways looks (record { snapshot = snapshot; fates = those }) ways.first (take (suc place) (texts names))) (sym (append_assoc sofar.fates (visited.fate ∷ []) later)) (both t later);
+  is_failed = failed_one sofar.shares visited.share failed sofar.is_failed visited.is_failed;
+  shared = shared_more sofar.shared visited.shared;
+  same = texts_set now place default one within same ∙ sofar.same;
+  done = λ later other below. subst (λ those. Stands told_in ways (looks ++ record { snapshot = snapshot; fates = those } ∷ []) (ways.first + other) (state_at (set now place one) other).text (watched_at watched_new (ways.first + other)) (state_at (set now place one) other).standing) (sym (append_assoc sofar.fates (visited.fate ∷ []) later)) (there later other below (cases_eq other place));
+  rest = λ other above inside. stands_same told_in ways looks (ways.first + other) (state_at (set now place one) other) (sym (get_or-set_other now place other one no_state (differs other above))) (sym (kept other (differs other above)))
+      (sofar.rest other (omega arith) (subst (λ n. other < n) (length-set now place one) inside));
+}) where
+  item : NameState
+  item = get_or now place default
+
+  found : item ≡ state_at now place
+  found = get_or_default now place default no_state within
+
+  number : ℕ
+  number = ways.first + place
+
+  visited : Visited told_in told ways looks snapshot number item.text mid slots after new (watched_at watched_new number) one.standing failed
+  visited = subst (λ (s : Snapshot). Visited told_in told ways looks s number item.text mid slots after new (watched_at watched_new number) one.standing failed) seen
+      (visit (subst (λ (n : NameState). Stands told_in ways looks number n.text (watched_at watched number) n.standing) (sym found) (sofar.rest place (omega arith) within)))
+
+  kept : (other : ℕ) → (other ≡ place → ⊥) → watched_at watched_new (ways.first + other) ≡ watched_at watched (ways.first + other)
+  kept = λ other elsewhere. keeps.others (ways.first + other) (λ at. elsewhere (omega (arith, at)))
+
+  both : told_in ≡ true → (later : List Fate) → sofar.shares ++ visited.share ∷ [] ≡ shares_at_look_from ways looks (record { snapshot = snapshot; fates = sofar.fates ++ visited.fate ∷ later }) ways.first (take (suc place) (texts names))
+  both t later =
+      let look : Look = record { snapshot = snapshot; fates = sofar.fates ++ visited.fate ∷ later } in
+      ap (λ front. front ++ visited.share ∷ []) (sofar.are t (visited.fate ∷ later))
+      ∙ ap (λ share. shares_at_look_from ways looks look ways.first (take place (texts names)) ++ share ∷ []) (visited.is_share t (sofar.fates ++ visited.fate ∷ later) (fate_there snapshot sofar.fates later sofar.count))
+      ∙ ap (λ (n : NameState). shares_at_look_from ways looks look ways.first (take place (texts names)) ++ share_of ways looks look number n.text ∷ []) found
+      ∙ shares_next ways looks look names now place sofar.same within
+
+  differs : (other : ℕ) → suc place ≤ other → other ≡ place → ⊥
+  differs other above at = omega arith
+
+  there : (later : List Fate) (other : ℕ) → other < suc place → (other ≡ place) ⊎ (other ≡ place → ⊥) → Stands told_in ways (looks ++ record { snapshot = snapshot; fates = sofar.fates ++ visited.fate ∷ later } ∷ []) (ways.first + other) (state_at (set now place one) other).text (watched_at watched_new (ways.first + other)) (state_at (set now place one) other).standing
+  there later other below (inr elsewhere) = stands_same told_in ways (looks ++ record { snapshot = snapshot; fates = sofar.fates ++ visited.fate ∷ later } ∷ []) (ways.first + other) (state_at (set now place one) other) (sym (get_or-set_other now place other one no_state elsewhere)) (sym (kept other elsewhere))
+      (sofar.done (visited.fate ∷ later) other (omega arith))
+  there later other below (inl at) = subst (λ n. Stands told_in ways (looks ++ record { snapshot = snapshot; fates = sofar.fates ++ visited.fate ∷ later } ∷ []) (ways.first + n) (state_at (set now place one) n).text (watched_at watched_new (ways.first + n)) (state_at (set now place one) n).standing) (sym at)
+      (subst (λ (n : NameState). Stands told_in ways (looks ++ record { snapshot = snapshot; fates = sofar.fates ++ visited.fate ∷ later } ∷ []) number n.text (watched_at watched_new number) n.standing) (sym (get_or-set_same now place one no_state within))
+      (subst (λ name. Stands told_in ways (looks ++ record { snapshot = snapshot; fates = sofar.fates ++ visited.fate ∷ later } ∷ []) number name (watched_at watched_new number) one.standing) (sym same)
+      (visited.stands (sofar.fates ++ visited.fate ∷ later) (fate_there snapshot sofar.fates later sofar.count))))
+
+-- all names
+
+pub visited_all : {told_in : Bool} (told : Bool) {ways : Ways} {looks : List Look} {snapshot : Snapshot} {names now : List NameState} {place : ℕ} {printer after : PrinterState} {old new : List Slot} {watched : List Watched} (failed : Bool) → place ≡ length now
+    → VisitedUpTo told_in told ways looks snapshot place names printer old after new watched now failed → VisitedAll told_in told ways looks snapshot names printer old after new watched now failed
+visited_all {told_in} told {ways} {looks} {snapshot} {names} {now} {place} {watched} failed end sofar = record {
+  fates = sofar.fates;
+  shares = sofar.shares;
+  are = λ t. sofar.are t [] ∙ ap (λ those. shares_at_look_from ways looks (record { snapshot = snapshot; fates = those }) ways.first (take place (texts names))) (append-nil sofar.fates)
+      ∙ ap (shares_at_look_from ways looks (record { snapshot = snapshot; fates = sofar.fates }) ways.first) (take_all place (texts names) (subst (λ n. n ≤ place) (sym (length_texts names now sofar.same)) (omega arith)));
+  is_failed = sofar.is_failed;
+  shared = sofar.shared;
+  same = sofar.same;
+  stand = λ other within. subst (λ those. Stands told_in ways (looks ++ record { snapshot = snapshot; fates = those } ∷ []) (ways.first + other) (state_at now other).text (watched_at watched (ways.first + other)) (state_at now other).standing) (append-nil sofar.fates) (sofar.done [] other (omega arith));
+}
+
+-- by what a name broke, as it stands
+pub broken_there : (told : Bool) {ways : Ways} {looks : List Look} {place : ℕ} (name : List ℕ) (watched : Watched) (standing : Standing) → Stands told ways looks place name watched standing → BrokeIn ways looks place watched.failed
+broken_there told {place} name watched New stands = unbroken_in watched.failed (ap (λ (w : Watched). w.failed) stands.1) (ap (is_dropped place) stands.0)
+broken_there told name watched (Followed position) stands = unbroken_in watched.failed stands.unbroken stands.kept
+broken_there told name watched Left stands = elim stands.why [
+  | inl dropped ↦ dropped.1
+  | inr missed ↦ unbroken_in watched.failed missed.unbroken missed.kept
+]
+
+-- opening a file breaks no name
+opens_failed : (names : List Watched) (place other : ℕ) (file : Option ℕ) → (watched_at (changed_at place (opens file) names) other).failed ≡ (watched_at names other).failed
+opens_failed [] place other file = refl
+opens_failed (name ∷ names) zero zero file = refl
+opens_failed (name ∷ names) zero (suc other) file = refl
+opens_failed (name ∷ names) (suc place) zero file = refl
+opens_failed (name ∷ names) (suc place) (suc other) file = opens_failed names place other file
+
+-- a look that was stopped at a name
+pub visited_short : {told_in : Bool} (told : Bool) {ways : Ways} {looks : List Look} {snapshot snapshot_now : Snapshot} {names now : List NameState} (default : NameState) {place : ℕ} {printer mid : PrinterState} {old slots new : List Slot} {watched watched_new : List Watched} {before : Bool} {why : Fault}
+    → place < length now → snapshot_now ≡ snapshot → Opened (ways.first + place) watched watched_new
+    → VisitedUpTo told_in told ways looks snapshot place names printer old mid slots watched now before
+    → (Stands told_in ways looks (ways.first + place) (get_or now place default).text (watched_at watched (ways.first + place)) (get_or now place default).standing → (is_dropped (ways.first + place) looks ≡ false) × Stopped told_in told ways looks snapshot_now (get_or now place default).text mid slots new why)
+    → StoppedAt told_in told ways looks snapshot (texts names) printer old watched_new new why
+visited_short {told_in} told {ways} {looks} {snapshot} {names} {now} default {place} {mid} {slots} {new} {watched} {watched_new} {why} within seen opened sofar stop = record {
+  fates = sofar.fates;
+  place = place;
+  count = sofar.count;
+  shares = sofar.shares;
+  share = stopped.1.share;
+  within = subst (λ n. place < n) (sym (length_texts names now sofar.same)) within;
+  are = λ t. sofar.are t [] ∙ ap (λ those. shares_at_look_from ways looks (record { snapshot = snapshot; fates = those }) ways.first (take place (texts names))) (append-nil sofar.fates);
+  begins = λ t. subst (BeginsShare stopped.1.share) (share_is t) (stopped.1.begins t sofar.fates);
+  broken = λ other inside. subst (BrokeIn ways (looks ++ look ∷ []) (ways.first + other)) (sym (same (ways.first + other))) (there other (subst (λ n. other < n) (length_texts names now sofar.same) inside) (cases_lt other place));
+  short = shared_short sofar.shared stopped.1.short;
+} where
+  item : NameState
+  item = get_or now place default
+
+  found : item ≡ state_at now place
+  found = get_or_default now place default no_state within
+
+  number : ℕ
+  number = ways.first + place
+
+  stopped : (is_dropped number looks ≡ false) × Stopped told_in told ways looks snapshot item.text mid slots new why
+  stopped = subst (λ (s : Snapshot). (is_dropped number looks ≡ false) × Stopped told_in told ways looks s item.text mid slots new why) seen
+      (stop (subst (λ (n : NameState). Stands told_in ways looks number n.text (watched_at watched number) n.standing) (sym found) (sofar.rest place (omega arith) within)))
+
+  look : Look
+  look = record { snapshot = snapshot; fates = sofar.fates }
+
+  share_is : told_in ≡ true → share_by ways item.text looks look sound ≡ share_of ways looks look number (get_or (texts names) place [])
+  share_is t =
+      let count = sofar.count in
+      ap (share_by ways item.text looks look) (sym (get_or_past sofar.fates number sound (omega (arith, count))))
+      ∙ ap (λ test. if test then no_share item.text else share_by ways item.text looks look (fate_at number look)) (sym stopped.0)
+      ∙ ap (share_of ways looks look number) (ap (λ (n : NameState). n.text) found ∙ sym (text_there names now place sofar.same within))
+
+  same : (other : ℕ) → (watched_at watched_new other).failed ≡ (watched_at watched other).failed
+  same other = ap (λ (those : List Watched). (watched_at those other).failed) opened.1 ∙ opens_failed watched number other opened.0
+
+  there : (other : ℕ) → other < length now → (other < place) ⊎ (place ≤ other) → BrokeIn ways (looks ++ look ∷ []) (ways.first + other) (watched_at watched (ways.first + other)).failed
+  there other inside (inl less) = broken_there told_in (state_at now other).text (watched_at watched (ways.first + other)) (state_at now other).standing
+      (subst (λ those. Stands told_in ways (looks ++ record { snapshot = snapshot; fates = those } ∷ []) (ways.first + other) (state_at now other).text (watched_at watched (ways.first + other)) (state_at now other).standing) (append-nil sofar.fates) (sofar.done [] other less))
+  there other inside (inr more) =
+      let count = sofar.count in
+      broken_sound looks look (watched_at watched (ways.first + other)).failed (get_or_past sofar.fates (ways.first + other) sound (omega (arith, count, more)))
+      (broken_there told_in (state_at now other).text (watched_at watched (ways.first + other)) (state_at now other).standing (sofar.rest other more inside))
+
+pub next_ready : (first : ℕ) (names : List NameState) (one : NameState) (place : ℕ) {watched watched_new : List Watched} → place < length names → AllReady names first watched → KeepsOthers (first + place) watched watched_new → CanVisit one (watched_at watched_new (first + place)) → AllReady (set names place one) first watched_new
+next_ready first names one place {watched_new} within ready keeps can other inside = by (cases_eq other place) where
+  by : (other ≡ place) ⊎ (other ≡ place → ⊥) → CanVisit (state_at (set names place one) other) (watched_at watched_new (first + other))
+  by (inl at) = subst (λ n. CanVisit (state_at (set names place one) n) (watched_at watched_new (first + n))) (sym at) (subst (λ (n : NameState). CanVisit n (watched_at watched_new (first + place))) (sym (get_or-set_same names place one no_state within)) can)
+  by (inr elsewhere) = subst (λ (n : NameState). CanVisit n (watched_at watched_new (first + other))) (sym (get_or-set_other names place other one no_state elsewhere)) (subst (CanVisit (state_at names other)) (sym (keeps.others (first + other) (λ at. elsewhere (omega (arith, at))))) (ready other (subst (λ n. other < n) (length-set names place one) inside)))
+
+-- A look at all names more, and one that was stopped.
 
 -- memory was wanting after all of them
-wrote_stop : (told : Bool) (text : List ℕ) (lines : List (List ℕ)) (old new : List Slot) → Wrote told text lines old new → WroteShort told text lines old new fault.Memory
-wrote_stop told text lines old new wrote = λ output error others is. by output error others (wrote output error others is) where
-  by : (output error : Slot) (others : List Slot) → (error_after : Slot) × TellsAll told lines error error_after × (new ≡ adds (told_of told text) output ∷ error_after ∷ others)
-      → (error_after : Slot) × TellsAll told lines error error_after × Short told text (output ∷ error_after ∷ others) new fault.Memory
-  by output error others (error_after, said, are) = (error_after, said, no_room (length text) (omega arith) (are ∙ ap (λ those. adds (told_of told those) output ∷ error_after ∷ others) (sym (take-length text))))
-
-none_stop : (told : Bool) (printer : PrinterState) (slots : List Slot) → AllShort told printer [] slots slots fault.Memory
-none_stop told printer slots = record { slots = wrote_stop told [] [] slots slots (nothing_shared told printer slots).slots }
+none_stop : {told : Bool} {printer : PrinterState} {slots : List Slot} → AllShort told printer [] slots slots fault.Memory
+none_stop {told} {slots} = record {
+  slots = λ output error others is. (error, refl, subst (λ those. Short told [] those slots fault.Memory) is (no_memory told));
+}
 
 -- names that are looked at
 
-stand_in : (told_in told : Bool) (ways : Ways) (headers : Bool) (names : List (List ℕ)) (looks : List Look) (first : List Slot) (follow : FollowState) (watched : List Watched) (slots : List Slot) → follow.stage ≡ Looking → Holds told_in told ways headers names looks first follow watched slots
+stand_in : {told_in : Bool} (told : Bool) {ways : Ways} {headers : Bool} {names : List (List ℕ)} {looks : List Look} {first : List Slot} {follow : FollowState} {watched : List Watched} {slots : List Slot} → follow.stage ≡ Looking → Holds told_in told ways headers names looks first follow watched slots
     → AllStand told_in (ways_of ways.first follow.by_name follow.start) looks follow.names watched
-stand_in told_in told ways headers names looks first follow watched slots looking holds =
+stand_in {told_in} told {ways} {looks} {follow} {watched} looking holds =
     subst (λ way. AllStand told_in way looks follow.names watched) holds.asked (subst (StandsIn told_in ways looks follow.names watched) looking holds.stand).0
 
--- a look at all names was made
-abbrev pub Visits : (told_in told : Bool) → Snapshot → FollowState → List Watched → List Slot → FollowState → List Watched → List Slot → Bool → Type 0
-Visits told_in told snapshot old watched slots new watched_new slots_new failed = (from : ℕ) (looks : List Look) → (0 < length old.names → old.first ≡ from) → AllStand told_in (ways_of from old.by_name old.start) looks old.names watched
-    → VisitedAll told_in told (ways_of from old.by_name old.start) looks snapshot old.names old.printer slots new.printer slots_new watched_new new.names failed
-
--- it was stopped
-abbrev pub Halts : (told_in told : Bool) → Snapshot → FollowState → List Watched → List Slot → List Watched → List Slot → Fault → Type 0
-Halts told_in told snapshot old watched slots watched_new slots_new why = (from : ℕ) (looks : List Look) → (0 < length old.names → old.first ≡ from) → AllStand told_in (ways_of from old.by_name old.start) looks old.names watched
-    → StoppedAt told_in told (ways_of from old.by_name old.start) looks snapshot (texts old.names) old.printer slots watched_new slots_new why
-
-pub visits_at : (told_in told : Bool) (snapshot seen : Snapshot) (old new : FollowState) (names names_new : List NameState) (watched mid watched_new : List Watched) (slots slots_new : List Slot) (failed : Bool) → names ≡ old.names → names_new ≡ new.names → mid ≡ watched → seen ≡ snapshot
-    → ((from : ℕ) (looks : List Look) → (0 < length names → old.first ≡ from) → AllStand told_in (ways_of from old.by_name old.start) looks names mid
-    → VisitedAll told_in told (ways_of from old.by_name old.start) looks seen names old.printer slots new.printer slots_new watched_new names_new failed)
-    → Visits told_in told snapshot old watched slots new watched_new slots_new failed
-visits_at told_in told snapshot seen old new names names_new watched mid watched_new slots slots_new failed same also is at visits =
-    subst (λ those. V those new.names watched snapshot) same (subst (λ those. V names those watched snapshot) also (subst (λ those. V names names_new those snapshot) is (subst (λ s. V names names_new mid s) at visits))) where
-      V : List NameState → List NameState → List Watched → Snapshot → Type 0
-      V these after those s = (from : ℕ) (looks : List Look) → (0 < length these → old.first ≡ from) → AllStand told_in (ways_of from old.by_name old.start) looks these those
-          → VisitedAll told_in told (ways_of from old.by_name old.start) looks s these old.printer slots new.printer slots_new watched_new after failed
-
-pub halts_at : (told_in told : Bool) (snapshot seen : Snapshot) (old : FollowState) (names : List NameState) (watched mid watched_new : List Watched) (slots slots_new : List Slot) (why : Fault) → names ≡ old.names → mid ≡ watched → seen ≡ snapshot
-    → ((from : ℕ) (looks : List Look) → (0 < length names → old.first ≡ from) → AllStand told_in (ways_of from old.by_name old.start) looks names mid
-    → StoppedAt told_in told (ways_of from old.by_name old.start) looks seen (texts names) old.printer slots watched_new slots_new why)
-    → Halts told_in told snapshot old watched slots watched_new slots_new why
-halts_at told_in told snapshot seen old names watched mid watched_new slots slots_new why same is at halts =
-    subst (λ those. H those watched snapshot) same (subst (λ those. H names those snapshot) is (subst (λ s. H names mid s) at halts)) where
-      H : List NameState → List Watched → Snapshot → Type 0
-      H these those s = (from : ℕ) (looks : List Look) → (0 < length these → old.first ≡ from) → AllStand told_in (ways_of from old.by_name old.start) looks these those
-          → StoppedAt told_in told (ways_of from old.by_name old.start) looks s (texts these) old.printer slots watched_new slots_new why
-
 -- as many names
-length_names : (follow : FollowState) (names : List (List ℕ)) → texts follow.names ≡ names → length follow.names ≡ length names
-length_names follow names same = sym (length-map follow.names (λ (n : NameState). n.text)) ∙ ap length same
+length_names : (follow : FollowState) {names : List (List ℕ)} → texts follow.names ≡ names → length follow.names ≡ length names
+length_names follow same = sym (length-map follow.names (λ (n : NameState). n.text)) ∙ ap length same
 
 -- the number of the first
-first_there : (told_in told : Bool) (ways : Ways) (headers : Bool) (names : List (List ℕ)) (looks : List Look) (first : List Slot) (follow : FollowState) (watched : List Watched) (slots : List Slot) → follow.stage ≡ Looking → Holds told_in told ways headers names looks first follow watched slots
+first_there : {told_in : Bool} (told : Bool) {ways : Ways} {headers : Bool} {names : List (List ℕ)} {looks : List Look} {first : List Slot} {follow : FollowState} {watched : List Watched} {slots : List Slot} → follow.stage ≡ Looking → Holds told_in told ways headers names looks first follow watched slots
     → 0 < length follow.names → follow.first ≡ ways.first
-first_there told_in told ways headers names looks first follow watched slots looking holds some = holds.numbered looking (subst (λ n. 0 < n) (length_names follow names holds.same) some)
+first_there told {follow} looking holds some = holds.numbered looking (subst (λ n. 0 < n) (length_names follow holds.same) some)
 
-pub look_made : (told_in told : Bool) (snapshot : Snapshot) (old new : FollowState) (watched watched_new : List Watched) (slots slots_new : List Slot) (failed : Bool) → old.stage ≡ Looking
-    → new.by_name ≡ old.by_name → new.start ≡ old.start → new.first ≡ old.first → new.stage ≡ Looking → new.has_failed ≡ (old.has_failed || failed) → length watched_new ≡ length watched → Visits told_in told snapshot old watched slots new watched_new slots_new failed → LooksOn told_in told snapshot old watched slots new watched_new slots_new
-look_made told_in told snapshot old new watched watched_new slots slots_new failed looking by_name start first_is looking_new has_failed count visits ways headers names looks first holds = (
+look_made : {told_in told : Bool} {snapshot : Snapshot} {old : FollowState} {names : List NameState} {watched watched_new : List Watched}
+    {printer : PrinterState} {slots slots_new : List Slot} (failed : Bool) → old.stage ≡ Looking
+    → VisitsAll told_in told snapshot old.by_name old.start old.first old.names watched old.printer slots names watched_new printer slots_new (Ok failed)
+    → LooksOn told_in told snapshot old watched slots (record old { names = names; printer = printer; has_failed = old.has_failed || failed }) watched_new slots_new
+look_made {told_in} {told} {snapshot} {old} {names} {watched} {watched_new} {printer} {slots} {slots_new} failed looking visits ways headers asked looks first holds = (
   visited.fates,
   record {
-    asked = holds.asked ∙ ap (λ way. ways_of ways.first way old.start) (sym by_name) ∙ ap (ways_of ways.first new.by_name) (sym start);
+    asked = holds.asked;
     same = visited.same ∙ holds.same;
-    numbered = λ is some. first_is ∙ holds.numbered looking some;
-    stand = subst (StandsIn told_in ways after new.names watched_new) (sym looking_new) (visited.stand, count ∙ (subst (StandsIn told_in ways looks old.names watched) looking holds.stand).1 ∙ ap (λ n. ways.first + n) (same_length old.names new.names visited.same));
+    numbered = holds.numbered;
+    stand = subst (StandsIn told_in ways (looks ++ look ∷ []) names watched_new) (sym looking) (
+      visited.stand,
+      visits.count
+          ∙ (subst (StandsIn told_in ways looks old.names watched) looking holds.stand).1 ∙ ap (λ n. ways.first + n) (same_length old.names names visited.same),
+    );
     shares = holds.shares ++ visited.shares;
-    are = λ t. ap (λ those. those ++ visited.shares) (holds.are t) ∙ ap (λ those. shares_of ways names looks ++ those) (visited.are t ∙ ap (λ those. shares_at_look ways those looks look) holds.same) ∙ sym (shares_more ways names looks look);
-    shared = all_both told (fresh_printer headers) old.printer new.printer holds.shares visited.shares first slots slots_new holds.shared visited.shared;
-    failed = failed-append holds.shares visited.shares ∙ ap (λ before. before || any_failed visited.shares) holds.failed ∙ ap (λ now. old.has_failed || now) visited.is_failed ∙ sym has_failed;
+    are = λ t. ap (λ those. those ++ visited.shares) (holds.are t) ∙ ap (λ those. shares_of ways asked looks ++ those)
+        (visited.are t ∙ ap (λ those. shares_at_look ways those looks look) holds.same) ∙ sym (shares_more ways asked looks look);
+    shared = all_both holds.shared visited.shared;
+    failed = failed-append holds.shares visited.shares ∙ ap (λ before. before || any_failed visited.shares) holds.failed
+        ∙ ap (λ now. old.has_failed || now) visited.is_failed;
   },
 ) where
-  visited : VisitedAll told_in told ways looks snapshot old.names old.printer slots new.printer slots_new watched_new new.names failed
-  visited = subst (λ way. VisitedAll told_in told way looks snapshot old.names old.printer slots new.printer slots_new watched_new new.names failed) (sym holds.asked)
-      (visits ways.first looks (first_there told_in told ways headers names looks first old watched slots looking holds) (stand_in told_in told ways headers names looks first old watched slots looking holds))
+  visited : VisitedAll told_in told ways looks snapshot old.names old.printer slots printer slots_new watched_new names failed
+  visited = subst (λ way. VisitedAll told_in told way looks snapshot old.names old.printer slots printer slots_new watched_new names failed) (sym holds.asked)
+      (visits.visited ways.first looks (first_there told looking holds) (stand_in told looking holds))
 
   look : Look
   look = record { snapshot = snapshot; fates = visited.fates }
 
-  after : List Look
-  after = looks ++ look ∷ []
-
-pub look_stopped : {told_in told : Bool} {snapshot : Snapshot} {old : FollowState} {watched watched_new : List Watched} {slots slots_new : List Slot} {why : Fault} → old.stage ≡ Looking → length watched_new ≡ length watched
-    → Halts told_in told snapshot old watched slots watched_new slots_new why → StopsOn told_in told snapshot old watched slots watched_new slots_new why
-look_stopped {told_in} {told} {snapshot} {old} {watched} {watched_new} {slots} {slots_new} {why} looking count halts ways headers names looks first holds = record {
+look_stopped : {told_in told : Bool} {snapshot : Snapshot} {old : FollowState} {names : List NameState} {watched watched_new : List Watched}
+    {printer : PrinterState} {slots slots_new : List Slot} {why : Fault} → old.stage ≡ Looking
+    → VisitsAll told_in told snapshot old.by_name old.start old.first old.names watched old.printer slots names watched_new printer slots_new (Err why)
+    → StopsOn told_in told snapshot old watched slots watched_new slots_new why
+look_stopped {told_in} {told} {snapshot} {old} {watched} {watched_new} {slots} {slots_new} {why} looking visits ways headers names looks first holds = record {
   shares = holds.shares;
   are = holds.are;
   printer = old.printer;
@@ -125,30 +351,16 @@ look_stopped {told_in} {told} {snapshot} {old} {watched} {watched_new} {slots} {
   short = stopped.short;
 } where
   stopped : StoppedAt told_in told ways looks snapshot names old.printer slots watched_new slots_new why
-  stopped = subst (λ those. StoppedAt told_in told ways looks snapshot those old.printer slots watched_new slots_new why) holds.same
-      (subst (λ way. StoppedAt told_in told way looks snapshot (texts old.names) old.printer slots watched_new slots_new why) (sym holds.asked)
-      (halts ways.first looks (first_there told_in told ways headers names looks first old watched slots looking holds) (stand_in told_in told ways headers names looks first old watched slots looking holds)))
+  stopped = subst₂ (λ way those. StoppedAt told_in told way looks snapshot those old.printer slots watched_new slots_new why) (sym holds.asked) holds.same
+      (visits.stopped ways.first looks (first_there told looking holds) (stand_in told looking holds))
 
   all : length watched_new ≡ ways.first + length names
-  all = count ∙ (subst (StandsIn told_in ways looks old.names watched) looking holds.stand).1 ∙ ap (λ n. ways.first + n) (length_names old names holds.same)
+  all = visits.count ∙ (subst (StandsIn told_in ways looks old.names watched) looking holds.stand).1 ∙ ap (λ n. ways.first + n) (length_names old holds.same)
 
 -- whatever looks were made, the names broke just where they tell so
 abbrev pub Unbroken : (told_in told : Bool) → FollowState → List Watched → List Slot → List Watched → Type 0
 Unbroken told_in told old watched slots watched_new = (ways : Ways) (headers : Bool) (names : List (List ℕ)) (looks : List Look) (first : List Slot)
     → Holds told_in told ways headers names looks first old watched slots → AreBroken ways looks names watched_new
-
--- there was no memory to begin one
-look_refused : (told_in told : Bool) (snapshot : Snapshot) (old : FollowState) (watched watched_new : List Watched) (slots slots_new : List Slot) (why : Fault) → Unbroken told_in told old watched slots watched_new → why ≡ fault.Memory → slots_new ≡ slots → StopsOn told_in told snapshot old watched slots watched_new slots_new why
-look_refused told_in told snapshot old watched watched_new slots slots_new why unbroken is same ways headers names looks first holds = record {
-  shares = holds.shares;
-  are = holds.are;
-  printer = old.printer;
-  reached = slots;
-  shared = holds.shared;
-  more = [];
-  begun = nothing (unbroken ways headers names looks first holds);
-  short = subst (AllShort told old.printer [] slots slots_new) (sym is) (subst (λ those. AllShort told old.printer [] slots those fault.Memory) (sym same) (none_stop told old.printer slots));
-}
 
 -- names that were added
 
@@ -166,8 +378,8 @@ can_at text New = (refl, refl)
 can_at text (Followed position) = (refl, refl)
 can_at text Left = tt
 
-added_ready : (names : List NameState) (first : ℕ) (before : List Watched) → (0 < length names → first ≡ length before) → AllReady names first (before ++ map added (texts names))
-added_ready names first before first_is place within = subst (CanVisit (state_at names place)) (sym there) (can_at (state_at names place).text (state_at names place).standing) where
+added_ready : (names : List NameState) {first : ℕ} (before : List Watched) → (0 < length names → first ≡ length before) → AllReady names first (before ++ map added (texts names))
+added_ready names {first} before first_is place within = subst (CanVisit (state_at names place)) (sym there) (can_at (state_at names place).text (state_at names place).standing) where
   there : watched_at (before ++ map added (texts names)) (first + place) ≡ added (state_at names place).text
   there = ap (λ n. watched_at (before ++ map added (texts names)) (n + place)) (first_is (omega (arith, within)))
       ∙ added_at before (texts names) place (subst (λ n. place < n) (sym (length-map names (λ (n : NameState). n.text))) within)
@@ -180,13 +392,13 @@ pub record IsAdded (old mid : FollowState) (watched watched_mid : List Watched) 
   pub watched_is : watched_mid ≡ watched ++ map added (texts old.names)
   pub first_is : 0 < length old.names → mid.first ≡ length watched
 
-held_added : (told_in told : Bool) (ways : Ways) (headers : Bool) (names : List (List ℕ)) (looks : List Look) (first : List Slot) (old mid : FollowState) (watched watched_mid : List Watched) (slots : List Slot) → IsAdded old mid watched watched_mid
+held_added : {told_in : Bool} (told : Bool) {ways : Ways} {headers : Bool} {names : List (List ℕ)} {looks : List Look} {first : List Slot} {old mid : FollowState} {watched watched_mid : List Watched} {slots : List Slot} → IsAdded old mid watched watched_mid
     → Holds told_in told ways headers names looks first old watched slots → Holds told_in told ways headers names looks first mid watched_mid slots
-held_added told_in told ways headers names looks first old mid watched watched_mid slots is holds =
+held_added {told_in} told {ways} {headers} {names} {looks} {first} {old} {watched} {watched_mid} {slots} is holds =
     subst (λ (f : FollowState). Holds told_in told ways headers names looks first f watched_mid slots) (sym is.mid_is) (record {
       asked = holds.asked;
       same = holds.same;
-      numbered = λ looking some. is.first_is (subst (λ n. 0 < n) (sym (length_names old names holds.same)) some) ∙ new.2;
+      numbered = λ looking some. is.first_is (subst (λ n. 0 < n) (sym (length_names old holds.same)) some) ∙ new.2;
       stand = (
         subst (λ those. AllStand told_in ways those old.names watched_mid) (sym new.0)
             (subst (λ those. AllStand told_in ways [] those watched_mid) (sym new.1) (subst (AllStand told_in ways [] (map new_state (texts old.names))) (sym is.watched_is) (added_stand told_in ways watched (texts old.names) (sym new.2)))),
@@ -202,75 +414,39 @@ held_added told_in told ways headers names looks first old mid watched watched_m
       new = subst (StandsIn told_in ways looks old.names watched) is.fresh holds.stand
 
 -- a name that others added is before them
-other_added : (old mid : FollowState) (watched watched_mid : List Watched) → IsAdded old mid watched watched_mid → (number : ℕ) → IsOther old watched number → IsOther mid watched_mid number × (watched_at watched_mid number ≡ watched_at watched number)
-other_added old mid watched watched_mid is number other = (
+other_added : {old mid : FollowState} {watched watched_mid : List Watched} → IsAdded old mid watched watched_mid → (number : ℕ) → IsOther old watched number → IsOther mid watched_mid number × (watched_at watched_mid number ≡ watched_at watched number)
+other_added {old} {watched} {watched_mid} is number other = (
   subst (λ (f : FollowState). IsOther f watched_mid number) (sym is.mid_is) (λ place within at. let first_is = is.first_is (omega (arith, within)) in absurd (omega (arith, below, first_is, at))),
   ap (λ those. watched_at those number) is.watched_is ∙ get_or_append_left watched (map added (texts old.names)) no_name number below,
 ) where
   below : number < length watched
   below = subst (λ stage. IsOther (record old { stage = stage }) watched number) is.fresh other
 
-pub added_begins : (told_in : Bool) (old mid : FollowState) (watched watched_mid : List Watched) → IsAdded old mid watched watched_mid → Begins told_in old watched mid watched_mid
-added_begins told_in old mid watched watched_mid is = record {
+pub added_begins : {told_in : Bool} {old mid : FollowState} {watched watched_mid : List Watched} → IsAdded old mid watched watched_mid → Begins told_in old watched mid watched_mid
+added_begins {old} {mid} {watched} {watched_mid} is = record {
   stage = ap (λ (f : FollowState). f.stage) is.mid_is;
-  ready = subst (λ (f : FollowState). AllReady f.names f.first watched_mid) (sym is.mid_is) (subst (AllReady old.names mid.first) (sym is.watched_is) (added_ready old.names mid.first watched is.first_is));
-  others = other_added old mid watched watched_mid is;
-  holds = λ told ways headers names looks first slots holds. held_added told_in told ways headers names looks first old mid watched watched_mid slots is holds;
+  ready = subst (λ (f : FollowState). AllReady f.names f.first watched_mid) (sym is.mid_is) (subst (AllReady old.names mid.first) (sym is.watched_is) (added_ready old.names watched is.first_is));
+  others = other_added is;
+  holds = λ told ways headers names looks first slots holds. held_added told is holds;
 }
 
 -- names of others, in the look after that
-pub not_own : {first number : ℕ} {names : List NameState} (follow : FollowState) (watched : List Watched) → follow.stage ≡ Looking → names ≡ follow.names → first ≡ follow.first → IsOther follow watched number → (place : ℕ) → place < length names → number ≡ first + place → ⊥
-not_own {first} {number} {names} follow watched looking names_are first_is other place within at =
-    subst (λ stage. IsOther (record follow { stage = stage }) watched number) looking other place (subst (λ (those : List NameState). place < length those) names_are within) (at ∙ ap (λ n. n + place) first_is)
-
-pub other_kept : {names : List (List ℕ)} {watched watched_new : List Watched} (follow : FollowState) (number : ℕ) → follow.stage ≡ Fresh → AddsSome names watched watched_new → IsOther follow watched number → watched_at watched_new number ≡ watched_at watched number
-other_kept {names} {watched} {watched_new} follow number fresh some other =
-    ap (λ those. watched_at those number) some.kept.1 ∙ get_or_append_left watched some.kept.0 no_name number (subst (λ stage. IsOther (record follow { stage = stage }) watched number) fresh other)
-
--- a look that goes on from there
-
-pub begun_looked : {told_in told : Bool} {snapshot snapshot_mid : Snapshot} {old mid new : FollowState} {watched watched_mid watched_new : List Watched} {slots slots_new : List Slot} → Begins told_in old watched mid watched_mid → snapshot_mid ≡ snapshot
-    → LooksOn told_in told snapshot_mid mid watched_mid slots new watched_new slots_new → LooksOn told_in told snapshot old watched slots new watched_new slots_new
-begun_looked {told_in} {told} {snapshot} {snapshot_mid} {old} {mid} {new} {watched} {watched_mid} {watched_new} {slots} {slots_new} begins same looks_on = subst (λ s. LooksOn told_in told s old watched slots new watched_new slots_new) same
-    (λ ways headers names looks first holds. looks_on ways headers names looks first (begins.holds told ways headers names looks first slots holds))
-
-pub begun_stopped : {told_in told : Bool} {snapshot snapshot_mid : Snapshot} {old mid : FollowState} {watched watched_mid watched_new : List Watched} {slots slots_new : List Slot} {why : Fault} → Begins told_in old watched mid watched_mid → snapshot_mid ≡ snapshot
-    → StopsOn told_in told snapshot_mid mid watched_mid slots watched_new slots_new why → StopsOn told_in told snapshot old watched slots watched_new slots_new why
-begun_stopped {told_in} {told} {snapshot} {snapshot_mid} {old} {mid} {watched} {watched_mid} {watched_new} {slots} {slots_new} {why} begins same stops = subst (λ s. StopsOn told_in told s old watched slots watched_new slots_new why) same
-    (λ ways headers names looks first holds. stops ways headers names looks first (begins.holds told ways headers names looks first slots holds))
-
-pub makes_none : {told_in told : Bool} {snapshot : Snapshot} {seen seen_new : List Snapshot} {old new : FollowState} {watched watched_new : List Watched} {slots : List Slot} {why : Fault} → Unbroken told_in told old watched slots watched_new → why ≡ fault.Memory → seen_new ≡ seen
-    → MakesLook told_in told snapshot seen old watched slots seen_new new watched_new slots (Err why)
-makes_none {told_in} {told} {snapshot} {seen} {seen_new} {old} {new} {watched} {watched_new} {slots} {why} unbroken is same = record {
-  looked = tt;
-  stopped = look_refused told_in told snapshot old watched watched_new slots slots why unbroken is refl;
-  seen_is = tt;
-  saw = inl same;
-  stage = tt;
-  ready = tt;
-  can = tt;
-}
-
--- what the look sees is what the watch shows
-pub shown : (shows_mid shows : ℕ → Snapshot) (seen seen_mid seen_new : List Snapshot) → shows_mid ≡ shows → seen_mid ≡ seen → seen_new ≡ seen_mid ++ shows_mid (length seen_mid) ∷ []
-    → (shows_mid (length seen_mid) ≡ shows (length seen)) × (seen_new ≡ seen ++ shows (length seen) ∷ [])
-shown shows_mid shows seen seen_mid seen_new shows_same same is =
-    let next = ap (λ (those : ℕ → Snapshot). those (length seen_mid)) shows_same ∙ ap (λ (those : List Snapshot). shows (length those)) same in
-    (next, is ∙ ap (λ (those : List Snapshot). those ++ shows_mid (length seen_mid) ∷ []) same ∙ ap (λ snapshot. seen ++ snapshot ∷ []) next)
+not_own : {number : ℕ} (follow : FollowState) (watched : List Watched) → follow.stage ≡ Looking → IsOther follow watched number
+    → (place : ℕ) → place < length follow.names → number ≡ follow.first + place → ⊥
+not_own {number} follow watched looking other = subst (λ stage. IsOther (record follow { stage = stage }) watched number) looking other
 
 -- whether a further look can give something
 
-open_there : (ways : Ways) (looks : List Look) (place : ℕ) (name : List ℕ) (watched : Watched) (position : ℕ) → IsFollowed true ways looks place name watched position → (by_name : Bool) → ways.by_name ≡ by_name → (by_name || is_some (open_after ways.by_name name (snapshots looks))) ≡ true
-open_there ways looks place name watched position followed true is = refl
-open_there ways [] place name watched position followed false is = absurd (false≢true (sym followed.begun))
-open_there ways (before ∷ looks) place name watched position followed false is =
+open_there : {ways : Ways} (looks : List Look) {place : ℕ} {name : List ℕ} {watched : Watched} {position : ℕ} → IsFollowed true ways looks place name watched position → (by_name : Bool) → ways.by_name ≡ by_name → (by_name || is_some (open_after ways.by_name name (snapshots looks))) ≡ true
+open_there looks followed true is = refl
+open_there [] followed false is = absurd (false≢true (sym followed.begun))
+open_there {ways} (before ∷ looks) {name} followed false is =
     ap is_some (last_file ways name before looks ∙ sym (followed.stands refl).file) ∙ followed.there refl is
 
 goes_on_there : (ways : Ways) (looks : List Look) (place : ℕ) (name : List ℕ) (watched : Watched) (standing : Standing) → Stands true ways looks place name watched standing → goes_on_as ways.by_name standing ≡ goes_on_at ways looks place name
-goes_on_there ways looks place name watched New stands =
-    sym (ap (λ those. goes_on_at ways those place name) stands.0 ∙ or_none ways.by_name)
+goes_on_there ways looks place name watched New stands = sym (ap (λ those. goes_on_at ways those place name) stands.0 ∙ or_none ways.by_name)
 goes_on_there ways looks place name watched (Followed position) stands =
-    sym (ap (λ dropped. not dropped && (ways.by_name || is_some (open_after ways.by_name name (snapshots looks)))) stands.kept ∙ open_there ways looks place name watched position stands ways.by_name refl)
+    sym (ap (λ dropped. not dropped && (ways.by_name || is_some (open_after ways.by_name name (snapshots looks)))) stands.kept ∙ open_there looks stands ways.by_name refl)
 goes_on_there ways looks place name watched Left stands = elim stands.why [
   | inl dropped ↦ sym (ap (λ those. not those && (ways.by_name || is_some (open_after ways.by_name name (snapshots looks)))) dropped.0)
   | inr missed ↦ sym (ap (λ by_name. not (is_dropped place looks) && (by_name || is_some (open_after ways.by_name name (snapshots looks)))) missed.way
@@ -283,24 +459,23 @@ alive_from ways looks from (name ∷ names) all =
     ap (λ rest. goes_on_as ways.by_name name.standing || rest) (alive_from ways looks (1 + from) names (λ place within. all (suc place) (omega arith) ∙ ap (λ at. goes_on_at ways looks at (state_at names place).text) (omega arith)))
     ∙ ap (λ one. one || is_alive_from ways looks (1 + from) (texts names)) (all 0 (omega arith) ∙ ap (λ at. goes_on_at ways looks at name.text) (omega arith))
 
-new_there : (names : List NameState) (place : ℕ) → place < length names → names ≡ map new_state (texts names) → (state_at names place).standing ≡ New
-new_there names place within new =
+new_there : {names : List NameState} (place : ℕ) → place < length names → names ≡ map new_state (texts names) → (state_at names place).standing ≡ New
+new_there {names} place within new =
     let inside : place < length (texts names) = subst (λ n. place < n) (sym (length-map names (λ (n : NameState). n.text))) within in
     ap (λ (those : List NameState). (state_at those place).standing) new
     ∙ ap (λ (n : NameState). n.standing) (get_or-map new_state (texts names) place [] no_state inside)
 
-fresh_alive : (ways : Ways) (looks : List Look) (names : List NameState) → looks ≡ [] → names ≡ map new_state (texts names) → (place : ℕ) → place < length names → goes_on_as ways.by_name (state_at names place).standing ≡ goes_on_at ways looks (ways.first + place) (state_at names place).text
-fresh_alive ways looks names none new place within =
+fresh_alive : (ways : Ways) {looks : List Look} {names : List NameState} → looks ≡ [] → names ≡ map new_state (texts names) → (place : ℕ) → place < length names → goes_on_as ways.by_name (state_at names place).standing ≡ goes_on_at ways looks (ways.first + place) (state_at names place).text
+fresh_alive ways {names} none new place within =
     subst (λ (those : List Look). goes_on_as ways.by_name (state_at names place).standing ≡ goes_on_at ways those (ways.first + place) (state_at names place).text) (sym none)
-    (ap (goes_on_as ways.by_name) (new_there names place within new) ∙ sym (or_none ways.by_name))
+    (ap (goes_on_as ways.by_name) (new_there place within new) ∙ sym (or_none ways.by_name))
 
-pub alive_is : (told : Bool) (ways : Ways) (headers : Bool) (names : List (List ℕ)) (looks : List Look) (first slots : List Slot) (follow : FollowState) (watched : List Watched) → Holds true told ways headers names looks first follow watched slots → any_goes_on follow.by_name follow.names ≡ is_alive ways names looks
-alive_is told ways headers names looks first slots follow watched holds =
-    ap (λ (way : Ways). any_goes_on way.by_name follow.names) (sym holds.asked)
-    ∙ alive_from ways looks ways.first follow.names (stage follow.stage holds.stand)
+pub alive_is : (told : Bool) {ways : Ways} {headers : Bool} {names : List (List ℕ)} {looks : List Look} {first slots : List Slot} {follow : FollowState} {watched : List Watched} → Holds true told ways headers names looks first follow watched slots → any_goes_on follow.by_name follow.names ≡ is_alive ways names looks
+alive_is told {ways} {looks} {follow} {watched} holds =
+    ap (λ (way : Ways). any_goes_on way.by_name follow.names) (sym holds.asked) ∙ alive_from ways looks ways.first follow.names (stage follow.stage holds.stand)
     ∙ ap (λ those. is_alive ways those looks) holds.same where
       stage : (stage : Stage) → StandsIn true ways looks follow.names watched stage → (place : ℕ) → place < length follow.names → goes_on_as ways.by_name (state_at follow.names place).standing ≡ goes_on_at ways looks (ways.first + place) (state_at follow.names place).text
-      stage Fresh stand = fresh_alive ways looks follow.names stand.0 stand.1
+      stage Fresh stand = fresh_alive ways stand.0 stand.1
       stage Looking stand = λ place within. goes_on_there ways looks (ways.first + place) (state_at follow.names place).text (watched_at watched (ways.first + place)) (state_at follow.names place).standing (stand.0 place within)
       stage Over stand = absurd stand
 
@@ -314,12 +489,9 @@ can_print old watched slots live can = by old.stage live can where
   by Looking live can = can.1
   by Over live can = absurd (live refl)
 
-pub cause_is : {old : FollowState} {slots slots_new : List Slot} {why : Fault} (watched : List Watched) → (old.stage ≡ Over → ⊥) → CanLook old watched slots → HasStopped why slots_new → IsCause old slots slots_new why
-cause_is {old} {slots} {slots_new} {why} watched live can (inl memory, error) = subst (IsCause old slots slots_new) (sym memory) lacks_memory
-cause_is {old} {slots} {slots_new} {why} watched live can (inr (is, broken), error) = subst (IsCause old slots slots_new) (sym is) (output_broke (not-true _ (and_parts _ _ (can_print old watched slots live can).0).1, broken))
-
-pub no_memory_is : {old : FollowState} {slots slots_new : List Slot} {why : Fault} → why ≡ fault.Memory → IsCause old slots slots_new why
-no_memory_is {old} {slots} {slots_new} {why} is = subst (IsCause old slots slots_new) (sym is) lacks_memory
+cause_is : {old : FollowState} {slots slots_new : List Slot} {why : Fault} (watched : List Watched) → (old.stage ≡ Over → ⊥) → CanLook old watched slots → HasStopped why slots_new → IsCause old slots slots_new why
+cause_is {old} {slots} {slots_new} watched live can (inl memory, error) = subst (IsCause old slots slots_new) (sym memory) lacks_memory
+cause_is {old} {slots} {slots_new} watched live can (inr (is, broken), error) = subst (IsCause old slots slots_new) (sym is) (output_broke (not-true _ (and_parts _ _ (can_print old watched slots live can).0).1, broken))
 
 -- by what the names broke
 
@@ -329,37 +501,146 @@ none_failed before names watched rest place are within inside = ap (λ (w : Watc
     (sym (get_or_append_left watched rest no_name (length before + place) within) ∙ ap (λ those. watched_at those (length before + place)) (sym are) ∙ added_at before names place inside)
 
 -- before the first look none did, of those that were added
-none_broken : (ways : Ways) (looks : List Look) (names : List (List ℕ)) (before watched : List Watched) → looks ≡ [] → length before ≡ ways.first → IsFront watched (before ++ map added names) → AreBroken ways looks names watched
-none_broken ways looks names before watched none first_is (rest, are) = subst (λ (those : List Look). AreBroken ways those names watched) (sym none) (
+none_broken : (ways : Ways) {looks : List Look} (names : List (List ℕ)) (before watched : List Watched) → looks ≡ [] → length before ≡ ways.first → IsFront watched (before ++ map added names) → AreBroken ways looks names watched
+none_broken ways names before watched none first_is (rest, are) = subst (λ (those : List Look). AreBroken ways those names watched) (sym none) (
   (let size = sizes in omega (arith, size, first_is)),
   (λ above. absurd (omega (arith, above))),
   subst (λ n. (place : ℕ) → n + place < length watched → BrokeIn ways [] (n + place) (watched_at watched (n + place)).failed) first_is
-      (λ place within. unbroken_in ways [] (length before + place) (watched_at watched (length before + place)).failed (none_failed before names watched rest place are within (let size = sizes in omega (arith, size, within))) refl),
+      (λ place within. unbroken_in (watched_at watched (length before + place)).failed (none_failed before names watched rest place are within (let size = sizes in omega (arith, size, within))) refl),
 ) where
   sizes : length before + length names ≡ length watched + length rest
   sizes = ap (λ n. length before + n) (sym (length-map names added)) ∙ sym (length-append before (map added names)) ∙ ap length are ∙ length-append watched rest
 
-pub broken_are : (told_in told : Bool) (ways : Ways) (headers : Bool) (names : List (List ℕ)) (looks : List Look) (first slots : List Slot) (follow : FollowState) (watched : List Watched) → Holds told_in told ways headers names looks first follow watched slots → AreBroken ways looks names watched
-broken_are told_in told ways headers names looks first slots follow watched holds = stage follow.stage holds.stand where
+pub broken_are : {told_in : Bool} (told : Bool) {ways : Ways} {headers : Bool} {names : List (List ℕ)} {looks : List Look} {first slots : List Slot} {follow : FollowState} {watched : List Watched} → Holds told_in told ways headers names looks first follow watched slots → AreBroken ways looks names watched
+broken_are {told_in} told {ways} {names} {looks} {follow} {watched} holds = stage follow.stage holds.stand where
   count : length follow.names ≡ length names
-  count = length_names follow names holds.same
+  count = length_names follow holds.same
 
   stage : (stage : Stage) → StandsIn told_in ways looks follow.names watched stage → AreBroken ways looks names watched
-  stage Fresh stand = none_broken ways looks names watched watched stand.0 stand.2 (map added names, refl)
+  stage Fresh stand = none_broken ways names watched watched stand.0 stand.2 (map added names, refl)
   stage Looking stand = (
     (let as_many = stand.1 ∙ ap (λ n. ways.first + n) count in omega (arith, as_many)),
     (λ above. stand.1 ∙ ap (λ n. ways.first + n) count),
-    λ place within. broken_there told_in ways looks (ways.first + place) (state_at follow.names place).text (watched_at watched (ways.first + place)) (state_at follow.names place).standing (stand.0 place (let as_many = stand.1 in omega (arith, as_many, within))),
+    λ place within. broken_there told_in (state_at follow.names place).text (watched_at watched (ways.first + place)) (state_at follow.names place).standing (stand.0 place (let as_many = stand.1 in omega (arith, as_many, within))),
   )
   stage Over stand = absurd stand
 
--- before the first look
-pub fresh_unbroken : {told_in told : Bool} {old : FollowState} {watched : List Watched} {slots : List Slot} (watched_new : List Watched) → old.stage ≡ Fresh → AddsSome (texts old.names) watched watched_new → Unbroken told_in told old watched slots watched_new
-fresh_unbroken {told_in} {told} {old} {watched} {slots} watched_new fresh adds ways headers names looks first holds =
-    let stand = subst (StandsIn told_in ways looks old.names watched) fresh holds.stand in
-    none_broken ways looks names watched watched_new stand.0 stand.2 (subst (λ those. IsFront watched_new (watched ++ map added those)) holds.same adds.front)
+-- A look from where following stands
 
--- the names are watched, and no call was made on one
-pub begun_unbroken : {told_in told : Bool} {old mid : FollowState} {watched watched_mid watched_new : List Watched} {slots : List Slot} → Begins told_in old watched mid watched_mid → watched_new ≡ watched_mid → Unbroken told_in told old watched slots watched_new
-begun_unbroken {told_in} {told} {old} {mid} {watched} {watched_mid} {watched_new} {slots} begins same ways headers names looks first holds =
-    subst (AreBroken ways looks names) (sym same) (broken_are told_in told ways headers names looks first slots mid watched_mid (begins.holds told ways headers names looks first slots holds))
+-- there was no memory to begin one: some names were added, or all, and no call was made on one
+pub makes_none : {told_in told : Bool} {snapshot : Snapshot} {seen seen_new : List Snapshot} {old new : FollowState} {watched watched_new : List Watched}
+    {slots : List Slot} {why : Fault} → Unbroken told_in told old watched slots watched_new
+    → ((number : ℕ) → IsOther old watched number → watched_at watched_new number ≡ watched_at watched number)
+    → (old.stage ≡ Over → ⊥) → CanLook old watched slots → why ≡ fault.Memory → seen_new ≡ seen
+    → MakesLook told_in told snapshot seen old watched slots seen_new new watched_new slots (Err why)
+makes_none {told_in} {told} {snapshot} {old} {watched} {watched_new} {slots} unbroken others live can is same = record {
+  looked = tt;
+  stopped = λ ways headers names looks first holds. record {
+    shares = holds.shares;
+    are = holds.are;
+    printer = old.printer;
+    reached = slots;
+    shared = holds.shared;
+    more = [];
+    begun = nothing (unbroken ways headers names looks first holds);
+    short = rw is none_stop;
+  };
+  seen_is = tt;
+  saw = inl same;
+  stage = tt;
+  ready = tt;
+  can = tt;
+  cause = rw is lacks_memory;
+  error = (can_print old watched slots live can).1;
+  others = others;
+}
+
+pub makes_few : {told_in told : Bool} {snapshot : Snapshot} {seen seen_new : List Snapshot} {old new : FollowState} {watched watched_new : List Watched}
+    {slots : List Slot} {why : Fault} → old.stage ≡ Fresh → AddsSome (texts old.names) watched watched_new
+    → (old.stage ≡ Over → ⊥) → CanLook old watched slots → why ≡ fault.Memory → seen_new ≡ seen
+    → MakesLook told_in told snapshot seen old watched slots seen_new new watched_new slots (Err why)
+makes_few {told_in} {old} {watched} {watched_new} fresh adds = makes_none
+    (λ ways headers names looks first holds.
+    let stand = subst (StandsIn told_in ways looks old.names watched) fresh holds.stand in
+    none_broken ways names watched watched_new stand.0 stand.2 (subst (λ those. IsFront watched_new (watched ++ map added those)) holds.same adds.front))
+    (λ number other. ap (λ those. watched_at those number) adds.kept.1
+    ∙ get_or_append_left watched adds.kept.0 no_name number (subst (λ stage. IsOther (record old { stage = stage }) watched number) fresh other))
+
+pub makes_all : {told_in told : Bool} {snapshot : Snapshot} {seen seen_new : List Snapshot} {old mid new : FollowState}
+    {watched watched_mid watched_new : List Watched} {slots : List Slot} {why : Fault} → Begins told_in old watched mid watched_mid → watched_new ≡ watched_mid
+    → (old.stage ≡ Over → ⊥) → CanLook old watched slots → why ≡ fault.Memory → seen_new ≡ seen
+    → MakesLook told_in told snapshot seen old watched slots seen_new new watched_new slots (Err why)
+makes_all {told} {slots} begins same = makes_none
+    (λ ways headers names looks first holds. subst (AreBroken ways looks names) (sym same) (broken_are told (begins.holds told ways headers names looks first slots holds)))
+    (λ number other. ap (λ those. watched_at those number) same ∙ (begins.others number other).1)
+
+abbrev pub as_made : Result Bool Fault → Result (Unit {0}) Fault
+as_made (Ok failed) = Ok tt
+as_made (Err why) = Err why
+
+abbrev pub or_failed : Bool → Result Bool Fault → Bool
+or_failed before (Ok failed) = before || failed
+or_failed before (Err why) = before
+
+-- the names were looked at, once they were watched and the watch saw what the files hold
+pub makes_look : {told_in told : Bool} {shows shows_mid : ℕ → Snapshot} {seen seen_mid seen_turned seen_new : List Snapshot} {old inside mid : FollowState}
+    {names names_new names_now : List NameState} {watched watched_mid watched_turned watched_new : List Watched} {printer : PrinterState}
+    {slots slots_new : List Slot} (result : Result Bool Fault) → (old.stage ≡ Over → ⊥) → CanLook old watched slots → inside ≡ mid
+    → Begins told_in old watched mid watched_mid → shows_mid ≡ shows → seen_mid ≡ seen → seen_turned ≡ seen_mid ++ shows_mid (length seen_mid) ∷ []
+    → watched_turned ≡ watched_mid → names ≡ inside.names → names_now ≡ names_new → seen_new ≡ seen_turned
+    → VisitsAll told_in told (latest seen_turned) inside.by_name inside.start inside.first names watched_turned inside.printer slots names_now watched_new printer
+    slots_new result
+    → MakesLook told_in told (shows (length seen)) seen old watched slots seen_new
+    (record inside { names = names_new; printer = printer; has_failed = or_failed inside.has_failed result }) watched_new slots_new (as_made result)
+makes_look {told_in} {told} {shows} {shows_mid} {seen} {seen_mid} {seen_turned} {seen_new} {old} {inside} {names_new} {watched} {watched_mid} {watched_turned} {watched_new} {printer} {slots} {slots_new} result live can view begin shows_same seen_same turned watched_same names_are names_now seen_is visits =
+    by result made where
+      begins : Begins told_in old watched inside watched_mid
+      begins = subst (λ (f : FollowState). Begins told_in old watched f watched_mid) (sym view) begin
+
+      next : shows_mid (length seen_mid) ≡ shows (length seen)
+      next = ap (λ (those : ℕ → Snapshot). those (length seen_mid)) shows_same ∙ ap (λ (those : List Snapshot). shows (length those)) seen_same
+
+      snapshot : Snapshot
+      snapshot = shows (length seen)
+
+      saw : seen_new ≡ seen ++ snapshot ∷ []
+      saw = seen_is ∙ turned ∙ ap (λ (those : List Snapshot). those ++ shows_mid (length seen_mid) ∷ []) seen_same ∙ ap (λ one. seen ++ one ∷ []) next
+
+      Made : Result Bool Fault → Type 0
+      Made those = VisitsAll told_in told snapshot inside.by_name inside.start inside.first inside.names watched_mid inside.printer slots names_new watched_new printer slots_new those
+
+      made : Made result
+      made = subst₂ (λ (s : Snapshot) w. VisitsAll told_in told s inside.by_name inside.start inside.first inside.names w inside.printer slots names_new watched_new printer slots_new result)
+          (ap latest turned ∙ latest-last seen_mid (shows_mid (length seen_mid)) ∙ next) watched_same
+          (subst₂ (λ these now. VisitsAll told_in told (latest seen_turned) inside.by_name inside.start inside.first these watched_turned inside.printer slots now watched_new printer slots_new result) names_are names_now visits)
+
+      others : {those : Result Bool Fault} → Made those → (number : ℕ) → IsOther old watched number → watched_at watched_new number ≡ watched_at watched number
+      others visits number other =
+          let (others, same) = begins.others number other in visits.others number (not_own inside watched_mid begins.stage others) ∙ same
+
+      by : (result : Result Bool Fault) → Made result → MakesLook told_in told snapshot seen old watched slots seen_new
+          (record inside { names = names_new; printer = printer; has_failed = or_failed inside.has_failed result }) watched_new slots_new (as_made result)
+      by (Ok failed) visits = record {
+        looked = λ ways headers names looks first holds. look_made failed begins.stage visits ways headers names looks first (begins.holds told ways headers names looks first slots holds);
+        stopped = tt;
+        seen_is = saw;
+        saw = tt;
+        stage = begins.stage;
+        ready = visits.ready;
+        can = visits.can;
+        cause = tt;
+        error = visits.can.1;
+        others = others visits;
+      }
+      by (Err why) visits = record {
+        looked = tt;
+        stopped = λ ways headers names looks first holds. look_stopped begins.stage visits ways headers names looks first (begins.holds told ways headers names looks first slots holds);
+        seen_is = tt;
+        saw = inr saw;
+        stage = tt;
+        ready = tt;
+        can = tt;
+        cause = cause_is watched live can visits.error;
+        error = visits.error.1;
+        others = others visits;
+      }

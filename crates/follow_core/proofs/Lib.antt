@@ -1,12 +1,10 @@
 pub mod RunLemmas
 pub mod ShareLemmas
-pub mod LaterLemmas
+pub mod LookLemmas
 pub mod AgreeLemmas
 pub mod GiveLemmas
 pub mod CallLemmas
 pub mod StartLemmas
 pub mod VisitLemmas
-pub mod VisitAllLemmas
-pub mod FirstLemmas
 pub mod FollowLemmas
 pub mod EndingLemmas

@@ -18,57 +18,54 @@ record Begun (v : Version) (entries : List Entry) : Type 0 where
   last : last_contents (v ∷ run) ≡ v.contents ++ more
   gains : gains_later (version v) entries ≡ more ++ whole_text others
 
-whole_of : (v : Version) (entries : List Entry) (b : Begun v entries) → whole_text (runs_of (version v ∷ entries)) ≡ v.contents ++ gains_later (version v) entries
-whole_of v entries b = ap whole_text b.runs ∙ ap (λ x. x ++ whole_text b.others) b.last ∙ append_assoc v.contents b.more (whole_text b.others) ∙ ap (λ x. v.contents ++ x) (sym b.gains)
+whole_of : {v : Version} {entries : List Entry} (b : Begun v entries) → whole_text (runs_of (version v ∷ entries)) ≡ v.contents ++ gains_later (version v) entries
+whole_of {v} b = ap whole_text b.runs ∙ ap (λ x. x ++ whole_text b.others) b.last ∙ append_assoc v.contents b.more (whole_text b.others) ∙ ap (λ x. v.contents ++ x) (sym b.gains)
 
-goes : (v w : Version) (entries : List Entry) → Begun w entries → IsBeginning v.contents w.contents → goes_on v w ≡ true → Begun v (version w ∷ entries)
-goes v w entries b (rest, is) test = record {
+goes : {v w : Version} {entries : List Entry} → Begun w entries → IsBeginning v.contents w.contents → goes_on v w ≡ true → Begun v (version w ∷ entries)
+goes {v} {w} {entries} b (rest, is) test = record {
   run = w ∷ b.run;
   others = b.others;
   more = rest ++ b.more;
   runs = ap (λ t. if t then onto_first v (runs_of (version w ∷ entries)) else (v ∷ []) ∷ runs_of (version w ∷ entries)) test ∙ ap (onto_first v) b.runs;
   last = b.last ∙ ap (λ x. x ++ b.more) is ∙ append_assoc v.contents rest b.more;
   gains = ap (λ t. (if t then drop (length v.contents) w.contents else w.contents) ++ gains_later (version w) entries) test
-      ∙ ap (λ x. drop (length v.contents) x ++ gains_later (version w) entries) is
-      ∙ ap (λ x. x ++ gains_later (version w) entries) (drop_front v.contents rest)
+      ∙ ap (λ x. drop (length v.contents) x ++ gains_later (version w) entries) is ∙ ap (λ x. x ++ gains_later (version w) entries) (drop_front v.contents rest)
       ∙ ap (λ x. rest ++ x) b.gains ∙ sym (append_assoc rest b.more (whole_text b.others));
 }
 
-stops : (v w : Version) (entries : List Entry) → Begun w entries → goes_on v w ≡ false → Begun v (version w ∷ entries)
-stops v w entries b test = record {
+stops : {v w : Version} {entries : List Entry} → Begun w entries → goes_on v w ≡ false → Begun v (version w ∷ entries)
+stops {v} {w} {entries} b test = record {
   run = [];
   others = runs_of (version w ∷ entries);
   more = [];
   runs = ap (λ t. if t then onto_first v (runs_of (version w ∷ entries)) else (v ∷ []) ∷ runs_of (version w ∷ entries)) test;
   last = sym (append-nil v.contents);
-  gains = ap (λ t. (if t then drop (length v.contents) w.contents else w.contents) ++ gains_later (version w) entries) test ∙ sym (whole_of w entries b);
+  gains = ap (λ t. (if t then drop (length v.contents) w.contents else w.contents) ++ gains_later (version w) entries) test ∙ sym (whole_of b);
 }
 
-either : (v w : Version) (entries : List Entry) → Begun w entries → (test : Bool) → goes_on v w ≡ test → (test ≡ true → IsBeginning v.contents w.contents) → Begun v (version w ∷ entries)
-either v w entries b true is kept = goes v w entries b (kept refl) is
-either v w entries b false is kept = stops v w entries b is
+either : {v w : Version} {entries : List Entry} → Begun w entries → (test : Bool) → goes_on v w ≡ test → (test ≡ true → IsBeginning v.contents w.contents) → Begun v (version w ∷ entries)
+either b true is kept = goes b (kept refl) is
+either b false is kept = stops b is
 
 mutual
-  begun : (v : Version) (entries : List Entry) → KeptFrom v entries → AreKept entries → Begun v entries
-  begun v [] kept all = record { run = []; others = []; more = []; runs = refl; last = sym (append-nil v.contents); gains = refl }
-  begun v (gap ∷ entries) kept all = record { run = []; others = runs_of entries; more = []; runs = refl; last = sym (append-nil v.contents); gains = after_gap entries all }
-  begun v (version w ∷ entries) kept all = either v w entries (begun w entries all.0 all.1) (goes_on v w) refl kept
+  begun : {v : Version} (entries : List Entry) → KeptFrom v entries → AreKept entries → Begun v entries
+  begun {v} [] kept all = record { run = []; others = []; more = []; runs = refl; last = sym (append-nil v.contents); gains = refl }
+  begun {v} (gap ∷ entries) kept all = record { run = []; others = runs_of entries; more = []; runs = refl; last = sym (append-nil v.contents); gains = after_gap entries all }
+  begun {v} (version w ∷ entries) kept all = either (begun entries all.0 all.1) (goes_on v w) refl kept
 
   after_gap : (entries : List Entry) → AreKept entries → gains_later gap entries ≡ whole_text (runs_of entries)
   after_gap [] all = refl
   after_gap (gap ∷ entries) all = after_gap entries all
-  after_gap (version w ∷ entries) all = sym (whole_of w entries (begun w entries all.0 all.1))
+  after_gap (version w ∷ entries) all = sym (whole_of (begun entries all.0 all.1))
 
 -- the text of a name is what its entries add
 pub text_is_gains : (start : List ℕ → List ℕ) (entries : List Entry) → AreKept entries → name_text start entries ≡ gains_after start [] entries
 text_is_gains start [] all = refl
 text_is_gains start (gap ∷ entries) all = sym (after_gap entries all)
 text_is_gains start (version v ∷ entries) all =
-    let b = begun v entries all.0 all.1 in
-    ap (begun_text start) b.runs
-    ∙ ap (λ x. start v.contents ++ drop (length v.contents) x ++ whole_text b.others) b.last
-    ∙ ap (λ x. start v.contents ++ x ++ whole_text b.others) (drop_front v.contents b.more)
-    ∙ append_assoc (start v.contents) b.more (whole_text b.others)
+    let b = begun entries all.0 all.1 in
+    ap (begun_text start) b.runs ∙ ap (λ x. start v.contents ++ drop (length v.contents) x ++ whole_text b.others) b.last
+    ∙ ap (λ x. start v.contents ++ x ++ whole_text b.others) (drop_front v.contents b.more) ∙ append_assoc (start v.contents) b.more (whole_text b.others)
     ∙ ap (λ x. start v.contents ++ x) (sym b.gains)
 
 pub later-append : (last : Entry) (entries more : List Entry) → gains_later last (entries ++ more) ≡ gains_later last entries ++ gains_later (last_from last entries) more

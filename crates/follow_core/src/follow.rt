@@ -145,10 +145,7 @@ impl Follow {
         requires live { self.old.stage ≡ Stage.Over → ⊥ }
         requires can { CanLook self.old (W.watched watch.old) (O.slots outs.old) }
         ensures makes { MakesLook W.told O.told (W.shows watch.old (length (W.seen watch.old))) (W.seen watch.old) self.old (W.watched watch.old) (O.slots outs.old) (W.seen watch.new) self.new (W.watched watch.new) (O.slots outs.new) result }
-        ensures cause { IfErr result (IsCause self.old (O.slots outs.old) (O.slots outs.new)) }
-        ensures error { HasError (O.slots outs.new) }
         ensures shows { W.shows watch.new ≡ W.shows watch.old }
-        ensures others { (number : ℕ) → IsOther self.old (W.watched watch.old) number → watched_at (W.watched watch.new) number ≡ watched_at (W.watched watch.old) number }
     {
         if let Err(fault) = self.begin(watch) {
             return Err(fault);

@@ -7,7 +7,7 @@ ghost use Rattle.follow_core.specs.inner.Calls.{HasStopped};
 ghost use Rattle.follow_core.specs.FollowState.{AllReady, new_state};
 ghost use Rattle.follow_core.specs.Look.{Look, ways_of};
 ghost use Rattle.follow_core.specs.inner.Looks.{AddsSome};
-ghost use Rattle.follow_core.specs.inner.Visits.{has_failed, any_goes_on, goes_on_as, standing_after, StoppedAt, VisitedAll, Visits};
+ghost use Rattle.follow_core.specs.inner.Visits.{has_failed, any_goes_on, goes_on_as, standing_after, Visits, VisitsAll};
 ghost use Rattle.follow_core.specs.Standing.{AllStand, CanVisit, NameState, texts};
 
 use crate::start::Start;
@@ -198,16 +198,7 @@ pub(crate) fn visit_all<W: Watch, O: Outs>(
     requires ready { AllReady names.old first (W.watched watch.old) }
     requires fits { first + length names.old ≤ 2 ^ 64 }
     requires can { CanPrint (O.slots outs.old) }
-    ensures visited { IfOk result (λ failed. (from : ℕ) (looks : List Look) → (0 < length names.old → first ≡ from) → AllStand W.told (ways_of from by_name start) looks names.old (W.watched watch.old)
-        → VisitedAll W.told O.told (ways_of from by_name start) looks (latest (W.seen watch.old)) names.old visitor.old (O.slots outs.old) visitor.new (O.slots outs.new) (W.watched watch.new) names.new failed) }
-    ensures stopped { IfErr result (λ why. (from : ℕ) (looks : List Look) → (0 < length names.old → first ≡ from) → AllStand W.told (ways_of from by_name start) looks names.old (W.watched watch.old)
-        → StoppedAt W.told O.told (ways_of from by_name start) looks (latest (W.seen watch.old)) (texts names.old) visitor.old (O.slots outs.old) (W.watched watch.new) (O.slots outs.new) why) }
-    ensures texts { texts names.new ≡ texts names.old }
-    ensures ready { OnOk result (AllReady names.new first (W.watched watch.new)) }
-    ensures count { length (W.watched watch.new) ≡ length (W.watched watch.old) }
-    ensures others { (number : ℕ) → ((place : ℕ) → place < length names.old → number ≡ first + place → ⊥) → watched_at (W.watched watch.new) number ≡ watched_at (W.watched watch.old) number }
-    ensures can { OnOk result (CanPrint (O.slots outs.new)) }
-    ensures error { IfErr result (λ why. HasStopped why (O.slots outs.new)) }
+    ensures visits { VisitsAll W.told O.told (latest (W.seen watch.old)) by_name start first names.old (W.watched watch.old) visitor.old (O.slots outs.old) names.new (W.watched watch.new) visitor.new (O.slots outs.new) result }
     ensures seen { W.seen watch.new ≡ W.seen watch.old }
     ensures shows { W.shows watch.new ≡ W.shows watch.old }
 {

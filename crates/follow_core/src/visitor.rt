@@ -132,7 +132,7 @@ impl Visitor {
         requires readable { IsTrue (is_readable (W.watched watch.old) place) }
         requires can { CanPrint (O.slots outs.old) }
         ensures ends { let contents = open_contents (latest (W.seen watch.old)) (watched_at (W.watched watch.old) place) in
-            Ends W.told O.told self.old name.now (tail_of start.delim start.unit start.from_nth start.count contents) [] (O.slots outs.old) self.new (O.slots outs.new) result }
+            Ends W.told O.told false self.old name.now (tail_of start.delim start.unit start.from_nth start.count contents) [] (O.slots outs.old) self.new (O.slots outs.new) result }
         ensures len { IfOk result (λ len. W.told ≡ true → len ≡ length (open_contents (latest (W.seen watch.old)) (watched_at (W.watched watch.old) place))) }
         ensures keeps { Keeps place (W.watched watch.old) (W.watched watch.new) result }
         ensures can { CanGoOn result (O.slots outs.new) }
@@ -323,7 +323,7 @@ fn copy<W: Watch, O: Outs>(
     requires within { from ≤ len }
     requires room { 0 < length buffer.old }
     requires whole { W.told ≡ true → len ≡ length (open_contents (latest (W.seen watch.old)) (watched_at (W.watched watch.old) place)) }
-    ensures ends { Ends {T = ℕ} W.told O.told printer.old name.now (drop from (open_contents (latest (W.seen watch.old)) (watched_at (W.watched watch.old) place))) [] (O.slots outs.old) printer.new (O.slots outs.new) result }
+    ensures ends { Ends {T = ℕ} W.told O.told false printer.old name.now (drop from (open_contents (latest (W.seen watch.old)) (watched_at (W.watched watch.old) place))) [] (O.slots outs.old) printer.new (O.slots outs.new) result }
     ensures len { IfOk result (λ n. n ≡ len) }
     ensures keeps { Keeps place (W.watched watch.old) (W.watched watch.new) result }
     ensures seen { W.seen watch.new ≡ W.seen watch.old }
@@ -360,7 +360,7 @@ fn begin_at<O: Outs>(
     outs: &mut O,
 ) -> Result<u64, Fault>
     requires can { CanPrint (O.slots outs.old) }
-    ensures ends { (told_in : Bool) (printer : PrinterState) → Ends told_in O.told printer name.now [] (lines_past name.now position len) (O.slots outs.old) printer (O.slots outs.new) (as_stop result) }
+    ensures ends { (told_in : Bool) (printer : PrinterState) → Ends told_in O.told false printer name.now [] (lines_past name.now position len) (O.slots outs.old) printer (O.slots outs.new) (as_stop result) }
     ensures from { IfOk result (λ from. from ≡ (if nat_lt len position then 0 else position)) }
     ensures can { OnOk result (CanPrint (O.slots outs.new)) }
     ensures error { IfErr result (λ why. HasStopped why (O.slots outs.new)) }
@@ -381,7 +381,7 @@ fn begin_at<O: Outs>(
 /// `Memory` where there was none for the line.
 fn tell<O: Outs>(alloc: Global, found: Notice, name: &str, outs: &mut O) -> Result<(), Fault>
     requires can { CanPrint (O.slots outs.old) }
-    ensures ends { (told_in : Bool) (printer : PrinterState) → Ends told_in O.told printer name.now [] (notice_of found name.now ∷ []) (O.slots outs.old) printer (O.slots outs.new) (as_stop result) }
+    ensures ends { (told_in : Bool) (printer : PrinterState) → Ends told_in O.told false printer name.now [] (notice_of found name.now ∷ []) (O.slots outs.old) printer (O.slots outs.new) (as_stop result) }
     ensures can { OnOk result (CanPrint (O.slots outs.new)) }
     ensures error { IfErr result (λ why. HasStopped why (O.slots outs.new)) }
 {

@@ -1,22 +1,27 @@
--- Lemmas on the loop that feeds an engine.
-use Rattle.std.proofs.Common.{◌⊎◌, ◌≡◌, ℕ, ◌+◌, ◌<◌, ◌≤◌, ◌^◌, Bool, true, false, not, List, [], ◌++◌, length, take, Result, Ok, Err, IfOk, None, arith, length-append, length-take, inl, inr, refl, sym, ◌∙◌, ap, subst}
-use Rattle.std.proofs.lemmas.List.{append-nil}
+-- Lemmas on the loop that feeds an engine, and on what an engine uses of its input.
+use Rattle.std.proofs.Common.{◌⊎◌, ◌≡◌, ℕ, ◌+◌, ◌<◌, ◌≤◌, ◌^◌, Bool, true, false, not, List, [], ◌++◌, length, take, Result, Ok, Err, IfOk, None, arith, length-append, length-take, inl, inr, refl, sym, ◌∙◌, ap, subst, ◌&&◌, IsTrue, ◌-◌, drop, Some, append_assoc}
+use Rattle.std.proofs.lemmas.List.{append-nil, take_at, drop_at, take-append-le, drop-append-le, take-append-drop, length-take, length-take-le}
 use Rattle.std.proofs.lemmas.Bool.{false≢true, not-false, or_left, or_right}
-use Rattle.ports_core.specs.Slot.{Slot}
-use Rattle.ports_core.specs.Source.{Content}
+use Rattle.ports_core.specs.Slot.{Slot, changed_at}
+use Rattle.ports_core.specs.Source.{Content, Source, source_at, is_readable, skips, gives, fails, gets_back, with_next, Gave}
 use Rattle.ports_core.specs.Part.{Part, OutputsAt, StoppedBetween}
 use Rattle.ports_core.specs.Swept.{Swept}
 use Rattle.ports_core.specs.Work.{Work, Means, Needs, IsLawful, IsComplete, IsNeeded, IsSpare, Judges, IsSettled}
-use Rattle.ports_core.specs.Engine.{StandsAt, TakesIn, PutsOut, CutsOff, EndsShort, EndsWith, EndsThere, IsCaused, IsMet, Ended, is_verdict, KeepsOwn, Clears}
-use Rattle.ports_core.specs.Engine as engine
+use Rattle.ports_core.specs.Engine.{StandsAt, TakesIn, PutsOut, CutsOff, EndsShort, EndsWith, EndsThere, IsCaused, IsMet, Ended, is_verdict, KeepsOwn, Clears, Loads}
 use Rattle.ports_core.specs.Guard.{GuardState, HoldsIn}
 use Rattle.ports_core.specs.declared.fault.Fault.{Fault}
 use Rattle.ports_core.specs.declared.fault.Fault.TheVariants.{Memory, Write, Open, Suffixes, NoMatch, Range}
 use Rattle.run_core.specs.declared.feeding.Fed.{Fed}
 use Rattle.run_core.specs.declared.feeding.Fed.TheVariants.{Whole, Enough, Broken}
-use Rattle.ports_core.specs.Inputs.{empty}
-use Rattle.run_core.specs.Feeding.{Stops, HasAll, to_end, enough, call_of, feeds, closes, FedAs, whole, had_enough, broke_off, judged, stopped}
+use Rattle.ports_core.specs.Inputs.{empty, KeepsOthers}
+use Rattle.run_core.specs.Feeding.{Stops, HasAll, to_end, enough, call_of, feeds, closes, FedAs, whole, had_enough, broke_off, judged, stopped, IsUnread, Uses}
 use Rattle.run_core.specs.inner.Feeding.{EndsSo, finished, fell_short}
+use Rattle.ports_core.proofs.LoadLemmas.{passed_at}
+use Rattle.ports_core.proofs.InputsLemmas.{HasRead, keeps_others, changed_source}
+use Rattle.ports_core.proofs.SpareLemmas.{none_spare}
+use Rattle.ports_core.specs.Engine as engine
+
+-- Lemmas on the loop that feeds an engine.
 
 -- a change of one input
 
@@ -222,3 +227,159 @@ needed_more {most} n x buffer going within = inr (x, take n buffer, refl, piece_
 -- the same of the fault that is handed on
 pub given_so : (told : Bool) {before new : List Slot} {work : Work} {opening : Needs} {most : ℕ} {content : Content} (WasRead : List ℕ → Type 0) {given fault : Fault} → given ≡ fault → FedAs told before work opening most content WasRead new (Err fault) → FedAs told before work opening most content WasRead new (Err given)
 given_so told {before} {new} {work} {opening} {most} {content} WasRead is fed = subst (λ those. FedAs told before work opening most content WasRead new (Err those)) (sym is) fed
+
+-- Lemmas on an engine that took in a front of its input without a read: the loop that feeds it goes on from there.
+
+needed_front : (is_complete : List ℕ → Bool) (most : ℕ) {x : List ℕ} → (x ≡ []) ⊎ (is_complete x ≡ false) → IsNeeded is_complete most x
+needed_front is_complete most (inl none) = inl none
+needed_front is_complete most {x} (inr going) = inr (x, [], sym (append-nil x), omega arith, going)
+
+module _ {S : Type 0} (Holds : S → List ℕ → Type 0) (Ready : S → List Slot → Type 0) (Owns : S → ℕ → List Slot → Type 0) (work : S → Work) (told : Bool) (slot count : ℕ) (start now : GuardState S) (old new : List Source) (loads : Loads Holds Ready Owns work told slot count start.stage now.stage old new) where
+  pub loaded_feeds : {told_out : Bool} {slots : List Slot} → work now.stage ≡ work start.stage → now.fed ≡ count → now.is_over ≡ false → count < 2 ^ 63 → Feeds Holds Owns work told_out start now loads.front slots slots
+  loaded_feeds {told_out} {slots} same fed live bound = record {
+    same = same;
+    holds = record { live = live; count = fed ∙ loads.long; within = loads.holds };
+    owns = λ first own. loads.owns first slots own;
+    outputs = λ before own at. subst (λ (those : Work). OutputsAt told_out before (those.settled loads.front) slots) (sym same) (subst (λ part. OutputsAt told_out before part slots) (sym loads.idle) at);
+    bound = subst (λ n. n < 2 ^ 63) (sym fed) bound;
+  }
+
+  pub loaded_readable : IsTrue (is_readable old slot) → IsTrue (is_readable new slot)
+  loaded_readable can = ap (λ (source : Source). source.is_open && not source.is_broken) (passed_at slot count old new can loads.passed) ∙ can
+
+  pub loaded_others : KeepsOthers slot old new
+  loaded_others = keeps_others slot (skips count) old new loads.passed
+
+  pub loaded_read : told ≡ true → IsTrue (is_readable old slot) → HasRead (source_at old slot).left loads.front slot new
+  loaded_read tells can = record {
+    bytes = loads.there tells;
+    breaks_off = ap (λ (source : Source). source.left.breaks_off) (passed_at slot count old new can loads.passed);
+  }
+
+  pub loaded_needed : {most : ℕ} → IsNeeded (work start.stage).is_complete most loads.front
+  loaded_needed {most} = needed_front (work start.stage).is_complete most loads.going
+
+  pub loaded_asked : {most : ℕ} → IsTrue (is_readable old slot) → (source_at old slot).asked ≤ most → (source_at new slot).asked ≤ most
+  loaded_asked {most} can few = subst (λ asked. asked ≤ most) (sym (ap (λ (source : Source). source.asked) (passed_at slot count old new can loads.passed))) few
+
+-- Lemmas on what an engine uses of its input, and what is given back of it.
+
+-- a read into the front of a buffer
+pub gave_part : {left : Content} {size n : ℕ} {old part : List ℕ} → 0 < size → size ≤ length old → length part ≡ size → n ≤ size → Gave left (take size old) part n → Gave left old (part ++ drop size old) n
+gave_part {size} {n} {old} {part} some within long few gave = record {
+  within = gave.within;
+  front = take-append-le n part (drop size old) (omega (arith, long, few)) ∙ gave.front;
+  rest = drop-append-le n part (drop size old) (omega (arith, long, few)) ∙ ap (λ those. those ++ drop size old) gave.rest
+      ∙ sym (drop-append-le n (take size old) (drop size old) (omega (arith, few, within, length-take size old))) ∙ ap (drop n) (take-append-drop size old);
+  ended = λ none room. gave.ended none (omega (arith, some, within, length-take size old));
+}
+
+-- What was taken of an input since `start`: x. Where nothing was taken before, reads gave no more.
+pub record HasTaken (x : List ℕ) (slot : ℕ) (start sources : List Source) : Type 0 where
+  pub taken : (source_at sources slot).taken ≡ (source_at start slot).taken ++ x
+  pub far : IsUnread (source_at start slot) → (source_at sources slot).reached ≤ length x
+
+taken_next : {x buffer old_buffer : List ℕ} {slot : ℕ} (size : ℕ) {n : ℕ} {start sources new : List Source} → HasTaken x slot start sources → IsTrue (is_readable sources slot) → Gave (source_at sources slot).left old_buffer buffer n → new ≡ changed_at slot (gives size n) sources → with_next n (source_at sources slot) ≡ (source_at start slot).taken ++ (x ++ take n buffer)
+taken_next {x} {slot} size {n} {start} {sources} took can gave is =
+    ap (λ those. those ++ take n (source_at sources slot).left.bytes) took.taken ∙ append_assoc (source_at start slot).taken x (take n (source_at sources slot).left.bytes)
+    ∙ ap (λ those. (source_at start slot).taken ++ (x ++ those)) (sym gave.front)
+
+pub takes_more : {x buffer old_buffer : List ℕ} {slot : ℕ} (size : ℕ) {n : ℕ} {start sources new : List Source} → HasTaken x slot start sources → IsTrue (is_readable sources slot) → Gave (source_at sources slot).left old_buffer buffer n → new ≡ changed_at slot (gives size n) sources → HasTaken (x ++ take n buffer) slot start new
+takes_more {x} {buffer} {slot} size {n} {start} {sources} {new} took can gave is =
+    let next = taken_next size took can gave is in
+    let after = changed_source slot (gives size n) sources new can is in record {
+      taken = ap (λ (source : Source). source.taken) after ∙ next;
+      far = λ unread.
+          let none : length (source_at start slot).taken ≡ 0 = ap length unread.0 in
+          let all = ap length next ∙ length-append (source_at start slot).taken (x ++ take n buffer) in
+          subst (λ far. far ≤ length (x ++ take n buffer)) (sym (ap (λ (source : Source). source.reached) after))
+          (omega (arith, took.far unread, length-append x (take n buffer), all, none));
+    }
+
+-- a read gave as many as it says
+pub last_given : {old_buffer buffer : List ℕ} (slot size : ℕ) {n : ℕ} (sources : List Source) {new : List Source} → IsTrue (is_readable sources slot) → Gave (source_at sources slot).left old_buffer buffer n → new ≡ changed_at slot (gives size n) sources → (source_at new slot).last ≡ n
+last_given slot size {n} sources {new} can gave is =
+    ap (λ (source : Source). source.last) (changed_source slot (gives size n) sources new can is) ∙ length-take-le n (source_at sources slot).left.bytes gave.within
+
+-- a read that failed took nothing
+pub takes_none : {x : List ℕ} {slot : ℕ} (size : ℕ) {start sources new : List Source} → HasTaken x slot start sources → IsTrue (is_readable sources slot) → new ≡ changed_at slot (fails size) sources → HasTaken x slot start new
+takes_none {x} {slot} size {sources} {new} took can is =
+    let after = changed_source slot (fails size) sources new can is in record {
+      taken = ap (λ (source : Source). source.taken) after ∙ took.taken;
+      far = λ unread. subst (λ far. far ≤ length x) (sym (ap (λ (source : Source). source.reached) after)) (took.far unread);
+    }
+
+module _ {E : Type 0} (Holds : E → List ℕ → Type 0) (Ready : E → List Slot → Type 0) (Owns : E → ℕ → List Slot → Type 0) (work : E → Work) (told : Bool) (slot count : ℕ) (before after : E) (old new : List Source) (loads : Loads Holds Ready Owns work told slot count before after old new) where
+  pub loaded_taken : told ≡ true → IsTrue (is_readable old slot) → HasTaken loads.front slot old new
+  loaded_taken tells can =
+      let passed = passed_at slot count old new can loads.passed in record {
+        taken = ap (λ (source : Source). source.taken) passed
+            ∙ ap (λ those. (source_at old slot).taken ++ those) (ap (take count) (loads.there tells) ∙ ap (λ k. take k (loads.front ++ (source_at new slot).left.bytes)) loads.long ∙ take_at loads.front (source_at new slot).left.bytes (length loads.front) refl);
+        far = λ unread. omega (arith, ap (λ (source : Source). source.reached) passed, unread.1);
+      }
+
+  -- of what is taken in without a read all is used
+  pub loaded_few : IsLawful (work before) → (n : ℕ) → IsSpare (work before) loads.front n → n ≤ (work before).ahead
+  loaded_few lawful n spare = elim loads.going [
+    | inl none ↦ omega (arith, ap length none, ap length spare.joined ∙ length-append spare.used spare.rest, spare.long)
+    | inr going ↦ omega (arith, none_spare (work before) loads.front n lawful going spare)
+  ]
+
+-- what is spare was given back
+
+back_at : (taken start used : List ℕ) {rest : List ℕ} {n : ℕ} → taken ≡ start ++ (used ++ rest) → length rest ≡ n → drop (length taken - n) taken ≡ rest
+back_at taken start used {rest} {n} is long =
+    let all : taken ≡ (start ++ used) ++ rest = is ∙ sym (append_assoc start used rest) in
+    let at : length taken - n ≡ length (start ++ used) = omega (arith, ap length all ∙ length-append (start ++ used) rest, long) in
+    ap (λ k. drop k taken) at ∙ ap (drop (length (start ++ used))) all ∙ drop_at (start ++ used) rest (length (start ++ used)) refl
+
+pub left_after : {work : Work} {x : List ℕ} {slot n : ℕ} {start sources new : List Source} (spare : IsSpare work x n) → HasTaken x slot start sources → IsTrue (is_readable sources slot) → new ≡ changed_at slot (gets_back n) sources → (source_at new slot).left.bytes ≡ spare.rest ++ (source_at sources slot).left.bytes
+left_after {slot} {n} {start} {sources} {new} spare took can is =
+    ap (λ (source : Source). source.left.bytes) (changed_source slot (gets_back n) sources new can is)
+    ∙ ap (λ those. those ++ (source_at sources slot).left.bytes) (back_at (source_at sources slot).taken (source_at start slot).taken spare.used (took.taken ∙ ap (λ those. (source_at start slot).taken ++ those) spare.joined) spare.long)
+
+pub read_used : {work : Work} {content : Content} {x : List ℕ} {slot n : ℕ} {start sources new : List Source} (spare : IsSpare work x n) → HasRead content x slot sources → HasTaken x slot start sources → IsTrue (is_readable sources slot) → new ≡ changed_at slot (gets_back n) sources → content.bytes ≡ spare.used ++ (source_at new slot).left.bytes
+read_used {slot} {sources} spare read took can is =
+    read.bytes ∙ ap (λ those. those ++ (source_at sources slot).left.bytes) spare.joined ∙ append_assoc spare.used spare.rest (source_at sources slot).left.bytes
+    ∙ ap (λ those. spare.used ++ those) (sym (left_after spare took can is))
+
+-- one byte at the most is a piece
+pub needed_within : (is_complete : List ℕ → Bool) (most : ℕ) (x : List ℕ) → 0 < most → IsNeeded is_complete 1 x → IsNeeded is_complete most x
+needed_within is_complete most x room (inl none) = inl none
+needed_within is_complete most x room (inr (before, piece, is, few, going)) = inr (before, piece, is, omega (arith, few, room), going)
+
+-- what a run leaves of an input
+
+-- all of it was read, and the output was not complete
+pub uses_all : {work : Work} {most slot : ℕ} (there : Content) (x : List ℕ) {source : Source} → there.bytes ≡ x ++ source.left.bytes → source.left.bytes ≡ [] → IsNeeded work.is_complete most x → work.is_complete x ≡ false → source.reached ≤ length x → Uses work most slot there source
+uses_all there x joined none needed going few = record {
+  read = x;
+  joined = joined;
+  enough = inl none;
+  needed = needed;
+  exact = λ well. inr (x, [], sym (append-nil x), omega arith, going);
+  few = λ standard. omega (arith, few);
+}
+
+-- the work ended with a fault within it
+pub uses_judged : {work : Work} {most slot : ℕ} (there : Content) (x : List ℕ) {source : Source} {fault : Fault} → there.bytes ≡ x ++ source.left.bytes → IsNeeded work.is_complete most x → work.is_complete x ≡ true → work.verdict x ≡ Some fault → source.reached ≤ length x → Uses work most slot there source
+uses_judged there x joined needed complete verdict few = record {
+  read = x;
+  joined = joined;
+  enough = inr complete;
+  needed = needed;
+  exact = λ well. absurd (cc);
+  few = λ standard. omega (arith, few);
+}
+
+-- the output was complete, and what it doesn't use was given back
+pub uses_part : {work : Work} {most slot n : ℕ} (there : Content) {x : List ℕ} {start sources new : List Source} (spare : IsSpare work x n) → there.bytes ≡ spare.used ++ (source_at new slot).left.bytes → 0 < most → work.is_complete spare.used ≡ true → (slot ≡ 0 → n ≤ work.ahead) → HasTaken x slot start sources → IsUnread (source_at start slot) → IsTrue (is_readable sources slot) → new ≡ changed_at slot (gets_back n) sources
+    → Uses work most slot there (source_at new slot)
+uses_part {work} {most} {slot} {n} there {sources} {new} spare joined room complete few took unread can is = record {
+  read = spare.used;
+  joined = joined;
+  enough = inr complete;
+  needed = needed_within work.is_complete most spare.used room spare.needed;
+  exact = λ well. spare.needed;
+  few = λ standard. omega (arith, few standard, took.far unread, ap length spare.joined ∙ length-append spare.used spare.rest, spare.long, ap (λ (source : Source). source.reached) (changed_source slot (gets_back n) sources new can is));
+}

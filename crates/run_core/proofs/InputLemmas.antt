@@ -1,42 +1,47 @@
--- Lemmas on one input of a run.
-use Rattle.std.proofs.Common.{◌⊎◌, arith, inl, inr, ◌≡◌, ℕ, ◌<◌, ◌≤◌, Bool, true, false, not, ◌||◌, IsTrue, List, [], ◌∷◌, length, take, Option, Some, None, Result, Ok, Err, refl, sym, ◌∙◌, ap, subst}
-use Rattle.std.proofs.lemmas.Bool.{false≢true, or_left, or_right}
-use Rattle.std.proofs.Math.Bool.{and-false, and-true, or-false, or-true}
-use Rattle.ports_core.specs.Slot.{Slot, is_open, slot_at, is_writable, told_of, with_written}
+-- Lemmas on one input of a run, on the inputs for names, one after another, and on how a run ends.
+use Rattle.std.proofs.Common.{◌⊎◌, arith, inl, inr, ◌≡◌, ℕ, ◌<◌, ◌≤◌, Bool, true, false, not, ◌||◌, IsTrue, List, [], ◌∷◌, length, take, Option, Some, None, Result, Ok, Err, refl, sym, ◌∙◌, ap, subst, if◌then◌else◌, ◌++◌, lit≤, codes, ◌-◌, ◌&&◌, drop, map, get_or, Bor, append_assoc, lit<}
+use Rattle.std.proofs.lemmas.Bool.{false≢true, or_left, or_right, and_parts, false_from_ne_true, or_parts}
+use Rattle.std.proofs.Math.Bool.{and-false, and-true, or-false, or-true, or_assoc}
+use Rattle.ports_core.specs.Slot.{Slot, is_open, slot_at, is_writable, told_of, with_written, streams}
 use Rattle.ports_core.specs.Write.{BrokeAfter}
-use Rattle.ports_core.specs.Source.{Content, Source, source_at}
-use Rattle.ports_core.specs.Part.{Part, only_out, OutputsAt, StoppedBetween}
+use Rattle.ports_core.specs.Source.{Content, Source, source_at, source_of, missing, is_readable, IsFresh, Opens as OpensFile, OpensNothing}
+use Rattle.ports_core.specs.Part.{Part, only_out, OutputsAt, StoppedBetween, nothing}
 use Rattle.ports_core.specs.Swept.{Swept}
 use Rattle.ports_core.specs.Work.{Work, Needs}
 use Rattle.ports_core.specs.Guard.{GuardState}
 use Rattle.ports_core.specs.Engine.{is_verdict}
 use Rattle.ports_core.specs.Text.{message_of}
-use Rattle.ports_core.specs.Message.{SaysOn}
+use Rattle.ports_core.specs.Message.{SaysOn, SaysAll, output_named}
 use Rattle.ports_core.specs.declared.tool.Tool.{Tool}
 use Rattle.ports_core.specs.declared.fault.Fault.{Fault}
-use Rattle.ports_core.specs.declared.fault.Fault.TheVariants.{Memory, Write, Read}
-use Rattle.ports_core.proofs.PartLemmas.{out_more, out_cut, part_begins_itself, stopped_here, broken_at, outputs_count}
+use Rattle.ports_core.specs.declared.fault.Fault.TheVariants.{Memory, Write, Read, Open}
+use Rattle.ports_core.proofs.PartLemmas.{out_more, out_cut, part_begins_itself, stopped_here, broken_at, outputs_count, nothing_out}
 use Rattle.ports_core.proofs.WriteLemmas.{writable-written}
 use Rattle.ports_core.proofs.SlotLemmas.{length-changed_at}
 use Rattle.run_core.specs.declared.inputs.Progress.{Progress}
 use Rattle.run_core.specs.declared.feeding.Fed.{Fed}
 use Rattle.run_core.specs.declared.feeding.Fed.TheVariants.{Whole, Enough, Broken}
 use Rattle.run_core.specs.Feeding.{is_enough, opens, FedAs, whole, had_enough, broke_off, judged, stopped, is_stop, LeavesOf, Uses}
-use Rattle.ports_core.specs.Inputs.{BreaksOnly, OfContent, empty}
-use Rattle.run_core.specs.Reading.{IsDone, Leaves}
-use Rattle.run_core.specs.RunEnds.{unheaded, heading, calling, step_after}
-use Rattle.ports_core.specs.Streams.{streams_with}
-use Rattle.run_core.specs.inner.RunSteps.{HeaderFails, no_room, broke, TookInput, took, cut_off, OfSource, KeepsOther}
-use Rattle.run_core.specs.RunSteps.{Opens, OpensShort}
-use Rattle.run_core.specs.Task.{Task, Outcome, after_part, header_text, of_content}
-use Rattle.run_core.proofs.ReadingLemmas.{left_of}
-use Rattle.run_core.proofs.JoinedLemmas.{after_assoc, out_on, at_after, stop_after, none_to_sweep}
-use Rattle.run_core.proofs.StopLemmas.{said_swept, swept_error}
+use Rattle.ports_core.specs.Inputs.{BreaksOnly, OfContent, empty, AsksAtMost, largest_piece}
+use Rattle.run_core.specs.Reading.{IsDone, Leaves, AreDone, AreUntouched, count_after}
+use Rattle.run_core.specs.RunEnds.{unheaded, heading, calling, step_after, EndsAs, as_defined, stopped as run_stopped, no_room as run_unmade, RunsOver, RunStep, unopened}
+use Rattle.ports_core.specs.Streams.{streams_with, standard_output, standard_error}
+use Rattle.run_core.specs.inner.RunSteps.{HeaderFails, no_room, broke, TookInput, took, cut_off, OfSource, KeepsOther, TookAll, all, stopped_at, not_begun, HasStreams, after_input, OfName, is_unopened, standard_source}
+use Rattle.run_core.specs.RunSteps.{Opens, OpensShort, world_of}
+use Rattle.run_core.specs.Task.{Task, Outcome, after_part, header_text, of_content, made_by, no_outcome, joined, of_input, of_inputs, is_missing, are_missing, ends_badly}
+use Rattle.run_core.proofs.ReadingLemmas.{left_of, StayDone, all_done, count_more, done_more, done_with, last_source, missing_done, rest_untouched, still_done}
+use Rattle.run_core.proofs.StopLemmas.{after_assoc, out_on, at_after, stop_after, none_to_sweep, nothing_after, swept_from, said_swept, swept_error, error_open, stop_error, stop_swept, message_some, said_at}
+use Rattle.ports_core.proofs.MessageLemmas.{says_more, all_said_state, says_after}
+use Rattle.run_core.specs.Input.{Input, World, has_dash, AreFrom, is_dash, input_of, inputs_from, inputs_at, file_input, standard_input, read_before, next_slot}
+use Rattle.std.proofs.lemmas.List.{append-nil, nil_from_length, take_rest}
+use Rattle.std.proofs.lemmas.List.Recursion.{and_push}
+use Rattle.run_core.specs.inner.Reading.{TakesOne}
+use Rattle.ports_core.proofs.InputsLemmas.{fresh_asks}
+use Rattle.ports_core.specs.Source as from
+
+-- Lemmas on one input of a run.
 
 -- headers
-
-pub no_header : (told : Bool) {text : List ℕ} {old : List Slot} {fault : Fault} → fault ≡ Memory → HeaderFails told text old old fault
-no_header told {text} {old} is = subst (HeaderFails told text old old) (sym is) (no_room refl)
 
 pub broken_header : (told : Bool) {text said : List ℕ} {old new : List Slot} {n : ℕ} → said ≡ text → BrokeAfter told old new 0 said n → HeaderFails told text old new (Write 0)
 broken_header told {old} {new} {n} is cut = broke n (subst (λ bytes. BrokeAfter told old new 0 bytes n) is cut)
@@ -70,9 +75,6 @@ from_source told None sources A B Q more (one, two) = more _ one two
 from_source told (Some slot) sources A B Q more (content, there, both) = more content both.0 both.1
 
 -- what is made of an input, by how it ends
-
-breaks_short : (work : Work) (content : Content) → content.breaks_off ≡ true → work.is_complete content.bytes ≡ false → is_enough work content ≡ false
-breaks_short work content breaks going = ap (λ (b : Bool). not b || work.is_complete content.bytes) breaks ∙ going
 
 made_well : (task : Task) (is_first : Bool) (name : List ℕ) (content : Content) → is_enough task.work content ≡ true → task.work.verdict content.bytes ≡ None
     → of_content task is_first name (Some content) ≡ record { part = after_part (only_out (header_text task.with_header is_first name)) (task.work.whole content.bytes); messages = []; failed = false; sweeps = false }
@@ -135,7 +137,8 @@ module _ (told_in told : Bool) (task : Task) (most : ℕ) (is_first : Bool) (nam
   took_well done good (broke_off breaks going reached there swept) = absurd (elim good [ inl is ↦ cc | inr is ↦ cc ])
 
   pub took_broken : {content : Content} {old new : List Slot} {fed : Fed} → IsDone told_in task.work most source (Some content) sources → fed ≡ Broken → FedAs told mid task.work task.opening most content (Leaves told_in content source sources) old (Ok fed) → SaysOn told task.tool (message_of task.tool (Read 0) name) old new → TookSo content new (Ok (record progress { is_first = false; failed = true }))
-  took_broken {content} {old} {new} done is (broke_off breaks going reached there swept) says = went_badly content _ _ reached old new done (made_short task is_first name content (breaks_short task.work content breaks going)) there swept says
+  took_broken {content} {old} {new} done is (broke_off breaks going reached there swept) says = went_badly content _ _ reached old new done (made_short task is_first name content
+      (ap (λ (b : Bool). not b || task.work.is_complete content.bytes) breaks ∙ going)) there swept says
   took_broken done is ends says = absurd (cc)
 
   pub took_verdict : {content : Content} {old new : List Slot} {fault : Fault} → IsDone told_in task.work most source (Some content) sources → is_verdict fault ≡ true → FedAs told mid task.work task.opening most content (Leaves told_in content source sources) old (Err fault) → SaysOn told task.tool (message_of task.tool fault (task.subject fault)) old new → TookSo content new (Ok (record progress { is_first = false; failed = true }))
@@ -199,3 +202,413 @@ keeps_all (Some slot) sources = record { count = refl; others = λ place differs
 pub said_as : (told : Bool) {tool : Tool} (other : Tool) (fault : Fault) {name called : List ℕ} {old new : List Slot} → tool ≡ other → name ≡ called → SaysOn told tool (message_of tool fault name) old new → SaysOn told other (message_of other fault called) old new
 said_as told other fault {name} {old} {new} one two says =
     subst (λ those. SaysOn told other (message_of other fault those) old new) two (subst (λ those. SaysOn told those (message_of those fault name) old new) one says)
+
+-- Lemmas on how a run ends.
+
+pub over_too : {told_in : Bool} {world : World} {names : List (List ℕ)} (P Q : List Input → Type 0) → ((found : List Input) → P found → Q found) → RunsOver told_in world names P → RunsOver told_in world names Q
+over_too P Q more (found, finds, holds) = (found, finds, more found holds)
+
+pub from_over : {told_in : Bool} {world : World} {names : List (List ℕ)} (P : List Input → Type 0) (Q : Type 0) → ((found : List Input) → P found → Q) → RunsOver told_in world names P → Q
+from_over P Q more (found, finds, holds) = more found holds
+
+-- the run that reached the end of its inputs
+pub ran_through : {told_in : Bool} (told : Bool) {task : Task} {found : List Input} {sources : List Source} {new : List Slot} (failed : Bool) {status : ℕ} → status ≡ (if failed then 1 else 0) → TookAll told_in told task found sources new (Ok failed) → EndsAs told_in told task found sources new status
+ran_through told failed is (all _ error reached same says at swept done) =
+    as_defined error reached says at swept done (is ∙ ap (λ (b : Bool). if b then 1 else 0) same)
+
+-- standard error is there for the fault that stopped the run
+pub stop_open : {told_in : Bool} (told : Bool) {task : Task} {found : List Input} {sources : List Source} {new : List Slot} {fault : Fault} → TookAll told_in told task found sources new (Err fault) → is_open (slot_at new 1).state ≡ true
+stop_open told {task} {new} (stopped_at _ before input after error step reached among done untouched is_step stops says stop swept) =
+    swept_open task.work.clears reached new 2 (lit≤ tt) (error_open (stop_error told (ap is_open (all_said_state told task.tool (made_by task before).messages standard_error error says)) stop)) swept
+stop_open told (not_begun is untouched none) = ap (λ slots. is_open (slot_at slots 1).state) is
+
+-- the run that a fault stopped
+pub ran_into : {told_in : Bool} (told : Bool) {task : Task} {found : List Input} {sources : List Source} {mid new : List Slot} {fault : Fault} → TookAll told_in told task found sources mid (Err fault) → SaysOn told task.tool (message_of task.tool fault (output_named mid fault)) mid new
+    → EndsAs told_in told task found sources new 1
+ran_into told {task} {mid} {fault} (stopped_at _ before input after error step reached among done untouched is_step stops said stop swept) says =
+    let text = message_of task.tool fault (output_named mid fault) in
+    let said_so = stop_swept told step task.work.clears (message_some task.tool fault (output_named mid fault)) (lit≤ tt)
+    (ap is_open (all_said_state told task.tool (made_by task before).messages standard_error error said)) stop stops swept says in
+    run_stopped fault before input after said_so.after step said_so.reached among done untouched is_step said_so.why said_so.stop said_so.swept
+    (subst (λ name. SaysAll told task.tool ((made_by task before).messages ++ message_of task.tool fault name ∷ []) standard_error said_so.after) (sym said_so.named)
+    (says_more told task.tool (made_by task before).messages text standard_error error said_so.after said said_so.says)) refl
+ran_into told (not_begun at_first untouched none) says =
+    let said = says standard_output standard_error [] at_first in
+    run_unmade said.0 (said.0, said.1, refl) said.2 untouched none refl
+
+-- what was said by the name that a tool gives itself
+pub ran_into_as : {told_in : Bool} (told : Bool) {task : Task} {tool : Tool} {found : List Input} {sources : List Source} {mid new : List Slot} {fault : Fault} → tool ≡ task.tool → TookAll told_in told task found sources mid (Err fault) → SaysOn told tool (message_of tool fault (output_named mid fault)) mid new
+    → EndsAs told_in told task found sources new 1
+ran_into_as told {mid} {new} {fault} is taken says = ran_into told taken (subst (λ those. SaysOn told those (message_of those fault (output_named mid fault)) mid new) is says)
+
+-- Lemmas on taking the inputs for names, one after another.
+
+-- a list of words and its front
+
+pub front_and_rest : (none : Bor (List ℕ)) (left : List (Bor (List ℕ))) → 1 ≤ length left → map (λ word. word.now) left ≡ (get_or left 0 none).now ∷ map (λ word. word.now) (take (length left - 1) (drop 1 left))
+front_and_rest none [] some = absurd (omega arith)
+front_and_rest none (word ∷ words) some = ap (λ (rest : List (Bor (List ℕ))). word.now ∷ map (λ word. word.now) rest) (sym (take_rest (word ∷ words) 1))
+
+pub none_left : (left : List (Bor (List ℕ))) → length left < 1 → map (λ word. word.now) left ≡ []
+none_left [] none = refl
+none_left (word ∷ words) none = absurd (omega arith)
+
+-- the inputs that were opened
+
+-- which input a name stands for
+
+of_file : (told : Bool) (world : World) (was_read : Bool) (slot : ℕ) (name : List ℕ) {content : Option Content} (P : Input → Type 0) → is_dash name ≡ false → (told ≡ true → world.laid slot name ≡ content) → P (file_input name slot content) → OfName told world was_read slot name P
+of_file told world was_read slot name {content} P differs lies holds = (
+  file_input name slot content,
+  (record { laid = λ _ _. content; standard = empty }, sym (ap (input_of (record { laid = λ _ _. content; standard = empty }) was_read slot name) differs)),
+  λ t. ap (file_input name slot) (sym (lies t)) ∙ sym (ap (input_of world was_read slot name) differs),
+  holds,
+)
+
+dash_at : (told was_read : Bool) (laid : ℕ → List ℕ → Option Content) (sources : List Source) (slot : ℕ) (name : List ℕ) (P : Option ℕ → Content → Type 0) (Q : Input → Type 0) → is_dash name ≡ true
+    → ((content : Content) → P (Some 0) content → Q (standard_input content)) → (P None empty → Q read_before)
+    → OfSource told (standard_source was_read) sources (P (standard_source was_read)) → OfName told (world_of laid sources) was_read slot name Q
+dash_at told true laid sources slot name P Q dash first again holds = (
+  read_before,
+  (record { laid = laid; standard = empty }, sym (ap (input_of (record { laid = laid; standard = empty }) true slot name) dash)),
+  λ t. sym (ap (input_of (world_of laid sources) true slot name) dash),
+  again holds,
+)
+dash_at told false laid sources slot name P Q dash first again (content, there, holds) = (
+  standard_input content,
+  (record { laid = laid; standard = content }, sym (ap (input_of (record { laid = laid; standard = content }) false slot name) dash)),
+  λ t. ap standard_input (there t) ∙ sym (ap (input_of (world_of laid sources) false slot name) dash),
+  first content holds,
+)
+
+pub of_dash : (told was_read : Bool) {source : Option ℕ} (laid : ℕ → List ℕ → Option Content) (sources : List Source) (slot : ℕ) (name : List ℕ) (P : Option ℕ → Content → Type 0) (Q : Input → Type 0) → source ≡ standard_source was_read → is_dash name ≡ true
+    → ((content : Content) → P (Some 0) content → Q (standard_input content)) → (P None empty → Q read_before)
+    → OfSource told source sources (P source) → OfName told (world_of laid sources) was_read slot name Q
+of_dash told was_read laid sources slot name P Q is dash first again holds =
+    dash_at told was_read laid sources slot name P Q dash first again (subst (λ from. OfSource told from sources (P from)) is holds)
+
+pub of_opened : (told was_read : Bool) {laid : ℕ → List ℕ → Option Content} {old new : List Source} {slot : ℕ} {name : List ℕ} (P : Content → Type 0) (Q : Input → Type 0) → is_dash name ≡ false → OpensFile told laid old new name slot
+    → ((content : Content) → P content → Q (file_input name (length old) (Some content)))
+    → OfSource told (Some slot) new P → OfName told (world_of laid old) was_read (length old) name Q
+of_opened told was_read {laid} {old} {slot} {name} P Q differs opened_it as_file (content, there, holds) =
+    of_file told (world_of laid old) was_read (length old) name Q differs (λ t. ap (λ n. laid n name) (sym opened_it.number) ∙ opened_it.lies t
+    ∙ ap Some (sym (there t ∙ ap (λ (source : Source). source.left) (ap (λ those. source_at those slot) opened_it.sources ∙ ap (source_at (old ++ source_of opened_it.content ∷ [])) opened_it.number ∙ last_source old))))
+    (as_file content holds)
+
+-- the same step, seen from the name
+
+took_as : {told_in : Bool} (told : Bool) {task : Task} {most : ℕ} {outcome : Outcome} {header : List ℕ} {slot : Option ℕ} {content : Option Content} {progress : Progress} (other : Progress) {was_read is_read : Bool} {so_far : Part} {error : Slot} {first : ℕ} {sources : List Source} {new : List Slot} {result : Result Progress Fault}
+    → ((failed : Bool) → after_input progress was_read failed content ≡ after_input other is_read failed content)
+    → TookInput told_in told task most outcome header slot content progress was_read so_far error first sources new result → TookInput told_in told task most outcome header slot content other is_read so_far error first sources new result
+took_as told {outcome} other same (took next after reached is done says at swept) = took next after reached (is ∙ same outcome.failed) done says at swept
+took_as told other same (cut_off fault step reached is_step stops stop swept) = cut_off fault step reached is_step stops stop swept
+
+took_dash : {told_in : Bool} (told : Bool) {task : Task} {most : ℕ} {outcome : Outcome} {header : List ℕ} {slot : Option ℕ} {content : Option Content} {progress : Progress} (name : List ℕ) {so_far : Part} {error : Slot} {first : ℕ} {sources : List Source} {new : List Slot} {result : Result Progress Fault} → is_dash name ≡ true
+    → TookInput told_in told task most outcome header slot content (record progress { was_read = true }) true so_far error first sources new result → TookInput told_in told task most outcome header slot content progress (progress.was_read || is_dash name) so_far error first sources new result
+took_dash told {content} {progress} name dash =
+    took_as told progress
+    (λ failed. ap (λ (b : Bool). record { was_read = b; is_first = progress.is_first && is_missing content; failed = progress.failed || failed }) (sym (ap (λ (b : Bool). progress.was_read || b) dash ∙ or-true progress.was_read)))
+
+pub took_file : {told_in : Bool} (told : Bool) {task : Task} {most : ℕ} {outcome : Outcome} {header : List ℕ} {slot : ℕ} {content : Option Content} {progress : Progress} {laid : ℕ → List ℕ → Option Content} {name : List ℕ} {old mid : List Source} {so_far : Part} {error : Slot} {first : ℕ} {sources : List Source} {new : List Slot} {result : Result Progress Fault} → is_dash name ≡ false → OpensFile told_in laid old mid name slot
+    → TookInput told_in told task most outcome header (Some slot) content progress progress.was_read so_far error first sources new result → TookInput told_in told task most outcome header (Some (length old)) content progress (progress.was_read || is_dash name) so_far error first sources new result
+took_file {told_in} told {task} {most} {outcome} {header} {content} {progress} {so_far} {error} {first} {sources} {new} {result} differs opened_it one =
+    took_as told progress
+    (λ failed. ap (λ (b : Bool). record { was_read = b; is_first = progress.is_first && is_missing content; failed = progress.failed || failed }) (sym (ap (λ (b : Bool). progress.was_read || b) differs ∙ or-false progress.was_read)))
+    (subst (λ n. TookInput told_in told task most outcome header (Some n) content progress progress.was_read so_far error first sources new result) opened_it.number one)
+
+took_missing : {told_in : Bool} (told : Bool) {task : Task} {most : ℕ} {progress : Progress} (name : List ℕ) (sources : List Source) {after : List Source} (slot : ℕ) {so_far : Part} {error : Slot} {old new : List Slot} → is_dash name ≡ false → after ≡ sources ++ missing ∷ [] → OutputsAt told (streams_with error) so_far old
+    → SaysOn told task.tool (message_of task.tool (Open slot) name) old new
+    → TookInput told_in told task most (of_input task progress.is_first (file_input name (length sources) None)) (header_text task.with_header progress.is_first name) (Some (length sources)) None progress (progress.was_read || is_dash name) so_far error (length old) after new (Ok (record progress { failed = true }))
+took_missing {told_in} told {task} {most} {progress} name sources slot {so_far} {new} differs are at says =
+    let said = said_at told at says in
+    took (record progress { failed = true }) said.0 new (simp (differs, or-false, and-true, or-true)) (missing_done told_in task.work most sources are)
+    (said.0, said.1, refl) (subst (λ part. OutputsAt told (streams_with said.0) part new) (sym (nothing_after so_far)) said.2) refl
+
+-- standard input, for the operand `-`
+pub took_standard : {told_in : Bool} (told : Bool) {task : Task} {most : ℕ} (progress : Progress) {source : Option ℕ} (laid : ℕ → List ℕ → Option Content) (name : List ℕ) (old : List Source) {sources : List Source} (so_far : Part) (error : Slot) {first : ℕ} {new : List Slot} {result : Result Progress Fault} → source ≡ standard_source progress.was_read → is_dash name ≡ true
+    → OfSource told_in source old (λ content. TookInput told_in told task most (of_content task progress.is_first (codes "standard input") (Some content)) (header_text task.with_header progress.is_first (codes "standard input")) source (Some content) (record progress { was_read = true }) true so_far error first sources new result)
+    → OfName told_in (world_of laid old) progress.was_read (length old) name
+    (λ input. TookInput told_in told task most (of_input task progress.is_first input) (header_text task.with_header progress.is_first input.name) input.slot input.content progress (progress.was_read || is_dash name) so_far error first sources new result)
+took_standard {told_in} told {task} {most} progress laid name old {sources} so_far error {first} {new} {result} is dash =
+    of_dash told_in progress.was_read laid old (length old) name
+    (λ from content. TookInput told_in told task most (of_content task progress.is_first (codes "standard input") (Some content)) (header_text task.with_header progress.is_first (codes "standard input")) from (Some content) (record progress { was_read = true }) true so_far error first sources new result)
+    _ is dash (λ content one. took_dash told name dash one) (λ one. took_dash told name dash one)
+
+-- a name that could not be opened: it is passed over with a message
+
+pub of_missing : {told_in : Bool} (told : Bool) {task : Task} {most : ℕ} (progress : Progress) {laid : ℕ → List ℕ → Option Content} {name : List ℕ} {sources after : List Source} {fault : Fault} {so_far : Part} (error : Slot) {old new : List Slot} → is_dash name ≡ false → OpensNothing told_in laid sources after name fault → is_unopened fault ≡ true → OutputsAt told (streams_with error) so_far old
+    → SaysOn told task.tool (message_of task.tool fault name) old new → OfName told_in (world_of laid sources) progress.was_read (length sources) name
+    (λ input. TookInput told_in told task most (of_input task progress.is_first input) (header_text task.with_header progress.is_first input.name) input.slot input.content progress (progress.was_read || is_dash name) so_far error (length old) after new (Ok (record progress { failed = true })))
+of_missing {told_in} told progress {laid} {name} {sources} error differs (from.broke slot number lies are) cannot at says =
+    of_file told_in (world_of laid sources) progress.was_read (length sources) name _ differs (λ t. ap (λ n. laid n name) (sym number) ∙ lies t)
+    (took_missing told name sources slot differs are at says)
+of_missing told progress error differs (from.no_room are) cannot at says = absurd (false≢true cannot)
+
+-- there was no room for it
+pub of_no_room : {told_in : Bool} (told : Bool) {task : Task} {most : ℕ} (progress : Progress) {laid : ℕ → List ℕ → Option Content} {name : List ℕ} {sources after : List Source} {fault : Fault} {so_far : Part} (error : Slot) {old : List Slot} → is_dash name ≡ false → OpensNothing told_in laid sources after name fault → is_unopened fault ≡ false → OutputsAt told (streams_with error) so_far old
+    → OfName told_in (world_of laid sources) progress.was_read (length sources) name
+    (λ input. TookInput told_in told task most (of_input task progress.is_first input) (header_text task.with_header progress.is_first input.name) input.slot input.content progress (progress.was_read || is_dash name) so_far error (length old) after old (Err fault))
+of_no_room told progress error differs (from.broke slot number lies are) other at = absurd (false≢true (sym other))
+of_no_room {told_in} told {task} progress {laid} {name} {sources} {so_far} error {old} differs (from.no_room are) other at =
+    of_file told_in (world_of laid sources) progress.was_read (length sources) name _ differs (λ t. refl)
+    (cut_off Memory _ old (unopened (laid (length sources) name) (length sources) refl (omega (arith, ap length are))) refl
+    (stopped_here told (streams_with error) so_far so_far Memory old old at (part_begins_itself so_far) refl tt) (none_to_sweep task.work.clears (length old) old (omega arith)))
+
+-- the loop over names
+
+joined_nothing : {a : Outcome} → joined a no_outcome ≡ a
+joined_nothing = simp (append-nil, or-false)
+
+-- files are removed only where the work clears them
+sweeps_clears : (task : Task) (is_first : Bool) (name : List ℕ) (content : Option Content) → (of_content task is_first name content).sweeps ≡ true → task.work.clears ≡ true
+sweeps_clears task is_first name None sweeps = absurd (false≢true sweeps)
+sweeps_clears task is_first name (Some content) sweeps = (and_parts task.work.clears (ends_badly task.work content) sweeps).0
+
+pub are_from : (world : World) (was_read : Bool) (slot : ℕ) (names : List (List ℕ)) → AreFrom was_read slot names (inputs_from world was_read slot names)
+are_from world was_read slot [] = refl
+are_from world was_read slot (name ∷ names) = ((world, refl), are_from world (was_read || is_dash name) (next_slot slot name) names)
+
+-- what was done before the names that are left
+pub record Walked (told_in told : Bool) (task : Task) (world : World) (names left : List (List ℕ)) (progress : Progress) (laid : ℕ → List ℕ → Option Content) (sources : List Source) (slots : List Slot) : Type 0 where
+  pub done : List Input
+  pub made : Outcome
+  pub error : Slot
+  pub reached : List Slot
+  pub at : OutputsAt told (streams_with error) made.part reached
+  pub swept : Swept made.sweeps 2 reached slots
+  pub says : SaysAll told task.tool made.messages standard_error error
+  pub failed : progress.failed ≡ made.failed
+  -- where the work clears files, there is one name at most
+  pub alone : task.work.clears ≡ true → (left ≡ []) ⊎ ((length left ≤ 1) × (length slots ≡ 2))
+  pub unswept : 1 ≤ length left → made.sweeps ≡ false
+  pub first : progress.is_first ≡ are_missing done
+  pub rest_made : (rest : List Input) → of_inputs task true (done ++ rest) ≡ joined made (of_inputs task progress.is_first rest)
+  pub rest_are : (rest : List Input) → AreFrom progress.was_read (length sources) left rest → AreFrom false 1 names (done ++ rest)
+  pub rest_there : told_in ≡ true → done ++ inputs_from world progress.was_read (length sources) left ≡ inputs_at world names
+  pub laid_same : laid ≡ world.laid
+  pub standard : progress.was_read ≡ false → source_at sources 0 ≡ source_of world.standard
+  pub some : 0 < length sources
+  pub known : StayDone told_in task.work largest_piece progress.was_read done sources
+  pub asked : AsksAtMost largest_piece sources
+  pub count : count_after (length sources) left ≡ count_after 1 names
+
+pub walk_begins : {told_in : Bool} (told : Bool) {task : Task} {names : List (List ℕ)} {laid : ℕ → List ℕ → Option Content} {sources : List Source} {slots : List Slot} → IsFresh sources → slots ≡ streams → (task.work.clears ≡ true → length names ≤ 1)
+    → Walked told_in told task (world_of laid sources) names names (record { was_read = false; is_first = true; failed = false }) laid sources slots
+walk_begins told {names} {laid} {sources} {slots} fresh are alone =
+    let one : length sources ≡ 1 = ap length fresh.only in
+    let at_first : source_at sources 0 ≡ source_of fresh.standard = ap (λ those. source_at those 0) fresh.only in
+    record {
+      done = [];
+      made = no_outcome;
+      error = standard_error;
+      reached = slots;
+      at = subst (λ those. OutputsAt told (streams_with standard_error) nothing those) (sym are) (nothing_out told (streams_with standard_error) (lit< tt));
+      swept = refl;
+      says = refl;
+      failed = refl;
+      alone = λ clears. inr (alone clears, ap length are);
+      unswept = λ some. refl;
+      first = refl;
+      rest_made = λ rest. refl;
+      rest_are = λ rest are_rest. subst (λ n. AreFrom false n names rest) one are_rest;
+      rest_there = λ t. ap (λ n. inputs_from (world_of laid sources) false n names) one;
+      laid_same = refl;
+      standard = λ _. at_first ∙ ap source_of (sym (ap (λ (source : Source). source.left) at_first));
+      some = subst (λ n. 0 < n) (sym one) (lit< tt);
+      known = tt;
+      asked = fresh_asks largest_piece sources fresh;
+      count = ap (λ n. count_after n names) one;
+    }
+
+-- where names are left, no file was removed
+slots_at : {told_in : Bool} (told : Bool) {task : Task} {world : World} {names left : List (List ℕ)} {progress : Progress} {laid : ℕ → List ℕ → Option Content} {sources : List Source} {slots : List Slot} → 1 ≤ length left
+    → (walked : Walked told_in told task world names left progress laid sources slots) → OutputsAt told (streams_with walked.error) walked.made.part slots
+slots_at told {slots} some walked =
+    let same : slots ≡ walked.reached = subst (λ sweeps. Swept sweeps 2 walked.reached slots) (walked.unswept some) walked.swept in
+    subst (λ those. OutputsAt told (streams_with walked.error) walked.made.part those) (sym same) walked.at
+
+walked_error : {told_in : Bool} (told : Bool) {task : Task} {world : World} {names left : List (List ℕ)} {progress : Progress} {laid : ℕ → List ℕ → Option Content} {sources : List Source} {slots : List Slot}
+    → (walked : Walked told_in told task world names left progress laid sources slots) → is_open walked.error.state ≡ true
+walked_error told {task} walked = ap is_open (all_said_state told task.tool walked.made.messages standard_error walked.error walked.says)
+
+pub walk_streams : {told_in : Bool} (told : Bool) {task : Task} {world : World} {names left : List (List ℕ)} {progress : Progress} {laid : ℕ → List ℕ → Option Content} {sources : List Source} {slots : List Slot} → 1 ≤ length left
+    → Walked told_in told task world names left progress laid sources slots → HasStreams told slots
+walk_streams told some walked = record {
+  part = walked.made.part;
+  error = walked.error;
+  at = slots_at told some walked;
+  opened = walked_error told walked;
+}
+
+pub walk_readable : {told_in : Bool} (told : Bool) {task : Task} {world : World} {names left : List (List ℕ)} {progress : Progress} {laid : ℕ → List ℕ → Option Content} {sources : List Source} {slots : List Slot}
+    → Walked told_in told task world names left progress laid sources slots → progress.was_read ≡ false → IsTrue (is_readable sources 0)
+walk_readable told walked unread = ap (λ (source : Source). source.is_open && not source.is_broken) (walked.standard unread)
+
+-- while standard input was not read, what it holds is known
+same_input : (world : World) (was_read : Bool) (slot : ℕ) (name : List ℕ) (d : Bool) {laid : ℕ → List ℕ → Option Content} (sources : List Source) → laid ≡ world.laid → (was_read ≡ false → source_at sources 0 ≡ source_of world.standard)
+    → input_of (world_of laid sources) was_read slot name d ≡ input_of world was_read slot name d
+same_input world was_read slot name false sources same standard = ap (λ (those : ℕ → List ℕ → Option Content). file_input name slot (those slot name)) same
+same_input world true slot name true sources same standard = refl
+same_input world false slot name true sources same standard = ap (λ (source : Source). standard_input source.left) (standard refl)
+
+-- the only name was taken
+taken_alone : {clears : Bool} {name : List ℕ} {left : List (List ℕ)} (slots : List Slot) → (clears ≡ true → ((name ∷ left) ≡ []) ⊎ ((length (name ∷ left) ≤ 1) × (length slots ≡ 2))) → clears ≡ true → (left ≡ []) × (length slots ≡ 2)
+taken_alone {left} slots alone is = elim (alone is) [
+  | inl none ↦ absurd (cc)
+  | inr few ↦ (nil_from_length left (omega (arith, few.0)), few.1)
+]
+
+abbrev pub Takes : Bool → Bool → Task → ℕ → Progress → (ℕ → List ℕ → Option Content) → List Source → List Source → List ℕ → Part → Slot → List Slot → List Slot → Result Progress Fault → Type 0
+Takes told_in told task most progress laid sources new_sources name so_far error slots new result =
+    OfName told_in (world_of laid sources) progress.was_read (length sources) name
+    (λ input. TookInput told_in told task most (of_input task progress.is_first input) (header_text task.with_header progress.is_first input.name) input.slot input.content progress (progress.was_read || is_dash name) so_far error (length slots) new_sources new result)
+
+-- no read asked for more
+pub asks_on : {most : ℕ} {was_read : Bool} {name : List ℕ} {sources new_sources : List Source} → most ≡ largest_piece → TakesOne most was_read name sources new_sources → AsksAtMost largest_piece sources → AsksAtMost largest_piece new_sources
+asks_on {sources} {new_sources} at_most leaves = subst (λ n. AsksAtMost n sources → AsksAtMost n new_sources) at_most leaves.asked
+
+-- one more name was taken
+pub walk_goes_on : {told_in : Bool} (told : Bool) {task : Task} {most : ℕ} {world : World} {names : List (List ℕ)} {name : List ℕ} {left : List (List ℕ)} {progress next : Progress} {laid new_laid : ℕ → List ℕ → Option Content} {sources new_sources : List Source} {slots new : List Slot}
+    → most ≡ largest_piece → Walked told_in told task world names (name ∷ left) progress laid sources slots
+    → ((so_far : Part) (error : Slot) → is_open error.state ≡ true → OutputsAt told (streams_with error) so_far slots → Takes told_in told task most progress laid sources new_sources name so_far error slots new (Ok next))
+    → TakesOne most progress.was_read name sources new_sources → length new_sources ≡ next_slot (length sources) name → new_laid ≡ laid
+    → Walked told_in told task world names left next new_laid new_sources new
+walk_goes_on {told_in} told {task} {world} {names} {name} {left} {progress} {next} {laid} {new_laid} {sources} {new_sources} {slots} {new} at_most walked takes leaves opened_it same =
+    goes_with (subst (λ n. Takes told_in told task n progress laid sources new_sources name walked.made.part walked.error slots new (Ok next)) at_most (takes walked.made.part walked.error (walked_error told walked) (slots_at told (omega arith) walked))) where
+      goes_with : Takes told_in told task largest_piece progress laid sources new_sources name walked.made.part walked.error slots new (Ok next) → Walked told_in told task world names left next new_laid new_sources new
+      goes_with (input, is_for, there, took _ after reached is is_done says at swept) =
+          let one = of_input task progress.is_first input in
+          let was : next.was_read ≡ (progress.was_read || is_dash name) = ap (λ (p : Progress). p.was_read) is in
+          let unswept : walked.made.sweeps ≡ false = walked.unswept (omega arith) in
+          let sweeps_one : (walked.made.sweeps || one.sweeps) ≡ one.sweeps = ap (λ (b : Bool). b || one.sweeps) unswept in
+          let only : one.sweeps ≡ true → (left ≡ []) × (length slots ≡ 2) = λ sweeps. taken_alone slots walked.alone (sweeps_clears task progress.is_first input.name input.content sweeps) in
+          record {
+            done = walked.done ++ input ∷ [];
+            made = joined walked.made one;
+            error = after;
+            reached = reached;
+            at = at;
+            swept = subst (λ (sweeps : Bool). Swept sweeps 2 reached new) (sym sweeps_one) (swept_from one.sweeps 2 reached new (λ sweeps. (only sweeps).1) swept);
+            says = says_after told task.tool walked.made.messages one.messages standard_error walked.error after walked.says says;
+            failed = ap (λ (p : Progress). p.failed) is ∙ ap (λ (b : Bool). b || one.failed) walked.failed;
+            alone = λ clears. inl (taken_alone slots walked.alone clears).0;
+            unswept = λ some. sweeps_one ∙ false_from_ne_true one.sweeps (λ sweeps. omega (arith, some, ap length (only sweeps).0));
+            first = ap (λ (p : Progress). p.is_first) is ∙ ap (λ (b : Bool). b && is_missing input.content) walked.first ∙ sym (and_push are_missing (λ (one : Input). is_missing one.content) refl (λ one inputs. refl) walked.done input);
+            rest_made = λ rest. ap (of_inputs task true) (append_assoc walked.done (input ∷ []) rest) ∙ walked.rest_made (input ∷ rest)
+                ∙ (simp (append_assoc, or_assoc))
+                ∙ ap (λ (b : Bool). joined (joined walked.made one) (of_inputs task b rest)) (sym (ap (λ (p : Progress). p.is_first) is));
+            rest_are = λ rest are_rest. subst (AreFrom false 1 names) (sym (append_assoc walked.done (input ∷ []) rest))
+                (walked.rest_are (input ∷ rest) (is_for, subst (λ (b : Bool). AreFrom b (next_slot (length sources) name) left rest) was (subst (λ n. AreFrom next.was_read n left rest) opened_it are_rest)));
+            rest_there = λ t. append_assoc walked.done (input ∷ []) (inputs_from world next.was_read (length new_sources) left)
+                ∙ ap (λ (first : Input). walked.done ++ first ∷ inputs_from world next.was_read (length new_sources) left) (there t ∙ same_input world progress.was_read (length sources) name (is_dash name) sources walked.laid_same walked.standard)
+                ∙ ap (λ n. walked.done ++ input_of world progress.was_read (length sources) name (is_dash name) ∷ inputs_from world next.was_read n left) opened_it
+                ∙ ap (λ (b : Bool). walked.done ++ input_of world progress.was_read (length sources) name (is_dash name) ∷ inputs_from world b (next_slot (length sources) name) left) was
+                ∙ walked.rest_there t;
+            laid_same = same ∙ walked.laid_same;
+            standard = λ unread. let both = or_parts progress.was_read (is_dash name) (sym was ∙ unread) in leaves.unasked both.1 ∙ walked.standard both.0;
+            some = omega (arith, walked.some, leaves.grown);
+            known = subst (λ (b : Bool). StayDone told_in task.work largest_piece b (walked.done ++ input ∷ []) new_sources) (sym was)
+                (done_more told_in task.work largest_piece (progress.was_read || is_dash name) walked.done input new_sources
+                (still_done told_in task.work largest_piece walked.done (λ had. ap (λ (b : Bool). b || is_dash name) had) leaves walked.known)
+                (done_with told_in task.work largest_piece progress.was_read (length sources) name input new_sources is_for walked.some is_done));
+            asked = asks_on at_most leaves walked.asked;
+            count = sym (ap (λ n. count_after n left) (sym opened_it)) ∙ walked.count;
+          }
+
+-- a fault stopped the run at a name
+pub walk_stops : {told_in : Bool} (told : Bool) {task : Task} {most : ℕ} {world : World} {names : List (List ℕ)} {name : List ℕ} {left : List (List ℕ)} {progress : Progress} {laid : ℕ → List ℕ → Option Content} {sources new_sources : List Source} {slots new : List Slot} (fault : Fault)
+    → most ≡ largest_piece → Walked told_in told task world names (name ∷ left) progress laid sources slots
+    → ((so_far : Part) (error : Slot) → is_open error.state ≡ true → OutputsAt told (streams_with error) so_far slots → Takes told_in told task most progress laid sources new_sources name so_far error slots new (Err fault))
+    → TakesOne most progress.was_read name sources new_sources
+    → RunsOver told_in world names (λ found. TookAll told_in told task found new_sources new (Err fault))
+walk_stops {told_in} told {task} {world} {names} {name} {left} {progress} {laid} {sources} {new_sources} {slots} {new} fault at_most walked takes leaves =
+    stops_with (subst (λ n. Takes told_in told task n progress laid sources new_sources name walked.made.part walked.error slots new (Err fault)) at_most (takes walked.made.part walked.error (walked_error told walked) (slots_at told (omega arith) walked))) where
+      stops_with : Takes told_in told task largest_piece progress laid sources new_sources name walked.made.part walked.error slots new (Err fault) → RunsOver told_in world names (λ found. TookAll told_in told task found new_sources new (Err fault))
+      stops_with (input, is_for, there, cut_off _ step reached is_step stops stop swept) =
+          let rest = inputs_from world (progress.was_read || is_dash name) (next_slot (length sources) name) left in
+          let before : made_by task walked.done ≡ walked.made
+          = ap (of_inputs task true) (sym (append-nil walked.done)) ∙ walked.rest_made [] ∙ joined_nothing in (
+            walked.done ++ input ∷ rest,
+            record {
+              are = walked.rest_are (input ∷ rest) (is_for, are_from world (progress.was_read || is_dash name) (next_slot (length sources) name) left);
+              there = λ t. ap (λ (first : Input). walked.done ++ first ∷ rest) (there t ∙ same_input world progress.was_read (length sources) name (is_dash name) sources walked.laid_same walked.standard) ∙ walked.rest_there t;
+            },
+            stopped_at fault walked.done input rest walked.error step reached refl
+                (all_done told_in task.work largest_piece (progress.was_read || is_dash name) walked.done new_sources
+                (still_done told_in task.work largest_piece walked.done (λ had. ap (λ (b : Bool). b || is_dash name) had) leaves walked.known))
+                (rest_untouched world (progress.was_read || is_dash name) (next_slot (length sources) name) left new_sources
+                (λ unread. let both = or_parts progress.was_read (is_dash name) unread in leaves.unasked both.1 ∙ walked.standard both.0) leaves.within)
+                (subst (λ (outcome : Outcome). RunStep told_in task largest_piece outcome.part (header_text task.with_header (are_missing walked.done) input.name) input.slot new_sources input.content step) (sym before)
+                (subst (λ (is_first : Bool). RunStep told_in task largest_piece walked.made.part (header_text task.with_header is_first input.name) input.slot new_sources input.content step) walked.first is_step))
+                stops (subst (λ (outcome : Outcome). SaysAll told task.tool outcome.messages standard_error walked.error) (sym before) walked.says) stop
+                (swept_from task.work.clears 2 reached new (λ clears. (taken_alone slots walked.alone clears).1) swept),
+          )
+
+pub walk_within : {told_in : Bool} (told : Bool) {task : Task} {most : ℕ} {world : World} {names : List (List ℕ)} {name : List ℕ} {left : List (List ℕ)} {progress : Progress} {laid : ℕ → List ℕ → Option Content} {sources new_sources : List Source} {slots : List Slot}
+    → Walked told_in told task world names (name ∷ left) progress laid sources slots → TakesOne most progress.was_read name sources new_sources → length new_sources ≤ count_after 1 names
+walk_within told {name} {left} {sources} {new_sources} walked leaves =
+    let within : length new_sources ≤ next_slot (length sources) name = leaves.within in
+    let more : next_slot (length sources) name ≤ count_after (next_slot (length sources) name) left = count_more (next_slot (length sources) name) left in
+    omega (arith, within, more, walked.count)
+
+-- all names were taken
+pub walk_ends : {told_in : Bool} (told : Bool) {task : Task} {world : World} {names left : List (List ℕ)} {progress : Progress} {laid : ℕ → List ℕ → Option Content} {sources : List Source} {slots : List Slot} → left ≡ []
+    → Walked told_in told task world names left progress laid sources slots
+    → RunsOver told_in world names (λ found. TookAll told_in told task found sources slots (Ok progress.failed))
+walk_ends {told_in} told {task} {world} {progress} {sources} {slots} none walked =
+    let made : made_by task (walked.done ++ []) ≡ walked.made = walked.rest_made [] ∙ joined_nothing in (
+      walked.done ++ [],
+      record {
+        are = walked.rest_are [] (subst (λ those. AreFrom progress.was_read (length sources) those []) (sym none) refl);
+        there = λ t. ap (λ those. walked.done ++ inputs_from world progress.was_read (length sources) those) (sym none) ∙ walked.rest_there t;
+      },
+      all progress.failed walked.error walked.reached (walked.failed ∙ ap (λ (those : Outcome). those.failed) (sym made))
+          (subst (λ (those : Outcome). SaysAll told task.tool those.messages standard_error walked.error) (sym made) walked.says)
+          (subst (λ (those : Outcome). OutputsAt told (streams_with walked.error) those.part walked.reached) (sym made) walked.at)
+          (subst (λ (those : Outcome). Swept those.sweeps 2 walked.reached slots) (sym made) walked.swept)
+          (subst (λ those. AreDone told_in task.work largest_piece those sources) (sym (append-nil walked.done)) (all_done told_in task.work largest_piece progress.was_read walked.done sources walked.known)),
+    )
+
+pub walk_counts : {told_in : Bool} (told : Bool) {task : Task} {world : World} {names left : List (List ℕ)} {progress : Progress} {laid : ℕ → List ℕ → Option Content} {sources : List Source} {slots : List Slot} → left ≡ []
+    → Walked told_in told task world names left progress laid sources slots → length sources ≤ count_after 1 names
+walk_counts told {left} {sources} none walked = let all_taken : count_after (length sources) left ≡ length sources = ap (count_after (length sources)) none in omega (arith, all_taken, walked.count)
+
+-- the words that a loop has left are the first of them and the rest
+pub walked_at : {told_in : Bool} (told : Bool) {task : Task} {world : World} {names : List (List ℕ)} (none : Bor (List ℕ)) (left : List (Bor (List ℕ))) {progress : Progress} {laid : ℕ → List ℕ → Option Content} {sources : List Source} {slots : List Slot} → 1 ≤ length left
+    → Walked told_in told task world names (map (λ word. word.now) left) progress laid sources slots → Walked told_in told task world names ((get_or left 0 none).now ∷ map (λ word. word.now) (take (length left - 1) (drop 1 left))) progress laid sources slots
+walked_at {told_in} told {task} {world} {names} none left {progress} {laid} {sources} {slots} some walked = subst (λ those. Walked told_in told task world names those progress laid sources slots) (front_and_rest none left some) walked
+
+-- a run that touched no input
+pub none_touched : (told_in : Bool) (laid : ℕ → List ℕ → Option Content) (sources : List Source) (names : List (List ℕ)) → IsFresh sources → RunsOver told_in (world_of laid sources) names (λ found. AreUntouched found sources)
+none_touched told_in laid sources names fresh =
+    let world = world_of laid sources in
+    let at_first : source_at sources 0 ≡ source_of fresh.standard = ap (λ those. source_at those 0) fresh.only in (
+      inputs_at world names,
+      record { are = are_from world false 1 names; there = λ t. refl },
+      rest_untouched world false 1 names sources (λ _. at_first ∙ ap source_of (sym (ap (λ (source : Source). source.left) at_first))) (omega (arith, ap length fresh.only)),
+    )
+
+-- there was no memory before the first input was opened
+pub no_memory_first : {told_in : Bool} (told : Bool) {laid : ℕ → List ℕ → Option Content} {sources : List Source} {names : List (List ℕ)} {task : Task} {old : List Slot} → IsFresh sources → old ≡ streams
+    → RunsOver told_in (world_of laid sources) names (λ found. TookAll told_in told task found sources old (Err Memory))
+no_memory_first {told_in} told {laid} {sources} {names} fresh are =
+    let untouched = none_touched told_in laid sources names fresh in (untouched.0, untouched.1, not_begun are untouched.2 (ap length fresh.only))
+
+pub fresh_counts : (sources : List Source) (names : List (List ℕ)) → IsFresh sources → length sources ≤ count_after 1 names
+fresh_counts sources names fresh = let more : 1 ≤ count_after 1 names = count_more 1 names in omega (arith, ap length fresh.only, more)
+
+-- what a loop over names has left of standard input
+pub record Untouched (names left : List (List ℕ)) (start now : List Source) : Type 0 where
+  pub none_left : has_dash names ≡ false → has_dash left ≡ false
+  pub same : has_dash names ≡ false → source_at now 0 ≡ source_at start 0
+
+pub untouched_on : {names : List (List ℕ)} (none : Bor (List ℕ)) (left : List (Bor (List ℕ))) {start now : List Source} (new : List Source) → 1 ≤ length left → Untouched names (map (λ word. word.now) left) start now
+    → (is_dash (get_or left 0 none).now ≡ false → source_at new 0 ≡ source_at now 0)
+    → Untouched names (map (λ word. word.now) (take (length left - 1) (drop 1 left))) start new
+untouched_on {names} none left new some untouched keeps =
+    let both = λ (has_none : has_dash names ≡ false).
+    or_parts (is_dash (get_or left 0 none).now) (has_dash (map (λ word. word.now) (take (length left - 1) (drop 1 left))))
+    (sym (ap has_dash (front_and_rest none left some)) ∙ untouched.none_left has_none) in record {
+      none_left = λ has_none. (both has_none).1;
+      same = λ has_none. keeps (both has_none).0 ∙ untouched.same has_none;
+    }

@@ -1,5 +1,15 @@
 -- What `csplit` leaves of its input.
-use Rattle.std.proofs.Common.{◌≡◌, ℕ, ◌+◌, ◌-◌, ◌<◌, ◌≤◌, zero, suc, Bool, true, false, not, ◌&&◌, cond, List, [], ◌∷◌, ◌++◌, length, length-drop, map, drop, None, inl, inr, ◌⊎◌, refl, sym, ◌∙◌, ap, subst, arith}
+use Rattle.std.proofs.Common.{◌≡◌, ℕ, ◌+◌, suc, take, drop, Bool, true, false, cond, eqb, nat_lt, List, [], ◌∷◌, Option, Some, None, refl, ◌∙◌, ◌-◌, ◌<◌, ◌≤◌, zero, not, ◌&&◌, ◌++◌, length, length-drop, map, inl, inr, ◌⊎◌, sym, ap, subst, arith}
+use Rattle.operand_core.specs.declared.operand.Offset.{Offset}
+use Rattle.operand_core.specs.declared.operand.Operand.{Operand}
+use Rattle.operand_core.specs.declared.operand.Target.{Target}
+use Rattle.operand_core.specs.declared.operand.Target.TheVariants.{Number, Search}
+use Rattle.operand_core.specs.declared.operand.Times.{Times}
+use Rattle.operand_core.specs.declared.operand.Times.TheVariants.{Count}
+use Rattle.operand_core.specs.Reading.{Aim, line, match, Spelled, Aimed, aims, fails, Words, AreRead, Asks, IsTarget, aim_of, failed, least_after, no_more, times_by, with_operand, words_from, words_of}
+use Rattle.operand_core.specs.Word.{Spelling, number, search, wrong, spelling, closed_at, closing, offset_of, repeated, numbered, number_of, searched, braced, before_brace}
+use Rattle.csplit_core.specs.Operand.{is_kept, Line, has_more}
+use Rattle.tools_core.specs.Promises.{SkipNothing, skips, Run, Does, HasInput, AreNumbered, AreSections, IsSound, contents_of, files_of, in_turn, last_section, left_out, text_at}
 use Rattle.std.specs.List.{All}
 use Rattle.std.proofs.lemmas.List.{length-map, map-append, drop-drop, take-append-drop, take_all}
 use Rattle.std.proofs.lemmas.List.Elements.{All-nil, All-cons}
@@ -12,13 +22,10 @@ use Rattle.ports_core.specs.Slot.{Slot}
 use Rattle.ports_core.specs.declared.slot.Mode.TheVariants.{Fresh}
 use Rattle.ports_core.specs.declared.slot.State.TheVariants.{Open, Closed}
 use Rattle.operand_core.specs.Style.{Style}
-use Rattle.operand_core.specs.Reading.{Asks}
 use Rattle.csplit_core.specs.Csplit.{verdict_of}
 use Rattle.csplit_core.specs.Input.{all_lines, marked, newline}
-use Rattle.operand_core.specs.declared.operand.Operand.{Operand}
-use Rattle.csplit_core.specs.Operand.{Line, has_more}
 use Rattle.csplit_core.specs.Output.{Contents, contents_of as contents_in, is_empty, makes_file, file_at, files_of as files_by}
-use Rattle.csplit_core.specs.Plan.{State, start, line_after, operands_after, step_of, Step, Ending, below, Runs, is_used_up, misses, is_above, is_below, cuts}
+use Rattle.csplit_core.specs.Plan.{State, start, line_after, state_after, operands_after, step_of, Step, Ending, below, Runs, is_used_up, misses, is_above, is_below, cuts}
 use Rattle.csplit_core.specs.Planned.{plan}
 use Rattle.csplit_core.specs.Section.{Section, section_of, bytes_of, is_final, is_last_kept, lines_between, lines_in, whole_sections}
 use Rattle.csplit_core.specs.laws.PlanLaws.{plan_runs}
@@ -27,11 +34,114 @@ use Rattle.csplit_core.proofs.WholeLemmas.{ends_after_all, none_lost_at_end}
 use Rattle.words_core.specs.CsplitAsked.{CsplitAsked}
 use Rattle.words_core.specs.declared.settings.Settings.TheVariants.{Csplit}
 use Rattle.tools_core.specs.Outcome.{CsplitEndsAs}
-use Rattle.tools_core.specs.Promises.{Run, Does, HasInput, AreNumbered, AreSections, IsSound, SkipNothing, contents_of, files_of, in_turn, last_section, left_out, text_at}
+use Rattle.tools_core.specs.Tasks.{csplit_task}
 use Rattle.tools_core.proofs.NumberLemmas.{numbered_in_order}
 use Rattle.tools_core.proofs.PromiseLemmas.{DidOne, did_one, one_done, slot_of}
 use Rattle.tools_core.proofs.SplitPromises.{bytes_written}
-use Rattle.tools_core.proofs.SkipLemmas.{KeepTargets, targets_keep}
+use Rattle.operand_core.specs.declared.operand_fault.OperandFaultKind.TheVariants as kind
+
+-- Where no word of `csplit`'s operands skips a section, each operand keeps its section.
+
+abbrev KeepsSpelling : Spelling → Type 0
+KeepsSpelling (search delimiter text offset) = eqb delimiter 47 ≡ true
+KeepsSpelling spelling = Unit {0}
+
+searched_keeps : (delimiter : ℕ) (text : List ℕ) (offset : Option Offset) → eqb delimiter 47 ≡ true → KeepsSpelling (searched delimiter text offset)
+searched_keeps delimiter text None is = tt
+searched_keeps delimiter text (Some offset) is = is
+
+closed_keeps : (delimiter : ℕ) (text : List ℕ) (place : Option ℕ) → eqb delimiter 47 ≡ true → KeepsSpelling (closed_at delimiter text place)
+closed_keeps delimiter text None is = tt
+closed_keeps delimiter text (Some place) is = searched_keeps delimiter (take place text) (offset_of (drop (suc place) text)) is
+
+repeated_keeps : (times : Option Times) → KeepsSpelling (repeated times)
+repeated_keeps None = tt
+repeated_keeps (Some times) = tt
+
+line_keeps : (n : ℕ) (is_zero : Bool) → KeepsSpelling (cond is_zero (wrong kind.LineZero) (number n))
+line_keeps n true = tt
+line_keeps n false = tt
+
+numbered_keeps : (n : Option ℕ) → KeepsSpelling (numbered n)
+numbered_keeps None = tt
+numbered_keeps (Some n) = line_keeps n (eqb n 0)
+
+by_first : (is_slash is_percent is_brace : Bool) (slash percent brace other : Spelling) → (is_slash ≡ true → KeepsSpelling slash) → is_percent ≡ false → KeepsSpelling brace → KeepsSpelling other
+    → KeepsSpelling (cond is_slash slash (cond is_percent percent (cond is_brace brace other)))
+by_first true is_percent is_brace slash percent brace other first differs second third = first refl
+by_first false true is_brace slash percent brace other first differs second third = absurd (cc)
+by_first false false true slash percent brace other first differs second third = second
+by_first false false false slash percent brace other first differs second third = third
+
+word_keeps : (word : List ℕ) → skips word ≡ false → KeepsSpelling (spelling word)
+word_keeps [] differs = tt
+word_keeps (byte ∷ text) differs =
+    by_first (eqb byte 47) (eqb byte 37) (eqb byte 123) _ _ _ _ (closed_keeps byte text (closing byte false text)) differs (repeated_keeps (braced (before_brace text))) (numbered_keeps (number_of (byte ∷ text)))
+
+-- what operands aim at
+
+abbrev KeepsAim : Aim → Type 0
+KeepsAim (line n) = Unit {0}
+KeepsAim (match kept text offset) = kept ≡ true
+
+abbrev KeepsAimed : Aimed → Type 0
+KeepsAimed (aims aim) = KeepsAim aim
+KeepsAimed (fails what) = Unit {0}
+
+in_order_keeps : (n : ℕ) (is_less : Bool) → KeepsAimed (cond is_less (fails kind.LineOrder) (aims (line n)))
+in_order_keeps n true = tt
+in_order_keeps n false = tt
+
+aimed_keeps : (least : ℕ) (spelled : Spelling) → KeepsSpelling spelled → KeepsAimed (aim_of least spelled)
+aimed_keeps least (number n) keeps = in_order_keeps n (nat_lt n least)
+aimed_keeps least (search delimiter text offset) keeps = keeps
+aimed_keeps least spelled keeps = tt
+
+abbrev KeepAims : List Spelled → Type 0
+KeepAims [] = Unit {0}
+KeepAims (spelled ∷ more) = KeepsAim spelled.aim × KeepAims more
+
+last_keeps : (index : ℕ) (aimed : Aimed) → KeepsAimed aimed → KeepAims (elim aimed as (λ _. Words) [ fails what ↦ failed what index | aims aim ↦ with_operand index aim (Count 0) no_more ]).operands
+last_keeps index (fails what) keeps = tt
+last_keeps index (aims aim) keeps = (keeps, tt)
+
+next_keeps : (index : ℕ) (aimed : Aimed) (says : Option Times) (past next : Aim → Words) → KeepsAimed aimed → ((aim : Aim) → KeepAims (past aim).operands) → ((aim : Aim) → KeepAims (next aim).operands)
+    → KeepAims (elim aimed as (λ _. Words) [ fails what ↦ failed what index | aims aim ↦ elim says as (λ _. Words) [ Some times ↦ with_operand index aim times (past aim) | None ↦ with_operand index aim (Count 0) (next aim) ] ]).operands
+next_keeps index (fails what) says past next keeps first second = tt
+next_keeps index (aims aim) (Some times) past next keeps first second = (keeps, first aim)
+next_keeps index (aims aim) None past next keeps first second = (keeps, second aim)
+
+words_keep : (index least : ℕ) (words : List (List ℕ)) → SkipNothing words → KeepAims (words_from index least words).operands
+words_keep index least [] none = tt
+words_keep index least (word ∷ []) none = last_keeps index (aim_of least (spelling word)) (aimed_keeps least (spelling word) (word_keeps word none.0))
+words_keep index least (word ∷ next ∷ words) none =
+    next_keeps index (aim_of least (spelling word)) (times_by (spelling next)) (λ aim. words_from (index + 2) (least_after least aim) words) (λ aim. words_from (index + 1) (least_after least aim) (next ∷ words))
+    (aimed_keeps least (spelling word) (word_keeps word none.0)) (λ aim. words_keep (index + 2) (least_after least aim) words none.1.1) (λ aim. words_keep (index + 1) (least_after least aim) (next ∷ words) none.1)
+
+all_keep : (words : List (List ℕ)) → SkipNothing words → KeepAims (words_of words).operands
+all_keep [] none = tt
+all_keep (word ∷ words) none = words_keep 0 0 (word ∷ words) none
+
+-- the operands that are read
+
+abbrev pub KeepTargets : List Operand → Type 0
+KeepTargets [] = Unit {0}
+KeepTargets (operand ∷ operands) = (is_kept operand.target ≡ true) × KeepTargets operands
+
+target_keeps : (aim : Aim) (target : Target) → KeepsAim aim → IsTarget aim target → is_kept target ≡ true
+target_keeps (line n) (Number m) keeps is = refl
+target_keeps (match is_kept text offset) (Search pattern kept moved) keeps is = is.1 ∙ keeps
+target_keeps aim target keeps is = absurd is
+
+read_keep : (spelled : List Spelled) (operands : List Operand) → KeepAims spelled → AreRead spelled operands → KeepTargets operands
+read_keep [] [] keep are = tt
+read_keep (spelled ∷ more) (operand ∷ operands) keep are = (target_keeps spelled.aim operand.target keep.0 are.0.target, read_keep more operands keep.1 are.1)
+read_keep spelled operands keep are = absurd are
+
+pub targets_keep : (words : List (List ℕ)) (operands : List Operand) → SkipNothing words → Asks words operands → KeepTargets operands
+targets_keep words operands none asks = read_keep (words_of words).operands operands (all_keep words none) asks.read
+
+-- What `csplit` leaves of its input.
 
 -- All sections are kept, where all operands keep theirs.
 
@@ -51,19 +161,19 @@ record Kept (lines : List Line) (steps : List Step) (ending : Ending) : Type 0 w
   pub sections : AllKept (map (section_of lines) steps)
   pub final : is_last_kept ending ≡ true
 
-runs_keep : {suppress : Bool} {lines : List Line} {state : State} {steps : List Step} {last : State} {ending : Ending} → Runs suppress lines state steps last ending → KeepTargets state.operands → Kept lines steps ending
-runs_keep (is_used_up state none) keep = record { sections = tt; final = refl }
-runs_keep (misses state operand operands is none) keep = record { sections = tt; final = (subst KeepTargets is keep).0 }
-runs_keep (is_above state operand operands matched cut is at far) keep = record { sections = tt; final = (subst KeepTargets is keep).0 }
-runs_keep (is_below state operand operands matched cut is at within low) keep = record { sections = tt; final = (subst KeepTargets is keep).0 }
-runs_keep (cuts state operand operands matched cut steps last ending is at from within rest) keep =
+runs_keep : (suppress : Bool) (lines : List Line) (state : State) (steps : List Step) (last : State) (ending : Ending) → Runs suppress lines state steps last ending → KeepTargets state.operands → Kept lines steps ending
+runs_keep suppress lines _ _ _ _ (is_used_up state none) keep = record { sections = tt; final = refl }
+runs_keep suppress lines _ _ _ _ (misses state operand operands is none) keep = record { sections = tt; final = (subst KeepTargets is keep).0 }
+runs_keep suppress lines _ _ _ _ (is_above state operand operands matched cut is at far) keep = record { sections = tt; final = (subst KeepTargets is keep).0 }
+runs_keep suppress lines _ _ _ _ (is_below state operand operands matched cut is at within low) keep = record { sections = tt; final = (subst KeepTargets is keep).0 }
+runs_keep suppress lines _ _ _ _ (cuts state operand operands matched cut steps last ending is at from within rest) keep =
     let these = subst KeepTargets is keep in
-    let past = runs_keep rest (kept_after (has_more operand.times state.repetition) operand operands these) in
+    let past = runs_keep suppress lines (state_after suppress operand operands state.repetition matched cut) steps last ending rest (kept_after (has_more operand.times state.repetition) operand operands these) in
     record { sections = (these.0, past.sections); final = past.final }
 
 sections_kept : (suppress : Bool) (operands : List Operand) (lines : List Line) → KeepTargets operands → AllKept (whole_sections lines (plan suppress operands lines))
 sections_kept suppress operands lines keep =
-    let kept = runs_keep (plan_runs suppress operands lines) keep in
+    let kept = runs_keep suppress lines (start operands) _ _ _ (plan_runs suppress operands lines) keep in
     kept_then (map (section_of lines) (plan suppress operands lines).steps) _ kept.sections kept.final
 
 -- The files of sections that are kept are joined their lines.
@@ -73,7 +183,7 @@ bytes_then one other = ap joined (map-append (λ (line : Line). line.text) one o
 
 all_bytes : (lines : List (List ℕ)) → map (λ (line : Line). line.text) (map marked lines) ≡ lines
 all_bytes [] = refl
-all_bytes (line ∷ lines) = ap (λ rest. line ∷ rest) (all_bytes lines)
+all_bytes (text ∷ lines) = ap (λ rest. text ∷ rest) (all_bytes lines)
 
 abbrev written_in : List File → List ℕ
 written_in files = joined (map (λ (file : Slot). file.written) (map slot_of files))
@@ -150,21 +260,21 @@ pub record IsCsplit (run : Run) (asked : CsplitAsked) (input : List ℕ) : Type 
   pub well : is_final (plan asked.style.suppress operands (all_lines input)).ending ≡ false
   pub files : files_of run ≡ map slot_of (files_by asked.style 0 (map contents_in (whole_sections (all_lines input) (plan asked.style.suppress operands (all_lines input)))))
 
-was_cut : {run : Run} {asked : CsplitAsked} {input : List ℕ} (one : DidOne run (Csplit asked) input) → CsplitEndsAs true true asked (one.input ∷ []) run.inputs run.outputs 0 → IsCsplit run asked input
-was_cut one does =
-    let made = one_done one.content does.ends in record {
+was_cut : (run : Run) (asked : CsplitAsked) (input : List ℕ) (one : DidOne run (Csplit asked) input) → CsplitEndsAs true true asked (one.input ∷ []) run.inputs run.outputs 0 → IsCsplit run asked input
+was_cut run asked input one does =
+    let made = one_done (csplit_task asked does.operands) one.input input run.inputs run.outputs one.content does.ends in record {
       operands = does.operands;
       asks = does.asks;
       well = ends_well _ made.unjudged;
       files = ap (drop 2) made.slots;
     }
 
-is_csplit : {run : Run} {asked : CsplitAsked} {input : List ℕ} → Does run (Csplit asked) → HasInput run input → IsCsplit run asked input
-is_csplit does has = let one = did_one does has in was_cut one one.does
+is_csplit : (run : Run) (asked : CsplitAsked) (input : List ℕ) → Does run (Csplit asked) → HasInput run input → IsCsplit run asked input
+is_csplit run asked input does has = let one = did_one run (Csplit asked) input does has in was_cut run asked input one one.does
 
 pub are_numbered : (run : Run) (asked : CsplitAsked) (input : List ℕ) → Does run (Csplit asked) → HasInput run input → AreNumbered asked.style.prefix asked.style.digits (files_of run)
 are_numbered run asked input does has =
-    let split = is_csplit does has in
+    let split = is_csplit run asked input does has in
     let lines = all_lines input in
     let sections = whole_sections lines (plan asked.style.suppress split.operands lines) in
     let files = map slot_of (files_by asked.style 0 (map contents_in sections)) in
@@ -179,9 +289,9 @@ are_numbered run asked input does has =
 
 pub none_is_lost : (run : Run) (asked : CsplitAsked) (input : List ℕ) → Does run (Csplit asked) → HasInput run input → asked.style.suppress ≡ false → SkipNothing asked.operands → joined (contents_of run) ≡ input
 none_is_lost run asked input does has whole none =
-    let split = is_csplit does has in
+    let split = is_csplit run asked input does has in
     let lines = all_lines input in
-    let keep = targets_keep none split.asks in
+    let keep = targets_keep asked.operands split.operands none split.asks in
     ap (λ files. joined (map (λ (file : Slot). file.written) files)) split.files
     ∙ files_joined asked.style 0 (whole_sections lines (plan asked.style.suppress split.operands lines)) (sections_kept asked.style.suppress split.operands lines keep)
     ∙ ap (λ suppress. bytes_of (lines_in (whole_sections lines (plan suppress split.operands lines)))) whole
@@ -204,33 +314,34 @@ past_cut : (suppress : Bool) (cut : ℕ) → 1 ≤ cut → 1 ≤ line_after supp
 past_cut true cut some = omega (arith, some)
 past_cut false cut some = some
 
-all_in_turn : {suppress : Bool} {lines : List Line} {first : State} {steps : List Step} {last : State} {ending : Ending} → Runs suppress lines first steps last ending → 1 ≤ first.current
+all_in_turn : (suppress : Bool) (lines : List Line) (first : State) (steps : List Step) (last : State) (ending : Ending) → Runs suppress lines first steps last ending → 1 ≤ first.current
     → in_turn suppress lines steps (drop (last.current - 1) lines) ≡ drop (first.current - 1) lines
-all_in_turn {suppress} {lines} (cuts state operand operands matched cut steps' last' ending' is at from within rest) some =
+all_in_turn suppress lines first steps last ending (cuts state operand operands matched cut steps' last' ending' is at from within rest) some =
     let low : 1 ≤ cut = omega (arith, some, from) in
     let step = step_of state operand matched cut in
-    ap (λ those. lines_between state.current cut lines ++ (left_out suppress lines step ++ those)) (all_in_turn rest (past_cut suppress cut low))
-    ∙ ap (λ those. lines_between state.current cut lines ++ those) (cut_rest suppress lines step low) ∙ between_rest state.current cut lines some from
-all_in_turn run some = refl
+    ap (λ those. lines_between state.current cut lines ++ (left_out suppress lines step ++ those)) (all_in_turn suppress lines (state_after suppress operand operands state.repetition matched cut) steps' last' ending' rest (past_cut suppress cut low))
+    ∙ ap (λ those. lines_between state.current cut lines ++ those) (cut_rest suppress lines step low)
+    ∙ between_rest state.current cut lines some from
+all_in_turn suppress lines first steps last ending run some = refl
 
 rest_is_all : (lines : List Line) (current : ℕ) → 1 ≤ current → lines_between current (suc (length lines)) lines ≡ drop (current - 1) lines
 rest_is_all lines current some = take_all (suc (length lines) - current) (drop (current - 1) lines) (let e : length (drop (current - 1) lines) ≡ length lines - (current - 1) = length-drop (current - 1) lines in omega (arith, e, some))
 
-none_missing : (suppress : Bool) (operands : List Operand) {lines : List Line} → is_final (plan suppress operands lines).ending ≡ false → in_turn suppress lines (plan suppress operands lines).steps (last_section lines (plan suppress operands lines)) ≡ lines
-none_missing suppress operands {lines} live =
+none_missing : (suppress : Bool) (operands : List Operand) (lines : List Line) → is_final (plan suppress operands lines).ending ≡ false → in_turn suppress lines (plan suppress operands lines).steps (last_section lines (plan suppress operands lines)) ≡ lines
+none_missing suppress operands lines live =
     let plan' = plan suppress operands lines in
     let runs = plan_runs suppress operands lines in
     let some = (are_within suppress lines (start operands) _ _ _ runs (omega arith)).1 in
     ap (in_turn suppress lines plan'.steps) (ap (λ end. lines_between plan'.last.current end lines) (ends_after_all (length lines) plan'.ending live) ∙ rest_is_all lines plan'.last.current some)
-    ∙ all_in_turn runs (omega arith)
+    ∙ all_in_turn suppress lines (start operands) _ _ _ runs (omega arith)
 
 pub are_sections : (run : Run) (asked : CsplitAsked) (input : List ℕ) → Does run (Csplit asked) → HasInput run input → (operands : List Operand) × Asks asked.operands operands × AreSections asked.style operands input (contents_of run)
 are_sections run asked input does has =
-    let split = is_csplit does has in (
+    let split = is_csplit run asked input does has in (
       split.operands,
       split.asks,
       record {
-        all = none_missing asked.style.suppress split.operands split.well;
+        all = none_missing asked.style.suppress split.operands (all_lines input) split.well;
         files = ap (map (λ (file : Slot). file.written)) split.files ∙ bytes_written _;
       },
     )

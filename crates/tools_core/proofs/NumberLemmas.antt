@@ -14,7 +14,8 @@ use Rattle.ports_core.proofs.OrderLemmas.{IsBelow, first_less, same_front}
 use Rattle.tools_core.specs.Promises.{AreInOrder, text_at}
 
 below_then : (low high rest others : List ℕ) → IsBelow low high → IsBelow (low ++ rest) (high ++ others)
-below_then low high rest others less = λ after beyond. ap (λ text. slice_cmp nat_cmp text ((high ++ others) ++ beyond)) (append_assoc low rest after)
+below_then low high rest others less = λ after beyond.
+    ap (λ text. slice_cmp nat_cmp text ((high ++ others) ++ beyond)) (append_assoc low rest after)
     ∙ ap (slice_cmp nat_cmp (low ++ (rest ++ after))) (append_assoc high others beyond) ∙ less (rest ++ after) (others ++ beyond)
 
 -- the last digits of a number, the highest first
@@ -41,13 +42,13 @@ digits_in_order (suc width) low high less small =
           (same_front (digits_in width (low / 10)) ((48 + low % 10) ∷ []) ((48 + high % 10) ∷ []) (first_less (48 + low % 10) (48 + high % 10) [] [] last))
     ]
 
-one_more : {byte : ℕ} (count : ℕ) → byte ∷ replicate count byte ≡ replicate count byte ++ byte ∷ []
-one_more zero = refl
-one_more {byte} (suc count) = ap (λ rest. byte ∷ rest) (one_more count)
+one_more : (byte count : ℕ) → byte ∷ replicate count byte ≡ replicate count byte ++ byte ∷ []
+one_more byte zero = refl
+one_more byte (suc count) = ap (λ rest. byte ∷ rest) (one_more byte count)
 
 zeros : (width : ℕ) → replicate width 48 ≡ digits_in width 0
 zeros zero = refl
-zeros (suc width) = one_more width ∙ ap (λ front. front ++ 48 ∷ []) (zeros width)
+zeros (suc width) = one_more 48 width ∙ ap (λ front. front ++ 48 ∷ []) (zeros width)
 
 abbrev filled : ℕ → ℕ → List ℕ
 filled width n = replicate (width - length (digits_of 10 n)) 48 ++ map (λ d. 48 + d) (digits_of 10 n)
@@ -57,8 +58,8 @@ filled_zero width =
     let all : width - 0 ≡ width = omega arith in
     ap (λ k. replicate k 48 ++ []) all ∙ append-nil (replicate width 48) ∙ zeros width
 
-filled_step : (digits all : List ℕ) (last : ℕ) {count : ℕ} (more : ℕ) → all ≡ digits ++ last ∷ [] → more ≡ count → replicate more 48 ++ map (λ d. 48 + d) all ≡ (replicate count 48 ++ map (λ d. 48 + d) digits) ++ (48 + last) ∷ []
-filled_step digits all last {count} more is same =
+filled_step : (digits all : List ℕ) (last count more : ℕ) → all ≡ digits ++ last ∷ [] → more ≡ count → replicate more 48 ++ map (λ d. 48 + d) all ≡ (replicate count 48 ++ map (λ d. 48 + d) digits) ++ (48 + last) ∷ []
+filled_step digits all last count more is same =
     ap (λ k. replicate k 48 ++ map (λ d. 48 + d) all) same ∙ ap (λ those. replicate count 48 ++ map (λ d. 48 + d) those) is
     ∙ ap (λ those. replicate count 48 ++ those) (map-append (λ d. 48 + d) digits (last ∷ []))
     ∙ sym (append_assoc (replicate count 48) (map (λ d. 48 + d) digits) ((48 + last) ∷ []))
@@ -73,7 +74,7 @@ filled_digits (suc width) n small = elim (cases_lt 0 n) [
       let step : digits_of 10 n ≡ digits_of 10 (n / 10) ++ (n % 10 ∷ []) = digits_of_step 10 n (omega arith) some in
       let longer : length (digits_of 10 n) ≡ length (digits_of 10 (n / 10)) + 1 = length-digits_of_step 10 n (omega arith) some in
       let size : suc width - length (digits_of 10 n) ≡ width - length (digits_of 10 (n / 10)) = omega (arith, longer) in
-      filled_step (digits_of 10 (n / 10)) (digits_of 10 n) (n % 10) (suc width - length (digits_of 10 n)) step size
+      filled_step (digits_of 10 (n / 10)) (digits_of 10 n) (n % 10) (width - length (digits_of 10 (n / 10))) (suc width - length (digits_of 10 n)) step size
       ∙ ap (λ front. front ++ (48 + n % 10) ∷ []) (filled_digits width (n / 10) (tenth width n small))
   | inr few ↦
       let none : 0 ≡ n = omega (arith, few) in
@@ -86,11 +87,12 @@ zero_text = decimal_digit 0 (omega arith)
 zero_digits : (width : ℕ) → zero_filled (suc width) (48 ∷ []) ≡ digits_in (suc width) 0
 zero_digits width =
     let fewer : suc width - 1 ≡ width = omega arith in
-    ap (λ k. replicate k 48 ++ 48 ∷ []) fewer ∙ sym (one_more width) ∙ zeros (suc width)
+    ap (λ k. replicate k 48 ++ 48 ∷ []) fewer ∙ sym (one_more 48 width) ∙ zeros (suc width)
 
 number_digits : (width n : ℕ) → n < 10 ^ suc width → n < 2 ^ 64 → zero_filled (suc width) (decimal n) ≡ digits_in (suc width) n
 number_digits width n small least = elim (cases_lt 0 n) [
-  | inl some ↦ ap (zero_filled (suc width)) (decimal-digits_of n some least)
+  | inl some ↦
+      ap (zero_filled (suc width)) (decimal-digits_of n some least)
       ∙ ap (λ k. replicate (suc width - k) 48 ++ map (λ d. 48 + d) (digits_of 10 n)) (length-map (digits_of 10 n) (λ d. 48 + d))
       ∙ filled_digits (suc width) n small
   | inr few ↦

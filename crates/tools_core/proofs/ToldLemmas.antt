@@ -27,10 +27,10 @@ use Rattle.words_core.specs.declared.settings.Settings.{Settings}
 use Rattle.words_core.specs.declared.settings.Settings.TheVariants.{Head, Tail, Split, Csplit, Tee}
 use Rattle.tools_core.specs.Outcome.{DoesAsked, RefusesOperands}
 use Rattle.tools_core.specs.Outcome as outcome
-use Rattle.tools_core.specs.Tasks.{tool_of}
+use Rattle.tools_core.specs.Tasks.{csplit_task, head_task, split_task, tail_task, tool_of}
 use Rattle.tools_core.specs.Promises.{IsCalled, IsTold, Ran, Run, SaysLines, failing}
 use Rattle.tools_core.proofs.PromiseLemmas.{ran_over}
-use Rattle.tools_core.proofs.SpeakerLemmas.{runs_as_named}
+use Rattle.tools_core.proofs.RunLemmas.{runs_as_named}
 
 -- One of the lines
 
@@ -47,8 +47,8 @@ has_before line front back (before, after, is) = (before, after ++ back, ap (λ 
 abbrev pub SaysLine : Tool → List ℕ → Slot → Type 0
 SaysLine tool line error = (before : List (List ℕ)) × (after : List (List ℕ)) × SaysLines tool (before ++ line ∷ after) error
 
-pub says_line : {tool : Tool} (line : List ℕ) {lines : List (List ℕ)} {error : Slot} → HasLine line lines → SaysLines tool lines error → SaysLine tool line error
-says_line {tool} line {error} (before, after, is) says = (before, after, subst (λ those. SaysLines tool those error) is says)
+pub says_line : (tool : Tool) (line : List ℕ) (lines : List (List ℕ)) (error : Slot) → HasLine line lines → SaysLines tool lines error → SaysLine tool line error
+says_line tool line lines error (before, after, is) says = (before, after, subst (λ those. SaysLines tool those error) is says)
 
 -- Each line of a run tells a fault.
 
@@ -67,8 +67,8 @@ a_message tool fault name = All-cons (IsMessage tool) (message_of tool fault nam
 pub more_messages : (tool : Tool) (front back : List (List ℕ)) → AreMessages tool front → AreMessages tool back → AreMessages tool (front ++ back)
 more_messages tool front back one other = All-append (IsMessage tool) front back one other
 
-pub says_one : {tool : Tool} (fault : Fault) (name : List ℕ) {error : Slot} → SaysAll true tool (message_of tool fault name ∷ []) standard_error error → SaysLines tool (message_of tool fault name ∷ []) error
-says_one {tool} fault name says = record { are = a_message tool fault name; said = says }
+pub says_one : (tool : Tool) (fault : Fault) (name : List ℕ) (error : Slot) → SaysAll true tool (message_of tool fault name ∷ []) standard_error error → SaysLines tool (message_of tool fault name ∷ []) error
+says_one tool fault name error says = record { are = a_message tool fault name; said = says }
 
 verdict_are : (task : Task) (verdict : Option Fault) → AreMessages task.tool (verdict_messages task verdict)
 verdict_are task None = no_message task.tool
@@ -87,9 +87,9 @@ inputs_are task is_first [] = no_message task.tool
 inputs_are task is_first (input ∷ inputs) = more_messages task.tool _ _ (content_are task is_first input.name input.content) (inputs_are task (is_first && is_missing input.content) inputs)
 
 -- of a run that a fault stopped
-pub stop_says : (task : Task) (before : List Input) (fault : Fault) (name : List ℕ) {error : Slot} → SaysAll true task.tool ((made_by task before).messages ++ message_of task.tool fault name ∷ []) standard_error error
+pub stop_says : (task : Task) (before : List Input) (fault : Fault) (name : List ℕ) (error : Slot) → SaysAll true task.tool ((made_by task before).messages ++ message_of task.tool fault name ∷ []) standard_error error
     → SaysLines task.tool ((made_by task before).messages ++ message_of task.tool fault name ∷ []) error
-stop_says task before fault name says = record { are = more_messages task.tool (made_by task before).messages _ (inputs_are task true before) (a_message task.tool fault name); said = says }
+stop_says task before fault name error says = record { are = more_messages task.tool (made_by task before).messages _ (inputs_are task true before) (a_message task.tool fault name); said = says }
 
 call_are : (is : Bool) (call : ℕ) (name : List ℕ) (lines : List (List ℕ)) → AreMessages tool.Tee lines → AreMessages tool.Tee (cond is (message_of tool.Tee (fault_in call) name ∷ lines) lines)
 call_are true call name lines are = more_messages tool.Tee (message_of tool.Tee (fault_in call) name ∷ []) lines (a_message tool.Tee (fault_in call) name) are
@@ -107,8 +107,8 @@ pub input_are : (fault : Option Fault) → AreMessages tool.Tee (said_of_input f
 input_are None = no_message tool.Tee
 input_are (Some fault) = a_message tool.Tee fault (codes "standard input")
 
-pub tee_lines : (names : List (List ℕ)) (broke : List (Option ℕ)) (pieces : ℕ) (fault : Option Fault) {error : Slot} → SaysAll true tool.Tee (messages_of names broke pieces fault) standard_error error → SaysLines tool.Tee (messages_of names broke pieces fault) error
-tee_lines names broke pieces fault says = record {
+pub tee_lines : (names : List (List ℕ)) (broke : List (Option ℕ)) (pieces : ℕ) (fault : Option Fault) (error : Slot) → SaysAll true tool.Tee (messages_of names broke pieces fault) standard_error error → SaysLines tool.Tee (messages_of names broke pieces fault) error
+tee_lines names broke pieces fault error says = record {
   are = more_messages tool.Tee (said_before (suc pieces) (output_names names) broke ++ said_of_input fault) _
       (more_messages tool.Tee (said_before (suc pieces) (output_names names) broke) _ (before_are (suc pieces) (output_names names) broke) (input_are fault)) (in_call_are (suc pieces) (output_names names) broke);
   said = says;
@@ -131,8 +131,8 @@ fault_after tool front back (fault, name, has) = (fault, name, has_after (messag
 fault_before : (tool : Tool) (front back : List (List ℕ)) → HasFault tool front → HasFault tool (front ++ back)
 fault_before tool front back (fault, name, has) = (fault, name, has_before (message_of tool fault name) front back has)
 
-tells_fault : {tool : Tool} {lines : List (List ℕ)} {error : Slot} → HasFault tool lines → SaysLines tool lines error → TellsFault tool error
-tells_fault {tool} (fault, name, has) says = (fault, name, says_line (message_of tool fault name) has says)
+tells_fault : (tool : Tool) (lines : List (List ℕ)) (error : Slot) → HasFault tool lines → SaysLines tool lines error → TellsFault tool error
+tells_fault tool lines error (fault, name, has) says = (fault, name, says_line tool (message_of tool fault name) lines error has says)
 
 -- A fault of an input, or of the work, has its line.
 
@@ -158,21 +158,21 @@ inputs_fault task is_first (input ∷ inputs) failed =
 
 -- Standard error stays the slot after the first.
 
-broken_other : (slot place : ℕ) (output : Slot) {error : Slot} (since : List Slot) → (slot ≡ 0) ⊎ (slot ≡ 2 + place) → slot_at (changed_at slot breaks (output ∷ error ∷ since)) 1 ≡ error
-broken_other (suc zero) place output since (inl from) = absurd (omega (arith, from))
-broken_other (suc zero) place output since (inr from) = absurd (omega (arith, from))
-broken_other slot place output since from = refl
+broken_other : (slot place : ℕ) (output error : Slot) (since : List Slot) → (slot ≡ 0) ⊎ (slot ≡ 2 + place) → slot_at (changed_at slot breaks (output ∷ error ∷ since)) 1 ≡ error
+broken_other (suc zero) place output error since (inl from) = absurd (omega (arith, from))
+broken_other (suc zero) place output error since (inr from) = absurd (omega (arith, from))
+broken_other slot place output error since from = refl
 
-marked_error : (IsDue : List ℕ → Type 0) (fault : Fault) (place count : ℕ) (output : Slot) {error : Slot} (since after : List Slot) → IsAt fault 2 place count → Marks IsDue fault (output ∷ error ∷ since) after → slot_at after 1 ≡ error
-marked_error IsDue (Write slot) place count output since after from marks = ap (λ slots. slot_at slots 1) marks.1 ∙ broken_other slot place output since from
-marked_error IsDue (Open slot) place count output since after from (number, (name, kept, due, is, slots)) = ap (λ those. slot_at those 1) slots
-marked_error IsDue fault place count output since after from marks = ap (λ slots. slot_at slots 1) marks
+marked_error : (IsDue : List ℕ → Type 0) (fault : Fault) (place count : ℕ) (output error : Slot) (since after : List Slot) → IsAt fault 2 place count → Marks IsDue fault (output ∷ error ∷ since) after → slot_at after 1 ≡ error
+marked_error IsDue (Write slot) place count output error since after from marks = ap (λ slots. slot_at slots 1) marks.1 ∙ broken_other slot place output error since from
+marked_error IsDue (Open slot) place count output error since after from (number, (name, kept, due, is, slots)) = ap (λ those. slot_at those 1) slots
+marked_error IsDue fault place count output error since after from marks = ap (λ slots. slot_at slots 1) marks
 
 -- that of a run which was stopped
-pub stopped_error : (clears : Bool) {error : Slot} {low high : Part} {fault : Fault} {reached : List Slot} (new : List Slot) → StoppedBetween true (streams_with error) low high fault reached → Swept clears 2 reached new → slot_at new 1 ≡ error
-stopped_error clears {high} {fault} {reached} new between swept =
+pub stopped_error : (clears : Bool) (error : Slot) (low high : Part) (fault : Fault) (reached new : List Slot) → StoppedBetween true (streams_with error) low high fault reached → Swept clears 2 reached new → slot_at new 1 ≡ error
+stopped_error clears error low high fault reached new between swept =
     swept_error clears 2 reached new (omega arith) swept
-    ∙ marked_error (IsNext between.part high) fault between.place (length between.part.files) _ between.outputs.since reached between.from
+    ∙ marked_error (IsNext between.part high) fault between.place (length between.part.files) _ error between.outputs.since reached between.from
     (subst (λ slots. Marks (IsNext between.part high) fault slots reached) between.outputs.slots between.marks)
 
 -- A run over inputs
@@ -181,15 +181,15 @@ has_failed : (failed : Bool) (status : ℕ) → status ≡ cond failed 1 0 → s
 has_failed true status is one = refl
 has_failed false status is one = absurd (omega (arith, is, one))
 
-ends_told : {task : Task} {inputs : List Input} {sources : List Source} {new : List Slot} {status : ℕ} → status ≡ 1 → EndsAs true true task inputs sources new status → TellsFault task.tool (slot_at new 1)
-ends_told {task} {inputs} {new} {status} one (as_defined error reached says outputs swept done is) =
+ends_told : (task : Task) (inputs : List Input) (sources : List Source) (new : List Slot) (status : ℕ) → status ≡ 1 → EndsAs true true task inputs sources new status → TellsFault task.tool (slot_at new 1)
+ends_told task inputs sources new status one (as_defined error reached says outputs swept done is) =
     subst (TellsFault task.tool) (sym (swept_error _ 2 reached new (omega arith) swept ∙ ap (λ slots. slot_at slots 1) outputs.slots))
-    (tells_fault (inputs_fault task true inputs (has_failed _ status is one)) (record { are = inputs_are task true inputs; said = says }))
-ends_told {task} {new} one (stopped fault before input after error step reached are done untouched at stops between swept says is) =
-    subst (TellsFault task.tool) (sym (stopped_error task.work.clears new between swept))
-    (tells_fault (fault_after task.tool (made_by task before).messages _ (only_fault task.tool fault (output_named new fault))) (stop_says task before fault (output_named new fault) says))
-ends_told {task} one (no_room error says slots untouched count is) =
-    subst (λ those. TellsFault task.tool (slot_at those 1)) (sym slots) (tells_fault (only_fault task.tool Memory []) (says_one Memory [] says))
+    (tells_fault task.tool _ error (inputs_fault task true inputs (has_failed _ status is one)) (record { are = inputs_are task true inputs; said = says }))
+ends_told task inputs sources new status one (stopped fault before input after error step reached are done untouched at stops between swept says is) =
+    subst (TellsFault task.tool) (sym (stopped_error task.work.clears error step.low step.high fault reached new between swept))
+    (tells_fault task.tool _ error (fault_after task.tool (made_by task before).messages _ (only_fault task.tool fault (output_named new fault))) (stop_says task before fault (output_named new fault) error says))
+ends_told task inputs sources new status one (no_room error says slots untouched count is) =
+    subst (λ those. TellsFault task.tool (slot_at those 1)) (sym slots) (tells_fault task.tool _ error (only_fault task.tool Memory []) (says_one task.tool Memory [] error says))
 
 -- `tee`: an output that broke has its line, after the call in which it did.
 
@@ -200,9 +200,9 @@ pub record HasSaid (names : List (List ℕ)) (broke : List (Option ℕ)) (last :
   pub within : call ≤ last
   pub line : HasLine (message_of tool.Tee (failing place output.state) name) (said_in call names broke)
 
-said_here : {name : List ℕ} {names : List (List ℕ)} (broke : List (Option ℕ)) {last call place : ℕ} {output : Slot} → call ≤ last → IsCalled output name → message_of tool.Tee (fault_in call) name ≡ message_of tool.Tee (failing place output.state) name
+said_here : (name : List ℕ) (names : List (List ℕ)) (broke : List (Option ℕ)) (last call place : ℕ) (output : Slot) → call ≤ last → IsCalled output name → message_of tool.Tee (fault_in call) name ≡ message_of tool.Tee (failing place output.state) name
     → HasSaid (name ∷ names) (Some call ∷ broke) last output place
-said_here {name} {names} broke {call} {place} {output} within called same = record {
+said_here name names broke last call place output within called same = record {
   name = name;
   called = called;
   call = call;
@@ -215,8 +215,8 @@ said_by : (is : Bool) (line other : List ℕ) (lines : List (List ℕ)) → HasL
 said_by true line other lines has = has_after line (other ∷ []) lines has
 said_by false line other lines has = has
 
-said_past : {name : List ℕ} {names : List (List ℕ)} {first : Option ℕ} (broke : List (Option ℕ)) {last place : ℕ} {output : Slot} → HasSaid names broke last output place → HasSaid (name ∷ names) (first ∷ broke) last output place
-said_past {name} {names} {first} broke has = record {
+said_past : (name : List ℕ) (names : List (List ℕ)) (first : Option ℕ) (broke : List (Option ℕ)) (last place : ℕ) (output : Slot) → HasSaid names broke last output place → HasSaid (name ∷ names) (first ∷ broke) last output place
+said_past name names first broke last place output has = record {
   name = has.name;
   called = has.called;
   call = has.call;
@@ -224,29 +224,29 @@ said_past {name} {names} {first} broke has = record {
   line = said_by (tee.broke_in has.call first) _ (message_of tool.Tee (fault_in has.call) name) (said_in has.call names broke) has.line;
 }
 
-in_piece : {pieces : List (List ℕ)} (before : List (List ℕ)) (piece : List ℕ) (after : List (List ℕ)) → pieces ≡ before ++ piece ∷ after → suc (length before) ≤ suc (length pieces)
-in_piece before piece after is = let size = ap length is in let sum = length-append before (piece ∷ after) in omega (arith, size, sum)
+in_piece : (pieces before : List (List ℕ)) (piece : List ℕ) (after : List (List ℕ)) → pieces ≡ before ++ piece ∷ after → suc (length before) ≤ suc (length pieces)
+in_piece pieces before piece after is = let size = ap length is in let sum = length-append before (piece ∷ after) in omega (arith, size, sum)
 
 -- the place of a file among the outputs that are there, and among those of the run
-files_said : {mode : Mode} {pieces names : List (List ℕ)} {broke : List (Option ℕ)} {files : List Slot} (at : ℕ) {place : ℕ} → FilesLeft true mode pieces names broke files → (slot_at files at).is_broken ≡ true
+files_said : (mode : Mode) (pieces names : List (List ℕ)) (broke : List (Option ℕ)) (files : List Slot) (at place : ℕ) → FilesLeft true mode pieces names broke files → (slot_at files at).is_broken ≡ true
     → HasSaid names broke (suc (length pieces)) (slot_at files at) place
-files_said at tee.no_file broken = absurd (cc)
-files_said (suc at) (tee.one_file name names first broke file files left rest) broken = said_past broke (files_said at rest broken)
-files_said zero (tee.one_file name names _ broke _ files tee.file_whole rest) broken = absurd (cc)
-files_said zero (tee.one_file name names _ broke _ files (tee.file_unopened kept is) rest) broken = said_here broke (omega arith) (called is) refl where
+files_said mode pieces _ _ _ at place tee.no_file broken = absurd (cc)
+files_said mode pieces _ _ _ (suc at) place (tee.one_file name names first broke file files left rest) broken = said_past name names first broke _ place (slot_at files at) (files_said mode pieces names broke files at place rest broken)
+files_said mode pieces _ _ _ zero place (tee.one_file name names _ broke _ files tee.file_whole rest) broken = absurd (cc)
+files_said mode pieces _ _ _ zero place (tee.one_file name names _ broke _ files (tee.file_unopened kept is) rest) broken = said_here name names broke _ 0 place _ (omega arith) (called is) refl where
   called : (kept ≡ name) ⊎ (kept ≡ []) → (kept ≡ name) ⊎ ((kept ≡ []) × (state.Unopened ≡ state.Unopened))
   called (inl same) = inl same
   called (inr lost) = inr (lost, refl)
-files_said zero (tee.one_file name names _ broke _ files (tee.file_cut before piece after n is few) rest) broken =
-    said_here broke (in_piece before piece after is) (inl refl) refl
-files_said zero (tee.one_file name names _ broke _ files tee.file_unclosed rest) broken = said_here broke (omega arith) (inl refl) refl
+files_said mode pieces _ _ _ zero place (tee.one_file name names _ broke _ files (tee.file_cut before piece after n is few) rest) broken =
+    said_here name names broke _ (suc (length before)) place _ (in_piece pieces before piece after is) (inl refl) refl
+files_said mode pieces _ _ _ zero place (tee.one_file name names _ broke _ files tee.file_unclosed rest) broken = said_here name names broke _ (suc (length pieces)) place _ (omega arith) (inl refl) refl
 
-outputs_said : {mode : Mode} {pieces names : List (List ℕ)} {first : Option ℕ} (broke : List (Option ℕ)) {output : Slot} (error : Slot) {files : List Slot} (place : ℕ) → OutputLeft true pieces first output → FilesLeft true mode pieces names broke files
+outputs_said : (mode : Mode) (pieces names : List (List ℕ)) (first : Option ℕ) (broke : List (Option ℕ)) (output error : Slot) (files : List Slot) (place : ℕ) → OutputLeft true pieces first output → FilesLeft true mode pieces names broke files
     → (place ≡ 1 → ⊥) → (slot_at (output ∷ error ∷ files) place).is_broken ≡ true → HasSaid (output_names names) (first ∷ broke) (suc (length pieces)) (slot_at (output ∷ error ∷ files) place) place
-outputs_said broke error (suc zero) left rest differs broken = absurd (differs refl)
-outputs_said broke error (suc (suc at)) left rest differs broken = said_past broke (files_said at rest broken)
-outputs_said broke error zero tee.output_whole rest differs broken = absurd (cc)
-outputs_said broke error zero (tee.output_cut before piece after n is few) rest differs broken = said_here broke (in_piece before piece after is) (inl refl) refl
+outputs_said mode pieces names first broke output error files (suc zero) left rest differs broken = absurd (differs refl)
+outputs_said mode pieces names first broke output error files (suc (suc at)) left rest differs broken = said_past _ names first broke _ (suc (suc at)) _ (files_said mode pieces names broke files at (suc (suc at)) rest broken)
+outputs_said mode pieces names _ broke _ error files zero tee.output_whole rest differs broken = absurd (cc)
+outputs_said mode pieces names _ broke _ error files zero (tee.output_cut before piece after n is few) rest differs broken = said_here _ names broke _ (suc (length before)) 0 _ (in_piece pieces before piece after is) (inl refl) refl
 
 before_line : (line : List ℕ) (last call : ℕ) (names : List (List ℕ)) (broke : List (Option ℕ)) → call < last → HasLine line (said_in call names broke) → HasLine line (said_before last names broke)
 before_line line zero call names broke less has = absurd (omega (arith, less))
@@ -268,59 +268,59 @@ call_line line names broke pieces call fault within has = elim (cases_lt call (s
 abbrev SomeBroke : List Slot → Type 0
 SomeBroke files = (at : ℕ) × ((slot_at files at).is_broken ≡ true)
 
-next_broke : {file : Slot} (files : List Slot) → SomeBroke files → SomeBroke (file ∷ files)
-next_broke files (at, broken) = (suc at, broken)
+next_broke : (file : Slot) (files : List Slot) → SomeBroke files → SomeBroke (file ∷ files)
+next_broke file files (at, broken) = (suc at, broken)
 
-files_broke : {mode : Mode} {pieces names : List (List ℕ)} {broke : List (Option ℕ)} {files : List Slot} → FilesLeft true mode pieces names broke files → are_sound broke ≡ false → SomeBroke files
-files_broke tee.no_file sound = absurd (cc)
-files_broke (tee.one_file name names _ broke _ files tee.file_whole rest) sound = next_broke files (files_broke rest sound)
-files_broke (tee.one_file name names _ broke _ files left rest) sound = (0, refl)
+files_broke : (mode : Mode) (pieces names : List (List ℕ)) (broke : List (Option ℕ)) (files : List Slot) → FilesLeft true mode pieces names broke files → are_sound broke ≡ false → SomeBroke files
+files_broke mode pieces _ _ _ tee.no_file sound = absurd (cc)
+files_broke mode pieces _ _ _ (tee.one_file name names _ broke _ files tee.file_whole rest) sound = next_broke _ files (files_broke mode pieces names broke files rest sound)
+files_broke mode pieces _ _ _ (tee.one_file name names _ broke _ files left rest) sound = (0, refl)
 
-pub unsound_broke : {mode : Mode} {pieces names : List (List ℕ)} {first : Option ℕ} (broke : List (Option ℕ)) {output : Slot} (error : Slot) {files : List Slot} → OutputLeft true pieces first output → FilesLeft true mode pieces names broke files → are_sound (first ∷ broke) ≡ false
+pub unsound_broke : (mode : Mode) (pieces names : List (List ℕ)) (first : Option ℕ) (broke : List (Option ℕ)) (output error : Slot) (files : List Slot) → OutputLeft true pieces first output → FilesLeft true mode pieces names broke files → are_sound (first ∷ broke) ≡ false
     → (place : ℕ) × (place ≡ 1 → ⊥) × ((slot_at (output ∷ error ∷ files) place).is_broken ≡ true)
-unsound_broke broke error tee.output_whole rest sound = let (at, broken) = files_broke rest sound in (suc (suc at), λ is. omega (arith, is), broken)
-unsound_broke broke error (tee.output_cut before piece after n is few) rest sound = (0, λ is. omega (arith, is), refl)
+unsound_broke mode pieces names _ broke _ error files tee.output_whole rest sound = let (at, broken) = files_broke mode pieces names broke files rest sound in (suc (suc at), λ is. omega (arith, is), broken)
+unsound_broke mode pieces names _ broke _ error files (tee.output_cut before piece after n is few) rest sound = (0, λ is. omega (arith, is), refl)
 
-status_fault : {mode : Mode} {pieces names : List (List ℕ)} {first : Option ℕ} (broke : List (Option ℕ)) {output : Slot} (error : Slot) {files : List Slot} (fault : Option Fault) (sound : Bool) → OutputLeft true pieces first output → FilesLeft true mode pieces names broke files
+status_fault : (mode : Mode) (pieces names : List (List ℕ)) (first : Option ℕ) (broke : List (Option ℕ)) (output error : Slot) (files : List Slot) (fault : Option Fault) (sound : Bool) → OutputLeft true pieces first output → FilesLeft true mode pieces names broke files
     → are_sound (first ∷ broke) ≡ sound → ◌≡◌ {A = ℕ} (cond (sound && is_none fault) 0 1) 1 → HasFault tool.Tee (messages_of names (first ∷ broke) (length pieces) fault)
-status_fault {pieces} {names} {first} broke {output} error {files} fault false left rest is one =
-    let (place, differs, broken) = unsound_broke broke error left rest is in
-    let said = outputs_said broke error place left rest differs broken in
+status_fault mode pieces names first broke output error files fault false left rest is one =
+    let (place, differs, broken) = unsound_broke mode pieces names first broke output error files left rest is in
+    let said = outputs_said mode pieces names first broke output error files place left rest differs broken in
     (failing place (slot_at (output ∷ error ∷ files) place).state, said.name, call_line _ names (first ∷ broke) (length pieces) said.call fault said.within said.line)
-status_fault broke error None true left rest is one = absurd (omega (arith, one))
-status_fault {pieces} {names} {first} broke error (Some fault) true left rest is one =
+status_fault mode pieces names first broke output error files None true left rest is one = absurd (omega (arith, one))
+status_fault mode pieces names first broke output error files (Some fault) true left rest is one =
     fault_before tool.Tee _ _ (fault_after tool.Tee (said_before (suc (length pieces)) (output_names names) (first ∷ broke)) (said_of_input (Some fault)) (only_fault tool.Tee fault _))
 
-tee_told : {mode : Mode} {names : List (List ℕ)} {content : Content} {source : Source} {new : List Slot} {status : ℕ} → status ≡ 1 → tee.EndsAs true true mode names content source new status → TellsFault tool.Tee (slot_at new 1)
-tee_told one (tee.no_room error says unread slots is) =
-    subst (λ those. TellsFault tool.Tee (slot_at those 1)) (sym slots) (tells_fault (only_fault tool.Tee Memory []) (says_one Memory [] says))
-tee_told {names} one (tee.copied pieces fault first broke output error files comes going out_left files_left says slots is) =
+tee_told : (mode : Mode) (names : List (List ℕ)) (content : Content) (source : Source) (new : List Slot) (status : ℕ) → status ≡ 1 → tee.EndsAs true true mode names content source new status → TellsFault tool.Tee (slot_at new 1)
+tee_told mode names content source new status one (tee.no_room error says unread slots is) =
+    subst (λ those. TellsFault tool.Tee (slot_at those 1)) (sym slots) (tells_fault tool.Tee _ error (only_fault tool.Tee Memory []) (says_one tool.Tee Memory [] error says))
+tee_told mode names content source new status one (tee.copied pieces fault first broke output error files comes going out_left files_left says slots is) =
     subst (λ those. TellsFault tool.Tee (slot_at those 1)) (sym slots)
-    (tells_fault (status_fault broke error fault _ out_left files_left refl (sym is ∙ one)) (tee_lines names (first ∷ broke) (length pieces) fault says))
+    (tells_fault tool.Tee _ error (status_fault mode pieces names first broke output error files fault _ out_left files_left refl (sym is ∙ one)) (tee_lines names (first ∷ broke) (length pieces) fault error says))
 
 -- the line of an output of `tee` that is broken
-pub tee_says : {mode : Mode} {pieces names : List (List ℕ)} {first : Option ℕ} (broke : List (Option ℕ)) {output : Slot} (error : Slot) {files : List Slot} (fault : Option Fault) {place : ℕ} → OutputLeft true pieces first output → FilesLeft true mode pieces names broke files
+pub tee_says : (mode : Mode) (pieces names : List (List ℕ)) (first : Option ℕ) (broke : List (Option ℕ)) (output error : Slot) (files : List Slot) (fault : Option Fault) (place : ℕ) → OutputLeft true pieces first output → FilesLeft true mode pieces names broke files
     → SaysAll true tool.Tee (messages_of names (first ∷ broke) (length pieces) fault) standard_error error → (place ≡ 1 → ⊥) → (slot_at (output ∷ error ∷ files) place).is_broken ≡ true
     → (name : List ℕ) × IsCalled (slot_at (output ∷ error ∷ files) place) name × SaysLine tool.Tee (message_of tool.Tee (failing place (slot_at (output ∷ error ∷ files) place).state) name) error
-tee_says {pieces} {names} {first} broke error fault {place} left rest says differs broken =
-    let said = outputs_said broke error place left rest differs broken in
-    (said.name, said.called, says_line _ (call_line _ names (first ∷ broke) (length pieces) said.call fault said.within said.line) (tee_lines names (first ∷ broke) (length pieces) fault says))
+tee_says mode pieces names first broke output error files fault place left rest says differs broken =
+    let said = outputs_said mode pieces names first broke output error files place left rest differs broken in
+    (said.name, said.called, says_line tool.Tee _ _ error (call_line _ names (first ∷ broke) (length pieces) said.call fault said.within said.line) (tee_lines names (first ∷ broke) (length pieces) fault error says))
 
 -- All tools
 
-does_told : (asked : Settings) (inputs : List Input) (sources : List Source) (new : List Slot) {status : ℕ} → status ≡ 1 → DoesAsked true true asked inputs sources new status → TellsFault (tool_of asked) (slot_at new 1)
-does_told (Head asked) inputs sources new one does = ends_told one does
-does_told (Tail asked) inputs sources new one does = ends_told one does
-does_told (Split asked) inputs sources new one does = ends_told one does
-does_told (Csplit asked) inputs sources new one does = ends_told one does.ends
-does_told (Tee asked) inputs sources new one does = tee_told one does.ends
+does_told : (asked : Settings) (inputs : List Input) (sources : List Source) (new : List Slot) (status : ℕ) → status ≡ 1 → DoesAsked true true asked inputs sources new status → TellsFault (tool_of asked) (slot_at new 1)
+does_told (Head asked) inputs sources new status one does = ends_told (head_task asked) inputs sources new status one does
+does_told (Tail asked) inputs sources new status one does = ends_told (tail_task asked.ends) inputs sources new status one does
+does_told (Split asked) inputs sources new status one does = ends_told (split_task asked) inputs sources new status one does
+does_told (Csplit asked) inputs sources new status one does = ends_told (csplit_task asked does.operands) inputs sources new status one does.ends
+does_told (Tee asked) inputs sources new status one does = tee_told asked.mode asked.names does.content _ new status one does.ends
 
-by_either : {run : Run} {asked : Settings} (found : List Input) → Ran run asked → run.status ≡ 1 → DoesAsked true true asked found run.inputs run.outputs run.status ⊎ RefusesOperands true run.words asked run.outputs run.status → IsTold run asked
-by_either {run} {asked} found ran one (inl does) = does_told asked found run.inputs run.outputs one does
-by_either {run} {asked} found ran one (inr (fault, bad, refuses)) =
+by_either : (run : Run) (asked : Settings) (found : List Input) → Ran run asked → run.status ≡ 1 → DoesAsked true true asked found run.inputs run.outputs run.status ⊎ RefusesOperands true run.words asked run.outputs run.status → IsTold run asked
+by_either run asked found ran one (inl does) = does_told asked found run.inputs run.outputs run.status one does
+by_either run asked found ran one (inr (fault, bad, refuses)) =
     subst (λ those. TellsFault (tool_of asked) (slot_at those 1)) (sym refuses.slots)
-    (subst (λ which. TellsFault which refuses.error) (runs_as_named run.words ran.read)
-    (tells_fault (only_fault (outcome.speaker run.words) fault (outcome.word_of run.words fault)) (says_one fault (outcome.word_of run.words fault) (refuses.error, refuses.says, refl))))
+    (subst (λ which. TellsFault which refuses.error) (runs_as_named run.words asked ran.read)
+    (tells_fault (outcome.speaker run.words) _ refuses.error (only_fault (outcome.speaker run.words) fault (outcome.word_of run.words fault)) (says_one (outcome.speaker run.words) fault (outcome.word_of run.words fault) refuses.error (refuses.error, refuses.says, refl))))
 
 pub is_told : (run : Run) (asked : Settings) → Ran run asked → run.status ≡ 1 → IsTold run asked
-is_told run asked ran one = by_either _ ran one (ran_over ran)
+is_told run asked ran one = by_either run asked _ ran one (ran_over run asked ran)

@@ -1,5 +1,5 @@
 -- What one call on a name owes, and what is due of it.
-use Rattle.std.specs.Prelude.{◌≡◌, ◌⊎◌, ℕ, nat_lt, Bool, true, List, [], ◌∷◌, length, drop, map, Option, Some, None, Result, Ok, Err, if◌then◌else◌, IfOk, is_some}
+use Rattle.std.specs.Prelude.{◌≡◌, ◌⊎◌, ℕ, nat_lt, Bool, true, false, List, [], ◌∷◌, length, drop, map, Option, Some, None, Result, Ok, Err, if◌then◌else◌, IfOk, is_some}
 use Rattle.ports_core.specs.Slot.{Slot, changed_at, slot_at}
 use Rattle.ports_core.specs.declared.fault.Fault.{Fault}
 use Rattle.watch_core.specs.Snapshot.{Snapshot}
@@ -11,9 +11,8 @@ use Rattle.follow_core.specs.declared.notice.Notice.TheVariants.{Truncated, Repl
 use Rattle.follow_core.specs.Gain.{gains_later}
 use Rattle.follow_core.specs.Notice.{notice_of, notices_later}
 use Rattle.follow_core.specs.Sharing.{CanPrint, HasError}
-use Rattle.follow_core.specs.Version.{Entry, gap, version_in, is_file, entries_at_look, entries_led, entries_open}
+use Rattle.follow_core.specs.Version.{Entry, gap, version_in, is_file, entries_at_look, entries_led}
 use Rattle.follow_core.specs.Printing.{PrinterState}
-use Rattle.follow_core.specs.Standing.{StandsAt}
 use Rattle.follow_core.specs.inner.Giving.{Ends}
 use Rattle.ports_core.specs.declared.fault.Fault.TheVariants as fault
 
@@ -62,14 +61,6 @@ bytes_past position contents = if nat_lt (length contents) position then content
 abbrev pub lines_past : List ℕ → ℕ → ℕ → List (List ℕ)
 lines_past name position len = if nat_lt len position then notice_of Truncated name ∷ [] else []
 
--- what the look gives of the file that is open
-abbrev pub bytes_open : Entry → Snapshot → Option ℕ → List ℕ
-bytes_open last snapshot opened = gains_later last (entries_open snapshot opened)
-
-abbrev pub lines_open : List ℕ → Entry → Snapshot → Option ℕ → List (List ℕ)
-lines_open name last snapshot opened =
-    map (λ notice. notice_of notice name) (notices_later last (entries_open snapshot opened))
-
 -- and of where a name leads
 
 -- what changed, where this file is open and the name leads to that one
@@ -107,16 +98,17 @@ abbrev pub lines_again : Bool → List ℕ → Entry → Snapshot → Option ℕ
 lines_again by_name name last snapshot opened =
     map (λ notice. notice_of notice name) (notices_later last (entries_at_look by_name name opened snapshot))
 
--- what came to the open file of a name that stood at some entry was given, and how long it is
+-- What came to the open file of a name was given, and how long it is. Where none is open nothing was seen before.
 pub record Catches (told_in told : Bool) (snapshot : Snapshot) (place : ℕ) (name : List ℕ) (position : ℕ)
     (watched : List Watched) (printer : PrinterState) (slots : List Slot) (watched_new : List Watched)
     (after : PrinterState) (slots_new : List Slot)
     (result : Result ℕ Stop) : Type 0 where
-  pub ends : (last : Entry) → (told_in ≡ true → StandsAt last (watched_at watched place).opened position)
-      → Ends {T = ℕ} told_in told printer name (bytes_open last snapshot (watched_at watched place).opened)
-      (lines_open name last snapshot (watched_at watched place).opened) slots after slots_new result
-  pub len : IfOk result (λ len. told_in ≡ true → (last : Entry)
-      → StandsAt last (watched_at watched place).opened position
+  pub ends : (told_in ≡ true → (watched_at watched place).opened ≡ None → position ≡ 0)
+      → Ends {T = ℕ} told_in told false printer name
+      (bytes_past position (held_at snapshot (watched_at watched place).opened))
+      (lines_past name position (length (held_at snapshot (watched_at watched place).opened))) slots after slots_new
+      result
+  pub len : IfOk result (λ len. told_in ≡ true → ((watched_at watched place).opened ≡ None → position ≡ 0)
       → len ≡ length (held_at snapshot (watched_at watched place).opened))
   pub keeps : Keeps place watched watched_new result
 
@@ -125,7 +117,7 @@ pub record Leads (told_in told : Bool) (snapshot : Snapshot) (place : ℕ) (name
     (watched : List Watched) (printer : PrinterState) (slots : List Slot) (watched_new : List Watched)
     (after : PrinterState) (slots_new : List Slot)
     (result : Result ℕ Stop) : Type 0 where
-  pub ends : Ends {T = ℕ} told_in told printer name
+  pub ends : Ends {T = ℕ} told_in told false printer name
       (bytes_led snapshot (watched_at watched place).opened (snapshot.leads name))
       (lines_led name snapshot (watched_at watched place).opened (snapshot.leads name)) slots after slots_new result
   pub len : IfOk result (λ len. told_in ≡ true → position ≡ length (held_at snapshot (watched_at watched place).opened)

@@ -1,15 +1,14 @@
 -- What a look gives for one name, call by call: bytes on standard output, under headers, and lines on standard error.
-use Rattle.std.specs.Prelude.{◌≡◌, ◌&&◌, not, ℕ, Bool, true, Some, List, [], ◌∷◌, ◌++◌, Result, Ok, Err, if◌then◌else◌, is_none}
-use Rattle.ports_core.specs.Slot.{Slot, adds, told_of, with_written}
+use Rattle.std.specs.Prelude.{◌≡◌, ◌&&◌, not, ℕ, Bool, true, false, Some, List, [], ◌++◌, Result, Ok, Err, if◌then◌else◌, is_none}
+use Rattle.ports_core.specs.Slot.{Slot}
 use Rattle.ports_core.specs.declared.fault.Fault.{Fault}
 use Rattle.follow_core.specs.declared.visitor.Stop.{Stop}
 use Rattle.follow_core.specs.declared.visitor.Stop.TheVariants.{Broke, Over}
 use Rattle.follow_core.specs.Followed.{header_after, is_empty, is_last, share_text}
 use Rattle.ports_core.specs.Text.{header_of}
-use Rattle.follow_core.specs.Printing.{PrinterState, Short}
+use Rattle.follow_core.specs.Printing.{PrinterState}
 use Rattle.follow_core.specs.Share.{IsFront, Share}
 use Rattle.follow_core.specs.Sharing.{Wrote, WroteShort}
-use Rattle.follow_core.specs.Telling.{TellsAll}
 
 -- the header of a name
 abbrev pub header_under : PrinterState → List ℕ → List ℕ
@@ -27,61 +26,44 @@ abbrev pub text_under : PrinterState → List ℕ → List ℕ → List ℕ
 text_under printer name bytes = front_under printer name bytes ++ bytes
 
 abbrev pub printer_under : PrinterState → List ℕ → List ℕ → PrinterState
-printer_under printer name bytes = if is_due printer name bytes then record printer { last = Some name } else printer
+printer_under printer name bytes = record printer { last = if is_due printer name bytes then Some name else printer.last }
 
--- these bytes of a name were written, with a header where one was due
-pub record PutOut (told : Bool) (printer : PrinterState) (name bytes : List ℕ) (old : List Slot) (after : PrinterState)
+-- what a look gave for a name so far, whether it opened a file for it or not
+abbrev pub given_share : (opened : Bool) → List ℕ → List ℕ → List (List ℕ) → Share
+given_share opened name bytes lines =
+    record { name = name; is_opened = opened; bytes = bytes; messages = lines; has_failed = false }
+
+-- all of a share came to the outputs
+pub record Shared (told : Bool) (printer : PrinterState) (share : Share) (old : List Slot) (after : PrinterState)
     (new : List Slot) : Type 0 where
-  pub slots : new ≡ with_written 0 (told_of told (text_under printer name bytes)) old
-  pub printer_is : after ≡ printer_under printer name bytes
+  pub printer_is : after ≡ record printer { last = header_after printer.headers printer.last share }
+  pub slots : Wrote told (share_text printer.headers printer.last share) share.messages old new
 
--- standard output got these bytes of a name, after a header where one was due, and standard error these lines; no other
--- output changed
-pub record Gives (told : Bool) (printer : PrinterState) (name bytes : List ℕ) (lines : List (List ℕ)) (old : List Slot)
-    (after : PrinterState) (new : List Slot) : Type 0 where
-  pub printer_is : after ≡ printer_under printer name bytes
-  pub slots : (output error : Slot) (others : List Slot) → old ≡ output ∷ error ∷ others
-      → (error_after : Slot) × TellsAll told lines error error_after
-      × (new ≡ adds (told_of told (text_under printer name bytes)) output ∷ error_after ∷ others)
-
--- the same, but standard output broke among these bytes, or memory was wanting: a beginning of them was written
-pub record Halts (told : Bool) (printer : PrinterState) (name bytes : List ℕ) (lines : List (List ℕ))
-    (old new : List Slot) (fault : Fault) : Type 0 where
-  pub slots : (output error : Slot) (others : List Slot) → old ≡ output ∷ error ∷ others
-      → (error_after : Slot) × TellsAll told lines error error_after
-      × Short told (text_under printer name bytes) (output ∷ error_after ∷ others) new fault
+-- a beginning of it did, before standard output broke or memory was wanting
+pub record SharedShort (told : Bool) (printer : PrinterState) (share : Share) (old new : List Slot)
+    (fault : Fault) : Type 0 where
+  pub slots : WroteShort told (share_text printer.headers printer.last share) share.messages old new fault
 
 -- How giving what is due of a name ends: all was given; or a call on the name failed, or following ends, and a
 -- beginning was. Where the files don't tell their bytes, something was given.
-pub data Ends {T : Type 0} (told_in told : Bool) (printer : PrinterState) (name due : List ℕ)
+pub data Ends {T : Type 0} (told_in told opened : Bool) (printer : PrinterState) (name due : List ℕ)
     (lines_due : List (List ℕ)) (old : List Slot) (after : PrinterState) (new : List Slot) : Result T Stop
     → Type 0 where
   whole : (value : T) (bytes : List ℕ) (lines : List (List ℕ)) → (told_in ≡ true → (bytes ≡ due) × (lines ≡ lines_due))
-      → Gives told printer name bytes lines old after new
-      → Ends told_in told printer name due lines_due old after new (Ok value)
+      → Shared told printer (given_share opened name bytes lines) old after new
+      → Ends told_in told opened printer name due lines_due old after new (Ok value)
   broke : (why : Fault) (bytes : List ℕ) (lines : List (List ℕ))
       → (told_in ≡ true → IsFront bytes due × IsFront lines lines_due)
-      → Gives told printer name bytes lines old after new
-      → Ends told_in told printer name due lines_due old after new (Err (Broke why))
+      → Shared told printer (given_share opened name bytes lines) old after new
+      → Ends told_in told opened printer name due lines_due old after new (Err (Broke why))
   over : (why : Fault) (bytes : List ℕ) (lines : List (List ℕ))
       → (told_in ≡ true → IsFront bytes due × IsFront lines lines_due)
-      → Halts told printer name bytes lines old new why
-      → Ends told_in told printer name due lines_due old after new (Err (Over why))
+      → SharedShort told printer (given_share opened name bytes lines) old new why
+      → Ends told_in told opened printer name due lines_due old after new (Err (Over why))
 
 -- the header that stands before a file as it is opened first
 abbrev pub opening_under : PrinterState → List ℕ → List ℕ
 opening_under printer name = if printer.headers then header_under printer name else []
 
 abbrev pub opened_under : PrinterState → List ℕ → PrinterState
-opened_under printer name = if printer.headers then record printer { last = Some name } else printer
-
--- all of a share came there
-pub record Shared (told : Bool) (printer : PrinterState) (share : Share) (old : List Slot) (after : PrinterState)
-    (new : List Slot) : Type 0 where
-  pub printer_is : after ≡ record printer { last = header_after printer.headers printer.last share }
-  pub slots : Wrote told (share_text printer.headers printer.last share) share.messages old new
-
--- a beginning of it did
-pub record SharedShort (told : Bool) (printer : PrinterState) (share : Share) (old new : List Slot)
-    (fault : Fault) : Type 0 where
-  pub slots : WroteShort told (share_text printer.headers printer.last share) share.messages old new fault
+opened_under printer name = record printer { last = if printer.headers then Some name else printer.last }

@@ -5,10 +5,10 @@ use Rattle.ports_core.specs.declared.fault.Fault.{Fault}
 use Rattle.watch_core.specs.Snapshot.{Snapshot}
 use Rattle.watch_core.specs.Watched.{Watched, added, watched_at}
 use Rattle.follow_core.specs.declared.follow.Stage.TheVariants.{Fresh, Looking, Over}
-use Rattle.follow_core.specs.FollowState.{AllReady, FollowState, Holds, IsOther, LooksOn, SawOrNot, StopsOn, is_alive}
+use Rattle.follow_core.specs.FollowState.{AllReady, FollowState, Holds, IsCause, IsOther, LooksOn, SawOrNot, StopsOn, is_alive}
 use Rattle.follow_core.specs.Look.{Look, Ways, snapshots}
 use Rattle.follow_core.specs.Share.{IsFront}
-use Rattle.follow_core.specs.Sharing.{CanPrint}
+use Rattle.follow_core.specs.Sharing.{CanPrint, HasError}
 use Rattle.follow_core.specs.Ending.{Made}
 
 -- the first of these names were added to what is watched
@@ -48,6 +48,9 @@ pub record MakesLook (told_in told : Bool) (snapshot : Snapshot) (seen : List Sn
   pub stage : OnOk result (new.stage ≡ Looking)
   pub ready : OnOk result (AllReady new.names new.first watched_new)
   pub can : OnOk result (CanPrint slots_new)
+  pub cause : IfErr result (IsCause old slots slots_new)
+  pub error : HasError slots_new
+  pub others : (number : ℕ) → IsOther old watched number → watched_at watched_new number ≡ watched_at watched number
 
 -- As many looks were made, or those after which nothing more can come, and no others; and the outputs have what they
 -- give.

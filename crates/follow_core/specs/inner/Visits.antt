@@ -1,5 +1,5 @@
 -- What a look at one name leaves, and at one name after another.
-use Rattle.std.specs.Prelude.{Bool, true, false, ◌||◌, List, [], ◌∷◌, if◌then◌else◌, ◌≡◌, ℕ, ◌++◌, Option, Some, None, length, Result, Ok, Err, ◌<◌, take, slice_index_or, IfErr, IfOk, OnOk, ◌+◌}
+use Rattle.std.specs.Prelude.{Bool, true, false, ◌||◌, List, [], ◌∷◌, if◌then◌else◌, ◌≡◌, ℕ, ◌++◌, Option, length, Result, Ok, Err, ◌<◌, take, slice_index_or, IfErr, IfOk, OnOk, ◌+◌}
 use Rattle.follow_core.specs.declared.visitor.Came.{Came}
 use Rattle.follow_core.specs.declared.visitor.Came.TheVariants.{Through, Missing, Dropped}
 use Rattle.follow_core.specs.declared.name.Standing.{Standing}
@@ -11,16 +11,18 @@ use Rattle.ports_core.specs.Text.{message_of}
 use Rattle.ports_core.specs.declared.tool.Tool.TheVariants.{Tail}
 use Rattle.ports_core.specs.declared.fault.Fault.{Fault}
 use Rattle.watch_core.specs.Snapshot.{Snapshot}
-use Rattle.watch_core.specs.Watched.{Watched, breaks, opens, watched_at}
-use Rattle.follow_core.specs.inner.Calls.{held_at}
+use Rattle.watch_core.specs.Watched.{Watched, opens, watched_at}
 use Rattle.follow_core.specs.Share.{BeginsShare, Share, share_by, share_of, shares_at_look, shares_at_look_from}
-use Rattle.follow_core.specs.Look.{Fate, Look, Ways, sound, fate_at, is_dropped}
+use Rattle.follow_core.specs.Look.{Fate, Look, Ways, sound, fate_at, is_dropped, ways_of}
 use Rattle.follow_core.specs.Printing.{PrinterState}
 use Rattle.follow_core.specs.inner.Giving.{Shared, SharedShort}
 use Rattle.follow_core.specs.declared.visitor.Stop.{Stop}
 use Rattle.follow_core.specs.declared.visitor.Stop.TheVariants.{Broke, Over}
 use Rattle.follow_core.specs.Followed.{any_failed}
-use Rattle.follow_core.specs.Sharing.{AllShared, AllShort}
+use Rattle.follow_core.specs.inner.Calls.{HasStopped}
+use Rattle.follow_core.specs.FollowState.{AllReady}
+use Rattle.follow_core.specs.declared.start.Start.{Start}
+use Rattle.follow_core.specs.Sharing.{AllShared, AllShort, CanPrint}
 
 -- how it stands after a look that it came through so
 abbrev pub standing_after : (by_name : Bool) → Came → Standing
@@ -52,16 +54,6 @@ pub record Stopped (told_in told : Bool) (ways : Ways) (before : List Look) (sna
   pub begins : told_in ≡ true → (fates : List Fate)
       → BeginsShare share (share_by ways name before (record { snapshot = snapshot; fates = fates }) sound)
   pub short : SharedShort told printer share old new why
-
--- Which file of the name is open after the look, where the name leads to this one, and how much of it was seen. No
--- other name was changed. This is the fault by which the name broke, if it did.
-abbrev pub Leaves : Bool → Snapshot → Option ℕ → ℕ → List Watched → List Watched → Option Fault → Came → Type 0
-Leaves told snapshot led place old new failed (Through len) = (file : Option ℕ) × (new ≡ changed_at place (opens file) old)
-    × (failed ≡ None) × (told ≡ true → (file ≡ led) × (len ≡ length (held_at snapshot led)))
-Leaves told snapshot led place old new failed Missing = (file : Option ℕ) × (new ≡ changed_at place (opens file) old)
-    × (failed ≡ None) × (told ≡ true → (file ≡ led) × (led ≡ None))
-Leaves told snapshot led place old new failed Dropped = (file : Option ℕ) × (why : Fault)
-    × (new ≡ changed_at place (breaks why) (changed_at place (opens file) old)) × (failed ≡ Some why)
 
 -- A call on the name failed, which was told, so that it is dropped; or following ends, and nothing more was told.
 abbrev pub TellsStop : Bool → List ℕ → List Slot → List Slot → Stop → Result Came Fault → Type 0
@@ -109,23 +101,7 @@ StopsVisit told_in told ways snapshot place name watched printer slots slots_new
     → Stands told_in ways looks place name.text watched name.standing
     → (is_dropped place looks ≡ false) × Stopped told_in told ways looks snapshot name.text printer slots slots_new why
 
--- What a look at one name leaves, where it stood so before: it stands then by how it came through.
-pub record Looks (told_in told : Bool) (ways : Ways) (snapshot : Snapshot) (place : ℕ) (name : List ℕ)
-    (standing : Standing)
-    (watched : List Watched) (printer : PrinterState) (slots : List Slot) (watched_new : List Watched)
-    (printer_new : PrinterState) (slots_new : List Slot)
-    (result : Result Came Fault) : Type 0 where
-  pub visited : IfOk result (λ came. VisitsOn told_in told ways snapshot place
-      (record { text = name; standing = standing }) (watched_at watched place) printer slots
-      (record { text = name; standing = standing_after ways.by_name came }) (watched_at watched_new place) printer_new
-      slots_new (has_failed came))
-  pub stopped : IfErr result (StopsVisit told_in told ways snapshot place (record { text = name; standing = standing })
-      (watched_at watched place) printer slots slots_new)
-  pub leaves : IfOk result (λ came. (failed : Option Fault)
-      × Leaves false snapshot (snapshot.leads name) place watched watched_new failed came)
-  pub halts : IfErr result (λ why. Opened place watched watched_new)
-
--- the same of the name itself, which can be looked at again, or is looked at no more
+-- What a look at one name leaves: it can be looked at again, or is looked at no more.
 pub record Visits (told_in told : Bool) (ways : Ways) (snapshot : Snapshot) (place : ℕ) (old : NameState)
     (watched : List Watched) (printer : PrinterState) (slots : List Slot)
     (new : NameState) (watched_new : List Watched) (printer_new : PrinterState) (slots_new : List Slot)
@@ -138,6 +114,24 @@ pub record Visits (told_in told : Bool) (ways : Ways) (snapshot : Snapshot) (pla
   pub ready : OnOk result (CanVisit new (watched_at watched_new place))
   pub others : OnOk result (KeepsOthers place watched watched_new)
   pub halts : IfErr result (λ why. Opened place watched watched_new)
+
+-- how it stands then, and whether it failed, by how it came through
+abbrev pub standing_then : (by_name : Bool) → Standing → Result Came Fault → Standing
+standing_then by_name standing (Ok came) = standing_after by_name came
+standing_then by_name standing (Err why) = standing
+
+abbrev pub failed_then : Result Came Fault → Result Bool Fault
+failed_then (Ok came) = Ok (has_failed came)
+failed_then (Err why) = Err why
+
+-- the same of a name that stood so before
+pub record Looks (told_in told : Bool) (ways : Ways) (snapshot : Snapshot) (place : ℕ) (name : List ℕ)
+    (standing : Standing) (watched : List Watched) (printer : PrinterState) (slots : List Slot)
+    (watched_new : List Watched) (printer_new : PrinterState) (slots_new : List Slot)
+    (result : Result Came Fault) : Type 0 where
+  pub visits : Visits told_in told ways snapshot place (record { text = name; standing = standing }) watched printer
+      slots (record { text = name; standing = standing_then ways.by_name standing result }) watched_new printer_new
+      slots_new (failed_then result)
 
 -- the outputs have what the look gives for all names, and these stand as after it
 pub record VisitedAll (told_in told : Bool) (ways : Ways) (looks : List Look) (snapshot : Snapshot)
@@ -171,3 +165,23 @@ pub record StoppedAt (told_in told : Bool) (ways : Ways) (looks : List Look) (sn
       → BrokeIn ways (looks ++ record { snapshot = snapshot; fates = fates } ∷ []) (ways.first + other)
       (watched_at watched (ways.first + other)).failed
   pub short : AllShort told printer (shares ++ share ∷ []) old new why
+
+-- What a look at all these names leaves, of which the first has this number, whatever looks were made before.
+pub record VisitsAll (told_in told : Bool) (snapshot : Snapshot) (by_name : Bool) (start : Start) (first : ℕ)
+    (names : List NameState) (watched : List Watched) (printer : PrinterState) (slots : List Slot)
+    (names_new : List NameState) (watched_new : List Watched) (printer_new : PrinterState) (slots_new : List Slot)
+    (result : Result Bool Fault) : Type 0 where
+  pub visited : IfOk result (λ failed. (from : ℕ) (looks : List Look) → (0 < length names → first ≡ from)
+      → AllStand told_in (ways_of from by_name start) looks names watched
+      → VisitedAll told_in told (ways_of from by_name start) looks snapshot names printer slots printer_new slots_new
+      watched_new names_new failed)
+  pub stopped : IfErr result (λ why. (from : ℕ) (looks : List Look) → (0 < length names → first ≡ from)
+      → AllStand told_in (ways_of from by_name start) looks names watched
+      → StoppedAt told_in told (ways_of from by_name start) looks snapshot (texts names) printer slots watched_new
+      slots_new why)
+  pub ready : OnOk result (AllReady names_new first watched_new)
+  pub count : length watched_new ≡ length watched
+  pub others : (number : ℕ) → ((place : ℕ) → place < length names → number ≡ first + place → ⊥)
+      → watched_at watched_new number ≡ watched_at watched number
+  pub can : OnOk result (CanPrint slots_new)
+  pub error : IfErr result (λ why. HasStopped why slots_new)

@@ -1,5 +1,5 @@
 use Rattle.std.proofs.Common.{◌≡◌, ◌+◌, ◌-◌, ◌<◌, ◌≤◌, ℕ, List, length}
-use Rattle.follow_core.proofs.VisitAllLemmas.{VisitedUpTo}
+use Rattle.follow_core.proofs.FollowLemmas.{VisitedUpTo}
 use Rattle.watch_core.specs.Snapshot.{latest}
 use Rattle.watch_core.specs.Watched.{watched_at}
 use Rattle.follow_core.specs.Sharing.{CanPrint}

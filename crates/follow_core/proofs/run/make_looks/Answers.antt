@@ -1,4 +1,4 @@
-use Rattle.std.proofs.Common.{◌+◌, ◌∙◌, refl, arith, length}
+use Rattle.std.proofs.Common.{◌+◌, ◌∙◌, refl, arith}
 use Rattle.follow_core.proofs.EndingLemmas.{all_made, ends_there, goes_on, next_is, none_made, one_more, one_stopped, seen_one}
 use Rattle.follow_core.proofs.run.make_looks.Goals as goal
 
@@ -9,24 +9,23 @@ loop-made-init g c = record {
   error = c.requires.error;
   seen = c.requires.unseen;
   shows = refl;
-  progress = λ ways headers names first holds. none_made g.W.Watch.told g.O.Outs.told ways headers names (g.W.Watch.shows c.args.watch.now) first c.args.follow.now (g.W.Watch.watched c.args.watch.now) (g.O.Outs.slots c.args.outs.now) holds;
+  progress = λ ways headers names first holds. none_made g.O.Outs.told holds;
 }
 
 pub returns-in-Err-clause-stopped : goal.returns-in-Err-clause-stopped
 returns-in-Err-clause-stopped g c ways headers names first holds =
     let l = c.loop-made in
     let shows = g.W.Watch.shows c.args.watch.now in
-    one_stopped g.W.Watch.told g.O.Outs.told ways headers names shows first l.made c.args.looks (g.W.Watch.shows l.watch (length (g.W.Watch.seen l.watch))) l.follow (g.W.Watch.watched l.watch) (g.W.Watch.watched c.look.new.watch) (g.W.Watch.seen l.watch) (g.W.Watch.seen c.look.new.watch) (g.O.Outs.slots l.outs) (g.O.Outs.slots c.look.new.outs) c.in-Err.fault
-    l.invariant.seen c.in-Err.ensures.saw c.loop-made-test.true (next_is shows (g.W.Watch.shows l.watch) (g.W.Watch.seen l.watch) l.made l.invariant.shows l.invariant.seen) (l.invariant.progress ways headers names first holds) c.in-Err.ensures.stopped
+    one_stopped g.O.Outs.told l.made
+    l.invariant.seen c.in-Err.ensures.saw c.loop-made-test.true (next_is l.made l.invariant.shows l.invariant.seen) (l.invariant.progress ways headers names first holds) c.in-Err.ensures.stopped
 
 pub returns-then-not-alive-clause-looked : goal.returns-then-not-alive-clause-looked
 returns-then-not-alive-clause-looked g c ways headers names first holds =
     let l = c.loop-made in
     let shows = g.W.Watch.shows c.args.watch.now in
-    let seen_is = seen_one shows (g.W.Watch.shows l.watch) (g.W.Watch.seen l.watch) (g.W.Watch.seen c.look.new.watch) l.made _ l.invariant.shows l.invariant.seen c.in_default.ensures.seen refl in
-    ends_there g.W.Watch.told g.O.Outs.told ways headers names shows first l.made c.args.looks c.look.new.self (g.W.Watch.watched c.look.new.watch) (g.O.Outs.slots c.look.new.outs) c.alive.result c.alive.ensures c.if-not-alive.true c.loop-made-test.true (g.W.Watch.seen c.look.new.watch) seen_is
-    (one_more g.W.Watch.told g.O.Outs.told ways headers names shows first l.made (g.W.Watch.shows l.watch (length (g.W.Watch.seen l.watch))) l.follow c.look.new.self (g.W.Watch.watched l.watch) (g.W.Watch.watched c.look.new.watch) (g.O.Outs.slots l.outs) (g.O.Outs.slots c.look.new.outs)
-    (next_is shows (g.W.Watch.shows l.watch) (g.W.Watch.seen l.watch) l.made l.invariant.shows l.invariant.seen) (l.invariant.progress ways headers names first holds) c.in_default.ensures.looked)
+    let seen_is = seen_one l.made _ l.invariant.shows l.invariant.seen c.in_default.ensures.seen refl in
+    ends_there g.O.Outs.told l.made c.alive.ensures c.if-not-alive.true c.loop-made-test.true seen_is (one_more g.O.Outs.told l.made
+    (next_is l.made l.invariant.shows l.invariant.seen) (l.invariant.progress ways headers names first holds) c.in_default.ensures.looked)
 
 pub loop-made-preserved : goal.loop-made-preserved
 loop-made-preserved g c =
@@ -36,14 +35,14 @@ loop-made-preserved g c =
       within = omega arith;
       can = c.in_default.ensures.can;
       error = c.look.ensures.error l.invariant.error;
-      seen = seen_one shows (g.W.Watch.shows l.watch) (g.W.Watch.seen l.watch) (g.W.Watch.seen c.look.new.watch) l.made (l.made + 1) l.invariant.shows l.invariant.seen c.in_default.ensures.seen (omega arith);
+      seen = seen_one l.made (l.made + 1) l.invariant.shows l.invariant.seen c.in_default.ensures.seen (omega arith);
       shows = c.look.ensures.shows ∙ l.invariant.shows;
-      progress = λ ways headers names first holds. goes_on g.W.Watch.told g.O.Outs.told ways headers names shows first l.made c.look.new.self (g.W.Watch.watched c.look.new.watch) (g.O.Outs.slots c.look.new.outs) c.alive.result c.alive.ensures c.if-not-alive.false (l.made + 1) (omega arith)
-          (one_more g.W.Watch.told g.O.Outs.told ways headers names shows first l.made (g.W.Watch.shows l.watch (length (g.W.Watch.seen l.watch))) l.follow c.look.new.self (g.W.Watch.watched l.watch) (g.W.Watch.watched c.look.new.watch) (g.O.Outs.slots l.outs) (g.O.Outs.slots c.look.new.outs)
-          (next_is shows (g.W.Watch.shows l.watch) (g.W.Watch.seen l.watch) l.made l.invariant.shows l.invariant.seen) (l.invariant.progress ways headers names first holds) c.in_default.ensures.looked);
+      progress = λ ways headers names first holds. goes_on g.O.Outs.told l.made c.alive.ensures c.if-not-alive.false (omega arith)
+          (one_more g.O.Outs.told l.made
+          (next_is l.made l.invariant.shows l.invariant.seen) (l.invariant.progress ways headers names first holds) c.in_default.ensures.looked);
     }
 
 pub returns-clause-looked : goal.returns-clause-looked
 returns-clause-looked g c ways headers names first holds =
     let l = c.loop-made in
-    all_made g.W.Watch.told g.O.Outs.told ways headers names (g.W.Watch.shows c.args.watch.now) first l.made c.args.looks l.follow (g.W.Watch.watched l.watch) (g.O.Outs.slots l.outs) (omega arith) (g.W.Watch.seen l.watch) l.invariant.seen (l.invariant.progress ways headers names first holds)
+    all_made g.O.Outs.told l.made (omega arith) l.invariant.seen (l.invariant.progress ways headers names first holds)

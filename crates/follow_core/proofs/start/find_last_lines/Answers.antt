@@ -1,8 +1,8 @@
-use Rattle.std.proofs.Common.{◌≡◌, ◌∙◌, ◌+◌, ◌-◌, ◌++◌, ◌<◌, ap, arith, drop, length, min, take}
+use Rattle.std.proofs.Common.{◌≡◌, ◌∙◌, ◌-◌, ◌<◌, arith, length, min}
 use Rattle.std.proofs.lemmas.Grind.{common_steps}
 use Rattle.watch_core.specs.Snapshot.{latest}
 use Rattle.watch_core.specs.Watched.{open_contents, watched_at}
-use Rattle.follow_core.proofs.StartLemmas.{all_wanted, begins_in, begins_last, block_read, room_kept, wanted_before}
+use Rattle.follow_core.proofs.StartLemmas.{contents_same, all_wanted, begins_in, begins_last, block_read, room_kept, wanted_before}
 use Rattle.follow_core.proofs.start.find_last_lines.Goals as goal
 
 pub loop-end-init : goal.loop-end-init
@@ -11,40 +11,35 @@ loop-end-init g c = grind (arith, common_steps)
 pub returns-in-Begins-clause-part : goal.returns-in-Begins-clause-part
 returns-in-Begins-clause-part g c told =
     let contents = open_contents (latest (g.W.Watch.seen c.args.watch.now)) (watched_at (g.W.Watch.watched c.args.watch.now) c.args.place) in
-    let now_contents = open_contents (latest (g.W.Watch.seen c.loop-end.watch)) (watched_at (g.W.Watch.watched c.loop-end.watch) c.args.place) in
-    let same : now_contents ≡ contents = ap (λ seen. open_contents (latest seen) (watched_at (g.W.Watch.watched c.loop-end.watch) c.args.place)) c.loop-end.invariant.seen ∙ ap (λ watched. open_contents (latest (g.W.Watch.seen c.args.watch.now)) (watched_at watched c.args.place)) c.loop-end.invariant.watched in
     let long : c.args.len ≡ length contents = c.requires.whole told in
     let more = c.loop-end-test.true in
     let within = c.loop-end.invariant.within in
     let size : c.min-size.result ≡ min c.loop-end.end (length c.loop-end.buffer) = c.min-size.ensures in
-    begins_last c.args.delim c.args.count (c.loop-end.end - c.min-size.result + c.in-Begins.at) contents (omega (arith, more, within, long))
-    (begins_in c.args.delim c.args.count c.loop-end.wanted c.loop-end.end (c.loop-end.end - c.min-size.result) c.min-size.result c.in-Begins.at contents (take c.in_ok-n.n (c.read_block.new.block ++ drop c.min-size.result c.loop-end.buffer))
+    begins_last contents (omega (arith, more, within, long)) (begins_in c.loop-end.end (c.loop-end.end - c.min-size.result) c.min-size.result contents
     (c.loop-end.invariant.lines told) (omega (arith, size)) (omega (arith, within, long))
-    (block_read contents now_contents c.loop-end.buffer c.read_block.new.block (c.loop-end.end - c.min-size.result) c.min-size.result c.in_ok-n.n c.loop-end.end c.min-size.ensures c.in_ok-n.ensures.bound c.read_block.ensures.length same (c.in_ok-n.ensures.bytes told))
+    (block_read c.loop-end.buffer c.read_block.new.block (c.loop-end.end - c.min-size.result) c.in_ok-n.n c.loop-end.end c.min-size.ensures c.in_ok-n.ensures.bound c.read_block.ensures.length (contents_same c.args.place c.loop-end.invariant.seen c.loop-end.invariant.watched) (c.in_ok-n.ensures.bytes told))
     c.in-Begins.ensures)
 
 pub loop-end-preserved : goal.loop-end-preserved
 loop-end-preserved g c =
     let contents = open_contents (latest (g.W.Watch.seen c.args.watch.now)) (watched_at (g.W.Watch.watched c.args.watch.now) c.args.place) in
-    let now_contents = open_contents (latest (g.W.Watch.seen c.loop-end.watch)) (watched_at (g.W.Watch.watched c.loop-end.watch) c.args.place) in
-    let same : now_contents ≡ contents = ap (λ seen. open_contents (latest seen) (watched_at (g.W.Watch.watched c.loop-end.watch) c.args.place)) c.loop-end.invariant.seen ∙ ap (λ watched. open_contents (latest (g.W.Watch.seen c.args.watch.now)) (watched_at watched c.args.place)) c.loop-end.invariant.watched in
     let within = c.loop-end.invariant.within in
     let size : c.min-size.result ≡ min c.loop-end.end (length c.loop-end.buffer) = c.min-size.ensures in
     let fewer : c.in-Short.found < c.loop-end.wanted = c.in-Short.ensures.fewer in record {
       lines = λ told. let long : c.args.len ≡ length contents = c.requires.whole told in
-          wanted_before c.args.delim c.args.count c.loop-end.wanted c.loop-end.end (c.loop-end.end - c.min-size.result) c.min-size.result c.in-Short.found contents (take c.in_ok-n.n (c.read_block.new.block ++ drop c.min-size.result c.loop-end.buffer))
+          wanted_before c.args.count c.loop-end.end (c.loop-end.end - c.min-size.result) c.min-size.result contents
           (c.loop-end.invariant.lines told) (omega (arith, size)) (omega (arith, within, long))
-          (block_read contents now_contents c.loop-end.buffer c.read_block.new.block (c.loop-end.end - c.min-size.result) c.min-size.result c.in_ok-n.n c.loop-end.end c.min-size.ensures c.in_ok-n.ensures.bound c.read_block.ensures.length same (c.in_ok-n.ensures.bytes told))
+          (block_read c.loop-end.buffer c.read_block.new.block (c.loop-end.end - c.min-size.result) c.in_ok-n.n c.loop-end.end c.min-size.ensures c.in_ok-n.ensures.bound c.read_block.ensures.length (contents_same c.args.place c.loop-end.invariant.seen c.loop-end.invariant.watched) (c.in_ok-n.ensures.bytes told))
           c.in-Short.ensures;
       some = omega (arith, fewer);
       within = omega (arith, within);
       seen = c.read_block.ensures.seen ∙ c.loop-end.invariant.seen;
       watched = c.in_ok-n.ensures.same ∙ c.loop-end.invariant.watched;
       shows = c.read_block.ensures.shows ∙ c.loop-end.invariant.shows;
-      room = room_kept c.loop-end.buffer c.read_block.new.block c.min-size.result c.loop-end.end c.min-size.ensures c.loop-end-test.true c.read_block.ensures.length c.loop-end.invariant.room;
+      room = room_kept c.loop-end.buffer c.read_block.new.block c.loop-end.end c.min-size.ensures c.loop-end-test.true c.read_block.ensures.length c.loop-end.invariant.room;
     }
 
 pub returns-clause-part : goal.returns-clause-part
 returns-clause-part g c told =
     let front = c.loop-end-test.false in
-    all_wanted c.args.delim c.args.count c.loop-end.wanted c.loop-end.end _ (c.loop-end.invariant.lines told) (omega (arith, front)) c.loop-end.invariant.some
+    all_wanted c.args.delim c.args.count c.loop-end.wanted c.loop-end.end (c.loop-end.invariant.lines told) (omega (arith, front)) c.loop-end.invariant.some

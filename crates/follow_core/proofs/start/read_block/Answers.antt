@@ -1,7 +1,7 @@
-use Rattle.std.proofs.Common.{◌∙◌, ◌+◌, ◌-◌, length, take, drop, ap, subst}
+use Rattle.std.proofs.Common.{◌∙◌, ◌+◌, ◌-◌, length, take, drop, subst}
 use Rattle.watch_core.specs.Snapshot.{latest}
 use Rattle.watch_core.specs.Watched.{open_contents, watched_at, GaveFrom}
-use Rattle.follow_core.proofs.StartLemmas.{fill_ends, fill_more}
+use Rattle.follow_core.proofs.StartLemmas.{contents_same, fill_ends, fill_more}
 use Rattle.follow_core.proofs.start.read_block.Goals as goal
 
 pub returns-in-Ok-eq0-clause-bytes : goal.returns-in-Ok-eq0-clause-bytes
@@ -9,19 +9,17 @@ returns-in-Ok-eq0-clause-bytes g c =
     let f = c.loop-filled.invariant.filling in
     let now_contents = open_contents (latest (g.W.Watch.seen c.loop-filled.watch)) (watched_at (g.W.Watch.watched c.loop-filled.watch) c.args.place) in
     let part = take (length c.loop-filled.block - c.loop-filled.filled) (drop c.loop-filled.filled c.loop-filled.block) in
-    fill_ends g.W.Watch.told _ now_contents c.args.from c.loop-filled.filled c.args.block.now c.loop-filled.block c.read_at.new.buffer
-    (g.W.Watch.seen c.args.watch.now) (g.W.Watch.seen c.loop-filled.watch) (g.W.Watch.watched c.args.watch.now) (g.W.Watch.watched c.loop-filled.watch) f
-    (ap (λ seen. open_contents (latest seen) (watched_at (g.W.Watch.watched c.loop-filled.watch) c.args.place)) f.seen_same ∙ ap (λ watched. open_contents (latest (g.W.Watch.seen c.args.watch.now)) (watched_at watched c.args.place)) f.watched_same)
+    fill_ends c.read_at.new.buffer f
+    (contents_same c.args.place f.seen_same f.watched_same)
     c.loop-filled-test.true
     (λ told. subst (λ n. GaveFrom now_contents (c.args.from + c.loop-filled.filled) part c.read_at.new.buffer n) c.in-Ok-eq0.field-0-test (c.in-Ok-eq0.ensures.bytes told))
 
 pub loop-filled-preserved : goal.loop-filled-preserved
 loop-filled-preserved g c =
     let f = c.loop-filled.invariant.filling in
-    let now_contents = open_contents (latest (g.W.Watch.seen c.loop-filled.watch)) (watched_at (g.W.Watch.watched c.loop-filled.watch) c.args.place) in record {
-      filling = fill_more g.W.Watch.told _ now_contents c.args.from c.loop-filled.filled c.in-Ok.n c.args.block.now c.loop-filled.block c.read_at.new.buffer
-          (g.W.Watch.seen c.args.watch.now) (g.W.Watch.seen c.loop-filled.watch) (g.W.Watch.seen c.read_at.new.self) (g.W.Watch.watched c.args.watch.now) (g.W.Watch.watched c.loop-filled.watch) (g.W.Watch.watched c.read_at.new.self) f
-          (ap (λ seen. open_contents (latest seen) (watched_at (g.W.Watch.watched c.loop-filled.watch) c.args.place)) f.seen_same ∙ ap (λ watched. open_contents (latest (g.W.Watch.seen c.args.watch.now)) (watched_at watched c.args.place)) f.watched_same)
+    record {
+      filling = fill_more c.in-Ok.n c.read_at.new.buffer f
+          (contents_same c.args.place f.seen_same f.watched_same)
           c.loop-filled-test.true c.loop-filled.auto.block c.read_at.ensures.length c.in-Ok.ensures.bound c.in-Ok.ensures.bytes c.in-Ok.ensures.seen c.in-Ok.ensures.same;
       shows = c.read_at.ensures.shows ∙ c.loop-filled.invariant.shows;
     }

@@ -7,23 +7,21 @@ use Rattle.follow_core.proofs.StartLemmas.{contents_same}
 use Rattle.follow_core.proofs.visitor.copy.Goals as goal
 
 pub loop-at-init : goal.loop-at-init
-loop-at-init g c = record { shows = refl; copying = copy_starts _ _ _ _ _ _ _ _ _ _ _ c.requires.writable c.requires.within c.requires.room }
+loop-at-init g c = record { shows = refl; copying = copy_starts _ c.requires.writable c.requires.within c.requires.room }
 
 pub loop-at-preserved : goal.loop-at-preserved
 loop-at-preserved g c = record {
   shows = c.read_at.ensures.shows ∙ c.loop-at.invariant.shows;
-  copying = copy_more g.W.Watch.told g.O.Outs.told _ _ _ (open_contents (latest (g.W.Watch.seen c.loop-at.watch)) (watched_at (g.W.Watch.watched c.loop-at.watch) c.args.place)) _ _ _ _ _ c.loop-at.printer _ (g.O.Outs.slots c.loop-at.outs) _ _ (g.W.Watch.seen c.loop-at.watch) _ _ (g.W.Watch.watched c.loop-at.watch) _ (length c.loop-at.buffer) (take c.min-room.result c.loop-at.buffer) c.read_at.new.buffer (drop c.min-room.result c.loop-at.buffer)
-      c.loop-at.invariant.copying
-      (contents_same (g.W.Watch.seen c.args.watch.now) (g.W.Watch.seen c.loop-at.watch) (g.W.Watch.watched c.args.watch.now) (g.W.Watch.watched c.loop-at.watch) c.args.place (sym c.loop-at.invariant.copying.seen_same) (sym c.loop-at.invariant.copying.watched_same))
-      c.in-Ok.ensures.bound c.read_at.ensures.length (few_fit _ _ _ _ _ c.in-Ok.ensures.bound c.min-room.ensures) c.loop-at-test.true
+  copying = copy_more g.O.Outs.told (take c.min-room.result c.loop-at.buffer) c.read_at.new.buffer (drop c.min-room.result c.loop-at.buffer)
+      c.loop-at.invariant.copying (contents_same c.args.place (sym c.loop-at.invariant.copying.seen_same) (sym c.loop-at.invariant.copying.watched_same))
+      c.in-Ok.ensures.bound c.read_at.ensures.length (few_fit _ _ c.in-Ok.ensures.bound c.min-room.ensures) c.loop-at-test.true
       c.in-Ok.ensures.bytes c.in-Ok-put.ensures.out c.in-Ok-put.ensures.last c.read_at.ensures.seen c.in-Ok.ensures.same (some_left _ _ _ c.read_at.ensures.length c.loop-at.invariant.copying.some);
 }
 
 pub returns-in-Ok-eq0-clause-ends : goal.returns-in-Ok-eq0-clause-ends
 returns-in-Ok-eq0-clause-ends g c =
     let copying = c.loop-at.invariant.copying in
-    copy_done copying
-    (nothing_left c.loop-at.buffer c.min-room.result (contents_same (g.W.Watch.seen c.args.watch.now) (g.W.Watch.seen c.loop-at.watch) (g.W.Watch.watched c.args.watch.now) (g.W.Watch.watched c.loop-at.watch) c.args.place (sym copying.seen_same) (sym copying.watched_same))
+    copy_done copying (nothing_left c.loop-at.buffer (contents_same c.args.place (sym copying.seen_same) (sym copying.watched_same))
     c.loop-at-test.true copying.some c.min-room.ensures c.in-Ok-eq0.field-0-test c.in-Ok-eq0.ensures.bytes)
 
 pub returns-clause-ends : goal.returns-clause-ends
@@ -31,7 +29,7 @@ returns-clause-ends g c =
     copy_done c.loop-at.invariant.copying (λ t. let whole : c.args.len ≡ length (open_contents (latest (g.W.Watch.seen c.args.watch.now)) (watched_at (g.W.Watch.watched c.args.watch.now) c.args.place)) = c.requires.whole t in omega (arith, whole))
 
 pub returns-in-Err-clause-ends : goal.returns-in-Err-clause-ends
-returns-in-Err-clause-ends g c = copy_broke _ c.loop-at.invariant.copying
+returns-in-Err-clause-ends g c = copy_broke c.loop-at.invariant.copying
 
 pub returns-in-Err-clause-keeps : goal.returns-in-Err-clause-keeps
 returns-in-Err-clause-keeps g c = (c.in-Err.ensures.err.0, c.in-Err.ensures.err.1 ∙ ap (changed_at c.args.place (breaks c.in-Err.fault)) c.loop-at.invariant.copying.watched_same)
@@ -40,7 +38,6 @@ pub returns-in-Err-put-clause-keeps : goal.returns-in-Err-put-clause-keeps
 returns-in-Err-put-clause-keeps g c = c.in-Ok.ensures.same ∙ c.loop-at.invariant.copying.watched_same
 
 pub returns-in-Err-put-clause-ends : goal.returns-in-Err-put-clause-ends
-returns-in-Err-put-clause-ends g c = copy_over g.W.Watch.told g.O.Outs.told _ _ _ (open_contents (latest (g.W.Watch.seen c.loop-at.watch)) (watched_at (g.W.Watch.watched c.loop-at.watch) c.args.place)) _ _ _ _ _ c.loop-at.printer _ (g.O.Outs.slots c.loop-at.outs) _ _ (g.W.Watch.seen c.loop-at.watch) _ (g.W.Watch.watched c.loop-at.watch) (length c.loop-at.buffer) (take c.min-room.result c.loop-at.buffer) c.read_at.new.buffer (drop c.min-room.result c.loop-at.buffer) _
-    c.loop-at.invariant.copying
-    (contents_same (g.W.Watch.seen c.args.watch.now) (g.W.Watch.seen c.loop-at.watch) (g.W.Watch.watched c.args.watch.now) (g.W.Watch.watched c.loop-at.watch) c.args.place (sym c.loop-at.invariant.copying.seen_same) (sym c.loop-at.invariant.copying.watched_same))
+returns-in-Err-put-clause-ends g c = copy_over g.O.Outs.told (take c.min-room.result c.loop-at.buffer) c.read_at.new.buffer (drop c.min-room.result c.loop-at.buffer)
+    c.loop-at.invariant.copying (contents_same c.args.place (sym c.loop-at.invariant.copying.seen_same) (sym c.loop-at.invariant.copying.watched_same))
     c.in-Ok.ensures.bound c.read_at.ensures.length c.in-Ok.ensures.bytes c.in-Err-put.ensures.short

@@ -3,7 +3,7 @@ use Rattle.follow_core.proofs.CallLemmas.{tells, untold}
 use Rattle.follow_core.proofs.visitor.tell.Goals as goal
 
 pub returns-in-Ok-clause-ends : goal.returns-in-Ok-clause-ends
-returns-in-Ok-clause-ends g c told_in printer = tells told_in _ printer _ _ _ _ _ (c.deref.ensures.value ∙ c.in-Ok.ensures.ok) c.print.ensures
+returns-in-Ok-clause-ends g c told_in printer = tells (c.deref.ensures.value ∙ c.in-Ok.ensures.ok) c.print.ensures
 
 pub returns-in-Err-clause-ends : goal.returns-in-Err-clause-ends
-returns-in-Err-clause-ends g c told_in printer = untold told_in _ printer _ _ _ _ _ c.in-Err.ensures.err
+returns-in-Err-clause-ends g c told_in printer = untold c.in-Err.ensures.err

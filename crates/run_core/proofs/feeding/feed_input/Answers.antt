@@ -1,15 +1,13 @@
-use Rattle.std.proofs.Common.{inl, inr, ◌≡◌, ◌≤◌, drop, length, ◌++◌, ◌∙◌, [], true, false, sym, ap, refl, subst, take, arith}
+use Rattle.std.proofs.Common.{◌&&◌, not, inl, inr, ◌≡◌, ◌≤◌, drop, length, ◌++◌, ◌∙◌, [], true, false, sym, ap, refl, subst, take, arith}
 use Rattle.std.proofs.lemmas.List.{append-nil}
 use Rattle.std.proofs.lemmas.Bool.{false≢true}
-use Rattle.ports_core.specs.Source.{Source, source_at}
+use Rattle.ports_core.specs.Source.{gets_back, Source, source_at}
 use Rattle.ports_core.specs.Work.{Work, IsNeeded, IsSettled, IsSpare}
 use Rattle.ports_core.specs.Engine.{EndsWith}
 use Rattle.ports_core.proofs.SpareLemmas.{complete_used, spare_within}
 use Rattle.run_core.specs.Feeding.{Uses, enough, to_end}
-use Rattle.run_core.proofs.FeedingLemmas.{alike_itself, alike_used, judges, judging_of, broken_off, goes_on, stopped_feeding, ended, needed_more, piece_within, ends_sound, given_so}
+use Rattle.run_core.proofs.FeedingLemmas.{alike_itself, alike_used, judges, judging_of, broken_off, goes_on, stopped_feeding, ended, needed_more, piece_within, ends_sound, given_so, loaded_feeds, loaded_readable, loaded_others, loaded_read, loaded_needed, loaded_asked, last_given, loaded_few, loaded_taken, needed_within, read_used, takes_more, takes_none, uses_all, uses_judged, uses_part}
 use Rattle.ports_core.proofs.InputsLemmas.{changed_source, sound_at, read_none_more, keeps_again, keeps_others, read_broken, of_content, still_readable, read_more, read_failed, read_to_end, asked_again, asked_at_end, broken_now}
-use Rattle.run_core.proofs.LoadLemmas.{loaded_feeds, loaded_readable, loaded_others, loaded_read, loaded_needed, loaded_asked}
-use Rattle.run_core.proofs.UsedLemmas.{back_readable, last_given, loaded_few, loaded_taken, needed_within, read_used, takes_more, takes_none, uses_all, uses_judged, uses_part}
 use Rattle.run_core.proofs.feeding.feed_input.Goals as goal
 
 -- what was taken in before the first piece
@@ -195,7 +193,9 @@ returns g c =
       broke = ends_sound _ _ _ _ _ (inr refl) c.end-2.ensures;
       ends = λ before opening own at.
           let used = complete_used _ so_far.fed _ spare done in
-          let sound = sound_at (g.I.Inputs.sources c.give_back.new.self) c.args.slot (back_readable _ _ _ back so_far.readable) in
+          let sound = sound_at (g.I.Inputs.sources c.give_back.new.self) c.args.slot
+              (ap (λ (source : Source). source.is_open && not source.is_broken) (changed_source _ (gets_back _) _ _ so_far.readable back) ∙ so_far.readable)
+              in
           of_content g.I.Inputs.told _ (record { bytes = so_far.fed; breaks_off = false }) (source_at (g.I.Inputs.sources c.give_back.new.self) c.args.slot) _
           (λ told. let left = read_used spare (so_far.read told) (so_far.took told) so_far.readable back in
           ended _ _ _ g.met.S.Stage.lawful _ _ so_far.feeds own at (done, (_, (so_far.read told).bytes)) (enough _ left used) (alike_used spare (g.met.S.Stage.lawful _) used)

@@ -2,9 +2,8 @@ use Rattle.std.proofs.Common.{◌≡◌, ◌≤◌, ◌-◌, ◌^◌, ℕ, List,
 use Rattle.ports_core.specs.Source.{source_at, is_readable}
 use Rattle.ports_core.specs.Work.{IsNeeded, IsSpare}
 use Rattle.ports_core.specs.Inputs.{KeepsOthers}
-use Rattle.run_core.proofs.FeedingLemmas.{Feeds}
+use Rattle.run_core.proofs.FeedingLemmas.{Feeds, HasTaken}
 use Rattle.ports_core.proofs.InputsLemmas.{HasRead}
-use Rattle.run_core.proofs.UsedLemmas.{HasTaken}
 use Rattle.run_core.proofs.feeding.feed_input.Given as goal
 
 abbrev pub invariant-pieces : goal.invariant-pieces

@@ -1,6 +1,6 @@
 use Rattle.std.proofs.Common.{arith}
 use Rattle.std.proofs.lemmas.List.{length-take}
-use Rattle.run_core.proofs.UsedLemmas.{gave_part}
+use Rattle.run_core.proofs.FeedingLemmas.{gave_part}
 use Rattle.run_core.proofs.feeding.read_part.Goals as goal
 
 pub returns-in-Ok-clause-bytes : goal.returns-in-Ok-clause-bytes

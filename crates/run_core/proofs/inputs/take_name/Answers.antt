@@ -1,7 +1,6 @@
 use Rattle.std.proofs.Common.{◌∙◌, sym, refl, arith}
 use Rattle.std.proofs.lemmas.Grind.{common_steps}
-use Rattle.run_core.proofs.InputLemmas.{said_as}
-use Rattle.run_core.proofs.NamesLemmas.{of_opened, of_missing, of_no_room, took_file, took_standard}
+use Rattle.run_core.proofs.InputLemmas.{said_as, of_opened, of_missing, of_no_room, took_file, took_standard}
 use Rattle.run_core.proofs.ReadingLemmas.{takes_dash, takes_file, takes_missing}
 use Rattle.run_core.proofs.inputs.take_name.Goals as goal
 

@@ -1,7 +1,7 @@
 use Rattle.std.proofs.Common.{◌∙◌, arith, refl}
 use Rattle.std.proofs.lemmas.List.{length-map}
 use Rattle.ports_core.proofs.HandedOn.{handed_on}
-use Rattle.run_core.proofs.NamesLemmas.{walk_begins, walk_streams, walk_readable, walked_at, walk_goes_on, walk_stops, walk_ends, walk_counts, walk_within, asks_on, untouched_on, none_left}
+use Rattle.run_core.proofs.InputLemmas.{walk_begins, walk_streams, walk_readable, walked_at, walk_goes_on, walk_stops, walk_ends, walk_counts, walk_within, asks_on, untouched_on, none_left}
 use Rattle.run_core.proofs.ReadingLemmas.{nothing_taken}
 use Rattle.run_core.proofs.inputs.take_names.Goals as goal
 

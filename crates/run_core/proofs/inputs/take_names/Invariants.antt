@@ -1,7 +1,7 @@
 use Rattle.std.proofs.Common.{◌≡◌, length, map}
 use Rattle.ports_core.specs.Inputs.{largest_piece}
 use Rattle.run_core.specs.RunSteps.{world_of}
-use Rattle.run_core.proofs.NamesLemmas.{Untouched, Walked}
+use Rattle.run_core.proofs.InputLemmas.{Untouched, Walked}
 use Rattle.run_core.proofs.inputs.take_names.Given as goal
 
 abbrev pub invariant-loop-left : goal.invariant-loop-left

@@ -10,7 +10,7 @@ pub returns-in_ok-first-in-Fresh-clause-begins : goal.returns-in_ok-first-in-Fre
 returns-in_ok-first-in-Fresh-clause-begins g c =
     let f = c.self.inside in
     let mid : FollowState = record { by_name = f.by_name; start = f.start; names = f.names.items; first = c.in_ok-first-in-Fresh.first; printer = f.visitor; stage = Looking; has_failed = f.has_failed } in
-    added_begins g.W.Watch.told c.args.self.now mid (g.W.Watch.watched c.args.watch.now) (g.W.Watch.watched c.add_all.new.watch) (record {
+    added_begins (record {
       fresh = ap (λ (state : FollowState). state.stage) (sym c.self.view_is) ∙ c.in-Fresh.is;
       mid_is = ap (λ (state : FollowState). record state { stage = Looking; first = c.in_ok-first-in-Fresh.first }) c.self.view_is;
       watched_is = c.in_ok-first-in-Fresh.ensures.ok ∙ ap (λ (names : List NameState). g.W.Watch.watched c.args.watch.now ++ map added (texts names)) (c.deref.ensures.value ∙ ap (λ (state : FollowState). state.names) c.self.view_is);

@@ -1,39 +1,46 @@
-use Rattle.std.proofs.Common.{ap}
+use Rattle.std.proofs.Common.{ap, refl, Ok, Err}
 use Rattle.watch_core.specs.Snapshot.{latest}
-use Rattle.follow_core.proofs.CallLemmas.{short_can, contents_led, readable_there, said_can, written_can}
-use Rattle.follow_core.proofs.FirstLemmas.{first_cut, first_short, first_whole, led_file}
-use Rattle.follow_core.proofs.VisitLemmas.{first_fails, first_looks, first_missing, first_over, first_unopened, opened_leaves}
+use Rattle.follow_core.specs.declared.visitor.Stop.TheVariants.{Over}
+use Rattle.follow_core.proofs.CallLemmas.{short_can, contents_led, follows_there, readable_there, said_can, written_can}
+use Rattle.follow_core.proofs.LookLemmas.{ends_opened, ends_unopened}
+use Rattle.follow_core.proofs.VisitLemmas.{first_gave, first_missing, first_unopened, gave_fails, gave_through}
 use Rattle.follow_core.proofs.visitor.Visitor.first.Goals as goal
 
 pub returns-in-Ok-false-clause-looks : goal.returns-in-Ok-false-clause-looks
-returns-in-Ok-false-clause-looks g c first by_name = first_missing c.in-Ok-false.ensures.ok c.in-Ok-false.field-0-test c.requires.name c.say.ensures
+returns-in-Ok-false-clause-looks g c first by_name = first_missing c.in-Ok-false.ensures.ok c.in-Ok-false.field-0-test c.requires.name c.requires.watchable c.say.ensures
 
 pub returns-in-Ok-false-clause-can : goal.returns-in-Ok-false-clause-can
-returns-in-Ok-false-clause-can g c = said_can _ _ _ _ _ c.say.ensures c.requires.can
+returns-in-Ok-false-clause-can g c = said_can _ c.say.ensures c.requires.can
 
 pub returns-in-Err-clause-looks : goal.returns-in-Err-clause-looks
-returns-in-Err-clause-looks g c first by_name = first_unopened c.in-Err.ensures.err.0 c.in-Err.ensures.err.1 c.stop.ensures.tells
+returns-in-Err-clause-looks g c first by_name = first_unopened c.requires.watchable c.in-Err.ensures.err.0 c.in-Err.ensures.err.1 c.stop.ensures.tells
 
 pub returns-in-Err-open-clause-looks : goal.returns-in-Err-open-clause-looks
-returns-in-Err-open-clause-looks g c first by_name = first_over (c.in-Ok-true.ensures.ok.file, c.in-Ok-true.ensures.ok.names) (first_short c.self.view_is (led_file c.in-Ok-true.ensures.ok c.in-Ok-true.field-0-test c.requires.name) c.in-Err-open.ensures.short)
+returns-in-Err-open-clause-looks g c first by_name = gave_fails (Over c.in-Err-open.fault) c.requires.watchable
+    (c.in-Ok-true.ensures.ok.file, c.in-Ok-true.ensures.ok.names)
+    (first_gave _ c.self.view_is c.in-Ok-true.ensures.ok c.in-Ok-true.field-0-test c.requires.name (λ t. refl) refl tt (ends_unopened c.in-Err-open.ensures.short))
+    (refl, refl)
 
 pub write_start-requires-clause-readable : goal.write_start-requires-clause-readable
-write_start-requires-clause-readable g c = readable_there _ _ _ _ _ _ c.in-Ok-true.ensures.ok c.in-Ok-true.field-0-test c.requires.watchable
+write_start-requires-clause-readable g c = readable_there _ c.in-Ok-true.ensures.ok c.in-Ok-true.field-0-test c.requires.watchable
 
 pub write_start-requires-clause-can : goal.write_start-requires-clause-can
-write_start-requires-clause-can g c = written_can _ _ _ c.in_default.ensures.out c.requires.can
+write_start-requires-clause-can g c = written_can _ _ c.in_default.ensures.out c.requires.can
 
 pub returns-in-Ok-clause-looks : goal.returns-in-Ok-clause-looks
-returns-in-Ok-clause-looks g c first by_name =
-    let leaves = opened_leaves (ap latest c.reopen.ensures.seen) c.requires.watchable c.in-Ok-true.ensures.ok c.in-Ok-true.field-0-test c.requires.name c.in-Ok.ensures.keeps c.in-Ok.ensures.len in
-    first_looks
-    (first_whole c.self.view_is (led_file c.in-Ok-true.ensures.ok c.in-Ok-true.field-0-test c.requires.name)
-    (contents_led g.W.Watch.told (latest (g.W.Watch.seen c.args.watch.now)) (latest (g.W.Watch.seen c.reopen.new.self)) (g.W.Watch.watched c.args.watch.now) (g.W.Watch.watched c.reopen.new.self) c.args.place c.args.name.now c.in-Ok-true.field-0 (ap latest c.reopen.ensures.seen) c.requires.watchable c.in-Ok-true.ensures.ok c.requires.name) c.in_default.ensures.out c.in_default.ensures.last c.in-Ok.ensures.ends) leaves.0 leaves.1
+returns-in-Ok-clause-looks g c first by_name = gave_through c.requires.name c.requires.watchable
+    (follows_there g.W.Watch.told by_name _ (Ok c.in-Ok.len) c.in-Ok-true.ensures.ok c.requires.name c.in-Ok.ensures.keeps)
+    (first_gave _ c.self.view_is c.in-Ok-true.ensures.ok c.in-Ok-true.field-0-test c.requires.name
+    (contents_led g.W.Watch.told (ap latest c.reopen.ensures.seen) c.requires.watchable c.in-Ok-true.ensures.ok c.requires.name) c.in-Ok.ensures.keeps c.in-Ok.ensures.len
+    (ends_opened c.in_default.ensures.out c.in_default.ensures.last c.in-Ok.ensures.ends))
 
 pub returns-in-Err-write_start-clause-looks : goal.returns-in-Err-write_start-clause-looks
-returns-in-Err-write_start-clause-looks g c first by_name = first_fails _ c.in-Ok-true.ensures.ok c.in-Err-write_start.ensures.keeps
-    (first_cut c.self.view_is (led_file c.in-Ok-true.ensures.ok c.in-Ok-true.field-0-test c.requires.name)
-    (contents_led g.W.Watch.told (latest (g.W.Watch.seen c.args.watch.now)) (latest (g.W.Watch.seen c.reopen.new.self)) (g.W.Watch.watched c.args.watch.now) (g.W.Watch.watched c.reopen.new.self) c.args.place c.args.name.now c.in-Ok-true.field-0 (ap latest c.reopen.ensures.seen) c.requires.watchable c.in-Ok-true.ensures.ok c.requires.name) c.in_default.ensures.out c.in_default.ensures.last c.in-Err-write_start.ensures.ends) c.stop-in-Err-write_start.ensures.tells
+returns-in-Err-write_start-clause-looks g c first by_name = gave_fails c.in-Err-write_start.stop c.requires.watchable
+    (follows_there g.W.Watch.told by_name _ (Err c.in-Err-write_start.stop) c.in-Ok-true.ensures.ok c.requires.name c.in-Err-write_start.ensures.keeps)
+    (first_gave _ c.self.view_is c.in-Ok-true.ensures.ok c.in-Ok-true.field-0-test c.requires.name
+    (contents_led g.W.Watch.told (ap latest c.reopen.ensures.seen) c.requires.watchable c.in-Ok-true.ensures.ok c.requires.name) c.in-Err-write_start.ensures.keeps tt
+    (ends_opened c.in_default.ensures.out c.in_default.ensures.last c.in-Err-write_start.ensures.ends))
+    c.stop-in-Err-write_start.ensures.tells
 
 pub returns-in-Err-open-clause-error : goal.returns-in-Err-open-clause-error
-returns-in-Err-open-clause-error g c = short_can _ _ _ _ _ c.in-Err-open.ensures.short c.requires.can
+returns-in-Err-open-clause-error g c = short_can c.in-Err-open.ensures.short c.requires.can

@@ -25,14 +25,14 @@ pub returns-then-not-is_there-clause-leads : goal.returns-then-not-is_there-clau
 returns-then-not-is_there-clause-leads g c = leads_gone
     (λ t. change_seen g.W.Watch.told (latest (g.W.Watch.seen c.args.watch.now)) (g.W.Watch.watched c.args.watch.now) (g.W.Watch.watched c.look.new.self) c.args.place c.args.name.now c.in-Ok.found c.open_id.result c.change_of.result c.change_of.ensures c.open_id.ensures c.in-Ok.ensures.same c.requires.name c.in-Ok.ensures.ok t ∙ c.in-Some.is)
     (c.in_default-tell.ensures.ends g.W.Watch.told c.args.self.now)
-    (reopens_as g.W.Watch.told (g.W.Watch.seen c.look.new.self) (g.W.Watch.seen c.args.watch.now) (g.W.Watch.watched c.look.new.self) (g.W.Watch.watched c.args.watch.now) (g.W.Watch.watched c.reopen.new.self) c.args.place c.in-Ok-reopen.is_there c.look.ensures.seen c.in-Ok.ensures.same c.in-Ok-reopen.ensures.ok) c.if-not-is_there.true c.requires.name
+    (reopens_as g.W.Watch.told c.look.ensures.seen c.in-Ok.ensures.same c.in-Ok-reopen.ensures.ok) c.if-not-is_there.true c.requires.name
 
 pub catch_up-requires-clause-watchable : goal.catch_up-requires-clause-watchable
-catch_up-requires-clause-watchable g c = watchable_there g.W.Watch.told (latest (g.W.Watch.seen c.args.watch.now)) (g.W.Watch.watched c.args.watch.now) (g.W.Watch.watched c.reopen.new.self) c.args.place c.in-Ok-reopen.is_there
-    (reopens_as g.W.Watch.told (g.W.Watch.seen c.look.new.self) (g.W.Watch.seen c.args.watch.now) (g.W.Watch.watched c.look.new.self) (g.W.Watch.watched c.args.watch.now) (g.W.Watch.watched c.reopen.new.self) c.args.place c.in-Ok-reopen.is_there c.look.ensures.seen c.in-Ok.ensures.same c.in-Ok-reopen.ensures.ok) c.requires.watchable
+catch_up-requires-clause-watchable g c = watchable_there g.W.Watch.told
+    (reopens_as g.W.Watch.told c.look.ensures.seen c.in-Ok.ensures.same c.in-Ok-reopen.ensures.ok) c.requires.watchable
 
 pub returns-clause-leads : goal.returns-clause-leads
 returns-clause-leads g c = leads_there
     (λ t. change_seen g.W.Watch.told (latest (g.W.Watch.seen c.args.watch.now)) (g.W.Watch.watched c.args.watch.now) (g.W.Watch.watched c.look.new.self) c.args.place c.args.name.now c.in-Ok.found c.open_id.result c.change_of.result c.change_of.ensures c.open_id.ensures c.in-Ok.ensures.same c.requires.name c.in-Ok.ensures.ok t ∙ c.in-Some.is)
     (c.in_default-tell.ensures.ends g.W.Watch.told c.args.self.now) (ap latest (c.reopen.ensures.seen ∙ c.look.ensures.seen)) c.requires.watchable
-    (reopens_as g.W.Watch.told (g.W.Watch.seen c.look.new.self) (g.W.Watch.seen c.args.watch.now) (g.W.Watch.watched c.look.new.self) (g.W.Watch.watched c.args.watch.now) (g.W.Watch.watched c.reopen.new.self) c.args.place c.in-Ok-reopen.is_there c.look.ensures.seen c.in-Ok.ensures.same c.in-Ok-reopen.ensures.ok) c.if-not-is_there.false c.requires.name c.catch_up.ensures.catches
+    (reopens_as g.W.Watch.told c.look.ensures.seen c.in-Ok.ensures.same c.in-Ok-reopen.ensures.ok) c.requires.name c.catch_up.ensures.catches

@@ -1,30 +1,22 @@
-use Rattle.std.proofs.Common.{◌≡◌, ◌∙◌, ℕ, List, [], Err, drop, length, subst, true, arith}
+use Rattle.std.proofs.Common.{ap, refl, ◌≡◌, ◌∙◌, ℕ, List, drop, length, subst, true, arith}
 use Rattle.std.proofs.lemmas.Grind.{common_steps}
 use Rattle.std.proofs.lemmas.Result.{IfOk-weaker}
 use Rattle.ends_core.specs.Ends.{tail_of}
 use Rattle.watch_core.specs.Snapshot.{latest}
 use Rattle.watch_core.specs.Watched.{Watched, open_contents, watched_at}
-use Rattle.follow_core.specs.declared.visitor.Stop.TheVariants.{Broke}
-use Rattle.follow_core.specs.Printing.{PrinterState}
 use Rattle.follow_core.specs.inner.Calls.{Keeps}
-use Rattle.follow_core.specs.inner.Giving.{Ends}
-use Rattle.follow_core.proofs.CallLemmas.{broke_first, ends_can}
-use Rattle.follow_core.proofs.FirstLemmas.{start_copied}
+use Rattle.follow_core.proofs.CallLemmas.{broke_first, ends_can, ends_viewed}
 use Rattle.follow_core.proofs.StartLemmas.{contents_same}
 use Rattle.follow_core.proofs.visitor.Visitor.write_start.Goals as goal
 
 pub returns-in-Err-clause-ends : goal.returns-in-Err-clause-ends
-returns-in-Err-clause-ends g c = broke_first _ _ _ _ _ _ _ _
+returns-in-Err-clause-ends g c = broke_first
 
 pub invariant_of-self : goal.invariant_of-self
 invariant_of-self g c = grind (arith, common_steps)
 
 pub returns-in-Err-find-clause-ends : goal.returns-in-Err-find-clause-ends
-returns-in-Err-find-clause-ends g c =
-    let due = tail_of c.args.start.delim c.args.start.unit c.args.start.from_nth c.args.start.count (open_contents (latest (g.W.Watch.seen c.args.watch.now)) (watched_at (g.W.Watch.watched c.args.watch.now) c.args.place)) in
-    let slots = g.O.Outs.slots c.args.outs.now in
-    subst (λ (p : PrinterState). Ends {T = ℕ} g.W.Watch.told g.O.Outs.told p c.args.name.now due [] slots c.self.inside.printer slots (Err (Broke c.in-Err-find.fault))) c.self.view_is
-    (broke_first _ _ _ _ _ _ _ _)
+returns-in-Err-find-clause-ends g c = ends_viewed c.self.view_is (λ t. refl) broke_first
 
 pub invariant_of-self-2 : goal.invariant_of-self-2
 invariant_of-self-2 g c = grind (arith, common_steps)
@@ -32,10 +24,9 @@ invariant_of-self-2 g c = grind (arith, common_steps)
 pub returns-clause-ends : goal.returns-clause-ends
 returns-clause-ends g c =
     let due = tail_of c.args.start.delim c.args.start.unit c.args.start.from_nth c.args.start.count in
-    let same = contents_same (g.W.Watch.seen c.open_len.new.self) (g.W.Watch.seen c.args.watch.now) (g.W.Watch.watched c.open_len.new.self) (g.W.Watch.watched c.args.watch.now) c.args.place c.open_len.ensures.seen c.in-Ok.ensures.same in
-    let found = contents_same (g.W.Watch.seen c.find.new.watch) (g.W.Watch.seen c.open_len.new.self) (g.W.Watch.watched c.find.new.watch) (g.W.Watch.watched c.open_len.new.self) c.args.place c.find.ensures.seen c.in-Ok-find.ensures.same in
-    start_copied due (drop c.in-Ok-find.begin) c.self.view_is same c.in-Ok-find.ensures.part
-    (subst (λ (those : List ℕ). Ends {T = ℕ} g.W.Watch.told g.O.Outs.told c.self.inside.printer c.args.name.now (drop c.in-Ok-find.begin those) [] (g.O.Outs.slots c.args.outs.now) c.copy.new.printer (g.O.Outs.slots c.copy.new.outs) c.copy.result) found c.copy.ensures.ends)
+    let same = contents_same c.args.place c.open_len.ensures.seen c.in-Ok.ensures.same in
+    let found = contents_same c.args.place c.find.ensures.seen c.in-Ok-find.ensures.same in
+    ends_viewed c.self.view_is (λ t. ap (drop c.in-Ok-find.begin) found ∙ c.in-Ok-find.ensures.part t ∙ ap due same) c.copy.ensures.ends
 
 pub returns-clause-len : goal.returns-clause-len
 returns-clause-len g c =
@@ -47,4 +38,4 @@ returns-clause-keeps g c =
     subst (λ (those : List Watched). Keeps {T = ℕ} c.args.place those (g.W.Watch.watched c.copy.new.watch) c.copy.result) (c.in-Ok-find.ensures.same ∙ c.in-Ok.ensures.same) c.copy.ensures.keeps
 
 pub returns-clause-can : goal.returns-clause-can
-returns-clause-can g c = ends_can {T = ℕ} _ _ _ _ _ _ _ _ _ _ c.copy.ensures.ends c.requires.can
+returns-clause-can g c = ends_can {T = ℕ} c.copy.ensures.ends c.requires.can
