@@ -24,7 +24,7 @@ use Rattle.csplit_core.specs.laws.SectionLaws.{part_grows, ends_as}
 use Rattle.csplit_core.specs.Writer.{WriterState, Writes, size_of}
 use Rattle.csplit_core.specs.declared.line_cutter.Cut.{Cut}
 use Rattle.csplit_core.specs.Cutter.{CutterState, suppress_in, state_in, kept_by, text_from, Leads, draft_by, IsFit, IsAt}
-use Rattle.csplit_core.specs.inner.Cutter.{settled_part, part_at, search_after, CutsNow, PassesOn, IsAfter, CutAt, CutsAll, WillCut, IsEnd}
+use Rattle.csplit_core.specs.inner.Cutter.{settled_part, part_at, search_after, CutsNow, WentOn, PassesCut, IsAfter, CutAt, CutsAll, WillCut, IsEnd}
 use Rattle.csplit_core.proofs.HoldLemmas.{lacks_memory}
 use Rattle.csplit_core.proofs.WholeLemmas.{after_within}
 use Rattle.csplit_core.proofs.LineLemmas.{bytes_between, first_further, from_further}
@@ -127,22 +127,14 @@ pub cut_stopped : {told : Bool} {cutter next : CutterState} {cut : Cut} {place :
 cut_stopped {cutter = cutter} operands leaves reaches =
     record { keeps = record { operands = operands; writer = leaves }; reaches = λ x at now. reaches_as refl (ap (settled_part cutter) (append-nil x)) (reaches x at now); went = tt }
 
--- the run went on after the cut
-pub record Passed (cutter mid : CutterState) (writer : WriterState) (cut : Cut) : Type 0 where
-  pub same : mid ≡ record cutter { writer = writer; progress = mid.progress; window = mid.window; sought = mid.sought }
-  pub held : mid.window.held ≡ []
-  pub fit : IsFit mid
-  pub fewer : needed mid.lines (state_in mid) < needed cutter.lines (state_in cutter)
-  pub state : PassesOn (record cutter { writer = writer }) cut mid
-
 goes_here : {told : Bool} {cutter start : CutterState} {writer : WriterState} {before : List ℕ} {old new : List Slot} {fault : Option Fault} → start ≡ cutter → Goes told start.writer (with_bytes before) old new writer fault → Goes told cutter.writer (with_bytes before) old new writer fault
 goes_here {told} {writer = writer} {before} {old} {new} {fault} same goes = subst (λ (c : CutterState). Goes told c.writer (with_bytes before) old new writer fault) same goes
 
 -- where the run stands after the cut
-passed_state : {told : Bool} {cutter start mid : CutterState} {writer : WriterState} {cut : Cut} {before : List ℕ} {old new : List Slot} → start ≡ cutter → Goes told start.writer (with_bytes before) old new writer None → Passed start mid writer cut
+passed_state : {told : Bool} {cutter start mid : CutterState} {writer : WriterState} {cut : Cut} {before : List ℕ} {old new : List Slot} → start ≡ cutter → Goes told start.writer (with_bytes before) old new writer None → WentOn (record start { writer = writer }) cut mid
     → {operand : Operand} {operands : List Operand} → (state_in cutter).operands ≡ operand ∷ operands → state_in mid ≡ state_after (suppress_in cutter) operand operands cutter.progress.repetition cut.matched cut.line
 passed_state {cutter = cutter} {mid = mid} {writer} {cut} same goes passed {operand} {operands} are =
-    let here = subst (λ c. Passed c mid writer cut) same passed in
+    let here = subst (λ (c : CutterState). WentOn (record c { writer = writer }) cut mid) same passed in
     here.state operand operands are ∙ ap (λ (s : Style). state_after s.suppress operand operands cutter.progress.repetition cut.matched cut.line) (goes_here same goes).leaves.style
 
 -- a cut of this cutter, which is known by its fields too, is due, and stands after these bytes of the lines that are left
@@ -153,7 +145,7 @@ module _ {cutter start : CutterState} {cut : Cut} {place : ℕ} {left before : L
       (λ x at now. stops_wider (stopped.reaches (draft_at cutter x left at) at.writes) (before_begins line cut now fit will before_is))
 
   pub cut_pass_stopped : {told : Bool} {mid : CutterState} {writer : WriterState} {old new : List Slot} {fault : Fault} (line : List ℕ) → Goes told start.writer (with_bytes before) old new writer None
-      → (fault ≡ Memory) × (mid.writer ≡ writer) × (mid.operands ≡ start.operands) → CutsAll told cutter cut place left line [] old new mid (Some fault)
+      → PassesCut (record start { writer = writer }) cut mid (Some fault) → CutsAll told cutter cut place left line [] old new mid (Some fault)
   cut_pass_stopped {told} {mid} {writer} {old} {new} line goes (is_memory, same_writer, same_operands) =
       let went = subst (λ w. Goes told cutter.writer (with_bytes before) old new w None) (sym same_writer) (goes_here same goes) in
       subst (λ why. CutsAll told cutter cut place left line [] old new mid (Some why)) (sym is_memory)
@@ -161,7 +153,7 @@ module _ {cutter start : CutterState} {cut : Cut} {place : ℕ} {left before : L
       (λ x at now. let draft = draft_at cutter x left at in reaches_again (bytes_begin cutter.writer.style before draft) (went.reaches draft at.writes)
       (stops_wider (lacks_memory cutter.writer.style (with_bytes before draft) at.writes.closed) (before_begins line cut now fit will before_is))))
 
-  pub cut_next_stopped : {told : Bool} {mid now : CutterState} {writer next : WriterState} {kept : Bool} {old between new : List Slot} {fault : Fault} (line : List ℕ) → Goes told start.writer (with_bytes before) old between writer None → now ≡ mid → Passed start mid writer cut
+  pub cut_next_stopped : {told : Bool} {mid now : CutterState} {writer next : WriterState} {kept : Bool} {old between new : List Slot} {fault : Fault} (line : List ℕ) → Goes told start.writer (with_bytes before) old between writer None → now ≡ mid → WentOn (record start { writer = writer }) cut mid
       → kept ≡ kept_by (state_in now).operands → Goes told now.writer (with_section kept) between new next (Some fault) → CutsAll told cutter cut place left line [] old new (record now { writer = next }) (Some fault)
   cut_next_stopped {told} {mid} {now} {writer} {next} {kept} {old} {between} {new} {fault} line goes same_mid passed kept_is stops =
       let went = goes_here same goes in
@@ -201,7 +193,7 @@ end_of false left all n all_is skipped whole = (first_lines newline n left, sym 
 
 module _ {told : Bool} {cutter mid : CutterState} {writer next : WriterState} {cut : Cut} {place : ℕ} {left before rest : List ℕ} (all : List ℕ) {kept : Bool} {old between new : List Slot} (fit : IsFit cutter) (will : WillCut cutter cut)
     (before_is : before ≡ first_lines newline (cut.line - place) left) (all_is : all ≡ after_lines newline (cut.line - place) left) (skipped : next.style.suppress ≡ true → rest ≡ after_lines newline 1 all) (whole : next.style.suppress ≡ false → rest ≡ all)
-    (went : Goes told cutter.writer (with_bytes before) old between writer None) (passed : Passed cutter mid writer cut) (kept_is : kept ≡ kept_by (state_in mid).operands) (second : Goes told writer (with_section kept) between new next None) where
+    (went : Goes told cutter.writer (with_bytes before) old between writer None) (passed : WentOn (record cutter { writer = writer }) cut mid) (kept_is : kept ≡ kept_by (state_in mid).operands) (second : Goes told writer (with_section kept) between new next None) where
   after_at : {x : List ℕ} (line : List ℕ) {at : IsAt cutter x left} (now : CutsNow cutter x left line cut place at) → IsAfter told cutter x line (record mid { writer = next }) rest (part_at cutter x left at) old new
   after_at {x} line {at} now =
       let style_is : next.style ≡ cutter.writer.style = second.leaves.style ∙ went.leaves.style in
@@ -267,9 +259,9 @@ module _ {told : Bool} {cutter mid : CutterState} {writer next : WriterState} {c
 -- The same of a cutter that is known by its fields.
 pub cut_done : {told : Bool} {cutter start mid now : CutterState} {writer next : WriterState} {cut : Cut} {place : ℕ} {left before rest : List ℕ} (all : List ℕ) {kept : Bool} {old between new : List Slot} → start ≡ cutter → IsFit cutter → WillCut cutter cut
     → before ≡ first_lines newline (cut.line - place) left → all ≡ after_lines newline (cut.line - place) left → (next.style.suppress ≡ true → rest ≡ after_lines newline 1 all) → (next.style.suppress ≡ false → rest ≡ all)
-    → Goes told start.writer (with_bytes before) old between writer None → now ≡ mid → Passed start mid writer cut → kept ≡ kept_by (state_in now).operands → Goes told now.writer (with_section kept) between new next None → size_of next.current ≡ 0 → length rest ≤ length left
+    → Goes told start.writer (with_bytes before) old between writer None → now ≡ mid → WentOn (record start { writer = writer }) cut mid → kept ≡ kept_by (state_in now).operands → Goes told now.writer (with_section kept) between new next None → size_of next.current ≡ 0 → length rest ≤ length left
     → CutAt told cutter cut place left old new (record now { writer = next }) rest
 cut_done {told} {cutter} {mid = mid} {writer = writer} {next} {cut} {place} {left} {rest = rest} all {kept} {old} {between} {new} same fit will before_is all_is skipped whole goes same_mid passed kept_is second empty shorter =
     subst (λ (m : CutterState). CutAt told cutter cut place left old new (record m { writer = next }) rest) (sym same_mid)
-    (cut_went all fit will before_is all_is skipped whole (goes_here same goes) (subst (λ c. Passed c mid writer cut) same passed)
+    (cut_went all fit will before_is all_is skipped whole (goes_here same goes) (subst (λ (c : CutterState). WentOn (record c { writer = writer }) cut mid) same passed)
     (kept_is ∙ ap (λ (m : CutterState). kept_by (state_in m).operands) same_mid) (subst (λ w. Goes told w (with_section kept) between new next None) (ap (λ (c : CutterState). c.writer) (same_mid ∙ passed.same)) second) empty shorter)

@@ -1,5 +1,5 @@
 -- What a turn says of the plan, and how a run goes on after a cut.
-use Rattle.std.proofs.Common.{◌≡◌, inl, inr, ℕ, zero, suc, ◌+◌, ◌-◌, ◌*◌, ◌^◌, ◌<◌, ◌≤◌, Bool, true, false, List, [], ◌∷◌, length, drop, get_or, refl, sym, ◌∙◌, ap, subst, arith, Result, Ok, Err, OnOk}
+use Rattle.std.proofs.Common.{◌≡◌, inl, inr, ℕ, zero, suc, ◌+◌, ◌-◌, ◌*◌, ◌^◌, ◌<◌, ◌≤◌, Bool, true, false, List, [], ◌∷◌, length, drop, get_or, refl, sym, ◌∙◌, ap, subst, arith, Option, Some, None, Result, Ok, Err, OnOk, IfErr}
 use Rattle.std.specs.Prelude.{min}
 use Rattle.std.proofs.lemmas.Bool.{cases_lt}
 use Rattle.std.proofs.Math.Nat.{min-eq_left, min-eq_right}
@@ -21,8 +21,10 @@ use Rattle.csplit_core.specs.laws.SectionLaws.{front_of}
 use Rattle.ports_core.specs.declared.fault.Fault.{Fault}
 use Rattle.csplit_core.specs.Input.{newline}
 use Rattle.csplit_core.specs.declared.line_cutter.Cut.{Cut}
-use Rattle.csplit_core.specs.Cutter.{CutterState, state_in, most_by, pattern_by, IsFit}
-use Rattle.csplit_core.specs.inner.Cutter.{WillCut}
+use Rattle.csplit_core.specs.Cutter.{CutterState, state_in, most_by, pattern_by, suppress_in, IsFit}
+use Rattle.csplit_core.specs.inner.Cutter.{WillCut, PassesOn, WentOn, PassesCut}
+use Rattle.csplit_core.specs.inner.Writer.{fault_in}
+use Rattle.ports_core.specs.declared.fault.Fault.TheVariants.{Memory}
 use Rattle.csplit_core.specs.declared.progress.Turn.TheVariants as turn_is
 
 -- What a turn says of the plan.
@@ -178,42 +180,44 @@ passed suppress operands {total} old new {operand} {matched} cut fits moves is h
           (fewer_moves suppress total (state_of operands old) matched cut are at (let some : 1 ≤ old.current = fits.some in let least : old.current ≤ cut = on.6 in omega (arith, some, least)) on.7),
     )
 
--- Going on after a cut.
+-- Going on after a cut, of a cutter that is known by its fields too.
 
--- what is so of the state after a cut
-abbrev pub IsOn : CutterState → Progress → Type 0
-IsOn cutter progress = Fits cutter.lines (state_of cutter.operands progress) × (needed cutter.lines (state_of cutter.operands progress) < needed cutter.lines (state_in cutter))
+module _ {cutter before : CutterState} {cut : Cut} {operand : Operand} (progress : Progress) {suppress : Rattle.std.specs.Prelude.Bool} (same : before ≡ cutter) (by : suppress ≡ suppress_in before) (fit : IsFit cutter) (none : cutter.window.held ≡ []) (will : WillCut cutter cut)
+    (here : operand ≡ get_or before.operands before.progress.done operand)
+    (next : (operands rest : List Operand) → drop before.progress.done operands ≡ operand ∷ rest → state_of operands progress ≡ state_after suppress operand rest before.progress.repetition cut.matched cut.line) where
+  fit' : IsFit before
+  fit' = subst IsFit (sym same) fit
 
-pub goes_on_by : {cutter before : CutterState} (cut : Cut) {operand : Operand} (progress : Progress) (suppress : Rattle.std.specs.Prelude.Bool) → before ≡ cutter → IsFit cutter → WillCut cutter cut → operand ≡ get_or before.operands before.progress.done operand
-    → ((operands rest : List Operand) → drop before.progress.done operands ≡ operand ∷ rest → state_of operands progress ≡ state_after suppress operand rest before.progress.repetition cut.matched cut.line) → IsOn before progress
-goes_on_by {before} cut progress suppress same fit will here next =
-    let will' = subst (λ (c : CutterState). WillCut c cut) (sym same) will in
-    let fit' = subst IsFit (sym same) fit in
-    passed suppress before.operands before.progress progress cut.line fit'.fits
-    (will'.operand, will'.operands, will'.some, will'.left, will'.moves, will'.matched, will'.from, will'.within) refl here (next before.operands)
+  on : Fits before.lines (state_of before.operands progress) × (needed before.lines (state_of before.operands progress) < needed before.lines (state_in before))
+  on = let will' = subst (λ (c : CutterState). WillCut c cut) (sym same) will in
+      passed suppress before.operands before.progress progress cut.line fit'.fits
+      (will'.operand, will'.operands, will'.some, will'.left, will'.moves, will'.matched, will'.from, will'.within) refl here (next before.operands)
 
--- the same operand is performed again
-pub fit_again : {cutter before : CutterState} {progress : Progress} → before ≡ cutter → IsFit cutter → IsOn before progress → progress.done ≡ before.progress.done → IsFit (record before { progress = progress })
-fit_again {before} same fit on done =
-    let fit' = subst IsFit (sym same) fit in record {
+  state : PassesOn before cut (record before { progress = progress })
+  state one more are =
+      let will' = subst (λ (c : CutterState). WillCut c cut) (sym same) will in
+      let e : operand ≡ one = front_of operand one (sym (left_is before.operands before.progress.done will'.some here) ∙ are) in
+      subst (λ o. state_of before.operands progress ≡ state_after suppress o more before.progress.repetition cut.matched cut.line) e (next before.operands more (subst (λ o. drop before.progress.done before.operands ≡ o ∷ more) (sym e) are))
+      ∙ ap (λ s. state_after s one more before.progress.repetition cut.matched cut.line) by
+
+  -- the same operand is performed again
+  pub passes_again : progress.done ≡ before.progress.done → PassesCut cutter cut (record before { progress = progress }) None
+  passes_again done = subst (λ c. WentOn c cut (record before { progress = progress })) same (record {
+    same = refl;
+    held = ap (λ (c : CutterState). c.window.held) same ∙ none;
+    fit = record {
       fits = on.0;
       most = fit'.most ∙ ap (λ at. most_by (drop at before.operands)) (sym done);
       delim = fit'.delim;
       sought = fit'.sought ∙ ap (λ at. pattern_by (drop at before.operands)) (sym done);
-    }
+    };
+    fewer = on.1;
+    state = state;
+  })
 
--- the next operand has got what it needs
-pub fit_next : {cutter before : CutterState} (new : CutterState) (progress : Progress) (result : Result (Unit {0}) Fault) → before ≡ cutter → IsOn before progress
-    → OnOk result (new ≡ record before { progress = progress; window = record { most = most_by (drop progress.done before.operands); delim = newline; held = [] }; sought = pattern_by (drop progress.done before.operands) })
-    → OnOk result (IsFit new)
-fit_next new progress (Ok done) same on is = subst IsFit (sym is) (record { fits = on.0; most = refl; delim = refl; sought = refl })
-fit_next new progress (Err fault) same on is = tt
-
-pub fewer_again : {cutter before : CutterState} (progress : Progress) → before ≡ cutter → IsOn before progress → needed before.lines (state_of before.operands progress) < needed cutter.lines (state_in cutter)
-fewer_again {before} progress same on = subst (λ (c : CutterState). needed before.lines (state_of before.operands progress) < needed c.lines (state_in c)) same on.1
-
-pub fewer_next : {cutter before : CutterState} (new : CutterState) (progress : Progress) (result : Result (Unit {0}) Fault) → before ≡ cutter → IsOn before progress
-    → OnOk result (new ≡ record before { progress = progress; window = record { most = most_by (drop progress.done before.operands); delim = newline; held = [] }; sought = pattern_by (drop progress.done before.operands) })
-    → OnOk result (needed new.lines (state_in new) < needed cutter.lines (state_in cutter))
-fewer_next {cutter} new progress (Ok done) same on is = subst (λ (c : CutterState). needed c.lines (state_in c) < needed cutter.lines (state_in cutter)) (sym is) (fewer_again progress same on)
-fewer_next new progress (Err fault) same on is = tt
+  -- the next operand has got what it needs
+  pub passes_next : (new : CutterState) (result : Result (Unit {0}) Fault)
+      → OnOk result (new ≡ record before { progress = progress; window = record { most = most_by (drop progress.done before.operands); delim = newline; held = [] }; sought = pattern_by (drop progress.done before.operands) })
+      → IfErr result (λ fault. (fault ≡ Memory) × (new.writer ≡ before.writer) × (new.operands ≡ before.operands)) → PassesCut cutter cut new (fault_in result)
+  passes_next new (Ok done) is lacks = subst (λ c. WentOn c cut new) same (subst (WentOn before cut) (sym is) (record { same = refl; held = refl; fit = record { fits = on.0; most = refl; delim = refl; sought = refl }; fewer = on.1; state = state }))
+  passes_next new (Err fault) is lacks = subst (λ c. PassesCut c cut new (Some fault)) same lacks
