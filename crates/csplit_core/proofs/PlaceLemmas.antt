@@ -12,7 +12,7 @@ use Rattle.csplit_core.specs.Agreed.{CanCome}
 use Rattle.csplit_core.specs.Place.{Place, in_section, left_out, nowhere, place_from, place_of, IsUndecided, is_in, lines_into, ArePlaced}
 use Rattle.csplit_core.specs.laws.PlanLaws.{run_once, line_some, cuts_still, plan_runs, plan_once, goes_on, from_not_less, less_test, not_less_test}
 use Rattle.csplit_core.specs.inner.PlanLaws.{EndsAs}
-use Rattle.csplit_core.specs.laws.SectionLaws.{ends_as, are_within, plan_goes_on, missed_cut, front_of, none_there, cut_once, cuts_or_misses}
+use Rattle.csplit_core.specs.laws.SectionLaws.{ends_as, are_within, plan_goes_on, cuts_from, settled_most}
 use Rattle.csplit_core.proofs.AgreedLemmas.{search_within, search_at_start, matching_line, none_comes, matching_comes, Turned, too_low, turns, turned}
 use Rattle.csplit_core.proofs.WholeLemmas.{between_rest, after_within}
 
@@ -63,39 +63,18 @@ place_after {suppress} run total index line more how from = ap (λ i. place_from
 in_rest : (total : ℕ) {index : ℕ} (line : ℕ) (how : Ending) → line < whole_end total how → cond (nat_lt line (whole_end total how)) (in_section index) nowhere ≡ in_section index
 in_rest total {index} line how less = ap (λ b. cond b (in_section index) nowhere) (less_test line (whole_end total how) less)
 
-settled_with : {suppress : Bool} (a b : List Line) {first : State} {operand : Operand} {operands : List Operand} (past : ℕ) → past ≤ suc (length a) → first.operands ≡ operand ∷ operands
-    → ((matched cut : ℕ) → CutsAt suppress (a ++ b) first operand operand.target matched cut → past ≤ cut)
-    → (more : List Step) (end : State) {how : Ending} → Runs suppress (a ++ b) first more end how
-    → {index : ℕ} (line : ℕ) → first.current ≤ line → line < past → place_from suppress (length (a ++ b)) index more how line ≡ in_section index
-settled_with a b {operand} past within is cut_at more end (is_used_up state none) line from before = absurd (none_there operand (sym none ∙ is))
-settled_with a b past within is cut_at more end (misses state operand' operands' are none) line from before =
-    in_rest (length (a ++ b)) line (missed operand' state.repetition) (let e : length (a ++ b) ≡ length a + length b = length-append a b in omega (arith, e, before, within))
-settled_with a b past within is cut_at more end (is_above state operand' operands' matched cut are at far) line from before =
-    in_rest (length (a ++ b)) line (above operand' state.repetition matched cut) (let e : length (a ++ b) ≡ length a + length b = length-append a b in omega (arith, e, before, within))
-settled_with {suppress} a b {operand} past within is cut_at more end (is_below state operand' operands' matched cut are at in_lines low) line from before =
-    let same = front_of operand operand' (sym is ∙ are) in
-    let most : past ≤ cut = cut_at matched cut (subst (λ o. CutsAt suppress (a ++ b) state o o.target matched cut) (sym same) at) in absurd (omega (arith, most, low, from, before))
-settled_with {suppress} a b {operand} past within is cut_at more end (cuts state operand' operands' matched cut steps' last' ending' are at least in_lines rest) {index} line from before =
-    let same = front_of operand operand' (sym is ∙ are) in
-    let most : past ≤ cut = cut_at matched cut (subst (λ o. CutsAt suppress (a ++ b) state o o.target matched cut) (sym same) at) in
-    ap (λ has. cond has (in_section index) (cond (suppress && nat_le line cut) (left_out index) (place_from suppress (length (a ++ b)) (index + 1) steps' ending' line))) (less_test line cut (omega (arith, most, before)))
-
-settled_used_up : {suppress : Bool} (a b : List Line) {first : State} → 1 ≤ first.current → first.operands ≡ [] → (more : List Step) (end : State) {how : Ending} → Runs suppress (a ++ b) first more end how
-    → {index : ℕ} (line : ℕ) → line ≤ length a → place_from suppress (length (a ++ b)) index more how line ≡ in_section index
-settled_used_up {suppress} a b {first} some is more end run {index} line within =
-    ap (λ (p : Plan). place_from suppress (length (a ++ b)) index p.steps p.ending line) (run_once some (is_used_up first is) run)
-    ∙ in_rest (length (a ++ b)) line used_up (let e : length (a ++ b) ≡ length a + length b = length-append a b in omega (arith, e, within))
-
-settled_place : {suppress : Bool} (a b : List Line) {last : State} (ending : Ending) → 1 ≤ last.current → EndsAs suppress a last ending → (more : List Step) (end : State) {how : Ending} → Runs suppress (a ++ b) last more end how
-    → {index : ℕ} (line : ℕ) → last.current ≤ line → line ≤ length a → line < settled_end (length a) ending → place_from suppress (length (a ++ b)) index more how line ≡ in_section index
-settled_place a b used_up some is more end rest line from within before = settled_used_up a b some is more end rest line within
-settled_place {suppress} a b {last} (missed operand repetition) some (operands, is, none) more end rest line from within before =
-    settled_with a b (suc (length a) - most_held operand.target) (omega arith) is (missed_cut suppress a b last operand operand.target none) more end rest line from before
-settled_place {suppress} a b {last} (above operand repetition matched cut) some (operands, is, at, far) more end rest line from within before =
-    settled_with a b (suc (length a)) (omega arith) is
-    (λ matched' cut' at'. let same : cut ≡ cut' = (cut_once suppress (a ++ b) last operand operand.target cut (cuts_still suppress a b last operand operand.target matched cut at) at').1 in omega (arith, far, same))
-    more end rest line from before
-settled_place a b (below operand repetition) some is more end rest line from within before = absurd (omega (arith, before))
+settled_place : {suppress : Bool} (a b : List Line) {last : State} (ending : Ending) → EndsAs suppress a last ending → (more : List Step) (end : State) {how : Ending} → Runs suppress (a ++ b) last more end how
+    → {index : ℕ} (line : ℕ) → last.current ≤ line → line < settled_end (length a) ending → place_from suppress (length (a ++ b)) index more how line ≡ in_section index
+settled_place a b ending ends more end (is_used_up state none) line from before = in_rest (length (a ++ b)) line used_up (omega (arith, length-append a b, settled_most (length a) ending, before))
+settled_place a b ending ends more end (misses state operand operands are none) line from before =
+    in_rest (length (a ++ b)) line (missed operand state.repetition) (omega (arith, length-append a b, settled_most (length a) ending, before))
+settled_place a b ending ends more end (is_above state operand operands matched cut are at far) line from before =
+    in_rest (length (a ++ b)) line (above operand state.repetition matched cut) (omega (arith, length-append a b, settled_most (length a) ending, before))
+settled_place {suppress} a b ending ends more end (is_below state operand operands matched cut are at in_lines low) line from before =
+    let so = cuts_from suppress a b state ending ends are in let past = so.1 matched cut at in absurd (omega (arith, past, low, from, before))
+settled_place {suppress} a b ending ends more end (cuts state operand operands matched cut steps' last' ending' are at least in_lines rest) {index} line from before =
+    let so = cuts_from suppress a b state ending ends are in let past = so.1 matched cut at in
+    ap (λ has. cond has (in_section index) (cond (suppress && nat_le line cut) (left_out index) (place_from suppress (length (a ++ b)) (index + 1) steps' ending' line))) (less_test line cut (omega (arith, past, before)))
 
 -- where the cut is below the current line all lines go nowhere
 
@@ -113,11 +92,11 @@ WaitsAt total plan line = (is_final plan.ending ≡ false) × (plan.last.current
 
 decided_by : (suppress : Bool) (a b : List Line) {last : State} (ending : Ending) → 1 ≤ last.current → EndsAs suppress a last ending → (line : ℕ) → last.current ≤ line → line ≤ length a → ((is_final ending ≡ false) → settled_end (length a) ending ≤ line → ⊥)
     → (index : ℕ) (more : List Step) (end : State) {how : Ending} → Runs suppress (a ++ b) last more end how → place_from suppress (length (a ++ b)) index more how line ≡ cond (is_final ending) nowhere (in_section index)
-decided_by suppress a b (missed operand repetition) some is line from within not index more end rest = settled_place a b (missed operand repetition) some is more end rest line from within
+decided_by suppress a b (missed operand repetition) some is line from within not index more end rest = settled_place a b (missed operand repetition) is more end rest line from
     (elim (cases_lt line (suc (length a) - most_held operand.target)) [ inl less ↦ less | inr beyond ↦ absurd (not refl beyond) ])
 decided_by suppress a b {last} (below operand repetition) some (operands, matched, cut, is, at, in_lines, low) line from within not index more end rest =
     nowhere_by matched cut is (cuts_still suppress a b last operand operand.target matched cut at) (let e : length (a ++ b) ≡ length a + length b = length-append a b in omega (arith, e, in_lines)) low more end rest index line
-decided_by suppress a b ending some is line from within not index more end rest = settled_place a b ending some is more end rest line from within (omega (arith, within))
+decided_by suppress a b ending some is line from within not index more end rest = settled_place a b ending is more end rest line from (omega (arith, within))
 
 place_here : (suppress : Bool) (operands : List Operand) (x y : List Line) (line : ℕ) → 1 ≤ line → line ≤ length x → (WaitsAt (length x) (plan suppress operands x) line → ⊥) → place_of suppress operands (x ++ y) line ≡ place_of suppress operands x line
 place_here suppress operands x y line some within not =

@@ -21,7 +21,7 @@ use Rattle.seg_core.proofs.EndLines.{line_count-grows}
 use Rattle.csplit_core.specs.inner.Progress.{GoesPast}
 use Rattle.csplit_core.specs.Progress.{AimsAt}
 use Rattle.csplit_core.specs.Section.{is_final, most_waiting, settled_end}
-use Rattle.csplit_core.specs.laws.SectionLaws.{ends_as, front_of, none_there, missed_cut, cut_once, grows}
+use Rattle.csplit_core.specs.laws.SectionLaws.{ends_as, cuts_from, grows}
 use Rattle.csplit_core.specs.Writer.{Writes, IsReady, size_of}
 use Rattle.csplit_core.specs.declared.line_cutter.Cut.{Cut}
 use Rattle.csplit_core.specs.declared.progress.Turn.{Turn}
@@ -35,23 +35,6 @@ use Rattle.csplit_core.proofs.StayLemmas.{EndsStill, stays}
 use Rattle.csplit_core.specs.declared.line_cutter.Passed.{Passed}
 
 -- Taking lines in.
-
--- What is settled stands before each cut of the next operand.
-settled_before : (suppress : Bool) (a b : List Line) (state : State) (ending : Ending) {operand : Operand} {operands : List Operand} (matched cut : ℕ) → EndsAs suppress a state ending → is_final ending ≡ false → state.operands ≡ operand ∷ operands → CutsAt suppress (a ++ b) state operand operand.target matched cut
-    → settled_end (length a) ending ≤ suc (length a) → settled_end (length a) ending ≤ cut
-settled_before suppress a b state used_up {operand} matched cut ends live are at most = absurd (none_there operand (sym ends ∙ are))
-settled_before suppress a b state (missed operand' repetition) {operand} matched cut (operands', is, none) live are at most =
-    let same = front_of operand' operand (sym is ∙ are) in
-    missed_cut suppress a b state operand' operand'.target none matched cut (subst (λ (o : Operand). CutsAt suppress (a ++ b) state o o.target matched cut) (sym same) at)
-settled_before suppress a b state (above operand' repetition matched' cut') {operand} matched cut (operands', is, at', far) live are at most =
-    let same = front_of operand' operand (sym is ∙ are) in
-    let one : cut' ≡ cut = (cut_once suppress (a ++ b) state operand' operand'.target cut' (cuts_still suppress a b state operand' operand'.target matched' cut' at') (subst (λ (o : Operand). CutsAt suppress (a ++ b) state o o.target matched cut) (sym same) at)).1 in
-    omega (arith, one, far, most)
-settled_before suppress a b state (below operand' repetition) matched cut ends live are at most = absurd (false≢true (sym live))
-
-settled_most : (total : ℕ) (ending : Ending) → is_final ending ≡ false → settled_end total ending ≤ suc total
-settled_most total used_up live = omega arith
-settled_most total _ live = omega arith
 
 -- a step of the plan is a cut
 
@@ -77,7 +60,7 @@ place_before {cutter} {x} t {matched} cut live whole goes fit from =
     let at = subst (λ lines. CutsAt (suppress_in cutter) lines (state_in cutter) goes.operand goes.operand.target matched cut) (all_lines-append t whole)
     (goes_cuts cut goes (let s = fit.fits.some in omega (arith, s, from))) in
     let count : length (all_lines x) ≡ cutter.lines = length-all_lines x ∙ sym live.at.counted in
-    let before = settled_before (suppress_in cutter) (all_lines x) (all_lines t) (state_in cutter) live.ends.ending matched cut ends live.live goes.are at (settled_most (length (all_lines x)) live.ends.ending live.live) in
+    let so = cuts_from (suppress_in cutter) (all_lines x) (all_lines t) (state_in cutter) live.ends.ending ends goes.are in let before = so.1 matched cut at in
     taken_before cutter.lines cutter.progress.current live.at.taken (most_waiting live.ends.ending) (settled_end cutter.lines live.ends.ending) cut live.settled (settled_count cutter.lines cutter.progress.current live.ends.ending live.live)
     (subst (λ n. settled_end n live.ends.ending ≤ cut) count before) from
 
@@ -92,8 +75,8 @@ low_none {cutter} {x} t live whole fit (below operand repetition) run past =
           let runs_here = runs_to live.at live.ends in
           let ends = ends_as (suppress_in cutter) (all_lines x) (start cutter.operands) live.at.steps (state_in cutter) live.ends.ending runs_here in
           let count : length (all_lines x) ≡ cutter.lines = length-all_lines x ∙ sym live.at.counted in
-          let before = settled_before (suppress_in cutter) (all_lines x) (all_lines t) (state_in cutter) live.ends.ending matched cut ends live.live are
-          (subst (λ lines. CutsAt (suppress_in cutter) lines (state_in cutter) operand operand.target matched cut) (all_lines-append t whole) at) (settled_most (length (all_lines x)) live.ends.ending live.live) in
+          let so = cuts_from (suppress_in cutter) (all_lines x) (all_lines t) (state_in cutter) live.ends.ending ends are in
+          let before = so.1 matched cut (subst (λ lines. CutsAt (suppress_in cutter) lines (state_in cutter) operand operand.target matched cut) (all_lines-append t whole) at) in
           let e : settled_end cutter.lines live.ends.ending ≤ cut = subst (λ n. settled_end n live.ends.ending ≤ cut) count before in
           let s = settled_count cutter.lines cutter.progress.current live.ends.ending live.live in
           let t' : live.at.taken ≡ cutter.lines + 1 - cutter.progress.current - most_waiting live.ends.ending = live.settled in omega (arith, e, s, t', low)
