@@ -28,7 +28,7 @@ use Rattle.csplit_core.specs.declared.progress.Turn.{Turn}
 use Rattle.csplit_core.specs.declared.progress.Turn.TheVariants.{Below}
 use Rattle.csplit_core.specs.Cutter.{CutterState, suppress_in, state_in, settled_draft, draft_by, AimHolds, IsFit, IsSound, IsAt, IsLive, IsPast, Stands, EndsNow, kept_by, load}
 use Rattle.csplit_core.specs.inner.Cutter.{settled_part, part_at, IsWhole, IsLine, Arrives, Held, Holds, CutsNow, CutsAll, WillCut, TriesNext, search_after, Takes, IsNextFound, Stretches}
-use Rattle.csplit_core.proofs.CutterLemmas.{runs_to, at_more, part_more, live_part, left_count, few_taken, settled_count, settled_part_is, most_is, aims_past, draft_is, final_count, ended_still, keeps_on, settled_same}
+use Rattle.csplit_core.proofs.CutterLemmas.{runs_to, at_more, part_more, live_part, left_count, few_taken, live_taken, settled_part_is, most_is, aims_past, draft_is, final_count, ended_still, keeps_on, settled_same}
 use Rattle.csplit_core.proofs.LineLemmas.{all_lines-append, all_lines-line, length-all_lines, count-line, whole_count, whole_from, whole-append, whole_drop, rest_all}
 use Rattle.csplit_core.proofs.WriterLemmas.{leaves_still, reaches_as, reaches_still, where_well, reaches_again, stops_wider}
 use Rattle.csplit_core.proofs.StayLemmas.{EndsStill, stays}
@@ -50,19 +50,16 @@ goes_cuts {suppress} {lines} {state} {matched} cut goes some =
 
 -- The lines that were left begin no later than a cut.
 
-taken_before : (total current taken most ending_at cut : ℕ) → taken ≡ total + 1 - current - most → total + 1 - current - most ≡ ending_at - current → ending_at ≤ cut → current ≤ cut → current + taken ≤ cut
-taken_before total current taken most ending_at cut taken_is is before from = omega (arith, taken_is, is, before, from)
+live_before : {cutter : CutterState} {x : List ℕ} (t : List ℕ) (live : IsLive cutter x) {operand : Operand} {operands : List Operand} (matched cut : ℕ) → (state_in cutter).operands ≡ operand ∷ operands
+    → CutsAt (suppress_in cutter) (all_lines x ++ all_lines t) (state_in cutter) operand operand.target matched cut → settled_end (line_count newline x) live.ends.ending ≤ cut
+live_before {cutter} {x} t live matched cut are at =
+    let so = cuts_from (suppress_in cutter) (all_lines x) (all_lines t) (state_in cutter) live.ends.ending (ends_as _ _ _ _ _ _ live.ends.runs) are in
+    subst (λ n. settled_end n live.ends.ending ≤ cut) (length-all_lines x) (so.1 matched cut at)
 
 pub place_before : {cutter : CutterState} {x : List ℕ} (t : List ℕ) {matched : ℕ} (cut : ℕ) (live : IsLive cutter x) → IsWhole x → (goes : GoesPast (suppress_in cutter) (all_lines (x ++ t)) (state_in cutter) matched cut) → IsFit cutter → cutter.progress.current ≤ cut → cutter.progress.current + live.at.taken ≤ cut
 place_before {cutter} {x} t {matched} cut live whole goes fit from =
-    let runs_here = runs_to live.at live.ends in
-    let ends = ends_as (suppress_in cutter) (all_lines x) (start cutter.operands) live.at.steps (state_in cutter) live.ends.ending runs_here in
     let at = subst (λ lines. CutsAt (suppress_in cutter) lines (state_in cutter) goes.operand goes.operand.target matched cut) (all_lines-append t whole)
-    (goes_cuts cut goes (let s = fit.fits.some in omega (arith, s, from))) in
-    let count : length (all_lines x) ≡ cutter.lines = length-all_lines x ∙ sym live.at.counted in
-    let so = cuts_from (suppress_in cutter) (all_lines x) (all_lines t) (state_in cutter) live.ends.ending ends goes.are in let before = so.1 matched cut at in
-    taken_before cutter.lines cutter.progress.current live.at.taken (most_waiting live.ends.ending) (settled_end cutter.lines live.ends.ending) cut live.settled (settled_count cutter.lines cutter.progress.current live.ends.ending live.live)
-    (subst (λ n. settled_end n live.ends.ending ≤ cut) count before) from
+    (goes_cuts cut goes (let s = fit.fits.some in omega (arith, s, from))) in omega (arith, live_taken live, live_before t live matched cut goes.are at, from)
 
 -- What arrives where more lines came.
 
@@ -72,14 +69,8 @@ low_none {cutter} {x} t live whole fit (below operand repetition) run past =
     by here.0 here.1 here.2 here.3 here.4 here.6 where
       by : (operands : List Operand) (matched cut : ℕ) → (state_in cutter).operands ≡ operand ∷ operands → CutsAt (suppress_in cutter) (all_lines (x ++ t)) (state_in cutter) operand operand.target matched cut → cut < cutter.progress.current → live.at.taken ≡ 0
       by operands matched cut are at low =
-          let runs_here = runs_to live.at live.ends in
-          let ends = ends_as (suppress_in cutter) (all_lines x) (start cutter.operands) live.at.steps (state_in cutter) live.ends.ending runs_here in
-          let count : length (all_lines x) ≡ cutter.lines = length-all_lines x ∙ sym live.at.counted in
-          let so = cuts_from (suppress_in cutter) (all_lines x) (all_lines t) (state_in cutter) live.ends.ending ends are in
-          let before = so.1 matched cut (subst (λ lines. CutsAt (suppress_in cutter) lines (state_in cutter) operand operand.target matched cut) (all_lines-append t whole) at) in
-          let e : settled_end cutter.lines live.ends.ending ≤ cut = subst (λ n. settled_end n live.ends.ending ≤ cut) count before in
-          let s = settled_count cutter.lines cutter.progress.current live.ends.ending live.live in
-          let t' : live.at.taken ≡ cutter.lines + 1 - cutter.progress.current - most_waiting live.ends.ending = live.settled in omega (arith, e, s, t', low)
+          let before = live_before t live matched cut are (subst (λ lines. CutsAt (suppress_in cutter) lines (state_in cutter) operand operand.target matched cut) (all_lines-append t whole) at) in
+          omega (arith, before, live_taken live, low)
 low_none t live whole fit _ run past = absurd (false≢true past)
 
 enough_left : (lines current taken most : ℕ) {left : ℕ} → 1 ≤ current → current + taken ≤ lines + 1 → taken ≡ lines + 1 - current - most → left ≡ lines - (current + taken - 1) → (taken ≡ 0) ⊎ (most ≤ left)
@@ -93,8 +84,7 @@ pub arrives_more : {cutter : CutterState} {lines : ℕ} {aim : Turn} {x : List �
 unfolding at_more
 arrives_more {cutter} {x} t live whole fit count ends =
     let few = few_taken live.at in
-    let runs_here = runs_to live.at live.ends in
-    let most : cutter.window.most ≡ most_waiting live.ends.ending = fit.most ∙ most_is (suppress_in cutter) (all_lines x) (state_in cutter) live.ends.ending (ends_as (suppress_in cutter) (all_lines x) (start cutter.operands) live.at.steps (state_in cutter) live.ends.ending runs_here) live.live in
+    let most : cutter.window.most ≡ most_waiting live.ends.ending = fit.most ∙ most_is (suppress_in cutter) (all_lines x) (state_in cutter) live.ends.ending (ends_as _ _ _ _ _ _ live.ends.runs) live.live in
     let either = enough_left cutter.lines cutter.progress.current live.at.taken (most_waiting live.ends.ending) fit.fits.some few live.settled (left_count live.at) in record {
       ends = ends;
       low = λ past. low_none t live whole fit ends.ending ends.runs past;

@@ -183,8 +183,7 @@ pub next_cut : {cutter before : CutterState} {x : List ℕ} (line : List ℕ) {m
 next_cut {cutter} {before} {x} line {matched} {at} same total_is fit live whole one aim near few =
     let aim' : cutter.aim ≡ Above matched at = ap (λ (c : CutterState). c.aim) (sym same) ∙ aim in
     let lines' : before.lines ≡ cutter.lines = ap (λ (c : CutterState). c.lines) same in
-    let runs = runs_to live.at live.ends in
-    let ends = ends_as (suppress_in cutter) (all_lines x) (start cutter.operands) live.at.steps (state_in cutter) live.ends.ending runs in
+    let ends = ends_as _ _ _ _ _ _ live.ends.runs in
     let reached : at ≤ cutter.lines + 1 = omega (arith, near, lines') in
     let goes = above_cuts (all_lines x) (marked line) live.ends.ending (lines_are live) fit.fits.current ends (subst (λ a. AimsAt a live.ends.ending) aim' live.ends.aims) reached (omega (arith, few)) in (
       subst (λ lines. GoesPast (suppress_in cutter) lines (state_in cutter) matched at) (sym (all_lines-line line whole one)) goes.0,
@@ -213,8 +212,7 @@ missed_sought suppress a state _ ends aims none = absurd aims
 
 pub next_looked : {cutter : CutterState} {x : List ℕ} (line : List ℕ) (live : IsLive cutter x) → IsWhole x → IsLine line → cutter.aim ≡ Missed → Looked (record cutter { lines = cutter.lines + 1 }) (x ++ line) line
 next_looked {cutter} {x} line live whole one aim =
-    let runs = runs_to live.at live.ends in
-    let ends = ends_as (suppress_in cutter) (all_lines x) (start cutter.operands) live.at.steps (state_in cutter) live.ends.ending runs in
+    let ends = ends_as _ _ _ _ _ _ live.ends.runs in
     let count = lines_are live in
     let aims = subst (λ a. AimsAt a live.ends.ending) aim live.ends.aims in record {
       counted = ap (λ n. n + 1) live.at.counted ∙ sym (count-line line whole one);
@@ -225,8 +223,7 @@ next_looked {cutter} {x} line live whole one aim =
 
 pub next_sought : {cutter : CutterState} {x : List ℕ} (live : IsLive cutter x) → IsFit cutter → cutter.aim ≡ Missed → cutter.sought ≡ None → ⊥
 next_sought {cutter} {x} live fit aim none =
-    let runs = runs_to live.at live.ends in
-    missed_sought (suppress_in cutter) (all_lines x) (state_in cutter) live.ends.ending (ends_as (suppress_in cutter) (all_lines x) (start cutter.operands) live.at.steps (state_in cutter) live.ends.ending runs)
+    missed_sought (suppress_in cutter) (all_lines x) (state_in cutter) live.ends.ending (ends_as _ _ _ _ _ _ live.ends.runs)
     (subst (λ a. AimsAt a live.ends.ending) aim live.ends.aims) (sym fit.sought ∙ none)
 
 pub next_tries : {cutter before mid next : CutterState} (line : List ℕ) (result : Option Cut) → before ≡ cutter → mid ≡ record before { lines = before.lines + 1 } → IsFit cutter → IsLine line → before.aim ≡ Missed → next ≡ record mid { aim = next.aim } → Tries mid line next result → TriesNext cutter line next result
