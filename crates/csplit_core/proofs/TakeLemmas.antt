@@ -63,15 +63,12 @@ place_before {cutter} {x} t {matched} cut live whole goes fit from =
 
 -- What arrives where more lines came.
 
-low_none : {cutter : CutterState} {x : List ℕ} (t : List ℕ) (live : IsLive cutter x) → IsWhole x → IsFit cutter → (ending : Ending) → Runs (suppress_in cutter) (all_lines (x ++ t)) (state_in cutter) [] (state_in cutter) ending → is_final ending ≡ true → live.at.taken ≡ 0
-low_none {cutter} {x} t live whole fit (below operand repetition) run past =
-    let here = ends_as (suppress_in cutter) (all_lines (x ++ t)) (state_in cutter) [] (state_in cutter) (below operand repetition) run in
-    by here.0 here.1 here.2 here.3 here.4 here.6 where
-      by : (operands : List Operand) (matched cut : ℕ) → (state_in cutter).operands ≡ operand ∷ operands → CutsAt (suppress_in cutter) (all_lines (x ++ t)) (state_in cutter) operand operand.target matched cut → cut < cutter.progress.current → live.at.taken ≡ 0
-      by operands matched cut are at low =
-          let before = live_before t live matched cut are (subst (λ lines. CutsAt (suppress_in cutter) lines (state_in cutter) operand operand.target matched cut) (all_lines-append t whole) at) in
-          omega (arith, before, live_taken live, low)
-low_none t live whole fit _ run past = absurd (false≢true past)
+low_none : {cutter : CutterState} {x : List ℕ} (t : List ℕ) (live : IsLive cutter x) → IsWhole x → (ending : Ending) → Runs (suppress_in cutter) (all_lines (x ++ t)) (state_in cutter) [] (state_in cutter) ending → is_final ending ≡ true → live.at.taken ≡ 0
+low_none {cutter} {x} t live whole (below operand repetition) run past =
+    let here = ends_as _ _ _ _ _ _ run in
+    let low : here.2 < cutter.progress.current = here.6 in
+    let before = live_before t live here.1 here.2 here.3 (subst (λ lines. CutsAt (suppress_in cutter) lines (state_in cutter) operand operand.target here.1 here.2) (all_lines-append t whole) here.4) in omega (arith, before, live_taken live, low)
+low_none t live whole _ run past = absurd (false≢true past)
 
 enough_left : (lines current taken most : ℕ) {left : ℕ} → 1 ≤ current → current + taken ≤ lines + 1 → taken ≡ lines + 1 - current - most → left ≡ lines - (current + taken - 1) → (taken ≡ 0) ⊎ (most ≤ left)
 enough_left lines current taken most some few is left_is = elim (cases_lt most (lines + 1 - current)) [
@@ -87,7 +84,7 @@ arrives_more {cutter} {x} t live whole fit count ends =
     let most : cutter.window.most ≡ most_waiting live.ends.ending = fit.most ∙ most_is (suppress_in cutter) (all_lines x) (state_in cutter) live.ends.ending (ends_as _ _ _ _ _ _ live.ends.runs) live.live in
     let either = enough_left cutter.lines cutter.progress.current live.at.taken (most_waiting live.ends.ending) fit.fits.some few live.settled (left_count live.at) in record {
       ends = ends;
-      low = λ past. low_none t live whole fit ends.ending ends.runs past;
+      low = λ past. low_none t live whole ends.ending ends.runs past;
       enough = more either most;
     } where
       more : {taken most other : ℕ} → (taken ≡ 0) ⊎ (other ≤ line_count newline cutter.window.held) → most ≡ other → (taken ≡ 0) ⊎ (most ≤ line_count newline (cutter.window.held ++ t))
