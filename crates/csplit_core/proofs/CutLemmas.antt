@@ -1,5 +1,5 @@
 -- A cut ends the open section, and the next one begins.
-use Rattle.std.proofs.Common.{◌≡◌, ℕ, suc, ◌+◌, ◌-◌, ◌<◌, ◌≤◌, max, eqb, ◌&&◌, cond, Bool, true, false, List, [], ◌∷◌, ◌++◌, length, map, Option, Some, None, refl, sym, ◌∙◌, ap, subst, arith, append_assoc}
+use Rattle.std.proofs.Common.{◌≡◌, ℕ, suc, ◌+◌, ◌-◌, ◌<◌, ◌≤◌, max, eqb, ◌&&◌, cond, Bool, true, false, List, [], ◌∷◌, ◌++◌, length, map, Option, Some, None, Err, refl, sym, ◌∙◌, ap, subst, arith, append_assoc}
 use Rattle.std.proofs.lemmas.List.{map-append, append-nil}
 use Rattle.seg_core.specs.Line.{first_lines, after_lines}
 use Rattle.seg_core.proofs.FirstLines.{first_lines-zero, first_lines_then_rest}
@@ -25,7 +25,7 @@ use Rattle.csplit_core.specs.Writer.{WriterState, Writes, size_of}
 use Rattle.csplit_core.specs.declared.line_cutter.Cut.{Cut}
 use Rattle.csplit_core.specs.Cutter.{CutterState, suppress_in, state_in, kept_by, text_from, Leads, draft_by, IsFit, IsAt}
 use Rattle.csplit_core.specs.inner.Cutter.{settled_part, part_at, search_after, CutsNow, WentOn, PassesCut, IsAfter, CutAt, CutsAll, WillCut, IsEnd}
-use Rattle.csplit_core.proofs.HoldLemmas.{lacks_memory}
+use Rattle.csplit_core.proofs.HoldLemmas.{goes_or_lacks}
 use Rattle.csplit_core.proofs.WholeLemmas.{after_within}
 use Rattle.csplit_core.proofs.LineLemmas.{bytes_between, first_further, from_further}
 use Rattle.csplit_core.proofs.CutterLemmas.{last_kept}
@@ -139,19 +139,15 @@ passed_state {cutter = cutter} {mid = mid} {writer} {cut} same goes passed {oper
 
 -- a cut of this cutter, which is known by its fields too, is due, and stands after these bytes of the lines that are left
 module _ {cutter start : CutterState} {cut : Cut} {place : ℕ} {left before : List ℕ} (same : start ≡ cutter) (fit : IsFit cutter) (will : WillCut cutter cut) (before_is : before ≡ first_lines newline (cut.line - place) left) where
-  pub cut_put_stopped : {told : Bool} {writer : WriterState} {old new : List Slot} {fault : Fault} (line : List ℕ) → Goes told start.writer (with_bytes before) old new writer (Some fault)
-      → CutsAll told cutter cut place left line [] old new (record start { writer = writer }) (Some fault)
-  cut_put_stopped line goes = let stopped = goes_here same goes in cut_stopped (ap (λ (c : CutterState). c.operands) same) stopped.leaves
+  pub cut_put_stopped : {told : Bool} {next : CutterState} {old new : List Slot} {fault : Fault} (line : List ℕ) → next.operands ≡ start.operands → Goes told start.writer (with_bytes before) old new next.writer (Some fault)
+      → CutsAll told cutter cut place left line [] old new next (Some fault)
+  cut_put_stopped line operands goes = let stopped = goes_here same goes in cut_stopped (operands ∙ ap (λ (c : CutterState). c.operands) same) stopped.leaves
       (λ x at now. stops_wider (stopped.reaches (draft_at cutter x left at) at.writes) (before_begins line cut now fit will before_is))
 
   pub cut_pass_stopped : {told : Bool} {mid : CutterState} {writer : WriterState} {old new : List Slot} {fault : Fault} (line : List ℕ) → Goes told start.writer (with_bytes before) old new writer None
       → PassesCut (record start { writer = writer }) cut mid (Some fault) → CutsAll told cutter cut place left line [] old new mid (Some fault)
-  cut_pass_stopped {told} {mid} {writer} {old} {new} line goes (is_memory, same_writer, same_operands) =
-      let went = subst (λ w. Goes told cutter.writer (with_bytes before) old new w None) (sym same_writer) (goes_here same goes) in
-      subst (λ why. CutsAll told cutter cut place left line [] old new mid (Some why)) (sym is_memory)
-      (cut_stopped (same_operands ∙ ap (λ (c : CutterState). c.operands) same) (leaves_again went.leaves leaves_lacking)
-      (λ x at now. let draft = draft_at cutter x left at in reaches_again (bytes_begin cutter.writer.style before draft) (went.reaches draft at.writes)
-      (stops_wider (lacks_memory cutter.writer.style (with_bytes before draft) at.writes.closed) (before_begins line cut now fit will before_is))))
+  cut_pass_stopped {told} {old = old} {new} {fault} line goes (is_memory, same_writer, same_operands) =
+      cut_put_stopped line same_operands (subst (λ w. Goes told start.writer (with_bytes before) old new w (Some fault)) (sym same_writer) (goes_or_lacks (Err fault) goes is_memory))
 
   pub cut_next_stopped : {told : Bool} {mid now : CutterState} {writer next : WriterState} {kept : Bool} {old between new : List Slot} {fault : Fault} (line : List ℕ) → Goes told start.writer (with_bytes before) old between writer None → now ≡ mid → WentOn (record start { writer = writer }) cut mid
       → kept ≡ kept_by (state_in now).operands → Goes told now.writer (with_section kept) between new next (Some fault) → CutsAll told cutter cut place left line [] old new (record now { writer = next }) (Some fault)

@@ -1,4 +1,4 @@
-use Rattle.std.proofs.Common.{◌∙◌, ap, arith}
+use Rattle.std.proofs.Common.{◌∙◌, ap, arith, refl}
 use Rattle.seg_core.specs.Line.{first_lines, after_lines}
 use Rattle.ports_core.proofs.HandedOn.{fault_is}
 use Rattle.csplit_core.specs.Cutter.{kept_next}
@@ -9,7 +9,7 @@ use Rattle.csplit_core.proofs.line_cutter.LineCutter.cut_at.Goals as goal
 
 pub returns-in_err-put-clause-err : goal.returns-in_err-put-clause-err
 returns-in_err-put-clause-err g c = fault_is _ _ _ c.from_residual.ensures.1 (λ line.
-    cut_put_stopped c.self.view_is c.requires.fit c.requires.cuts (c.split_lines.ensures.first ∙ ap (λ n. first_lines newline n c.args.waiting.now) c.saturating_sub.ensures) line c.in_err-put.ensures.goes)
+    cut_put_stopped c.self.view_is c.requires.fit c.requires.cuts (c.split_lines.ensures.first ∙ ap (λ n. first_lines newline n c.args.waiting.now) c.saturating_sub.ensures) line refl c.in_err-put.ensures.goes)
 
 pub returns-in_err-pass-clause-err : goal.returns-in_err-pass-clause-err
 returns-in_err-pass-clause-err g c = fault_is _ _ _ c.from_residual-in_err-pass.ensures.1 (λ line.
