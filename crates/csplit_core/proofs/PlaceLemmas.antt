@@ -13,8 +13,8 @@ use Rattle.csplit_core.specs.Place.{Place, in_section, left_out, nowhere, place_
 use Rattle.csplit_core.specs.laws.PlanLaws.{run_once, line_some, cuts_still, plan_runs, plan_once, goes_on, from_not_less, less_test, not_less_test}
 use Rattle.csplit_core.specs.inner.PlanLaws.{EndsAs}
 use Rattle.csplit_core.specs.laws.SectionLaws.{ends_as, are_within, plan_goes_on, cuts_from, settled_most}
-use Rattle.csplit_core.proofs.AgreedLemmas.{search_within, search_at_start, matching_line, none_comes, matching_comes, Turned, too_low, turns, turned}
-use Rattle.csplit_core.proofs.WholeLemmas.{between_rest, after_within}
+use Rattle.csplit_core.proofs.AgreedLemmas.{matching_line, none_comes, matching_comes, Turned, too_low, turns, Waits, none_waits, some_wait, end_waits}
+use Rattle.csplit_core.proofs.WholeLemmas.{between_rest, after_within, ends_after_all}
 
 -- The lines that wait are those that two continuations put into different places.
 
@@ -158,47 +158,29 @@ turned_away {suppress} {x} {state} {operand} k line (turns least steps end how r
   λ index is. cut_before suppress (length (x ++ matching_line ∷ [])) line (step_of state operand (suc (length x)) (suc (length x) - k)) steps how from is,
 )
 
--- where a pattern matched nothing yet, the rest as it is puts the line into its section
-missed_here : (suppress : Bool) (operands : List Operand) (x : List Line) {operand : Operand} {repetition : ℕ} (line : ℕ) → (plan suppress operands x).ending ≡ missed operand repetition → (plan suppress operands x).last.current ≤ line → line ≤ length x
+-- the rest as it is puts the line into its section
+here_in : (suppress : Bool) (operands : List Operand) (x : List Line) (line : ℕ) → (plan suppress operands x).last.current ≤ line → line < whole_end (length x) (plan suppress operands x).ending
     → place_of suppress operands x line ≡ in_section (0 + length (plan suppress operands x).steps)
-missed_here suppress operands x {operand} {repetition} line ending from within =
+here_in suppress operands x line from less =
     ap (λ those. place_from suppress (length x) 0 those (plan suppress operands x).ending line) (sym (append-nil (plan suppress operands x).steps))
-    ∙ place_after (plan_runs suppress operands x) (length x) 0 line [] (plan suppress operands x).ending from
-    ∙ ap (λ how. place_from suppress (length x) (0 + length (plan suppress operands x).steps) [] how line) ending
-    ∙ in_rest (length x) line (missed operand repetition) (omega (arith, within))
+    ∙ place_after (plan_runs suppress operands x) (length x) 0 line [] (plan suppress operands x).ending from ∙ in_rest (length x) line (plan suppress operands x).ending less
 
-differ_missed : (suppress : Bool) (operands : List Operand) (x : List Line) {operand : Operand} {repetition : ℕ} {left : List Operand} → (plan suppress operands x).ending ≡ missed operand repetition → (plan suppress operands x).last.operands ≡ operand ∷ left
-    → 1 ≤ (plan suppress operands x).last.current → search_line suppress (plan suppress operands x).last ≤ suc (length x)
-    → (target : Target) → operand.target ≡ target → Misses suppress x (plan suppress operands x).last operand target → (line : ℕ) → (plan suppress operands x).last.current ≤ line → suc (length x) - most_held target ≤ line → line ≤ length x
-    → (z : List Line) × CanCome z × (place_of suppress operands (x ++ []) line ≢ place_of suppress operands (x ++ z) line)
-differ_missed suppress operands x ending is some within (Number n) target none line from past most = absurd none
-differ_missed suppress operands x ending is some within (Search pattern kept (Plus k)) target none line from past most = absurd (omega (arith, past, most))
-differ_missed suppress operands x ending is some within (Search pattern kept (Minus k)) target none line from past most =
-    let away = turned_away k line (turned pattern kept k some is target none within) past in (
+differ_line : (suppress : Bool) (operands : List Operand) (x : List Line) (line : ℕ) → WaitsAt (length x) (plan suppress operands x) line → Waits suppress x (plan suppress operands x).last (plan suppress operands x).ending
+    → (y : List Line) × (z : List Line) × CanCome y × CanCome z × (place_of suppress operands (x ++ y) line ≢ place_of suppress operands (x ++ z) line)
+differ_line suppress operands x line (live, from, past, within) (none_waits same) = absurd (omega (arith, ends_after_all (length x) (plan suppress operands x).ending live, same, past, within))
+differ_line suppress operands x line (live, from, past, within) (some_wait k kept settled turned) =
+    let away = turned_away k line turned (omega (arith, settled, past)) in (
+      [],
       matching_line ∷ [],
+      none_comes,
       matching_comes,
       λ same. away.4 (0 + length (plan suppress operands x).steps)
           (sym (ap (λ (p : Plan). place_from suppress (length (x ++ matching_line ∷ [])) 0 p.steps p.ending line)
           (plan_once suppress operands (x ++ matching_line ∷ []) _ _ _ (goes_on (matching_line ∷ []) _ _ (plan_runs suppress operands x) away.3))
           ∙ place_after (plan_runs suppress operands x) (length (x ++ matching_line ∷ [])) 0 line away.0 away.2 from)
-          ∙ sym same ∙ ap (λ those. place_of suppress operands those line) (append-nil x) ∙ missed_here suppress operands x line ending from most),
+          ∙ sym same ∙ ap (λ those. place_of suppress operands those line) (append-nil x)
+          ∙ here_in suppress operands x line from (omega (arith, ends_after_all (length x) (plan suppress operands x).ending live, within))),
     )
-
-differ_at : (suppress : Bool) (operands : List Operand) (x : List Line) (ending : Ending) → (plan suppress operands x).ending ≡ ending → EndsAs suppress x (plan suppress operands x).last ending
-    → 1 ≤ (plan suppress operands x).last.current → search_line suppress (plan suppress operands x).last ≤ suc (length x) → (line : ℕ) → is_final ending ≡ false → (plan suppress operands x).last.current ≤ line → settled_end (length x) ending ≤ line → line ≤ length x
-    → (z : List Line) × CanCome z × (place_of suppress operands (x ++ []) line ≢ place_of suppress operands (x ++ z) line)
-differ_at suppress operands x (missed operand repetition) is (left, are, none) some within line live from past most =
-    differ_missed suppress operands x is are some within operand.target refl none line from past most
-differ_at suppress operands x (below operand repetition) is ends some within line live from past most = absurd (false≢true (sym live))
-differ_at suppress operands x ending is ends some within line live from past most = absurd (omega (arith, past, most))
-
-differ_line : (suppress : Bool) (operands : List Operand) (x : List Line) (line : ℕ) → WaitsAt (length x) (plan suppress operands x) line
-    → (y : List Line) × (z : List Line) × CanCome y × CanCome z × (place_of suppress operands (x ++ y) line ≢ place_of suppress operands (x ++ z) line)
-differ_line suppress operands x line waits =
-    let here = plan_runs suppress operands x in
-    let two = differ_at suppress operands x (plan suppress operands x).ending refl (ends_as suppress x (start operands) _ _ _ here) (are_within suppress x (start operands) _ _ _ here (omega arith)).1
-    (search_within here (omega arith) (search_at_start suppress operands (length x))) line waits.0 waits.1 waits.2 waits.3 in
-    ([], two.0, none_comes, two.1, two.2)
 
 same_line : (suppress : Bool) (operands : List Operand) (x y z : List Line) (line : ℕ) → 1 ≤ line → line ≤ length x → (WaitsAt (length x) (plan suppress operands x) line → ⊥)
     → place_of suppress operands (x ++ y) line ≡ place_of suppress operands (x ++ z) line
@@ -221,7 +203,7 @@ undecided_by suppress operands {x} some false live =
     let count : length (take n x) ≡ min n (length x) = length-take n x in record {
       before = take n x;
       are_last = sym (take-append-drop n x) ∙ ap (λ rest. take n x ++ rest) (sym (drop-drop (settled_end (length x) (plan suppress operands x).ending - (plan suppress operands x).last.current) ((plan suppress operands x).last.current - 1) x));
-      differ = λ line past within. differ_line suppress operands x line (live, omega (arith, past, within, count, some), omega (arith, past, within, count, some), within);
+      differ = λ line past within. differ_line suppress operands x line (live, omega (arith, past, within, count, some), omega (arith, past, within, count, some), within) (end_waits suppress operands x);
       decided = λ line one within y z y_comes z_comes. same_line suppress operands x y z line one (omega (arith, within, count)) (λ waits. let current = waits.1 in let end = waits.2 in omega (arith, within, count, current, end, some, one));
     }
 
