@@ -92,7 +92,7 @@ pub data Waits (suppress : Bool) (x : List Line) (state : State) (ending : Endin
   some_wait : {operand : Operand} (k : ℕ) → is_last_kept ending ≡ is_kept operand.target → settled_end (length x) ending ≡ suc (length x) - k → Turned suppress x state operand (suc (length x) - k) → Waits suppress x state ending
 
 waits_by : {suppress : Bool} {x : List Line} {state : State} (ending : Ending) → EndsAs suppress x state ending → 1 ≤ state.current → search_line suppress state ≤ suc (length x) → Waits suppress x state ending
-waits_by {suppress} {x} {state} (missed operand repetition) (left, are, none) some within = by operand.target refl none where
+waits_by {suppress} {x} {state} (missed operand repetition) (left, are, none, often) some within = by operand.target refl none where
   by : (target : Target) → operand.target ≡ target → Misses suppress x state operand target → Waits suppress x state (missed operand repetition)
   by (Number n) is none = absurd none
   by (Search pattern kept (Plus k)) is none = none_waits (sym (ap (λ t. suc (length x) - most_held t) is ∙ (let e : suc (length x) - 0 ≡ suc (length x) = omega arith in e)))

@@ -31,9 +31,9 @@ use Rattle.csplit_core.proofs.WriterLemmas.{leaves_again}
 -- the last section is kept as the next operand says
 pub last_kept : (suppress : Bool) (lines : List Line) (state : State) (ending : Ending) → EndsAs suppress lines state ending → kept_by state.operands ≡ is_last_kept ending
 last_kept suppress lines state used_up none = ap kept_by none
-last_kept suppress lines state (missed operand repetition) (operands, is, none) = ap kept_by is
-last_kept suppress lines state (above operand repetition matched cut) (operands, is, at, far) = ap kept_by is
-last_kept suppress lines state (below operand repetition) (operands, matched, cut, is, at, within, low) = ap kept_by is
+last_kept suppress lines state (missed operand repetition) (operands, is, none, often) = ap kept_by is
+last_kept suppress lines state (above operand repetition matched cut) (operands, is, at, far, often) = ap kept_by is
+last_kept suppress lines state (below operand repetition) (operands, matched, cut, is, at, within, low, often) = ap kept_by is
 
 -- the sections of the plan, and of the last one what stands before the line that this says
 abbrev pub draft_to : (ℕ → Ending → ℕ) → Bool → List Operand → List Line → Draft
@@ -73,8 +73,8 @@ ended_still style operands {x} t {steps} {state} {ending} kept written whole run
 -- as many lines may wait as the next operand says
 pub most_is : (suppress : Bool) (lines : List Line) (state : State) (ending : Ending) → EndsAs suppress lines state ending → is_final ending ≡ false → most_by state.operands ≡ most_waiting ending
 most_is suppress lines state used_up none live = ap most_by none
-most_is suppress lines state (missed operand repetition) (operands, is, none) live = ap most_by is
-most_is suppress lines state (above operand repetition matched cut) (operands, is, at, far) live = ap most_by is ∙ none_held operand.target at where
+most_is suppress lines state (missed operand repetition) (operands, is, none, often) live = ap most_by is
+most_is suppress lines state (above operand repetition matched cut) (operands, is, at, far, often) live = ap most_by is ∙ none_held operand.target at where
   none_held : (target : Target) → CutsAt suppress lines state operand target matched cut → most_held target ≡ 0
   none_held (Number n) at = refl
   none_held (Search pattern kept (Plus k)) at = refl

@@ -94,7 +94,7 @@ decided_by : (suppress : Bool) (a b : List Line) {last : State} (ending : Ending
     → (index : ℕ) (more : List Step) (end : State) {how : Ending} → Runs suppress (a ++ b) last more end how → place_from suppress (length (a ++ b)) index more how line ≡ cond (is_final ending) nowhere (in_section index)
 decided_by suppress a b (missed operand repetition) some is line from within not index more end rest = settled_place a b (missed operand repetition) is more end rest line from
     (elim (cases_lt line (suc (length a) - most_held operand.target)) [ inl less ↦ less | inr beyond ↦ absurd (not refl beyond) ])
-decided_by suppress a b {last} (below operand repetition) some (operands, matched, cut, is, at, in_lines, low) line from within not index more end rest =
+decided_by suppress a b {last} (below operand repetition) some (operands, matched, cut, is, at, in_lines, low, often) line from within not index more end rest =
     nowhere_by matched cut is (cuts_still suppress a b last operand operand.target matched cut at) (let e : length (a ++ b) ≡ length a + length b = length-append a b in omega (arith, e, in_lines)) low more end rest index line
 decided_by suppress a b ending some is line from within not index more end rest = settled_place a b ending is more end rest line from (omega (arith, within))
 

@@ -163,7 +163,7 @@ lines_are {x} live = length-all_lines x ∙ sym live.at.counted
 -- the line of a cut that was above the last one came in
 above_cuts : {suppress : Bool} (lines : List Line) (line : Line) {state : State} {total matched at : ℕ} (ending : Ending) → length lines ≡ total → state.current ≤ total + 1 → EndsAs suppress lines state ending → AimsAt (Above matched at) ending → at ≤ total + 1 → total + 1 < 2 ^ 64 - 1
     → GoesPast suppress (lines ++ line ∷ []) state matched at × (at ≡ total + 1)
-above_cuts {suppress} lines line {state} {total} {at} (above operand repetition matched' cut) count within (operands, are, at_cut, far) aims near few =
+above_cuts {suppress} lines line {state} {total} {at} (above operand repetition matched' cut) count within (operands, are, at_cut, far, often) aims near few =
     let same : at ≡ cut = capped cut (2 ^ 64 - 1) at (total + 1) aims.1 near few in
     let here : cut ≡ total + 1 = omega (arith, same, near, far, count) in
     let all : length (lines ++ line ∷ []) ≡ length lines + 1 = length-append lines (line ∷ []) in (
@@ -194,7 +194,7 @@ next_cut {cutter} {before} {x} line {matched} {at} same total_is fit live whole 
 
 missed_looked : (suppress : Bool) (a : List Line) (line : Line) (state : State) (ending : Ending) → EndsAs suppress a state ending → AimsAt Missed ending → {operand : Operand} {operands : List Operand} → state.operands ≡ operand ∷ operands
     → (other : ℕ) → search_line suppress state ≤ other → other ≤ length a → is_match operand (a ++ line ∷ []) other ≡ false
-missed_looked suppress a line state (missed operand' repetition) (operands', is, none) aims {operand} are other from within =
+missed_looked suppress a line state (missed operand' repetition) (operands', is, none, often) aims {operand} are other from within =
     let some : 1 ≤ search_line suppress state = search_some suppress state in
     match_still operand a (line ∷ []) other (omega (arith, some, from)) within
     ∙ by operand.target (subst (λ (o : Operand). Misses suppress a state o o.target) (front_of operand' operand (sym is ∙ are)) none) where
@@ -204,7 +204,7 @@ missed_looked suppress a line state (missed operand' repetition) (operands', is,
 missed_looked suppress a line state _ ends aims are other from within = absurd aims
 
 missed_sought : (suppress : Bool) (a : List Line) (state : State) (ending : Ending) → EndsAs suppress a state ending → AimsAt Missed ending → pattern_by state.operands ≡ None → ⊥
-missed_sought suppress a state (missed operand repetition) (operands, is, misses) aims none = by operand.target misses (sym (ap pattern_by is) ∙ none) where
+missed_sought suppress a state (missed operand repetition) (operands, is, misses, often) aims none = by operand.target misses (sym (ap pattern_by is) ∙ none) where
   by : (target : Target) → Misses suppress a state operand target → pattern_in target ≡ None → ⊥
   by (Number n) misses none = misses
   by (Search pattern kept offset) misses none = cc

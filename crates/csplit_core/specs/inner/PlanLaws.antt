@@ -54,12 +54,13 @@ abbrev pub EndsAs : Bool → List Line → State → Ending → Type 0
 EndsAs suppress lines state used_up = state.operands ≡ []
 EndsAs suppress lines state (missed operand repetition) = (operands : List Operand)
     × (state.operands ≡ operand ∷ operands) × Misses suppress lines state operand operand.target
+    × (repetition ≡ state.repetition)
 EndsAs suppress lines state (above operand repetition matched cut) = (operands : List Operand)
     × (state.operands ≡ operand ∷ operands) × CutsAt suppress lines state operand operand.target matched cut
-    × (length lines < cut)
+    × (length lines < cut) × (repetition ≡ state.repetition)
 EndsAs suppress lines state (below operand repetition) = (operands : List Operand) × (matched : ℕ) × (cut : ℕ)
     × (state.operands ≡ operand ∷ operands) × CutsAt suppress lines state operand operand.target matched cut
-    × (cut ≤ length lines) × (cut < state.current)
+    × (cut ≤ length lines) × (cut < state.current) × (repetition ≡ state.repetition)
 
 -- what is settled stands before each cut of the next operand, and more so where it misses
 abbrev pub CutsFrom : Bool → List Line → State → ℕ → Bool → List Operand → Type 0

@@ -47,9 +47,9 @@ between_grows first past more a b some within (inr less) =
 pub ends_as : (suppress : Bool) (lines : List Line) (first : State) (steps : List Step) (last : State) (ending : Ending)
     → Runs suppress lines first steps last ending → EndsAs suppress lines last ending
 ends_as suppress lines first steps last ending (is_used_up state none) = none
-ends_as suppress lines first steps last ending (misses state operand operands is none) = (operands, is, none)
-ends_as suppress lines first steps last ending (is_above state operand operands matched cut is at far) = (operands, is, at, far)
-ends_as suppress lines first steps last ending (is_below state operand operands matched cut is at within low) = (operands, matched, cut, is, at, within, low)
+ends_as suppress lines first steps last ending (misses state operand operands is none) = (operands, is, none, refl)
+ends_as suppress lines first steps last ending (is_above state operand operands matched cut is at far) = (operands, is, at, far, refl)
+ends_as suppress lines first steps last ending (is_below state operand operands matched cut is at within low) = (operands, matched, cut, is, at, within, low, refl)
 ends_as suppress lines first steps last ending (cuts state operand operands matched cut steps' last' ending' is at from within rest) =
     ends_as suppress lines (state_after suppress operand operands state.repetition matched cut) steps' last' ending' rest
 
@@ -116,20 +116,20 @@ cuts_or_misses suppress lines state operand (Search pattern kept offset) matched
 pub cuts_from : (suppress : Bool) (a b : List Line) (state : State) (ending : Ending) {operands : List Operand} → EndsAs suppress a state ending → state.operands ≡ operands
     → CutsFrom suppress (a ++ b) state (settled_end (length a) ending) (is_last_kept ending) operands
 cuts_from suppress a b state used_up ends are = subst (CutsFrom suppress (a ++ b) state (suc (length a)) true) (sym ends ∙ are) refl
-cuts_from suppress a b state (missed operand repetition) (rest, is, none) are =
+cuts_from suppress a b state (missed operand repetition) (rest, is, none, often) are =
     subst (CutsFrom suppress (a ++ b) state (suc (length a) - most_held operand.target) (is_kept operand.target)) (sym is ∙ are) (
       refl,
       missed_cut suppress a b state operand operand.target none,
       λ again. let longer : length (a ++ b) ≡ length a + length b = length-append a b in omega (arith, longer),
     )
-cuts_from suppress a b state (above operand repetition matched cut) (rest, is, at, far) are =
+cuts_from suppress a b state (above operand repetition matched cut) (rest, is, at, far, often) are =
     let still = cuts_still suppress a b state operand operand.target matched cut at in
     subst (CutsFrom suppress (a ++ b) state (suc (length a)) (is_kept operand.target)) (sym is ∙ are) (
       refl,
       λ matched' cut' at'. let same : cut ≡ cut' = (cut_once suppress (a ++ b) state operand operand.target cut still at').1 in omega (arith, far, same),
       λ none. absurd (cuts_or_misses suppress (a ++ b) state operand operand.target matched cut still none),
     )
-cuts_from suppress a b state (below operand repetition) (rest, matched, cut, is, at, within, low) are =
+cuts_from suppress a b state (below operand repetition) (rest, matched, cut, is, at, within, low, often) are =
     subst (CutsFrom suppress (a ++ b) state 0 (is_kept operand.target)) (sym is ∙ are) (refl, (λ matched' cut' at'. omega arith), λ none. omega arith)
 
 pub settled_most : (total : ℕ) (ending : Ending) → settled_end total ending ≤ total + 1
