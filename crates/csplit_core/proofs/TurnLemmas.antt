@@ -156,7 +156,7 @@ repeated_by : (total : ℕ) (state : State) (operand : Operand) (operands : List
 repeated_by total state operand operands cut at some within few true next again same = repeated_again total state next operand.target cut at some within again same few
 repeated_by total state operand operands cut at some within few false next again same = repeated_anew total next operands again
 
-pub fits_after : (suppress : Bool) {total : ℕ} {state : State} {operand : Operand} {operands : List Operand} (matched cut : ℕ) → Fits total state → state.operands ≡ operand ∷ operands → Moves total state operand.target matched cut → matched ≤ total → state.current ≤ cut → cut ≤ total
+fits_after : (suppress : Bool) {total : ℕ} {state : State} {operand : Operand} {operands : List Operand} (matched cut : ℕ) → Fits total state → state.operands ≡ operand ∷ operands → Moves total state operand.target matched cut → matched ≤ total → state.current ≤ cut → cut ≤ total
     → Fits total (state_after suppress operand operands state.repetition matched cut)
 fits_after suppress {total} {state} {operand} {operands} matched cut fits are at few least within = record {
   some = let more : cut ≤ line_after suppress cut = line_some suppress cut in omega (arith, more, fits.some, least);
@@ -166,20 +166,6 @@ fits_after suppress {total} {state} {operand} {operands} matched cut fits are at
       (has_more operand.times state.repetition) (state_after suppress operand operands state.repetition matched cut) refl refl;
 }
 
-pub passed : (suppress : Bool) (operands : List Operand) {total : ℕ} (old new : Progress) {operand : Operand} {matched : ℕ} (cut : ℕ) {turn : Turn} → Fits total (state_of operands old) → MovesOn operands total old turn → turn ≡ Cuts matched cut
-    → operand ≡ get_or operands old.done operand → ((rest : List Operand) → drop old.done operands ≡ operand ∷ rest → state_of operands new ≡ state_after suppress operand rest old.repetition matched cut)
-    → Fits total (state_of operands new) × (needed total (state_of operands new) < needed total (state_of operands old))
-passed suppress operands {total} old new {operand} {matched} cut fits moves is here next =
-    let on = subst (MovesOn operands total old) is moves in
-    let are = left_is operands old.done on.2 here in
-    let same = front_of on.0 operand (sym on.3 ∙ are) in
-    let at = subst (λ (o : Operand). Moves total (state_of operands old) o.target matched cut) same on.4 in
-    let so = next (drop (old.done + 1) operands) are in (
-      subst (Fits total) (sym so) (fits_after suppress matched cut fits are at on.5 on.6 on.7),
-      subst (λ state. needed total state < needed total (state_of operands old)) (sym so)
-          (fewer_moves suppress total (state_of operands old) matched cut are at (let some : 1 ≤ old.current = fits.some in let least : old.current ≤ cut = on.6 in omega (arith, some, least)) on.7),
-    )
-
 -- Going on after a cut, of a cutter that is known by its fields too.
 
 module _ {cutter before : CutterState} {cut : Cut} {operand : Operand} (progress : Progress) {suppress : Rattle.std.specs.Prelude.Bool} (same : before ≡ cutter) (by : suppress ≡ suppress_in before) (fit : IsFit cutter) (none : cutter.window.held ≡ []) (will : WillCut cutter cut)
@@ -188,17 +174,26 @@ module _ {cutter before : CutterState} {cut : Cut} {operand : Operand} (progress
   fit' : IsFit before
   fit' = subst IsFit (sym same) fit
 
-  on : Fits before.lines (state_of before.operands progress) × (needed before.lines (state_of before.operands progress) < needed before.lines (state_in before))
-  on = let will' = subst (λ (c : CutterState). WillCut c cut) (sym same) will in
-      passed suppress before.operands before.progress progress cut.line fit'.fits
-      (will'.operand, will'.operands, will'.some, will'.left, will'.moves, will'.matched, will'.from, will'.within) refl here (next before.operands)
+  will' : WillCut before cut
+  will' = subst (λ (c : CutterState). WillCut c cut) (sym same) will
+
+  are : (state_in before).operands ≡ operand ∷ drop (before.progress.done + 1) before.operands
+  are = left_is before.operands before.progress.done will'.some here
+
+  at : Moves before.lines (state_in before) operand.target cut.matched cut.line
+  at = subst (λ (o : Operand). Moves before.lines (state_in before) o.target cut.matched cut.line) (front_of will'.operand operand (sym will'.left ∙ are)) will'.moves
+
+  fits : Fits before.lines (state_of before.operands progress)
+  fits = subst (Fits before.lines) (sym (next before.operands _ are)) (fits_after suppress cut.matched cut.line fit'.fits are at will'.matched will'.from will'.within)
+
+  fewer : needed before.lines (state_of before.operands progress) < needed before.lines (state_in before)
+  fewer = subst (λ state. needed before.lines state < needed before.lines (state_in before)) (sym (next before.operands _ are))
+      (fewer_moves suppress before.lines (state_in before) cut.matched cut.line are at (omega (arith, fit'.fits.some, will'.from)) will'.within)
 
   state : PassesOn before cut (record before { progress = progress })
-  state one more are =
-      let will' = subst (λ (c : CutterState). WillCut c cut) (sym same) will in
-      let e : operand ≡ one = front_of operand one (sym (left_is before.operands before.progress.done will'.some here) ∙ are) in
-      subst (λ o. state_of before.operands progress ≡ state_after suppress o more before.progress.repetition cut.matched cut.line) e (next before.operands more (subst (λ o. drop before.progress.done before.operands ≡ o ∷ more) (sym e) are))
-      ∙ ap (λ s. state_after s one more before.progress.repetition cut.matched cut.line) by
+  state one more is = subst (λ o. state_of before.operands progress ≡ state_after (suppress_in before) o more before.progress.repetition cut.matched cut.line) (front_of operand one (sym are ∙ is))
+      (next before.operands more (subst (λ o. drop before.progress.done before.operands ≡ o ∷ more) (front_of one operand (sym is ∙ are)) is)
+      ∙ ap (λ s. state_after s operand more before.progress.repetition cut.matched cut.line) by)
 
   -- the same operand is performed again
   pub passes_again : progress.done ≡ before.progress.done → PassesCut cutter cut (record before { progress = progress }) None
@@ -206,12 +201,12 @@ module _ {cutter before : CutterState} {cut : Cut} {operand : Operand} (progress
     same = refl;
     held = ap (λ (c : CutterState). c.window.held) same ∙ none;
     fit = record {
-      fits = on.0;
+      fits = fits;
       most = fit'.most ∙ ap (λ at. most_by (drop at before.operands)) (sym done);
       delim = fit'.delim;
       sought = fit'.sought ∙ ap (λ at. pattern_by (drop at before.operands)) (sym done);
     };
-    fewer = on.1;
+    fewer = fewer;
     state = state;
   })
 
@@ -219,5 +214,5 @@ module _ {cutter before : CutterState} {cut : Cut} {operand : Operand} (progress
   pub passes_next : (new : CutterState) (result : Result (Unit {0}) Fault)
       → OnOk result (new ≡ record before { progress = progress; window = record { most = most_by (drop progress.done before.operands); delim = newline; held = [] }; sought = pattern_by (drop progress.done before.operands) })
       → IfErr result (λ fault. (fault ≡ Memory) × (new.writer ≡ before.writer) × (new.operands ≡ before.operands)) → PassesCut cutter cut new (fault_in result)
-  passes_next new (Ok done) is lacks = subst (λ c. WentOn c cut new) same (subst (WentOn before cut) (sym is) (record { same = refl; held = refl; fit = record { fits = on.0; most = refl; delim = refl; sought = refl }; fewer = on.1; state = state }))
+  passes_next new (Ok done) is lacks = subst (λ c. WentOn c cut new) same (subst (WentOn before cut) (sym is) (record { same = refl; held = refl; fit = record { fits = fits; most = refl; delim = refl; sought = refl }; fewer = fewer; state = state }))
   passes_next new (Err fault) is lacks = subst (λ c. PassesCut c cut new (Some fault)) same lacks
