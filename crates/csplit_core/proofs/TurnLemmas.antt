@@ -14,7 +14,7 @@ use Rattle.csplit_core.specs.declared.progress.Turn.TheVariants.{Above, Below, C
 use Rattle.csplit_core.proofs.StayLemmas.{looks_last, looks_past}
 use Rattle.csplit_core.specs.Measure.{Moves, IsRepeatedBy, IsRepeated, Fits}
 use Rattle.csplit_core.specs.declared.progress.Progress.{Progress}
-use Rattle.csplit_core.specs.laws.PlanLaws.{line_some, fewer_moves}
+use Rattle.csplit_core.specs.laws.PlanLaws.{line_some, fewer_left, fewer_moves}
 use Rattle.csplit_core.specs.inner.PlanLaws.{needed}
 use Rattle.csplit_core.proofs.WholeLemmas.{after_within}
 use Rattle.csplit_core.specs.laws.SectionLaws.{front_of}
@@ -136,12 +136,8 @@ advances suppress lines state (turn_is.Cuts matched line) count here = record {
 
 repeated_again : (total : ℕ) (state next : State) (target : Target) {matched : ℕ} (cut : ℕ) → Moves total state target matched cut → 1 ≤ cut → cut ≤ total → next.repetition ≡ state.repetition + 1 → next.matched ≡ matched
     → IsRepeatedBy total state target → IsRepeatedBy total next target
-repeated_again total state next (Number zero) cut at some within again same few = absurd (none (omega (arith, at)) some) where
-  none : cut ≡ 0 → 1 ≤ cut → ⊥
-  none is some = omega (arith, is, some)
-repeated_again total state next (Number (suc n)) cut at some within again same few =
-    let is : suc n * (state.repetition + 1) ≡ n * (state.repetition + 1) + (state.repetition + 1) = omega arith in
-    let cut_is : cut ≡ suc n * (state.repetition + 1) = at in omega (arith, is, cut_is, within, again)
+repeated_again total state next (Number n) cut at some within again same few =
+    let less : total - next.repetition < total - state.repetition = fewer_left total state next (Number n) cut at some within again same in omega (arith, less, again)
 repeated_again total state next (Search pattern kept offset) cut at some within again same few = omega (arith, at.0, few, again, same)
 
 pub repeated_anew : (total : ℕ) (state : State) (operands : List Operand) → state.repetition ≡ 0 → IsRepeated total state operands
