@@ -69,22 +69,12 @@ one_first one other is are = elim (cases_lt one other) [
   ]
 ]
 
-some_by : {operand : Operand} {lines : List Line} {from : ℕ} (line : ℕ) → IsFirst operand lines from line
-    → (matched : Option ℕ) → MatchesAs operand lines from matched → matched ≡ Some line
-some_by line is None none = absurd (false≢true (sym (none line is.not_before is.within) ∙ is.match))
-some_by line is (Some other) are = ap Some (one_first other line are is)
-
-pub first_is_match : {operand : Operand} {lines : List Line} {from : ℕ} (line : ℕ) → 1 ≤ from
-    → IsFirst operand lines from line → first_match operand lines from ≡ Some line
-first_is_match {operand} {lines} {from} line some is = some_by line is (first_match operand lines from) (first_match_as operand lines from some)
-
-first_none : (operand : Operand) (lines : List Line) (from : ℕ) → MatchesNone operand lines from → (matched : Option ℕ)
-    → MatchesAs operand lines from matched → matched ≡ None
-first_none operand lines from none None is = refl
-first_none operand lines from none (Some line) is = absurd (false≢true (sym (none line is.not_before is.within) ∙ is.match))
-
-pub none_is_match : (operand : Operand) (lines : List Line) (from : ℕ) → 1 ≤ from → MatchesNone operand lines from → first_match operand lines from ≡ None
-none_is_match operand lines from some none = first_none operand lines from none (first_match operand lines from) (first_match_as operand lines from some)
+-- so there is one first match
+matches_once : (operand : Operand) (lines : List Line) (from : ℕ) (one other : Option ℕ) → MatchesAs operand lines from one → MatchesAs operand lines from other → one ≡ other
+matches_once operand lines from None None none also = refl
+matches_once operand lines from None (Some line) none is = absurd (false≢true (sym (none line is.not_before is.within) ∙ is.match))
+matches_once operand lines from (Some line) None is none = absurd (false≢true (sym (none line is.not_before is.within) ∙ is.match))
+matches_once operand lines from (Some line) (Some other) is are = ap Some (one_first line other is are)
 
 -- where the search begins
 search_by : (state : State) (b : Bool) → 1 ≤ cond b 1 (suc (max state.current state.matched))
@@ -102,6 +92,11 @@ past_by current matched one none is are = let e : matched ≤ max current matche
 pub search_past : (suppress : Bool) (state : State) → state.matched < search_line suppress state
 search_past true state = let e : state.matched ≤ max (state.current - 1) state.matched = le-max_right (state.current - 1) state.matched in omega (arith, e)
 search_past false state = past_by state.current state.matched (eqb state.current 1) (eqb state.matched 0) refl refl
+
+first_is : (suppress : Bool) (operand : Operand) (lines : List Line) (state : State) (matched : Option ℕ) → MatchesAs operand lines (search_line suppress state) matched
+    → first_match operand lines (search_line suppress state) ≡ matched
+first_is suppress operand lines state matched is =
+    matches_once operand lines (search_line suppress state) (first_match operand lines (search_line suppress state)) matched (first_match_as operand lines (search_line suppress state) (search_some suppress state)) is
 
 -- more lines
 pub match_still : (operand : Operand) (a b : List Line) (line : ℕ) → 1 ≤ line → line ≤ length a → is_match operand (a ++ b) line ≡ is_match operand a line
@@ -148,7 +143,7 @@ turn_at_cut suppress lines state operand operands (Number n) matched cut at =
     ap (λ f. turn_at suppress (length lines) state operand operands f (n * (state.repetition + 1))) (sym at.0)
     ∙ ap (turn_at suppress (length lines) state operand operands matched) (sym at.1)
 turn_at_cut suppress lines state operand operands (Search pattern kept offset) matched cut at =
-    ap (turn_from suppress (length lines) state operand operands offset) (first_is_match matched (search_some suppress state) at.0)
+    ap (turn_from suppress (length lines) state operand operands offset) (first_is suppress operand lines state (Some matched) at.0)
     ∙ ap (turn_at suppress (length lines) state operand operands matched) (sym at.1)
 
 turn_missed : (suppress : Bool) (lines : List Line) (state : State) {operand : Operand} (operands : List Operand) (target : Target)
@@ -156,7 +151,7 @@ turn_missed : (suppress : Bool) (lines : List Line) (state : State) {operand : O
 turn_missed suppress lines state operands (Number n) none = absurd none
 turn_missed suppress lines state {operand} operands (Search pattern kept offset) none =
     ap (turn_from suppress (length lines) state operand operands offset)
-    (none_is_match operand lines (search_line suppress state) (search_some suppress state) none)
+    (first_is suppress operand lines state None none)
 
 left_most : (total : ℕ) (state : State) (target : Target) → left_of total state target ≤ total
 left_most total state (Number n) = omega arith
