@@ -38,22 +38,13 @@ pub found_is : {cutter : CutterState} (line : List ℕ) {text : List ℕ} (numbe
 found_is line number (Number n) is sought says near = sym (says.none sought)
 found_is line number (Search pattern kept offset) is sought says near = sym (says.some pattern sought near ∙ ap (contains pattern) is)
 
-seen_all : {cutter : CutterState} {x : List ℕ} (line : List ℕ) {text : List ℕ} (number : ℕ) {found : Bool} → number ≡ cutter.lines → text ≡ without_newline line → IsFit cutter → IsFound cutter text number found → Looked cutter x line
-    → AreSeen (suppress_in cutter) (all_lines x) cutter.lines (state_in cutter) found
-seen_all {cutter} {x} line number number_is is fit says looked =
+seen_all : {cutter : CutterState} {x : List ℕ} (line : List ℕ) {found : Bool} → IsFit cutter → IsFound cutter (without_newline line) cutter.lines found → Looked cutter x line → AreSeen (suppress_in cutter) (all_lines x) cutter.lines (state_in cutter) found
+seen_all {cutter} {x} line fit says looked =
     let count : length (all_lines x) ≡ cutter.lines = length-all_lines x ∙ sym looked.counted in record {
       count = count;
-      last = λ operand operands are near. last_mark operand line looked.last.0 looked.last.1 count
-          ∙ found_is line number operand.target is (fit.sought ∙ ap pattern_by are) says (omega (arith, near, number_is));
+      last = λ operand operands are near. last_mark operand line looked.last.0 looked.last.1 count ∙ found_is line cutter.lines operand.target refl (fit.sought ∙ ap pattern_by are) says near;
       others = looked.others;
     }
-
-pub looked_turns : {cutter mid : CutterState} {x : List ℕ} (line : List ℕ) {text : List ℕ} (number : ℕ) {found : Bool} (turn : Turn) → mid ≡ cutter → number ≡ cutter.lines → text ≡ without_newline line → IsFit cutter → IsFound cutter text number found
-    → ((lines : List Line) → AreSeen (suppress_in mid) lines mid.lines (state_in mid) found → Turns (suppress_in mid) lines mid.lines (state_in mid) turn) → Looked cutter x line
-    → Turns (suppress_in cutter) (all_lines x) cutter.lines (state_in cutter) turn
-looked_turns {x} line number {found} turn same number_is is fit says turns looked =
-    subst (λ (those : CutterState). (lines : List Line) → AreSeen (suppress_in those) lines those.lines (state_in those) found → Turns (suppress_in those) lines those.lines (state_in those) turn) same turns
-    (all_lines x) (seen_all line number number_is is fit says looked)
 
 pub advance_ends : {suppress : Bool} {lines : List Line} {state : State} (turn : Turn) → IsNoCut turn → Advances suppress lines state turn → EndsHere suppress lines state turn
 advance_ends (Cuts matched line) no_cut ends = absurd no_cut
@@ -94,24 +85,16 @@ cut_near {cutter} {x} line cut is fit looked turns =
 
 -- what `try_last` owes
 
-pub tries_cut : {cutter mid : CutterState} (line : List ℕ) {text : List ℕ} (number : ℕ) {found : Bool} {turn : Turn} (cut : Cut) → mid ≡ cutter → number ≡ cutter.lines → text ≡ without_newline line → IsFit cutter → IsFound cutter text number found
-    → ((lines : List Line) → AreSeen (suppress_in mid) lines mid.lines (state_in mid) found → Turns (suppress_in mid) lines mid.lines (state_in mid) turn) → turn ≡ Cuts cut.matched cut.line
-    → (x : List ℕ) → Looked cutter x line → GoesPast (suppress_in cutter) (all_lines x) (state_in cutter) cut.matched cut.line × StaysNear cutter cut
-tries_cut {cutter} line number {turn} cut same number_is is fit says turns turn_is x looked =
-    let here = looked_turns line number turn same number_is is fit says turns looked in
-    let count : length (all_lines x) ≡ cutter.lines = length-all_lines x ∙ sym looked.counted in (
-      subst (Advances (suppress_in cutter) (all_lines x) (state_in cutter)) turn_is (advances (suppress_in cutter) (all_lines x) (state_in cutter) turn count here),
-      cut_near line cut turn_is fit looked here,
-    )
+module _ {cutter : CutterState} (line : List ℕ) {found : Bool} (turn : Turn) (fit : IsFit cutter) (says : IsFound cutter (without_newline line) cutter.lines found)
+    (turns : (lines : List Line) → AreSeen (suppress_in cutter) lines cutter.lines (state_in cutter) found → Turns (suppress_in cutter) lines cutter.lines (state_in cutter) turn) (x : List ℕ) (looked : Looked cutter x line) where
+  advanced : Advances (suppress_in cutter) (all_lines x) (state_in cutter) turn
+  advanced = advances (suppress_in cutter) (all_lines x) (state_in cutter) turn (length-all_lines x ∙ sym looked.counted) (turns (all_lines x) (seen_all line fit says looked))
 
-pub tries_none : {cutter mid before : CutterState} (line : List ℕ) {text : List ℕ} (number : ℕ) {found : Bool} {turn : Turn} → before ≡ mid → mid ≡ cutter → number ≡ cutter.lines → text ≡ without_newline line → IsFit cutter → IsFound cutter text number found
-    → ((lines : List Line) → AreSeen (suppress_in mid) lines mid.lines (state_in mid) found → Turns (suppress_in mid) lines mid.lines (state_in mid) turn) → IsNoCut turn
-    → (x : List ℕ) → Looked cutter x line → EndsNow (record before { aim = turn }) x
-tries_none {cutter} line number {turn} first same number_is is fit says turns no_cut x looked =
-    let here = looked_turns line number turn same number_is is fit says turns looked in
-    let count : length (all_lines x) ≡ cutter.lines = length-all_lines x ∙ sym looked.counted in
-    subst (λ (those : CutterState). EndsHere (suppress_in those) (all_lines x) (state_in those) turn) (sym (first ∙ same))
-    (advance_ends turn no_cut (advances (suppress_in cutter) (all_lines x) (state_in cutter) turn count here))
+  pub tries_cut : (cut : Cut) → turn ≡ Cuts cut.matched cut.line → GoesPast (suppress_in cutter) (all_lines x) (state_in cutter) cut.matched cut.line × StaysNear cutter cut
+  tries_cut cut is = (subst (Advances (suppress_in cutter) (all_lines x) (state_in cutter)) is advanced, cut_near line cut is fit looked (turns (all_lines x) (seen_all line fit says looked)))
+
+  pub tries_none : {before : CutterState} → before ≡ cutter → IsNoCut turn → EndsNow (record before { aim = turn }) x
+  tries_none same no_cut = subst (λ (those : CutterState). EndsHere (suppress_in those) (all_lines x) (state_in those) turn) (sym same) (advance_ends turn no_cut advanced)
 
 -- One more line comes.
 
