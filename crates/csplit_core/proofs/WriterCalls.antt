@@ -61,7 +61,7 @@ with_room {style} current same is = ap (λ those. state_of style those current) 
 
 -- What the open section is
 
-now_is : {writer : WriterState} {draft : Draft} {current : Current} → writer.current ≡ current → Writes writer draft → IsCurrent writer.style draft.is_kept draft.bytes current
+pub now_is : {writer : WriterState} {draft : Draft} {current : Current} → writer.current ≡ current → Writes writer draft → IsCurrent writer.style draft.is_kept draft.bytes current
 now_is {writer} {draft} is writes = subst (λ current. IsCurrent writer.style draft.is_kept draft.bytes current) is writes.current
 
 -- a section that is skipped makes no file, and neither does an empty one where those are left out
@@ -263,11 +263,11 @@ put_unmade {writer = writer} bytes is some makes = record {
 
 -- A section begins
 
-abbrev begun : Bool → Contents
+abbrev pub begun : Bool → Contents
 begun kept = record { is_kept = kept; is_closed = false; bytes = [] }
 
 -- one without a file
-begun_none : {told : Bool} {writer : WriterState} {kept : Bool} {current : Current} {slots : List Slot} → makes_file writer.style (begun kept) ≡ false → Rattle.csplit_core.specs.Writer.IsCurrent writer.style kept [] current → IsOpenAt current slots → IsLast current slots → size_of current ≡ 0
+pub begun_none : {told : Bool} {writer : WriterState} {kept : Bool} {current : Current} {slots : List Slot} → makes_file writer.style (begun kept) ≡ false → Rattle.csplit_core.specs.Writer.IsCurrent writer.style kept [] current → IsOpenAt current slots → IsLast current slots → size_of current ≡ 0
     → IsReady writer slots → Starts told writer kept slots slots (record writer { current = current }) None
 begun_none {told} {writer} {kept} {slots = slots} none is at last size ready = record {
   leaves = record {
@@ -282,12 +282,6 @@ begun_none {told} {writer} {kept} {slots = slots} none is at last size ready = r
   size = size;
   none_made = tt;
 }
-
-pub begin_skipped : {told : Bool} {writer : WriterState} {kept : Bool} {slots : List Slot} → kept ≡ false → IsReady writer slots → Starts told writer kept slots slots (record writer { current = Skipped }) None
-begin_skipped {writer = writer} {kept} is ready = begun_none (skips_file writer.style (begun kept) is) is tt tt refl ready
-
-pub begin_unmade : {told : Bool} {writer : WriterState} {kept : Bool} {slots : List Slot} → kept ≡ true → writer.style.elide ≡ true → IsReady writer slots → Starts told writer kept slots slots (record writer { current = Unmade }) None
-begin_unmade {writer = writer} {kept} is elide ready = begun_none (elides_file writer.style (begun kept) elide refl) (is, elide, refl) tt tt refl ready
 
 -- one with a file
 begun_makes : (style : Style) {kept : Bool} → kept ≡ true → style.elide ≡ false → makes_file style (begun kept) ≡ true
@@ -360,7 +354,7 @@ opens_not_begun {told} {style} {kept = kept} {old} {new} {next} {f} none two not
 
 -- A section without a file
 
-end_none : {told : Bool} {writer : WriterState} {slots : List Slot} → ((draft : Draft) → Writes writer draft → (closed : Bool) → makes_file writer.style (last_contents closed draft) ≡ false) → IsReady writer slots → Ends told writer slots slots writer None
+pub end_none : {told : Bool} {writer : WriterState} {slots : List Slot} → ((draft : Draft) → Writes writer draft → (closed : Bool) → makes_file writer.style (last_contents closed draft) ≡ false) → IsReady writer slots → Ends told writer slots slots writer None
 end_none {writer = writer} none ready = record {
   leaves = leaves_still ready;
   reaches = λ draft writes. reaches_still (part_none writer.style draft.ended (last_contents false draft) (none draft writes false) ∙ sym (part_none writer.style draft.ended (last_contents true draft) (none draft writes true)));
@@ -369,12 +363,6 @@ end_none {writer = writer} none ready = record {
     made = writes.made ∙ count_none writer.style draft.ended (last_contents false draft) (none draft writes false) ∙ sym (count_none writer.style draft.ended (last_contents true draft) (none draft writes true));
   };
 }
-
-pub end_skipped : {told : Bool} {writer : WriterState} {slots : List Slot} → writer.current ≡ Skipped → IsReady writer slots → Ends told writer slots slots writer None
-end_skipped {writer = writer} is ready = end_none (λ draft writes closed. skips_file writer.style (last_contents closed draft) (now_is is writes)) ready
-
-pub end_unmade : {told : Bool} {writer : WriterState} {slots : List Slot} → writer.current ≡ Unmade → IsReady writer slots → Ends told writer slots slots writer None
-end_unmade {writer = writer} is ready = end_none (λ draft writes closed. elides_file writer.style (last_contents closed draft) (now_is is writes).1 (now_is is writes).2) ready
 
 -- A section with one
 
