@@ -1,12 +1,11 @@
 -- A cut ends the open section, and the next one begins.
-use Rattle.std.proofs.Common.{◌≡◌, ℕ, suc, ◌+◌, ◌-◌, ◌<◌, ◌≤◌, max, eqb, ◌&&◌, cond, Bool, true, false, List, [], ◌∷◌, ◌++◌, length, map, Option, Some, None, Err, refl, sym, ◌∙◌, ap, subst, arith, append_assoc}
+use Rattle.std.proofs.Common.{◌≡◌, ℕ, suc, ◌+◌, ◌-◌, ◌≤◌, max, eqb, ◌&&◌, cond, Bool, true, false, List, [], ◌∷◌, ◌++◌, length, map, Option, Some, None, Err, refl, sym, ◌∙◌, ap, subst, arith, append_assoc}
 use Rattle.std.proofs.lemmas.List.{map-append, append-nil}
 use Rattle.seg_core.specs.Line.{first_lines, after_lines}
 use Rattle.seg_core.proofs.FirstLines.{first_lines-zero, first_lines_then_rest}
 use Rattle.ports_core.specs.Part.{Begins}
 use Rattle.ports_core.specs.Slot.{Slot}
 use Rattle.ports_core.specs.declared.fault.Fault.{Fault}
-use Rattle.ports_core.specs.declared.fault.Fault.TheVariants.{Memory}
 use Rattle.ports_core.proofs.PartLemmas.{part_trans}
 use Rattle.csplit_core.specs.Csplit.{settled_of}
 use Rattle.csplit_core.specs.Draft.{Draft, draft_part}
@@ -29,7 +28,7 @@ use Rattle.csplit_core.proofs.HoldLemmas.{goes_or_lacks}
 use Rattle.csplit_core.proofs.WholeLemmas.{after_within}
 use Rattle.csplit_core.proofs.LineLemmas.{bytes_between, first_further, from_further}
 use Rattle.csplit_core.proofs.CutterLemmas.{last_kept}
-use Rattle.csplit_core.proofs.WriterLemmas.{bytes_begin, leaves_again, leaves_lacking, reaches_again, reaches_as, section_begins, stops_wider}
+use Rattle.csplit_core.proofs.WriterLemmas.{bytes_begin, leaves_again, reaches_again, reaches_as, section_begins, stops_wider}
 
 -- What is settled begins with what stands where a section has begun.
 

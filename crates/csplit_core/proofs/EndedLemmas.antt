@@ -14,7 +14,7 @@ use Rattle.csplit_core.specs.inner.Writer.{ended_part, with_bytes, Ends, Goes, R
 use Rattle.csplit_core.specs.Input.{newline, all_lines}
 use Rattle.csplit_core.specs.Operand.{Operand, Line}
 use Rattle.csplit_core.specs.Output.{Style, contents_of, part_by}
-use Rattle.csplit_core.specs.Plan.{Ending, below, State, start, Step, used_up, missed, above, state_after, Runs, is_used_up, misses, is_above, is_below, cuts}
+use Rattle.csplit_core.specs.Plan.{Ending, below, State, used_up, missed, above}
 use Rattle.csplit_core.specs.Planned.{Plan, plan}
 use Rattle.csplit_core.specs.inner.PlanLaws.{EndsAs}
 use Rattle.csplit_core.specs.laws.PlanLaws.{plan_once, plan_runs}

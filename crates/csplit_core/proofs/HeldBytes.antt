@@ -1,12 +1,12 @@
 -- How many bytes wait.
 use Rattle.std.proofs.Common.{◌≡◌, ℕ, ◌+◌, ◌-◌, ◌≤◌, cond, List, [], length, drop, sym, ◌∙◌, ap, arith, inl, inr, ◌<◌, ◌^◌, min, false, ◌++◌, length-append}
 use Rattle.std.proofs.lemmas.List.{drop-map}
-use Rattle.seg_core.specs.Line.{lines_of, line_count, joined, after_lines, first_lines}
+use Rattle.seg_core.specs.Line.{lines_of, joined, after_lines, first_lines}
 use Rattle.csplit_core.specs.Input.{newline, marked, all_lines, open_line}
 use Rattle.csplit_core.specs.Plan.{start}
 use Rattle.csplit_core.specs.Planned.{Plan, plan}
 use Rattle.csplit_core.specs.laws.PlanLaws.{plan_once}
-use Rattle.csplit_core.specs.Section.{bytes_of, settled_end, most_waiting, waiting_lines, is_final}
+use Rattle.csplit_core.specs.Section.{bytes_of, settled_end, waiting_lines, is_final}
 use Rattle.csplit_core.specs.laws.SectionLaws.{are_within}
 use Rattle.csplit_core.specs.Cutter.{CutterState, IsLive, state_in, suppress_in, text_from, IsPast, Stands}
 use Rattle.csplit_core.proofs.CutterLemmas.{runs_to, live_taken}

@@ -1,10 +1,7 @@
 -- Lines over which the next operand stands as it does, and those that are seen to have no match.
-use Rattle.std.proofs.Common.{◌≡◌, inl, inr, ℕ, zero, suc, ◌+◌, ◌-◌, ◌^◌, ◌<◌, ◌≤◌, eqb, Bool, true, false, cond, List, [], ◌∷◌, ◌++◌, length, take, drop, get_or, refl, sym, ◌∙◌, ap, subst, arith, Some, None, IfSome, append_assoc, length-append}
-use Rattle.std.specs.Prelude.{min}
-use Rattle.std.specs.List.{onto_first}
+use Rattle.std.proofs.Common.{◌≡◌, inl, inr, ℕ, zero, suc, ◌+◌, ◌-◌, ◌^◌, ◌<◌, ◌≤◌, Bool, true, false, cond, List, [], ◌∷◌, ◌++◌, length, take, drop, get_or, refl, sym, ◌∙◌, ap, subst, arith, Some, None, IfSome, append_assoc, length-append}
 use Rattle.std.proofs.lemmas.Bool.{cases_lt, eq-eqb, eqb-true, ne_eqb, false≢true}
 use Rattle.std.proofs.lemmas.List.{get_or-map, drop_at, take_all, take_at, length-drop, take-append-drop, length-take-le, get_or_append_left, append-nil}
-use Rattle.std.proofs.Math.Nat.{min-le_left}
 use Rattle.std.proofs.Math.Seq.{get_or-append_right}
 use Rattle.memchr.specs.Find.{Nowhere, Passes, is_byte}
 use Rattle.bre_core.specs.Pattern.{Pattern}
@@ -13,18 +10,18 @@ use Rattle.seg_core.specs.Line.{lines_of, line_count, delimiters, ends_with, End
 use Rattle.seg_core.proofs.Delimiters.{delimiters-le-length}
 use Rattle.seg_core.proofs.FirstLines.{EndsAt-enough, lines_of-first_lines}
 use Rattle.seg_core.proofs.LineCounts.{line_count-le-length, line_count_near, ends_with-append}
-use Rattle.csplit_core.specs.Cutter.{CutterState, suppress_in, state_in, pattern_in, pattern_by, AimHolds, IsFit, IsSound}
+use Rattle.csplit_core.specs.Cutter.{CutterState, suppress_in, state_in, pattern_in, AimHolds, IsSound}
 use Rattle.csplit_core.specs.inner.Cutter.{AreClear, IsWhole, IsLine, IsFound, IsNextFound, PassesClear, PassesOver, StopsAt}
 use Rattle.csplit_core.specs.Input.{newline, without_newline, is_match_of, marked, all_lines}
 use Rattle.csplit_core.specs.Measure.{Moves, IsRepeatedBy, IsRepeated, Fits}
 use Rattle.csplit_core.specs.Operand.{Target, Number, Search, Operand, Line, unmarked}
-use Rattle.csplit_core.specs.Plan.{State, Ending, used_up, missed, above, below, search_line, Runs}
-use Rattle.csplit_core.specs.Progress.{AimsAt, WillMove}
+use Rattle.csplit_core.specs.Plan.{State, search_line}
+use Rattle.csplit_core.specs.Progress.{WillMove}
 use Rattle.csplit_core.specs.declared.line_cutter.Passed.{Passed}
 use Rattle.csplit_core.specs.declared.progress.Turn.{Turn}
 use Rattle.csplit_core.specs.declared.progress.Turn.TheVariants.{UsedUp, Missed, Above, Cuts}
 use Rattle.csplit_core.proofs.LineLemmas.{whole_drop, all_lines-append, all_lines-line, count-append, count-line, length-all_lines, whole_count, whole-append, whole_by, line_by}
-use Rattle.csplit_core.proofs.StayLemmas.{NoneFrom, EndsStill, ends_still}
+use Rattle.csplit_core.proofs.StayLemmas.{NoneFrom}
 use Rattle.csplit_core.proofs.TryLemmas.{StaysOver, ends_over, found_is}
 use Rattle.scan_core.specs.Clear.{IsClear}
 use Rattle.seg_core.proofs.LinesOf.{AreLines-lines_of, joined-lines_of}

@@ -10,19 +10,15 @@ use Rattle.csplit_core.specs.inner.PlanLaws.{needed}
 use Rattle.csplit_core.specs.Writer.{IsReady, size_of}
 use Rattle.csplit_core.specs.declared.line_cutter.Cut.{Cut}
 use Rattle.csplit_core.specs.declared.progress.Turn.{Turn}
-use Rattle.csplit_core.specs.Cutter.{CutterState, state_in, IsFit, IsSound, IsAt, EndsNow, kept_by, draft_by, IsLive}
-use Rattle.csplit_core.specs.inner.Cutter.{IsEnd, part_at, Holds, Tries, CutsNow, IsAfter, CutAt, CutsAll, WillCut, Spreading, Spread, settled_part, IsLine, IsWhole, IsNextFound, PassesOver, StopsAt, TriesNext, CutsOn, GoesOn, Stretches, Takes}
+use Rattle.csplit_core.specs.Cutter.{CutterState, state_in, IsFit, IsSound, IsAt, EndsNow, IsLive}
+use Rattle.csplit_core.specs.inner.Cutter.{IsEnd, part_at, Holds, Tries, CutsNow, IsAfter, CutAt, CutsAll, WillCut, Spreading, Spread, IsLine, IsWhole, IsNextFound, PassesOver, StopsAt, TriesNext, CutsOn, GoesOn, Stretches, Takes}
 use Rattle.csplit_core.proofs.CutterLemmas.{keeps_on, settled_same, at_more, part_more}
 use Rattle.csplit_core.proofs.TakeLemmas.{Reached, more_lines, sound_held, take_cut, took_held}
-use Rattle.csplit_core.proofs.WriterLemmas.{reaches_again, reaches_as, where_well, bytes_begin, leaves_lacking, stops_wider}
+use Rattle.csplit_core.proofs.WriterLemmas.{reaches_again, reaches_as, where_well}
 use Rattle.std.proofs.lemmas.Bool.{eqb-true}
-use Rattle.seg_core.specs.Line.{delimiters, first_lines, line_count, ends_with}
-use Rattle.ports_core.specs.declared.fault.Fault.TheVariants.{Memory}
-use Rattle.csplit_core.specs.Draft.{draft_part}
-use Rattle.csplit_core.specs.inner.Writer.{with_bytes, Leaves, fault_in}
-use Rattle.csplit_core.specs.Input.{newline, all_lines}
-use Rattle.csplit_core.proofs.CutLemmas.{before_begins, cut_stopped}
-use Rattle.csplit_core.proofs.HoldLemmas.{lacks_memory}
+use Rattle.seg_core.specs.Line.{delimiters, line_count, ends_with}
+use Rattle.csplit_core.specs.inner.Writer.{fault_in}
+use Rattle.csplit_core.specs.Input.{newline}
 use Rattle.std.proofs.Math.Seq.{take-add}
 use Rattle.std.specs.Prelude.{IfOk}
 use Rattle.csplit_core.specs.Output.{Style}

@@ -1,5 +1,5 @@
 -- Taking lines in, one by one and stretch by stretch.
-use Rattle.std.proofs.Common.{◌≡◌, ◌⊎◌, inl, inr, ℕ, suc, ◌+◌, ◌-◌, ◌<◌, ◌≤◌, max, Bool, true, false, Option, Some, None, List, [], ◌∷◌, ◌++◌, length, refl, sym, ◌∙◌, ap, subst, arith, append_assoc, length-append, IfSome, Ok, Err, take, drop}
+use Rattle.std.proofs.Common.{◌≡◌, ◌⊎◌, inl, inr, ℕ, ◌+◌, ◌-◌, ◌<◌, ◌≤◌, max, Bool, true, Option, Some, None, List, [], ◌∷◌, ◌++◌, length, refl, sym, ◌∙◌, ap, subst, arith, append_assoc, length-append, IfSome, Ok, Err, take, drop}
 use Rattle.std.proofs.lemmas.List.{append-nil, take-append-drop, length-drop}
 use Rattle.std.proofs.lemmas.Bool.{false≢true, cases_lt}
 use Rattle.seg_core.specs.Line.{line_count, delimiters}
@@ -11,12 +11,12 @@ use Rattle.ports_core.specs.Slot.{Slot}
 use Rattle.ports_core.specs.declared.fault.Fault.{Fault}
 use Rattle.csplit_core.specs.Input.{newline, all_lines}
 use Rattle.csplit_core.specs.Operand.{Operand, Line}
-use Rattle.csplit_core.specs.Plan.{State, start, Step, Ending, used_up, missed, above, below, CutsAt, state_after, Runs, cuts}
+use Rattle.csplit_core.specs.Plan.{State, Step, Ending, below, CutsAt, state_after, Runs, cuts}
 use Rattle.csplit_core.specs.Draft.{draft_part}
 use Rattle.csplit_core.specs.Output.{Style}
 use Rattle.csplit_core.specs.Planned.{Plan, plan, plan_within}
-use Rattle.csplit_core.specs.laws.PlanLaws.{cuts_still, runs, line_some, plan_runs}
-use Rattle.csplit_core.specs.inner.PlanLaws.{needed, EndsAs}
+use Rattle.csplit_core.specs.laws.PlanLaws.{runs, line_some, plan_runs}
+use Rattle.csplit_core.specs.inner.PlanLaws.{needed}
 use Rattle.seg_core.proofs.EndLines.{line_count-grows}
 use Rattle.csplit_core.specs.inner.Progress.{GoesPast}
 use Rattle.csplit_core.specs.Progress.{AimsAt}
@@ -28,7 +28,7 @@ use Rattle.csplit_core.specs.declared.progress.Turn.{Turn}
 use Rattle.csplit_core.specs.declared.progress.Turn.TheVariants.{Below}
 use Rattle.csplit_core.specs.Cutter.{CutterState, suppress_in, state_in, settled_draft, draft_by, AimHolds, IsFit, IsSound, IsAt, IsLive, IsPast, Stands, EndsNow, kept_by, load}
 use Rattle.csplit_core.specs.inner.Cutter.{settled_part, part_at, IsWhole, IsLine, Arrives, Held, Holds, CutsNow, CutsAll, WillCut, TriesNext, search_after, Takes, IsNextFound, Stretches}
-use Rattle.csplit_core.proofs.CutterLemmas.{runs_to, at_more, part_more, live_part, left_count, few_taken, live_taken, settled_part_is, most_is, aims_past, draft_is, final_count, ended_still, keeps_on, settled_same}
+use Rattle.csplit_core.proofs.CutterLemmas.{at_more, part_more, live_part, left_count, few_taken, live_taken, settled_part_is, most_is, aims_past, draft_is, final_count, ended_still, keeps_on, settled_same}
 use Rattle.csplit_core.proofs.LineLemmas.{all_lines-append, all_lines-line, length-all_lines, count-line, whole_count, whole_from, whole-append, whole_drop, rest_all}
 use Rattle.csplit_core.proofs.WriterLemmas.{leaves_still, reaches_as, reaches_still, where_well, reaches_again, stops_wider}
 use Rattle.csplit_core.proofs.StayLemmas.{EndsStill, stays}

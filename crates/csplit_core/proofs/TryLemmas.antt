@@ -9,7 +9,7 @@ use Rattle.seg_core.specs.Line.{line_count}
 use Rattle.csplit_core.specs.Input.{newline, without_newline, marked, all_lines, is_match_of}
 use Rattle.csplit_core.specs.laws.PlanLaws.{search_past, search_some, match_still, cuts_still}
 use Rattle.csplit_core.specs.Operand.{Target, Number, Search, Operand, Line, unmarked, is_match}
-use Rattle.csplit_core.specs.Plan.{State, start, Ending, used_up, missed, above, below, search_line, line_after, CutsAt, Misses, Runs, cuts}
+use Rattle.csplit_core.specs.Plan.{State, Ending, used_up, missed, above, below, search_line, line_after, CutsAt, Misses, Runs, cuts}
 use Rattle.csplit_core.specs.inner.Progress.{AreSeen, Turns, MovesOn, GoesPast, Advances}
 use Rattle.csplit_core.specs.Progress.{AimsAt, EndsHere}
 use Rattle.csplit_core.specs.inner.PlanLaws.{EndsAs}
@@ -17,11 +17,10 @@ use Rattle.csplit_core.specs.laws.SectionLaws.{ends_as, front_of}
 use Rattle.csplit_core.specs.declared.line_cutter.Cut.{Cut}
 use Rattle.csplit_core.specs.declared.progress.Progress.{Progress}
 use Rattle.csplit_core.specs.declared.progress.Turn.{Turn}
-use Rattle.csplit_core.specs.declared.progress.Turn.TheVariants.{UsedUp, Missed, Above, Cuts}
+use Rattle.csplit_core.specs.declared.progress.Turn.TheVariants.{Missed, Above, Cuts}
 use Rattle.csplit_core.specs.Cutter.{CutterState, suppress_in, state_in, pattern_in, pattern_by, AimHolds, IsFit, IsLive, EndsNow}
 use Rattle.csplit_core.specs.inner.Cutter.{IsWhole, IsLine, Looked, IsFound, IsNoCut, search_after, StaysNear, Tries, TriesNext}
 use Rattle.csplit_core.proofs.TurnLemmas.{advances, capped}
-use Rattle.csplit_core.proofs.CutterLemmas.{runs_to}
 use Rattle.csplit_core.proofs.LineLemmas.{all_lines-append, all_lines-line, length-all_lines, count-append, count-line, whole-append}
 use Rattle.csplit_core.proofs.StayLemmas.{NoneFrom, search_grows, ends_still, EndsStill}
 

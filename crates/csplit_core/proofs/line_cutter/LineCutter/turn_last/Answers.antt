@@ -1,4 +1,3 @@
-use Rattle.std.proofs.Common.{refl}
 use Rattle.csplit_core.proofs.TryLemmas.{tries_cut, tries_none}
 use Rattle.csplit_core.proofs.line_cutter.LineCutter.turn_last.Goals as goal
 
