@@ -26,11 +26,8 @@ not_below least n more = is_target (line n) (Number n) (ap (λ b. cond b (fails 
 
 -- how a `?` ends
 
-pub lacks : (aimed : Aimed) (result : Result Target OperandFaultKind) → IsErrAnd result (λ e. e ≡ kind.Memory) → IsAimed aimed result
-lacks aimed result ends = let at = err_from_is_err_and result ends in subst (IsAimed aimed) (sym (at.1 ∙ ap Err at.2)) no_memory
-
-pub goes_wrong : (aimed : Aimed) (what : OperandFaultKind) (result : Result Target OperandFaultKind) → aimed ≡ fails what → IsErrAnd result (λ e. e ≡ what) → IsAimed aimed result
-goes_wrong aimed what result is ends = let at = err_from_is_err_and result ends in subst (IsAimed aimed) (sym (at.1 ∙ ap Err at.2)) (is_wrong what is)
+pub ends_as : (aimed : Aimed) (what : OperandFaultKind) (result : Result Target OperandFaultKind) → IsErrAnd result (λ e. e ≡ what) → IsAimed aimed (Err what) → IsAimed aimed result
+ends_as aimed what result ends so = let at = err_from_is_err_and result ends in subst (IsAimed aimed) (sym (at.1 ∙ ap Err at.2)) so
 
 refused_so : (kept : Bool) (text : List ℕ) (offset : Offset) (fault : BreFault) → (IsOfText fault → (pattern : Pattern) → Reads text pattern → ⊥) → (fault ≡ TooLarge → IsTooLarge text)
     → IsAimed (aims (match kept text offset)) (Err (refusal_of fault))
@@ -42,8 +39,7 @@ pub is_refused_so : (kept : Bool) (text plain : List ℕ) (offset : Offset) (fau
     → (IsOfText fault → (pattern : Pattern) → Reads plain pattern → ⊥) → (fault ≡ TooLarge → IsTooLarge plain) → IsErrAnd result (λ e. e ≡ refusal_of fault)
     → IsAimed (aims (match kept text offset)) result
 is_refused_so kept text plain offset fault result is none large ends =
-    let at = err_from_is_err_and result ends in
-    subst (λ those. IsAimed (aims (match kept those offset)) result) is (subst (IsAimed (aims (match kept plain offset))) (sym (at.1 ∙ ap Err at.2)) (refused_so kept plain offset fault none large))
+    subst (λ those. IsAimed (aims (match kept those offset)) result) is (ends_as (aims (match kept plain offset)) (refusal_of fault) result ends (refused_so kept plain offset fault none large))
 
 pub is_read : (kept : Bool) (text plain : List ℕ) (offset : Offset) (pattern : Pattern) → plain ≡ text → Reads plain pattern → depth_of pattern ≤ 255 → positions_of pattern ≤ 65535
     → IsAimed (aims (match kept text offset)) (Ok (Search pattern kept offset))

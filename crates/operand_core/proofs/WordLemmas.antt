@@ -1,8 +1,7 @@
 -- Lemmas on what a word spells.
 use Rattle.std.proofs.Common.{◌≡◌, ℕ, suc, ◌+◌, ◌-◌, take, drop, add-one, ◌<◌, ◌&&◌, Bool, true, false, not, cond, List, [], ◌∷◌, ◌++◌, Option, Some, None, refl, sym, ◌∙◌, ap, arith}
-use Rattle.std.proofs.lemmas.Bool.{eq-eqb, ne_eqb}
 use Rattle.std.proofs.lemmas.List.{take_rest}
-use Rattle.std.specs.Prelude.{◌==◌, ◌≢◌, option_map, length, IfSome}
+use Rattle.std.specs.Prelude.{◌==◌, option_map, length, IfSome}
 use Rattle.operand_core.specs.Operand.{Offset}
 use Rattle.operand_core.specs.Word.{is_escape, closing, before_brace, closed_at, searched, offset_of}
 
@@ -26,17 +25,11 @@ one_more : (first : ℕ) (inner : List ℕ) (is : Bool) → option_map (λ those
 one_more first inner true = refl
 one_more first inner false = refl
 
-before_brace_at : (inner : List ℕ) (byte : ℕ) → before_brace (inner ++ byte ∷ []) ≡ cond (byte == 125) (Some inner) None
+pub before_brace_at : (inner : List ℕ) (byte : ℕ) → before_brace (inner ++ byte ∷ []) ≡ cond (byte == 125) (Some inner) None
 before_brace_at [] byte = refl
 before_brace_at (first ∷ []) byte = one_more first [] (byte == 125)
 before_brace_at (first ∷ next ∷ inner) byte =
     ap (option_map (λ those. first ∷ those)) (before_brace_at (next ∷ inner) byte) ∙ one_more first (next ∷ inner) (byte == 125)
-
-pub is_brace : (inner : List ℕ) (byte : ℕ) → byte ≡ 125 → before_brace (inner ++ byte ∷ []) ≡ Some inner
-is_brace inner byte is = before_brace_at inner byte ∙ ap (λ b. cond b (Some inner) None) (eq-eqb byte 125 is)
-
-pub is_no_brace : (inner : List ℕ) (byte : ℕ) → byte ≢ 125 → before_brace (inner ++ byte ∷ []) ≡ None
-is_no_brace inner byte differ = before_brace_at inner byte ∙ ap (λ b. cond b (Some inner) None) (ne_eqb byte 125 differ)
 
 -- the pattern and the offset that a closing delimiter stands between
 pub search_closed : (delimiter : ℕ) (text : List ℕ) (place : ℕ) (found : Option ℕ) (offset now : Option Offset) → found ≡ closing delimiter false text

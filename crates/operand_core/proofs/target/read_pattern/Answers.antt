@@ -1,11 +1,12 @@
 use Rattle.std.proofs.Common.{◌∙◌, Err, ap}
 use Rattle.std.specs.Prelude.{◌==◌}
 use Rattle.operand_core.specs.Word.{unescaped}
-use Rattle.operand_core.proofs.AimLemmas.{lacks, is_refused_so, is_read}
+use Rattle.operand_core.specs.inner.Aiming.{no_memory}
+use Rattle.operand_core.proofs.AimLemmas.{ends_as, is_refused_so, is_read}
 use Rattle.operand_core.proofs.target.read_pattern.Goals as goal
 
 pub returns-in_err-text : goal.returns-in_err-text
-returns-in_err-text c = lacks _ c.from_residual.result c.from_residual.ensures.1
+returns-in_err-text c = ends_as _ _ c.from_residual.result c.from_residual.ensures.1 no_memory
 
 pub returns-in_err-pattern : goal.returns-in_err-pattern
 returns-in_err-pattern c =
