@@ -208,16 +208,13 @@ next_sought {cutter} {x} live fit aim none =
     missed_sought (suppress_in cutter) (all_lines x) (state_in cutter) live.ends.ending (ends_as _ _ _ _ _ _ live.ends.runs)
     (subst (λ a. AimsAt a live.ends.ending) aim live.ends.aims) (sym fit.sought ∙ none)
 
-pub next_tries : {cutter before mid next : CutterState} (line : List ℕ) (result : Option Cut) → before ≡ cutter → mid ≡ record before { lines = before.lines + 1 } → IsFit cutter → IsLine line → before.aim ≡ Missed → next ≡ record mid { aim = next.aim } → Tries mid line next result → TriesNext cutter line next result
-next_tries {cutter} {mid} line None same mid_is fit one aim next_is tries = λ x whole live.
-    let mid_as : mid ≡ record cutter { lines = cutter.lines + 1 } = mid_is ∙ ap (λ (c : CutterState). record c { lines = c.lines + 1 }) same in
+pub next_tries : {cutter before next : CutterState} (line : List ℕ) (result : Option Cut) → before ≡ cutter → IsFit cutter → IsLine line → before.aim ≡ Missed → next ≡ record before { lines = before.lines + 1; aim = next.aim } → Tries (record before { lines = before.lines + 1 }) line next result → TriesNext cutter line next result
+next_tries {cutter} line None same fit one aim next_is tries = λ x whole live.
+    tries (x ++ line) (subst (λ (c : CutterState). Looked (record c { lines = c.lines + 1 }) (x ++ line) line) (sym same) (next_looked line live whole one (ap (λ (c : CutterState). c.aim) (sym same) ∙ aim)))
+next_tries {cutter} {next = next} line (Some cut) same fit one aim next_is tries = λ x whole live.
     let aim' : cutter.aim ≡ Missed = ap (λ (c : CutterState). c.aim) (sym same) ∙ aim in
-    tries (x ++ line) (subst (λ (c : CutterState). Looked c (x ++ line) line) (sym mid_as) (next_looked line live whole one aim'))
-next_tries {cutter} {mid} {next} line (Some cut) same mid_is fit one aim next_is tries = λ x whole live.
-    let mid_as : mid ≡ record cutter { lines = cutter.lines + 1 } = mid_is ∙ ap (λ (c : CutterState). record c { lines = c.lines + 1 }) same in
-    let aim' : cutter.aim ≡ Missed = ap (λ (c : CutterState). c.aim) (sym same) ∙ aim in
-    let both = tries (x ++ line) (subst (λ (c : CutterState). Looked c (x ++ line) line) (sym mid_as) (next_looked line live whole one aim')) in
-    let near = subst (λ (c : CutterState). StaysNear c cut) mid_as both.1 (inr (next_sought live fit aim')) in (
-      subst (λ (c : CutterState). GoesPast (suppress_in c) (all_lines (x ++ line)) (state_in c) cut.matched cut.line) mid_as both.0,
-      (let lines' : next.lines ≡ cutter.lines + 1 = ap (λ (c : CutterState). c.lines) (next_is ∙ ap (λ (c : CutterState). record c { aim = next.aim }) mid_as) in omega (arith, near, lines')),
+    let both = tries (x ++ line) (subst (λ (c : CutterState). Looked (record c { lines = c.lines + 1 }) (x ++ line) line) (sym same) (next_looked line live whole one aim')) in
+    let near = subst (λ (c : CutterState). StaysNear (record c { lines = c.lines + 1 }) cut) same both.1 (inr (next_sought live fit aim')) in (
+      subst (λ (c : CutterState). GoesPast (suppress_in c) (all_lines (x ++ line)) (state_in c) cut.matched cut.line) same both.0,
+      (let lines' : next.lines ≡ cutter.lines + 1 = ap (λ (c : CutterState). c.lines) next_is ∙ ap (λ (c : CutterState). c.lines + 1) same in omega (arith, near, lines')),
     )
