@@ -32,14 +32,14 @@ matched_within : (suppress : Bool) (lines : List Line) (state : State) (operand 
 matched_within suppress lines state operand (Number n) matched cut at within = omega (arith, at.0, within)
 matched_within suppress lines state operand (Search pattern kept offset) matched cut at within = at.0.within
 
-pub search_within : {suppress : Bool} {lines : List Line} {first : State} {steps : List Step} {last : State} {ending : Ending} → Runs suppress lines first steps last ending → first.matched ≤ length lines → search_line suppress first ≤ suc (length lines)
+search_within : {suppress : Bool} {lines : List Line} {first : State} {steps : List Step} {last : State} {ending : Ending} → Runs suppress lines first steps last ending → first.matched ≤ length lines → search_line suppress first ≤ suc (length lines)
     → search_line suppress last ≤ suc (length lines)
 search_within {suppress} {lines} (cuts state operand operands matched' cut steps' last' ending' is at from in_lines rest) matched within =
     let few = matched_within suppress lines state operand operand.target matched' cut at matched in
     search_within rest few (search_past_cut suppress (length lines) (state_after suppress operand operands state.repetition matched' cut) cut refl in_lines few)
 search_within run matched within = within
 
-pub search_at_start : (suppress : Bool) (operands : List Operand) (total : ℕ) → search_line suppress (start operands) ≤ suc total
+search_at_start : (suppress : Bool) (operands : List Operand) (total : ℕ) → search_line suppress (start operands) ≤ suc total
 search_at_start true operands total = omega arith
 search_at_start false operands total = omega arith
 
@@ -79,12 +79,30 @@ turned_by {suppress} {x} {state} {operand} {operands} cut some is at within = el
       (state_after suppress operand operands state.repetition (suc (length x)) cut) (omega arith) (omega (arith, some, from, least))))
 ]
 
-pub turned : {suppress : Bool} {x : List Line} {state : State} {operand : Operand} {operands : List Operand} (pattern : Pattern) (kept : Bool) (k : ℕ) → 1 ≤ state.current → state.operands ≡ operand ∷ operands → operand.target ≡ Search pattern kept (Minus k)
+turned : {suppress : Bool} {x : List Line} {state : State} {operand : Operand} {operands : List Operand} (pattern : Pattern) (kept : Bool) (k : ℕ) → 1 ≤ state.current → state.operands ≡ operand ∷ operands → operand.target ≡ Search pattern kept (Minus k)
     → MatchesNone operand x (search_line suppress state) → search_line suppress state ≤ suc (length x) → Turned suppress x state operand (suc (length x) - k)
 turned {suppress} {x} {state} {operand} pattern kept k some is target none within =
     turned_by (suc (length x) - k) some is
     (subst (λ t. CutsAt suppress (x ++ matching_line ∷ []) state operand t (suc (length x)) (suc (length x) - k)) (sym target) (matches_first suppress x state none within, refl))
     (let e : length (x ++ matching_line ∷ []) ≡ length x + 1 = length-append x (matching_line ∷ []) in omega (arith, e))
+
+-- at the end of a plan either nothing waits, or one line more makes a cut that stands back
+pub data Waits (suppress : Bool) (x : List Line) (state : State) (ending : Ending) : Type 0 where
+  none_waits : whole_end (length x) ending ≡ settled_end (length x) ending → Waits suppress x state ending
+  some_wait : {operand : Operand} (k : ℕ) → is_last_kept ending ≡ is_kept operand.target → settled_end (length x) ending ≡ suc (length x) - k → Turned suppress x state operand (suc (length x) - k) → Waits suppress x state ending
+
+waits_by : {suppress : Bool} {x : List Line} {state : State} (ending : Ending) → EndsAs suppress x state ending → 1 ≤ state.current → search_line suppress state ≤ suc (length x) → Waits suppress x state ending
+waits_by {suppress} {x} {state} (missed operand repetition) (left, are, none, often) some within = by operand.target refl none where
+  by : (target : Target) → operand.target ≡ target → Misses suppress x state operand target → Waits suppress x state (missed operand repetition)
+  by (Number n) is none = absurd none
+  by (Search pattern kept (Plus k)) is none = none_waits (sym (ap (λ t. suc (length x) - most_held t) is ∙ (let e : suc (length x) - 0 ≡ suc (length x) = omega arith in e)))
+  by (Search pattern kept (Minus k)) is none = some_wait k refl (ap (λ t. suc (length x) - most_held t) is) (turned pattern kept k some are is none within)
+waits_by _ ends some within = none_waits refl
+
+pub end_waits : (suppress : Bool) (operands : List Operand) (x : List Line) → Waits suppress x (plan suppress operands x).last (plan suppress operands x).ending
+end_waits suppress operands x =
+    let here = plan_runs suppress operands x in
+    waits_by (plan suppress operands x).ending (ends_as suppress x (start operands) _ _ _ here) (are_within suppress x (start operands) _ _ _ here (omega arith)).1 (search_within here (omega arith) (search_at_start suppress operands (length x)))
 
 -- What is settled is what all continuations agree on.
 
@@ -229,31 +247,14 @@ decides_back {suppress} {operands} {x} k some kept past (turns from steps end ho
     (let e : length (lines_between (plan suppress operands x).last.current (suc (length x) - k) (x ++ matching_line ∷ [])) ≡ length (lines_between (plan suppress operands x).last.current (settled_end (length x) (plan suppress operands x).ending) x)
     = ap length (between_still (plan suppress operands x).last.current (suc (length x) - k) x (matching_line ∷ []) some (omega arith) ∙ ap (λ p. lines_between (plan suppress operands x).last.current p x) (sym past)) in omega (arith, e))
 
-decides_missed : {suppress : Bool} {operands : List Operand} {x : List Line} {operand : Operand} {repetition : ℕ} {left : List Operand} → (plan suppress operands x).ending ≡ missed operand repetition → (plan suppress operands x).last.operands ≡ operand ∷ left
-    → 1 ≤ (plan suppress operands x).last.current → search_line suppress (plan suppress operands x).last ≤ suc (length x)
-    → (target : Target) → operand.target ≡ target → Misses suppress x (plan suppress operands x).last operand target → Decides suppress operands x
-decides_missed ending is some within (Number n) target none = absurd none
-decides_missed {x} ending is some within (Search pattern kept (Plus k)) target none =
-    decides_now (ap (whole_end (length x)) ending ∙ sym (ap (settled_end (length x)) ending ∙ ap (λ t. suc (length x) - most_held t) target ∙ (let e : suc (length x) - 0 ≡ suc (length x) = omega arith in e)))
-decides_missed {x} ending is some within (Search pattern kept (Minus k)) target none =
-    decides_back k some (ap is_last_kept ending) (ap (settled_end (length x)) ending ∙ ap (λ t. suc (length x) - most_held t) target)
-    (turned pattern kept k some is target none within)
-
-decides_at : {suppress : Bool} {operands : List Operand} {x : List Line} (ending : Ending) → (plan suppress operands x).ending ≡ ending → EndsAs suppress x (plan suppress operands x).last ending
-    → 1 ≤ (plan suppress operands x).last.current → search_line suppress (plan suppress operands x).last ≤ suc (length x) → Decides suppress operands x
-decides_at (missed operand repetition) is (left, are, none) some within = decides_missed is are some within operand.target refl none
-decides_at {x} _ is ends some within = decides_now (ap (whole_end (length x)) is ∙ sym (ap (settled_end (length x)) is))
-
-decides : {suppress : Bool} {operands : List Operand} {x : List Line} → Decides suppress operands x
-decides {suppress} {operands} {x} =
-    let here = plan_runs suppress operands x in
-    decides_at (plan suppress operands x).ending refl (ends_as suppress x (start operands) _ _ _ here) (are_within suppress x (start operands) _ _ _ here (omega arith)).1
-    (search_within here (omega arith) (search_at_start suppress operands (length x)))
+decides : {suppress : Bool} {operands : List Operand} {x : List Line} → Waits suppress x (plan suppress operands x).last (plan suppress operands x).ending → Decides suppress operands x
+decides (none_waits same) = decides_now same
+decides {suppress} {operands} {x} (some_wait k kept past turned) = decides_back k (are_within suppress x (start operands) _ _ _ (plan_runs suppress operands x) (omega arith)).1 kept past turned
 
 -- What is settled is what all continuations agree on
 pub settled_is_agreed : (suppress : Bool) (operands : List Operand) (x : List Line) → IsAgreed (whole_outputs suppress operands) x (settled_outputs suppress operands x)
 settled_is_agreed suppress operands x = record {
   common = λ y comes. outputs_grow (plan_grows suppress true whole_end whole_covers operands x y);
   fewest = ([], none_comes, fewest suppress operands x);
-  longest = longest suppress operands x (decides);
+  longest = longest suppress operands x (decides (end_waits suppress operands x));
 }

@@ -1,12 +1,11 @@
 -- A cut ends the open section, and the next one begins.
-use Rattle.std.proofs.Common.{◌≡◌, ℕ, suc, ◌+◌, ◌-◌, ◌<◌, ◌≤◌, max, eqb, ◌&&◌, cond, Bool, true, false, List, [], ◌∷◌, ◌++◌, length, map, Option, Some, None, refl, sym, ◌∙◌, ap, subst, arith, append_assoc}
+use Rattle.std.proofs.Common.{◌≡◌, ℕ, suc, ◌+◌, ◌-◌, ◌≤◌, max, eqb, ◌&&◌, cond, Bool, true, false, List, [], ◌∷◌, ◌++◌, length, map, Option, Some, None, Err, refl, sym, ◌∙◌, ap, subst, arith, append_assoc}
 use Rattle.std.proofs.lemmas.List.{map-append, append-nil}
 use Rattle.seg_core.specs.Line.{first_lines, after_lines}
 use Rattle.seg_core.proofs.FirstLines.{first_lines-zero, first_lines_then_rest}
 use Rattle.ports_core.specs.Part.{Begins}
 use Rattle.ports_core.specs.Slot.{Slot}
 use Rattle.ports_core.specs.declared.fault.Fault.{Fault}
-use Rattle.ports_core.specs.declared.fault.Fault.TheVariants.{Memory}
 use Rattle.ports_core.proofs.PartLemmas.{part_trans}
 use Rattle.csplit_core.specs.Csplit.{settled_of}
 use Rattle.csplit_core.specs.Draft.{Draft, draft_part}
@@ -24,12 +23,12 @@ use Rattle.csplit_core.specs.laws.SectionLaws.{part_grows, ends_as}
 use Rattle.csplit_core.specs.Writer.{WriterState, Writes, size_of}
 use Rattle.csplit_core.specs.declared.line_cutter.Cut.{Cut}
 use Rattle.csplit_core.specs.Cutter.{CutterState, suppress_in, state_in, kept_by, text_from, Leads, draft_by, IsFit, IsAt}
-use Rattle.csplit_core.specs.inner.Cutter.{settled_part, part_at, search_after, CutsNow, PassesOn, IsAfter, CutAt, CutsAll, WillCut, IsEnd}
-use Rattle.csplit_core.proofs.HoldLemmas.{lacks_memory}
+use Rattle.csplit_core.specs.inner.Cutter.{settled_part, part_at, search_after, CutsNow, WentOn, PassesCut, IsAfter, CutAt, CutsAll, WillCut, IsEnd}
+use Rattle.csplit_core.proofs.HoldLemmas.{goes_or_lacks}
 use Rattle.csplit_core.proofs.WholeLemmas.{after_within}
 use Rattle.csplit_core.proofs.LineLemmas.{bytes_between, first_further, from_further}
 use Rattle.csplit_core.proofs.CutterLemmas.{last_kept}
-use Rattle.csplit_core.proofs.WriterLemmas.{bytes_begin, leaves_again, leaves_lacking, reaches_again, reaches_as, section_begins, stops_wider}
+use Rattle.csplit_core.proofs.WriterLemmas.{bytes_begin, leaves_again, reaches_again, reaches_as, section_begins, stops_wider}
 
 -- What is settled begins with what stands where a section has begun.
 
@@ -127,41 +126,29 @@ pub cut_stopped : {told : Bool} {cutter next : CutterState} {cut : Cut} {place :
 cut_stopped {cutter = cutter} operands leaves reaches =
     record { keeps = record { operands = operands; writer = leaves }; reaches = λ x at now. reaches_as refl (ap (settled_part cutter) (append-nil x)) (reaches x at now); went = tt }
 
--- the run went on after the cut
-pub record Passed (cutter mid : CutterState) (writer : WriterState) (cut : Cut) : Type 0 where
-  pub same : mid ≡ record cutter { writer = writer; progress = mid.progress; window = mid.window; sought = mid.sought }
-  pub held : mid.window.held ≡ []
-  pub fit : IsFit mid
-  pub fewer : needed mid.lines (state_in mid) < needed cutter.lines (state_in cutter)
-  pub state : PassesOn (record cutter { writer = writer }) cut mid
-
 goes_here : {told : Bool} {cutter start : CutterState} {writer : WriterState} {before : List ℕ} {old new : List Slot} {fault : Option Fault} → start ≡ cutter → Goes told start.writer (with_bytes before) old new writer fault → Goes told cutter.writer (with_bytes before) old new writer fault
 goes_here {told} {writer = writer} {before} {old} {new} {fault} same goes = subst (λ (c : CutterState). Goes told c.writer (with_bytes before) old new writer fault) same goes
 
 -- where the run stands after the cut
-passed_state : {told : Bool} {cutter start mid : CutterState} {writer : WriterState} {cut : Cut} {before : List ℕ} {old new : List Slot} → start ≡ cutter → Goes told start.writer (with_bytes before) old new writer None → Passed start mid writer cut
+passed_state : {told : Bool} {cutter start mid : CutterState} {writer : WriterState} {cut : Cut} {before : List ℕ} {old new : List Slot} → start ≡ cutter → Goes told start.writer (with_bytes before) old new writer None → WentOn (record start { writer = writer }) cut mid
     → {operand : Operand} {operands : List Operand} → (state_in cutter).operands ≡ operand ∷ operands → state_in mid ≡ state_after (suppress_in cutter) operand operands cutter.progress.repetition cut.matched cut.line
 passed_state {cutter = cutter} {mid = mid} {writer} {cut} same goes passed {operand} {operands} are =
-    let here = subst (λ c. Passed c mid writer cut) same passed in
+    let here = subst (λ (c : CutterState). WentOn (record c { writer = writer }) cut mid) same passed in
     here.state operand operands are ∙ ap (λ (s : Style). state_after s.suppress operand operands cutter.progress.repetition cut.matched cut.line) (goes_here same goes).leaves.style
 
 -- a cut of this cutter, which is known by its fields too, is due, and stands after these bytes of the lines that are left
 module _ {cutter start : CutterState} {cut : Cut} {place : ℕ} {left before : List ℕ} (same : start ≡ cutter) (fit : IsFit cutter) (will : WillCut cutter cut) (before_is : before ≡ first_lines newline (cut.line - place) left) where
-  pub cut_put_stopped : {told : Bool} {writer : WriterState} {old new : List Slot} {fault : Fault} (line : List ℕ) → Goes told start.writer (with_bytes before) old new writer (Some fault)
-      → CutsAll told cutter cut place left line [] old new (record start { writer = writer }) (Some fault)
-  cut_put_stopped line goes = let stopped = goes_here same goes in cut_stopped (ap (λ (c : CutterState). c.operands) same) stopped.leaves
+  pub cut_put_stopped : {told : Bool} {next : CutterState} {old new : List Slot} {fault : Fault} (line : List ℕ) → next.operands ≡ start.operands → Goes told start.writer (with_bytes before) old new next.writer (Some fault)
+      → CutsAll told cutter cut place left line [] old new next (Some fault)
+  cut_put_stopped line operands goes = let stopped = goes_here same goes in cut_stopped (operands ∙ ap (λ (c : CutterState). c.operands) same) stopped.leaves
       (λ x at now. stops_wider (stopped.reaches (draft_at cutter x left at) at.writes) (before_begins line cut now fit will before_is))
 
   pub cut_pass_stopped : {told : Bool} {mid : CutterState} {writer : WriterState} {old new : List Slot} {fault : Fault} (line : List ℕ) → Goes told start.writer (with_bytes before) old new writer None
-      → (fault ≡ Memory) × (mid.writer ≡ writer) × (mid.operands ≡ start.operands) → CutsAll told cutter cut place left line [] old new mid (Some fault)
-  cut_pass_stopped {told} {mid} {writer} {old} {new} line goes (is_memory, same_writer, same_operands) =
-      let went = subst (λ w. Goes told cutter.writer (with_bytes before) old new w None) (sym same_writer) (goes_here same goes) in
-      subst (λ why. CutsAll told cutter cut place left line [] old new mid (Some why)) (sym is_memory)
-      (cut_stopped (same_operands ∙ ap (λ (c : CutterState). c.operands) same) (leaves_again went.leaves leaves_lacking)
-      (λ x at now. let draft = draft_at cutter x left at in reaches_again (bytes_begin cutter.writer.style before draft) (went.reaches draft at.writes)
-      (stops_wider (lacks_memory cutter.writer.style (with_bytes before draft) at.writes.closed) (before_begins line cut now fit will before_is))))
+      → PassesCut (record start { writer = writer }) cut mid (Some fault) → CutsAll told cutter cut place left line [] old new mid (Some fault)
+  cut_pass_stopped {told} {old = old} {new} {fault} line goes (is_memory, same_writer, same_operands) =
+      cut_put_stopped line same_operands (subst (λ w. Goes told start.writer (with_bytes before) old new w (Some fault)) (sym same_writer) (goes_or_lacks (Err fault) goes is_memory))
 
-  pub cut_next_stopped : {told : Bool} {mid now : CutterState} {writer next : WriterState} {kept : Bool} {old between new : List Slot} {fault : Fault} (line : List ℕ) → Goes told start.writer (with_bytes before) old between writer None → now ≡ mid → Passed start mid writer cut
+  pub cut_next_stopped : {told : Bool} {mid now : CutterState} {writer next : WriterState} {kept : Bool} {old between new : List Slot} {fault : Fault} (line : List ℕ) → Goes told start.writer (with_bytes before) old between writer None → now ≡ mid → WentOn (record start { writer = writer }) cut mid
       → kept ≡ kept_by (state_in now).operands → Goes told now.writer (with_section kept) between new next (Some fault) → CutsAll told cutter cut place left line [] old new (record now { writer = next }) (Some fault)
   cut_next_stopped {told} {mid} {now} {writer} {next} {kept} {old} {between} {new} {fault} line goes same_mid passed kept_is stops =
       let went = goes_here same goes in
@@ -201,7 +188,7 @@ end_of false left all n all_is skipped whole = (first_lines newline n left, sym 
 
 module _ {told : Bool} {cutter mid : CutterState} {writer next : WriterState} {cut : Cut} {place : ℕ} {left before rest : List ℕ} (all : List ℕ) {kept : Bool} {old between new : List Slot} (fit : IsFit cutter) (will : WillCut cutter cut)
     (before_is : before ≡ first_lines newline (cut.line - place) left) (all_is : all ≡ after_lines newline (cut.line - place) left) (skipped : next.style.suppress ≡ true → rest ≡ after_lines newline 1 all) (whole : next.style.suppress ≡ false → rest ≡ all)
-    (went : Goes told cutter.writer (with_bytes before) old between writer None) (passed : Passed cutter mid writer cut) (kept_is : kept ≡ kept_by (state_in mid).operands) (second : Goes told writer (with_section kept) between new next None) where
+    (went : Goes told cutter.writer (with_bytes before) old between writer None) (passed : WentOn (record cutter { writer = writer }) cut mid) (kept_is : kept ≡ kept_by (state_in mid).operands) (second : Goes told writer (with_section kept) between new next None) where
   after_at : {x : List ℕ} (line : List ℕ) {at : IsAt cutter x left} (now : CutsNow cutter x left line cut place at) → IsAfter told cutter x line (record mid { writer = next }) rest (part_at cutter x left at) old new
   after_at {x} line {at} now =
       let style_is : next.style ≡ cutter.writer.style = second.leaves.style ∙ went.leaves.style in
@@ -267,9 +254,9 @@ module _ {told : Bool} {cutter mid : CutterState} {writer next : WriterState} {c
 -- The same of a cutter that is known by its fields.
 pub cut_done : {told : Bool} {cutter start mid now : CutterState} {writer next : WriterState} {cut : Cut} {place : ℕ} {left before rest : List ℕ} (all : List ℕ) {kept : Bool} {old between new : List Slot} → start ≡ cutter → IsFit cutter → WillCut cutter cut
     → before ≡ first_lines newline (cut.line - place) left → all ≡ after_lines newline (cut.line - place) left → (next.style.suppress ≡ true → rest ≡ after_lines newline 1 all) → (next.style.suppress ≡ false → rest ≡ all)
-    → Goes told start.writer (with_bytes before) old between writer None → now ≡ mid → Passed start mid writer cut → kept ≡ kept_by (state_in now).operands → Goes told now.writer (with_section kept) between new next None → size_of next.current ≡ 0 → length rest ≤ length left
+    → Goes told start.writer (with_bytes before) old between writer None → now ≡ mid → WentOn (record start { writer = writer }) cut mid → kept ≡ kept_by (state_in now).operands → Goes told now.writer (with_section kept) between new next None → size_of next.current ≡ 0 → length rest ≤ length left
     → CutAt told cutter cut place left old new (record now { writer = next }) rest
 cut_done {told} {cutter} {mid = mid} {writer = writer} {next} {cut} {place} {left} {rest = rest} all {kept} {old} {between} {new} same fit will before_is all_is skipped whole goes same_mid passed kept_is second empty shorter =
     subst (λ (m : CutterState). CutAt told cutter cut place left old new (record m { writer = next }) rest) (sym same_mid)
-    (cut_went all fit will before_is all_is skipped whole (goes_here same goes) (subst (λ c. Passed c mid writer cut) same passed)
+    (cut_went all fit will before_is all_is skipped whole (goes_here same goes) (subst (λ (c : CutterState). WentOn (record c { writer = writer }) cut mid) same passed)
     (kept_is ∙ ap (λ (m : CutterState). kept_by (state_in m).operands) same_mid) (subst (λ w. Goes told w (with_section kept) between new next None) (ap (λ (c : CutterState). c.writer) (same_mid ∙ passed.same)) second) empty shorter)

@@ -31,9 +31,9 @@ use Rattle.csplit_core.proofs.WriterLemmas.{leaves_again}
 -- the last section is kept as the next operand says
 pub last_kept : (suppress : Bool) (lines : List Line) (state : State) (ending : Ending) → EndsAs suppress lines state ending → kept_by state.operands ≡ is_last_kept ending
 last_kept suppress lines state used_up none = ap kept_by none
-last_kept suppress lines state (missed operand repetition) (operands, is, none) = ap kept_by is
-last_kept suppress lines state (above operand repetition matched cut) (operands, is, at, far) = ap kept_by is
-last_kept suppress lines state (below operand repetition) (operands, matched, cut, is, at, within, low) = ap kept_by is
+last_kept suppress lines state (missed operand repetition) (operands, is, none, often) = ap kept_by is
+last_kept suppress lines state (above operand repetition matched cut) (operands, is, at, far, often) = ap kept_by is
+last_kept suppress lines state (below operand repetition) (operands, matched, cut, is, at, within, low, often) = ap kept_by is
 
 -- the sections of the plan, and of the last one what stands before the line that this says
 abbrev pub draft_to : (ℕ → Ending → ℕ) → Bool → List Operand → List Line → Draft
@@ -58,11 +58,6 @@ settled_part_is style operands lines =
     let p = plan style.suppress operands lines in
     ap (part_by style) (sym (map-append contents_of (map (section_of lines) p.steps) (section (is_last_kept p.ending) false (lines_between p.last.current (settled_end (length lines) p.ending) lines) ∷ [])))
 
--- where the plan isn't final, all lines of the last section are settled but the last ones
-pub settled_count : (total current : ℕ) (ending : Ending) → is_final ending ≡ false → total + 1 - current - most_waiting ending ≡ settled_end total ending - current
-settled_count total current (below operand repetition) live = absurd (false≢true (sym live))
-settled_count total current _ live = omega arith
-
 pub final_count : (total current : ℕ) (ending : Ending) → is_final ending ≡ true → 0 ≡ settled_end total ending - current
 final_count total current (below operand repetition) past = omega arith
 final_count total current _ past = absurd (false≢true past)
@@ -78,8 +73,8 @@ ended_still style operands {x} t {steps} {state} {ending} kept written whole run
 -- as many lines may wait as the next operand says
 pub most_is : (suppress : Bool) (lines : List Line) (state : State) (ending : Ending) → EndsAs suppress lines state ending → is_final ending ≡ false → most_by state.operands ≡ most_waiting ending
 most_is suppress lines state used_up none live = ap most_by none
-most_is suppress lines state (missed operand repetition) (operands, is, none) live = ap most_by is
-most_is suppress lines state (above operand repetition matched cut) (operands, is, at, far) live = ap most_by is ∙ none_held operand.target at where
+most_is suppress lines state (missed operand repetition) (operands, is, none, often) live = ap most_by is
+most_is suppress lines state (above operand repetition matched cut) (operands, is, at, far, often) live = ap most_by is ∙ none_held operand.target at where
   none_held : (target : Target) → CutsAt suppress lines state operand target matched cut → most_held target ≡ 0
   none_held (Number n) at = refl
   none_held (Search pattern kept (Plus k)) at = refl
@@ -136,14 +131,18 @@ unfolding at_more
 part_more {cutter} aim t whole some at ends count =
     ap (draft_part cutter.writer.style) (ended_still cutter.writer.style cutter.operands t (kept_by (state_in cutter).operands) at.written whole (runs_to at ends))
 
+-- where the plan isn't final, all lines of the last section are settled but the last ones
+pub settled_count : {cutter : CutterState} {x left : List ℕ} (at : IsAt cutter x left) (ending : Ending) → is_final ending ≡ false → cutter.lines + 1 - cutter.progress.current - most_waiting ending ≡ settled_end (line_count newline x) ending - cutter.progress.current
+settled_count at (below operand repetition) live = absurd (false≢true (sym live))
+settled_count at _ live = omega (arith, at.counted)
+
 -- what is written of the open section, where all but the last lines that may wait are taken, is what is settled
+pub live_taken : {cutter : CutterState} {x : List ℕ} (live : IsLive cutter x) → live.at.taken ≡ settled_end (line_count newline x) live.ends.ending - cutter.progress.current
+live_taken live = live.settled ∙ settled_count live.at live.ends.ending live.live
+
 pub live_part : {cutter : CutterState} {x : List ℕ} (live : IsLive cutter x) → part_at cutter x cutter.window.held live.at ≡ settled_part cutter x
 live_part {cutter} {x} live =
-    let runs = runs_to live.at live.ends in
-    let count : line_count newline x + 1 - cutter.progress.current - most_waiting live.ends.ending ≡ cutter.lines + 1 - cutter.progress.current - most_waiting live.ends.ending =
-    ap (λ n. n + 1 - cutter.progress.current - most_waiting live.ends.ending) (sym live.at.counted) in
-    ap (draft_part cutter.writer.style) (draft_is settled_end cutter.operands x live.at.taken runs
-    (live.settled ∙ sym count ∙ settled_count (line_count newline x) cutter.progress.current live.ends.ending live.live) live.at.written_is)
+    ap (draft_part cutter.writer.style) (draft_is settled_end cutter.operands x live.at.taken (runs_to live.at live.ends) (live_taken live) live.at.written_is)
     ∙ settled_part_is cutter.writer.style cutter.operands (all_lines x)
 
 -- how many lines are left

@@ -221,6 +221,9 @@ goes_or_lacks {told} {writer} {next} {bytes} {old} {new} (Err fault) went lacks 
   writes = tt;
 })
 
+pub goes_lacking : {told : Bool} {writer : WriterState} {bytes : List ℕ} {slots : List Slot} {fault : Fault} → IsReady writer slots → fault ≡ Memory → Goes told writer (with_bytes bytes) slots slots writer (Some fault)
+goes_lacking {bytes = bytes} {fault = fault} ready lacks = stops_among [] bytes (goes_or_lacks (Err fault) (goes_none ready) lacks)
+
 pub kept_window : {window mid : Window} (new : Window) {over front : ℕ} {text : List ℕ} (result : Result (Unit {0}) Fault) → Parted window.delim window.most over front window.held text → mid ≡ without_first window front
     → OnOk result (new ≡ record { most = mid.most; delim = mid.delim; held = mid.held ++ drop (over - front) text }) → OnOk result (new ≡ record { most = window.most; delim = window.delim; held = last_lines window.delim window.most (window.held ++ text) })
 kept_window {window} new {over = over} {front} {text} (Ok done) parts dropped put =
@@ -242,8 +245,7 @@ over_of cutter left = line_count newline left - cutter.window.most
 taken_is : {cutter : CutterState} {x left : List ℕ} {at : IsAt cutter x left} (arrives : Arrives cutter x left at) → IsFit cutter → is_final arrives.ends.ending ≡ false
     → at.taken + over_of cutter left ≡ cutter.lines + 1 - cutter.progress.current - most_waiting arrives.ends.ending
 taken_is {cutter} {x} {at} arrives fit live =
-    let runs = runs_to at arrives.ends in
-    let most : cutter.window.most ≡ most_waiting arrives.ends.ending = fit.most ∙ most_is (suppress_in cutter) (all_lines x) (state_in cutter) arrives.ends.ending (ends_as (suppress_in cutter) (all_lines x) _ at.steps (state_in cutter) arrives.ends.ending runs) live in
+    let most : cutter.window.most ≡ most_waiting arrives.ends.ending = fit.most ∙ most_is (suppress_in cutter) (all_lines x) (state_in cutter) arrives.ends.ending (ends_as _ _ _ _ _ _ arrives.ends.runs) live in
     taken_all at.taken cutter.lines cutter.progress.current cutter.window.most fit.fits.some (few_taken at) (left_count at) arrives.enough
     ∙ ap (λ n. cutter.lines + 1 - cutter.progress.current - n) most
 
@@ -251,16 +253,12 @@ taken_is {cutter} {x} {at} arrives fit live =
 held_part : {cutter : CutterState} {x left bytes : List ℕ} {at : IsAt cutter x left} (arrives : Arrives cutter x left at) → IsFit cutter → is_final arrives.ends.ending ≡ false → bytes ≡ first_lines newline (over_of cutter left) left
     → draft_part cutter.writer.style (with_bytes bytes (draft_by (all_lines x) at.steps (kept_by (state_in cutter).operands) at.written)) ≡ settled_part cutter x
 held_part {cutter} {x} {left} {bytes} {at} arrives fit live bytes_is =
-    let runs = runs_to at arrives.ends in
-    let taken = taken_is arrives fit live in
-    let counted : cutter.lines + 1 - cutter.progress.current - most_waiting arrives.ends.ending ≡ line_count newline x + 1 - cutter.progress.current - most_waiting arrives.ends.ending =
-    ap (λ n. n + 1 - cutter.progress.current - most_waiting arrives.ends.ending) at.counted in
     let written : at.written ++ bytes ≡ first_lines newline (at.taken + over_of cutter left) (text_from cutter.progress.current x) =
     ap (λ those. those ++ bytes) at.written_is
     ∙ ap (λ those. first_lines newline at.taken (text_from cutter.progress.current x) ++ those) (bytes_is ∙ ap (first_lines newline (over_of cutter left)) at.left_is)
     ∙ sym (first_further cutter.progress.current at.taken (over_of cutter left) x fit.fits.some) in
-    ap (draft_part cutter.writer.style) (draft_is settled_end cutter.operands x (at.taken + over_of cutter left) runs
-    (taken ∙ counted ∙ settled_count (line_count newline x) cutter.progress.current arrives.ends.ending live) written)
+    ap (draft_part cutter.writer.style) (draft_is settled_end cutter.operands x (at.taken + over_of cutter left) (runs_to at arrives.ends)
+    (taken_is arrives fit live ∙ settled_count at arrives.ends.ending live) written)
     ∙ settled_part_is cutter.writer.style cutter.operands (all_lines x)
 
 held_live : {cutter : CutterState} {writer : WriterState} {x left bytes held : List ℕ} {at : IsAt cutter x left} (arrives : Arrives cutter x left at) → IsFit cutter → is_final arrives.ends.ending ≡ false → writer.style ≡ cutter.writer.style

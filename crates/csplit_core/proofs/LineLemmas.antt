@@ -244,7 +244,7 @@ none-append : (a b : List ℕ) → HasNone newline a → HasNone newline b → H
 none-append [] b none also = also
 none-append (byte ∷ a) b (other, none) also = (other, none-append a b none also)
 
-line_by : (line : List ℕ) → AreLines newline (line ∷ []) → IsLine line
+pub line_by : (line : List ℕ) → AreLines newline (line ∷ []) → IsLine line
 line_by line is = ap (lines_of newline) (sym (append-nil line)) ∙ lines_of-joined newline (line ∷ []) is
 
 first_by : (line : List ℕ) (lines : List (List ℕ)) → AreLines newline (line ∷ lines) → IsLine line

@@ -1,10 +1,7 @@
 -- Lines over which the next operand stands as it does, and those that are seen to have no match.
-use Rattle.std.proofs.Common.{◌≡◌, inl, inr, ℕ, zero, suc, ◌+◌, ◌-◌, ◌^◌, ◌<◌, ◌≤◌, eqb, Bool, true, false, cond, List, [], ◌∷◌, ◌++◌, length, take, drop, get_or, refl, sym, ◌∙◌, ap, subst, arith, Some, None, IfSome, append_assoc, length-append}
-use Rattle.std.specs.Prelude.{min}
-use Rattle.std.specs.List.{onto_first}
-use Rattle.std.proofs.lemmas.Bool.{cases_lt, eq-eqb, ne_eqb, false≢true}
+use Rattle.std.proofs.Common.{◌≡◌, inl, inr, ℕ, zero, suc, ◌+◌, ◌-◌, ◌^◌, ◌<◌, ◌≤◌, Bool, true, false, cond, List, [], ◌∷◌, ◌++◌, length, take, drop, get_or, refl, sym, ◌∙◌, ap, subst, arith, Some, None, IfSome, append_assoc, length-append}
+use Rattle.std.proofs.lemmas.Bool.{cases_lt, eq-eqb, eqb-true, ne_eqb, false≢true}
 use Rattle.std.proofs.lemmas.List.{get_or-map, drop_at, take_all, take_at, length-drop, take-append-drop, length-take-le, get_or_append_left, append-nil}
-use Rattle.std.proofs.Math.Nat.{min-le_left}
 use Rattle.std.proofs.Math.Seq.{get_or-append_right}
 use Rattle.memchr.specs.Find.{Nowhere, Passes, is_byte}
 use Rattle.bre_core.specs.Pattern.{Pattern}
@@ -13,18 +10,18 @@ use Rattle.seg_core.specs.Line.{lines_of, line_count, delimiters, ends_with, End
 use Rattle.seg_core.proofs.Delimiters.{delimiters-le-length}
 use Rattle.seg_core.proofs.FirstLines.{EndsAt-enough, lines_of-first_lines}
 use Rattle.seg_core.proofs.LineCounts.{line_count-le-length, line_count_near, ends_with-append}
-use Rattle.csplit_core.specs.Cutter.{CutterState, suppress_in, state_in, pattern_in, pattern_by, AimHolds, IsFit, IsSound}
+use Rattle.csplit_core.specs.Cutter.{CutterState, suppress_in, state_in, pattern_in, AimHolds, IsSound}
 use Rattle.csplit_core.specs.inner.Cutter.{AreClear, IsWhole, IsLine, IsFound, IsNextFound, PassesClear, PassesOver, StopsAt}
 use Rattle.csplit_core.specs.Input.{newline, without_newline, is_match_of, marked, all_lines}
 use Rattle.csplit_core.specs.Measure.{Moves, IsRepeatedBy, IsRepeated, Fits}
 use Rattle.csplit_core.specs.Operand.{Target, Number, Search, Operand, Line, unmarked}
-use Rattle.csplit_core.specs.Plan.{State, Ending, used_up, missed, above, below, search_line, Runs}
-use Rattle.csplit_core.specs.Progress.{AimsAt, WillMove}
+use Rattle.csplit_core.specs.Plan.{State, search_line}
+use Rattle.csplit_core.specs.Progress.{WillMove}
 use Rattle.csplit_core.specs.declared.line_cutter.Passed.{Passed}
 use Rattle.csplit_core.specs.declared.progress.Turn.{Turn}
 use Rattle.csplit_core.specs.declared.progress.Turn.TheVariants.{UsedUp, Missed, Above, Cuts}
-use Rattle.csplit_core.proofs.LineLemmas.{whole_drop, all_lines-append, all_lines-line, count-append, count-line, length-all_lines, whole_count, whole-append, whole_by}
-use Rattle.csplit_core.proofs.StayLemmas.{NoneFrom, EndsStill, ends_still}
+use Rattle.csplit_core.proofs.LineLemmas.{whole_drop, all_lines-append, all_lines-line, count-append, count-line, length-all_lines, whole_count, whole-append, whole_by, line_by}
+use Rattle.csplit_core.proofs.StayLemmas.{NoneFrom}
 use Rattle.csplit_core.proofs.TryLemmas.{StaysOver, ends_over, found_is}
 use Rattle.scan_core.specs.Clear.{IsClear}
 use Rattle.seg_core.proofs.LinesOf.{AreLines-lines_of, joined-lines_of}
@@ -166,29 +163,17 @@ first_ends (byte ∷ x) zero within here = here
 first_ends (byte ∷ []) (suc end) within here = absurd (omega (arith, within))
 first_ends (byte ∷ next ∷ x) (suc end) within here = first_ends (next ∷ x) end (omega (arith, within)) here
 
-one_by : {byte : ℕ} (is : Bool) → cond is ((byte ∷ []) ∷ []) ((byte ∷ []) ∷ []) ≡ (byte ∷ []) ∷ []
-one_by true = refl
-one_by false = refl
+-- it is a complete line
+first_parts : (x : List ℕ) (end : ℕ) → end < length x → Passes (is_byte newline) x end → Nowhere (Passes (is_byte newline) x) 0 end → (take (suc end) x ≡ take end x ++ newline ∷ []) × HasNone newline (take end x)
+first_parts [] end within here none = absurd (omega (arith, within))
+first_parts (byte ∷ x) zero within here none = (ap (λ b. b ∷ []) (eqb-true byte newline here), tt)
+first_parts (byte ∷ x) (suc end) within here none =
+    let rest = first_parts x end (omega (arith, within)) here (λ k low high. none (suc k) (omega arith) (omega (arith, high))) in
+    (ap (λ those. byte ∷ those) rest.0, (λ same. none 0 (omega arith) (omega arith) (eq-eqb byte newline same), rest.1))
 
-other_first : (x : List ℕ) (byte end : ℕ) → 0 < end → Nowhere (Passes (is_byte newline) (byte ∷ x)) 0 end → eqb byte newline ≡ false
-other_first x byte end some none = ne_eqb byte newline (λ same. none 0 (omega arith) some (eq-eqb byte newline same))
-
-none_after : (byte : ℕ) (x : List ℕ) (end : ℕ) → Nowhere (Passes (is_byte newline) (byte ∷ x)) 0 (suc end) → Nowhere (Passes (is_byte newline) x) 0 end
-none_after byte x end none k low high = none (suc k) (omega arith) (omega (arith, high))
-
-first_line : (x : List ℕ) (end : ℕ) → end < length x → Nowhere (Passes (is_byte newline) x) 0 end → IsLine (take (suc end) x)
-first_line [] end within none = absurd (omega (arith, within))
-first_line (byte ∷ x) zero within none = one_by (eqb byte newline)
-first_line (byte ∷ x) (suc end) within none =
-    ap (λ is. cond is ((byte ∷ []) ∷ lines_of newline (take (suc end) x)) (onto_first byte (lines_of newline (take (suc end) x)))) (other_first x byte (suc end) (omega arith) none)
-    ∙ ap (onto_first byte) (first_line x end (omega (arith, within)) (none_after byte x end none))
-
-first_text : (x : List ℕ) (end : ℕ) → end < length x → Passes (is_byte newline) x end → Nowhere (Passes (is_byte newline) x) 0 end → without_newline (take (suc end) x) ≡ take end x
-first_text [] end within here none = absurd (omega (arith, within))
-first_text (byte ∷ x) zero within here none = ap (λ is. cond is [] (byte ∷ [])) here
-first_text (byte ∷ x) (suc end) within here none =
-    ap (λ is. cond is [] (byte ∷ without_newline (take (suc end) x))) (other_first x byte (suc end) (omega arith) none)
-    ∙ ap (λ text. byte ∷ text) (first_text x end (omega (arith, within)) here (none_after byte x end none))
+without_last : (text : List ℕ) → HasNone newline text → without_newline (text ++ newline ∷ []) ≡ text
+without_last [] none = refl
+without_last (byte ∷ text) none = ap (λ is. cond is [] (byte ∷ without_newline (text ++ newline ∷ []))) (ne_eqb byte newline none.0) ∙ ap (λ those. byte ∷ those) (without_last text none.1)
 
 -- one more line
 
@@ -210,7 +195,8 @@ one_more : {cutter : CutterState} {text left rest : List ℕ} {next : CutterStat
     → Nowhere (Passes (is_byte newline) left) 0 end → IsFound next (take end left) number false → rest ≡ drop (suc end) left → Unmatched cutter text rest (record next { lines = number })
 one_more {cutter} {left} {rest} {next} number end so is within here none found rest_is =
     let line = take (suc end) left in
-    let one : IsLine line = first_line left end within none in
+    let parts = first_parts left end within here none in
+    let one : IsLine line = line_by line (inl (take end left, parts.0, parts.1)) in
     let found_at : IsFound (record cutter { lines = next.lines }) (take end left) number false = subst (λ (those : CutterState). IsFound those (take end left) number false) so.same found in
     let before : length (all_lines so.front) ≡ line_count newline so.front = length-all_lines so.front in record {
       front = so.front ++ line;
@@ -220,7 +206,7 @@ one_more {cutter} {left} {rest} {next} number end so is within here none found r
       count = is ∙ (let more : line_count newline (so.front ++ line) ≡ line_count newline so.front + 1 = count-line line so.whole one in let c : next.lines ≡ cutter.lines + line_count newline so.front = so.count in omega (arith, more, c));
       none = λ operand same. subst (λ those. NoneFrom operand cutter.lines those (search_line (suppress_in cutter) (state_in cutter))) (sym (all_lines-line line so.whole one))
           (none_more operand cutter.lines (all_lines so.front) (marked line ∷ []) (search_line (suppress_in cutter) (state_in cutter)) (so.none operand same)
-          (none_one operand _ (marked line) _ (λ near. found_is line number operand.target (sym (first_text left end within here none)) same found_at
+          (none_one operand _ (marked line) _ (λ near. found_is line number operand.target (sym (ap without_newline parts.0 ∙ without_last (take end left) parts.1)) same found_at
           (let c : next.lines ≡ cutter.lines + line_count newline so.front = so.count in omega (arith, near, is, c, before)))));
     }
 
@@ -330,14 +316,15 @@ next_found {text} {left} {next} {before} end {found} aim so before_is now_is wit
     let long : length text ≡ length so.front + length left = ap length so.all ∙ length-append so.front left in
     let left_is : drop (length text - length left) text ≡ left = ap (drop (length text - length left)) so.all ∙ drop_at so.front left (length text - length left) (omega (arith, long)) in
     let one : suc end ≡ end + 1 = omega arith in
+    let parts = first_parts left end within here none in
     subst (λ (those : CutterState). IsNextFound those (drop (length text - length left) text) (end + 1)) (sym now_is)
     (subst (λ those. IsNextFound next those (end + 1)) (sym left_is) (subst (IsNextFound next left) one (record {
       some = omega arith;
       within = omega (arith, within);
-      line = first_line left end within none;
+      line = line_by (take (suc end) left) (inl (take end left, parts.0, parts.1));
       ends = first_ends left end within here;
       aim = ap (λ (those : CutterState). those.aim) so.same ∙ aim;
-      found = subst (λ those. IsFound next those (next.lines + 1) true) (sym (first_text left end within here none))
+      found = subst (λ those. IsFound next those (next.lines + 1) true) (sym (ap without_newline parts.0 ∙ without_last (take end left) parts.1))
           (subst (λ n. IsFound next (take end left) n true) (ap (λ (those : CutterState). those.lines + 1) before_is) (subst (IsFound next (take end left) (before.lines + 1)) sure finds));
     })))
 
@@ -346,10 +333,6 @@ next_found {text} {left} {next} {before} end {found} aim so before_is now_is wit
 without_none : (text : List ℕ) → HasNone newline text → without_newline text ≡ text
 without_none [] none = refl
 without_none (byte ∷ text) none = ap (λ is. cond is [] (byte ∷ without_newline text)) (ne_eqb byte newline none.0) ∙ ap (λ those. byte ∷ those) (without_none text none.1)
-
-without_last : (text : List ℕ) → HasNone newline text → without_newline (text ++ newline ∷ []) ≡ text
-without_last [] none = refl
-without_last (byte ∷ text) none = ap (λ is. cond is [] (byte ∷ without_newline (text ++ newline ∷ []))) (ne_eqb byte newline none.0) ∙ ap (λ those. byte ∷ those) (without_last text none.1)
 
 ends_none : (text : List ℕ) → HasNone newline text → ends_with newline text ≡ false
 ends_none [] none = refl

@@ -4,17 +4,17 @@ use Rattle.std.specs.Prelude.{◌≢◌}
 use Rattle.std.proofs.lemmas.Bool.{false≢true, cases_lt, and_parts}
 use Rattle.std.proofs.lemmas.Bool.Decides.{nat_tests}
 use Rattle.std.proofs.lemmas.List.{append-nil, take-append-drop, drop-drop}
-use Rattle.csplit_core.specs.Operand.{Plus, Minus, Target, Number, Search, Operand, Line, most_held}
-use Rattle.csplit_core.specs.Plan.{State, start, Step, Ending, used_up, missed, above, below, search_line, CutsAt, Misses, line_after, step_of, Runs, is_used_up, misses, is_above, is_below, cuts}
+use Rattle.csplit_core.specs.Operand.{Operand, Line, most_held}
+use Rattle.csplit_core.specs.Plan.{State, start, Step, Ending, used_up, missed, above, below, CutsAt, line_after, step_of, Runs, is_used_up, misses, is_above, is_below, cuts}
 use Rattle.csplit_core.specs.Planned.{Plan, plan}
 use Rattle.csplit_core.specs.Section.{whole_end, settled_end, is_final, waiting_lines, Section, lines_between, sections_by}
 use Rattle.csplit_core.specs.Agreed.{CanCome}
 use Rattle.csplit_core.specs.Place.{Place, in_section, left_out, nowhere, place_from, place_of, IsUndecided, is_in, lines_into, ArePlaced}
 use Rattle.csplit_core.specs.laws.PlanLaws.{run_once, line_some, cuts_still, plan_runs, plan_once, goes_on, from_not_less, less_test, not_less_test}
 use Rattle.csplit_core.specs.inner.PlanLaws.{EndsAs}
-use Rattle.csplit_core.specs.laws.SectionLaws.{ends_as, are_within, plan_goes_on, missed_cut, front_of, none_there, cut_once, cuts_or_misses}
-use Rattle.csplit_core.proofs.AgreedLemmas.{search_within, search_at_start, matching_line, none_comes, matching_comes, Turned, too_low, turns, turned}
-use Rattle.csplit_core.proofs.WholeLemmas.{between_rest, after_within}
+use Rattle.csplit_core.specs.laws.SectionLaws.{ends_as, are_within, plan_goes_on, cuts_from, settled_most}
+use Rattle.csplit_core.proofs.AgreedLemmas.{matching_line, none_comes, matching_comes, Turned, too_low, turns, Waits, none_waits, some_wait, end_waits}
+use Rattle.csplit_core.proofs.WholeLemmas.{between_rest, after_within, ends_after_all}
 
 -- The lines that wait are those that two continuations put into different places.
 
@@ -63,39 +63,18 @@ place_after {suppress} run total index line more how from = ap (λ i. place_from
 in_rest : (total : ℕ) {index : ℕ} (line : ℕ) (how : Ending) → line < whole_end total how → cond (nat_lt line (whole_end total how)) (in_section index) nowhere ≡ in_section index
 in_rest total {index} line how less = ap (λ b. cond b (in_section index) nowhere) (less_test line (whole_end total how) less)
 
-settled_with : {suppress : Bool} (a b : List Line) {first : State} {operand : Operand} {operands : List Operand} (past : ℕ) → past ≤ suc (length a) → first.operands ≡ operand ∷ operands
-    → ((matched cut : ℕ) → CutsAt suppress (a ++ b) first operand operand.target matched cut → past ≤ cut)
-    → (more : List Step) (end : State) {how : Ending} → Runs suppress (a ++ b) first more end how
-    → {index : ℕ} (line : ℕ) → first.current ≤ line → line < past → place_from suppress (length (a ++ b)) index more how line ≡ in_section index
-settled_with a b {operand} past within is cut_at more end (is_used_up state none) line from before = absurd (none_there operand (sym none ∙ is))
-settled_with a b past within is cut_at more end (misses state operand' operands' are none) line from before =
-    in_rest (length (a ++ b)) line (missed operand' state.repetition) (let e : length (a ++ b) ≡ length a + length b = length-append a b in omega (arith, e, before, within))
-settled_with a b past within is cut_at more end (is_above state operand' operands' matched cut are at far) line from before =
-    in_rest (length (a ++ b)) line (above operand' state.repetition matched cut) (let e : length (a ++ b) ≡ length a + length b = length-append a b in omega (arith, e, before, within))
-settled_with {suppress} a b {operand} past within is cut_at more end (is_below state operand' operands' matched cut are at in_lines low) line from before =
-    let same = front_of operand operand' (sym is ∙ are) in
-    let most : past ≤ cut = cut_at matched cut (subst (λ o. CutsAt suppress (a ++ b) state o o.target matched cut) (sym same) at) in absurd (omega (arith, most, low, from, before))
-settled_with {suppress} a b {operand} past within is cut_at more end (cuts state operand' operands' matched cut steps' last' ending' are at least in_lines rest) {index} line from before =
-    let same = front_of operand operand' (sym is ∙ are) in
-    let most : past ≤ cut = cut_at matched cut (subst (λ o. CutsAt suppress (a ++ b) state o o.target matched cut) (sym same) at) in
-    ap (λ has. cond has (in_section index) (cond (suppress && nat_le line cut) (left_out index) (place_from suppress (length (a ++ b)) (index + 1) steps' ending' line))) (less_test line cut (omega (arith, most, before)))
-
-settled_used_up : {suppress : Bool} (a b : List Line) {first : State} → 1 ≤ first.current → first.operands ≡ [] → (more : List Step) (end : State) {how : Ending} → Runs suppress (a ++ b) first more end how
-    → {index : ℕ} (line : ℕ) → line ≤ length a → place_from suppress (length (a ++ b)) index more how line ≡ in_section index
-settled_used_up {suppress} a b {first} some is more end run {index} line within =
-    ap (λ (p : Plan). place_from suppress (length (a ++ b)) index p.steps p.ending line) (run_once some (is_used_up first is) run)
-    ∙ in_rest (length (a ++ b)) line used_up (let e : length (a ++ b) ≡ length a + length b = length-append a b in omega (arith, e, within))
-
-settled_place : {suppress : Bool} (a b : List Line) {last : State} (ending : Ending) → 1 ≤ last.current → EndsAs suppress a last ending → (more : List Step) (end : State) {how : Ending} → Runs suppress (a ++ b) last more end how
-    → {index : ℕ} (line : ℕ) → last.current ≤ line → line ≤ length a → line < settled_end (length a) ending → place_from suppress (length (a ++ b)) index more how line ≡ in_section index
-settled_place a b used_up some is more end rest line from within before = settled_used_up a b some is more end rest line within
-settled_place {suppress} a b {last} (missed operand repetition) some (operands, is, none) more end rest line from within before =
-    settled_with a b (suc (length a) - most_held operand.target) (omega arith) is (missed_cut suppress a b last operand operand.target none) more end rest line from before
-settled_place {suppress} a b {last} (above operand repetition matched cut) some (operands, is, at, far) more end rest line from within before =
-    settled_with a b (suc (length a)) (omega arith) is
-    (λ matched' cut' at'. let same : cut ≡ cut' = (cut_once suppress (a ++ b) last operand operand.target cut (cuts_still suppress a b last operand operand.target matched cut at) at').1 in omega (arith, far, same))
-    more end rest line from before
-settled_place a b (below operand repetition) some is more end rest line from within before = absurd (omega (arith, before))
+settled_place : {suppress : Bool} (a b : List Line) {last : State} (ending : Ending) → EndsAs suppress a last ending → (more : List Step) (end : State) {how : Ending} → Runs suppress (a ++ b) last more end how
+    → {index : ℕ} (line : ℕ) → last.current ≤ line → line < settled_end (length a) ending → place_from suppress (length (a ++ b)) index more how line ≡ in_section index
+settled_place a b ending ends more end (is_used_up state none) line from before = in_rest (length (a ++ b)) line used_up (omega (arith, length-append a b, settled_most (length a) ending, before))
+settled_place a b ending ends more end (misses state operand operands are none) line from before =
+    in_rest (length (a ++ b)) line (missed operand state.repetition) (omega (arith, length-append a b, settled_most (length a) ending, before))
+settled_place a b ending ends more end (is_above state operand operands matched cut are at far) line from before =
+    in_rest (length (a ++ b)) line (above operand state.repetition matched cut) (omega (arith, length-append a b, settled_most (length a) ending, before))
+settled_place {suppress} a b ending ends more end (is_below state operand operands matched cut are at in_lines low) line from before =
+    let so = cuts_from suppress a b state ending ends are in let past = so.1 matched cut at in absurd (omega (arith, past, low, from, before))
+settled_place {suppress} a b ending ends more end (cuts state operand operands matched cut steps' last' ending' are at least in_lines rest) {index} line from before =
+    let so = cuts_from suppress a b state ending ends are in let past = so.1 matched cut at in
+    ap (λ has. cond has (in_section index) (cond (suppress && nat_le line cut) (left_out index) (place_from suppress (length (a ++ b)) (index + 1) steps' ending' line))) (less_test line cut (omega (arith, past, before)))
 
 -- where the cut is below the current line all lines go nowhere
 
@@ -113,11 +92,11 @@ WaitsAt total plan line = (is_final plan.ending ≡ false) × (plan.last.current
 
 decided_by : (suppress : Bool) (a b : List Line) {last : State} (ending : Ending) → 1 ≤ last.current → EndsAs suppress a last ending → (line : ℕ) → last.current ≤ line → line ≤ length a → ((is_final ending ≡ false) → settled_end (length a) ending ≤ line → ⊥)
     → (index : ℕ) (more : List Step) (end : State) {how : Ending} → Runs suppress (a ++ b) last more end how → place_from suppress (length (a ++ b)) index more how line ≡ cond (is_final ending) nowhere (in_section index)
-decided_by suppress a b (missed operand repetition) some is line from within not index more end rest = settled_place a b (missed operand repetition) some is more end rest line from within
+decided_by suppress a b (missed operand repetition) some is line from within not index more end rest = settled_place a b (missed operand repetition) is more end rest line from
     (elim (cases_lt line (suc (length a) - most_held operand.target)) [ inl less ↦ less | inr beyond ↦ absurd (not refl beyond) ])
-decided_by suppress a b {last} (below operand repetition) some (operands, matched, cut, is, at, in_lines, low) line from within not index more end rest =
+decided_by suppress a b {last} (below operand repetition) some (operands, matched, cut, is, at, in_lines, low, often) line from within not index more end rest =
     nowhere_by matched cut is (cuts_still suppress a b last operand operand.target matched cut at) (let e : length (a ++ b) ≡ length a + length b = length-append a b in omega (arith, e, in_lines)) low more end rest index line
-decided_by suppress a b ending some is line from within not index more end rest = settled_place a b ending some is more end rest line from within (omega (arith, within))
+decided_by suppress a b ending some is line from within not index more end rest = settled_place a b ending is more end rest line from (omega (arith, within))
 
 place_here : (suppress : Bool) (operands : List Operand) (x y : List Line) (line : ℕ) → 1 ≤ line → line ≤ length x → (WaitsAt (length x) (plan suppress operands x) line → ⊥) → place_of suppress operands (x ++ y) line ≡ place_of suppress operands x line
 place_here suppress operands x y line some within not =
@@ -179,47 +158,29 @@ turned_away {suppress} {x} {state} {operand} k line (turns least steps end how r
   λ index is. cut_before suppress (length (x ++ matching_line ∷ [])) line (step_of state operand (suc (length x)) (suc (length x) - k)) steps how from is,
 )
 
--- where a pattern matched nothing yet, the rest as it is puts the line into its section
-missed_here : (suppress : Bool) (operands : List Operand) (x : List Line) {operand : Operand} {repetition : ℕ} (line : ℕ) → (plan suppress operands x).ending ≡ missed operand repetition → (plan suppress operands x).last.current ≤ line → line ≤ length x
+-- the rest as it is puts the line into its section
+here_in : (suppress : Bool) (operands : List Operand) (x : List Line) (line : ℕ) → (plan suppress operands x).last.current ≤ line → line < whole_end (length x) (plan suppress operands x).ending
     → place_of suppress operands x line ≡ in_section (0 + length (plan suppress operands x).steps)
-missed_here suppress operands x {operand} {repetition} line ending from within =
+here_in suppress operands x line from less =
     ap (λ those. place_from suppress (length x) 0 those (plan suppress operands x).ending line) (sym (append-nil (plan suppress operands x).steps))
-    ∙ place_after (plan_runs suppress operands x) (length x) 0 line [] (plan suppress operands x).ending from
-    ∙ ap (λ how. place_from suppress (length x) (0 + length (plan suppress operands x).steps) [] how line) ending
-    ∙ in_rest (length x) line (missed operand repetition) (omega (arith, within))
+    ∙ place_after (plan_runs suppress operands x) (length x) 0 line [] (plan suppress operands x).ending from ∙ in_rest (length x) line (plan suppress operands x).ending less
 
-differ_missed : (suppress : Bool) (operands : List Operand) (x : List Line) {operand : Operand} {repetition : ℕ} {left : List Operand} → (plan suppress operands x).ending ≡ missed operand repetition → (plan suppress operands x).last.operands ≡ operand ∷ left
-    → 1 ≤ (plan suppress operands x).last.current → search_line suppress (plan suppress operands x).last ≤ suc (length x)
-    → (target : Target) → operand.target ≡ target → Misses suppress x (plan suppress operands x).last operand target → (line : ℕ) → (plan suppress operands x).last.current ≤ line → suc (length x) - most_held target ≤ line → line ≤ length x
-    → (z : List Line) × CanCome z × (place_of suppress operands (x ++ []) line ≢ place_of suppress operands (x ++ z) line)
-differ_missed suppress operands x ending is some within (Number n) target none line from past most = absurd none
-differ_missed suppress operands x ending is some within (Search pattern kept (Plus k)) target none line from past most = absurd (omega (arith, past, most))
-differ_missed suppress operands x ending is some within (Search pattern kept (Minus k)) target none line from past most =
-    let away = turned_away k line (turned pattern kept k some is target none within) past in (
+differ_line : (suppress : Bool) (operands : List Operand) (x : List Line) (line : ℕ) → WaitsAt (length x) (plan suppress operands x) line → Waits suppress x (plan suppress operands x).last (plan suppress operands x).ending
+    → (y : List Line) × (z : List Line) × CanCome y × CanCome z × (place_of suppress operands (x ++ y) line ≢ place_of suppress operands (x ++ z) line)
+differ_line suppress operands x line (live, from, past, within) (none_waits same) = absurd (omega (arith, ends_after_all (length x) (plan suppress operands x).ending live, same, past, within))
+differ_line suppress operands x line (live, from, past, within) (some_wait k kept settled turned) =
+    let away = turned_away k line turned (omega (arith, settled, past)) in (
+      [],
       matching_line ∷ [],
+      none_comes,
       matching_comes,
       λ same. away.4 (0 + length (plan suppress operands x).steps)
           (sym (ap (λ (p : Plan). place_from suppress (length (x ++ matching_line ∷ [])) 0 p.steps p.ending line)
           (plan_once suppress operands (x ++ matching_line ∷ []) _ _ _ (goes_on (matching_line ∷ []) _ _ (plan_runs suppress operands x) away.3))
           ∙ place_after (plan_runs suppress operands x) (length (x ++ matching_line ∷ [])) 0 line away.0 away.2 from)
-          ∙ sym same ∙ ap (λ those. place_of suppress operands those line) (append-nil x) ∙ missed_here suppress operands x line ending from most),
+          ∙ sym same ∙ ap (λ those. place_of suppress operands those line) (append-nil x)
+          ∙ here_in suppress operands x line from (omega (arith, ends_after_all (length x) (plan suppress operands x).ending live, within))),
     )
-
-differ_at : (suppress : Bool) (operands : List Operand) (x : List Line) (ending : Ending) → (plan suppress operands x).ending ≡ ending → EndsAs suppress x (plan suppress operands x).last ending
-    → 1 ≤ (plan suppress operands x).last.current → search_line suppress (plan suppress operands x).last ≤ suc (length x) → (line : ℕ) → is_final ending ≡ false → (plan suppress operands x).last.current ≤ line → settled_end (length x) ending ≤ line → line ≤ length x
-    → (z : List Line) × CanCome z × (place_of suppress operands (x ++ []) line ≢ place_of suppress operands (x ++ z) line)
-differ_at suppress operands x (missed operand repetition) is (left, are, none) some within line live from past most =
-    differ_missed suppress operands x is are some within operand.target refl none line from past most
-differ_at suppress operands x (below operand repetition) is ends some within line live from past most = absurd (false≢true (sym live))
-differ_at suppress operands x ending is ends some within line live from past most = absurd (omega (arith, past, most))
-
-differ_line : (suppress : Bool) (operands : List Operand) (x : List Line) (line : ℕ) → WaitsAt (length x) (plan suppress operands x) line
-    → (y : List Line) × (z : List Line) × CanCome y × CanCome z × (place_of suppress operands (x ++ y) line ≢ place_of suppress operands (x ++ z) line)
-differ_line suppress operands x line waits =
-    let here = plan_runs suppress operands x in
-    let two = differ_at suppress operands x (plan suppress operands x).ending refl (ends_as suppress x (start operands) _ _ _ here) (are_within suppress x (start operands) _ _ _ here (omega arith)).1
-    (search_within here (omega arith) (search_at_start suppress operands (length x))) line waits.0 waits.1 waits.2 waits.3 in
-    ([], two.0, none_comes, two.1, two.2)
 
 same_line : (suppress : Bool) (operands : List Operand) (x y z : List Line) (line : ℕ) → 1 ≤ line → line ≤ length x → (WaitsAt (length x) (plan suppress operands x) line → ⊥)
     → place_of suppress operands (x ++ y) line ≡ place_of suppress operands (x ++ z) line
@@ -242,7 +203,7 @@ undecided_by suppress operands {x} some false live =
     let count : length (take n x) ≡ min n (length x) = length-take n x in record {
       before = take n x;
       are_last = sym (take-append-drop n x) ∙ ap (λ rest. take n x ++ rest) (sym (drop-drop (settled_end (length x) (plan suppress operands x).ending - (plan suppress operands x).last.current) ((plan suppress operands x).last.current - 1) x));
-      differ = λ line past within. differ_line suppress operands x line (live, omega (arith, past, within, count, some), omega (arith, past, within, count, some), within);
+      differ = λ line past within. differ_line suppress operands x line (live, omega (arith, past, within, count, some), omega (arith, past, within, count, some), within) (end_waits suppress operands x);
       decided = λ line one within y z y_comes z_comes. same_line suppress operands x y z line one (omega (arith, within, count)) (λ waits. let current = waits.1 in let end = waits.2 in omega (arith, within, count, current, end, some, one));
     }
 

@@ -10,19 +10,15 @@ use Rattle.csplit_core.specs.inner.PlanLaws.{needed}
 use Rattle.csplit_core.specs.Writer.{IsReady, size_of}
 use Rattle.csplit_core.specs.declared.line_cutter.Cut.{Cut}
 use Rattle.csplit_core.specs.declared.progress.Turn.{Turn}
-use Rattle.csplit_core.specs.Cutter.{CutterState, state_in, IsFit, IsSound, IsAt, EndsNow, kept_by, draft_by, IsLive}
-use Rattle.csplit_core.specs.inner.Cutter.{IsEnd, part_at, Holds, Tries, CutsNow, IsAfter, CutAt, CutsAll, WillCut, Spreading, Spread, settled_part, IsLine, IsWhole, IsNextFound, PassesOver, StopsAt, TriesNext, CutsOn, GoesOn, Stretches, Takes}
+use Rattle.csplit_core.specs.Cutter.{CutterState, state_in, IsFit, IsSound, IsAt, EndsNow, IsLive}
+use Rattle.csplit_core.specs.inner.Cutter.{IsEnd, part_at, Holds, Tries, CutsNow, IsAfter, CutAt, CutsAll, WillCut, Spreading, Spread, IsLine, IsWhole, IsNextFound, PassesOver, StopsAt, TriesNext, CutsOn, GoesOn, Stretches, Takes}
 use Rattle.csplit_core.proofs.CutterLemmas.{keeps_on, settled_same, at_more, part_more}
 use Rattle.csplit_core.proofs.TakeLemmas.{Reached, more_lines, sound_held, take_cut, took_held}
-use Rattle.csplit_core.proofs.WriterLemmas.{reaches_again, reaches_as, where_well, bytes_begin, leaves_lacking, stops_wider}
+use Rattle.csplit_core.proofs.WriterLemmas.{reaches_again, reaches_as, where_well}
 use Rattle.std.proofs.lemmas.Bool.{eqb-true}
-use Rattle.seg_core.specs.Line.{delimiters, first_lines, line_count, ends_with}
-use Rattle.ports_core.specs.declared.fault.Fault.TheVariants.{Memory}
-use Rattle.csplit_core.specs.Draft.{draft_part}
-use Rattle.csplit_core.specs.inner.Writer.{with_bytes, Leaves, fault_in}
-use Rattle.csplit_core.specs.Input.{newline, all_lines}
-use Rattle.csplit_core.proofs.CutLemmas.{before_begins, cut_stopped}
-use Rattle.csplit_core.proofs.HoldLemmas.{lacks_memory}
+use Rattle.seg_core.specs.Line.{delimiters, line_count, ends_with}
+use Rattle.csplit_core.specs.inner.Writer.{fault_in}
+use Rattle.csplit_core.specs.Input.{newline}
 use Rattle.std.proofs.Math.Seq.{take-add}
 use Rattle.std.specs.Prelude.{IfOk}
 use Rattle.csplit_core.specs.Output.{Style}
@@ -184,17 +180,6 @@ cut_drained {told} {start = start} {next} {window} {cut} {waiting = waiting} {li
     (all_alike start window (subst (λ those. CutsAll told (record start { window = window }) cut (start.lines - delimiters newline start.window.held) those line [] old new next fault) waiting_is
     (subst (λ n. CutsAll told (record start { window = window }) cut n waiting line [] old new next fault) place_is cuts)))
 
-pub cut_lacks : {told : Bool} {cutter start : CutterState} {window : Window} {cut : Cut} {line : List ℕ} {slots : List Slot} {fault : Fault} → start ≡ cutter → IsFit cutter → WillCut cutter cut → fault ≡ Memory
-    → CutsAll told cutter cut (cutter.lines - delimiters newline cutter.window.held) (cutter.window.held ++ line) line [] slots slots (record start { window = window }) (Some fault)
-cut_lacks {told} {cutter} {start} {window} {cut} {line} {slots} same fit will lacks =
-    subst (λ why. CutsAll told cutter cut (cutter.lines - delimiters newline cutter.window.held) (cutter.window.held ++ line) line [] slots slots (record start { window = window }) (Some why)) (sym lacks)
-    (cut_stopped (ap (λ (c : CutterState). c.operands) same) (subst (λ w. Leaves cutter.writer w slots slots (Some Memory)) (sym (ap (λ (c : CutterState). c.writer) same)) leaves_lacking)
-    (λ x at now.
-    let draft = draft_by (all_lines x) at.steps (kept_by (state_in cutter).operands) at.written in
-    let before = first_lines newline (cut.line - (cutter.lines - delimiters newline cutter.window.held)) (cutter.window.held ++ line) in
-    stops_wider (lacks_memory cutter.writer.style draft at.writes.closed)
-    (part_trans (draft_part cutter.writer.style draft) (draft_part cutter.writer.style (with_bytes before draft)) (settled_part cutter x) (bytes_begin cutter.writer.style before draft) (before_begins line cut now fit will refl))))
-
 -- how many lines wait
 pub waiting_count : (lines : ℕ) (held : List ℕ) {waiting : List ℕ} (line front : List ℕ) {size count place : ℕ} → waiting ≡ held ++ line → size ≡ length held → front ≡ take size waiting → count ≡ delimiters newline front → place ≡ lines - count → place ≡ lines - delimiters newline held
 waiting_count lines held line front {size} waiting_is size_is front_is count_is place_is =
@@ -338,11 +323,17 @@ ends_on {cutter} {mid} {end} line {rest} {n} one complete mid_is tries over end_
       subst (EndsNow (more_lines cutter end.lines mid.aim)) is (subst (λ (c : CutterState). EndsNow c ((x ++ line) ++ take n rest)) end_is both.1),
     )
 
-whole_on : (text : List ℕ) (size n : ℕ) → IsWhole (take size text) → IsWhole (take n (drop size text)) → IsWhole (take (size + n) text)
-whole_on text size n complete whole = subst IsWhole (sym (take-add size n text)) (whole-append (take n (drop size text)) complete whole)
-
-within_on : (text : List ℕ) (size n : ℕ) → size ≤ length text → n ≤ length (drop size text) → size + n ≤ length text
-within_on text size n within more = let long : length (drop size text) ≡ length text - size = length-drop size text in omega (arith, long, within, more)
+stretched : {told : Bool} {cutter next : CutterState} {text : List ℕ} {size n : ℕ} {old new : List Slot} (result : Result Passed Fault) → 0 < size → size ≤ length text → n ≤ length (drop size text) → IsWhole (take size text) → IsWhole (take n (drop size text))
+    → Takes told cutter (take size text ++ take n (drop size text)) old new next (fault_in result) → IfOk result (λ passed. passed.size ≡ length (take size text) + n) → IfOk result (λ passed. IfSome passed.found (IsNextFound next (drop n (drop size text)))) → Stretches told cutter text old new next result
+stretched {told} {cutter} {next} {text} {size} {n} {old} {new} result some within more complete whole took size_is found = record {
+  n = size + n;
+  some = omega (arith, some);
+  within = (let long : length (drop size text) ≡ length text - size = length-drop size text in omega (arith, long, within, more));
+  whole = subst IsWhole (sym (take-add size n text)) (whole-append (take n (drop size text)) complete whole);
+  took = subst (λ those. Takes told cutter those old new next (fault_in result)) (sym (take-add size n text)) took;
+  size = ok_as result (λ passed is. is ∙ ap (λ k. k + n) (length-take-le size text within)) size_is;
+  found = ok_as result (λ passed found. subst (λ those. IfSome passed.found (IsNextFound next those)) (drop-drop n size text) found) found;
+}
 
 pub stretch_on : {told : Bool} {cutter mid next : CutterState} {text : List ℕ} {size : ℕ} {old new : List Slot} (result : Result Passed Fault) → IsFit cutter → (cutter.aim ≡ Below → ⊥) → 0 < size → size ≤ length text → IsLine (take size text) → IsWhole (take size text)
     → mid ≡ record cutter { lines = cutter.lines + 1; aim = mid.aim } → TriesNext cutter (take size text) mid None → GoesOn told mid (take size text) (drop size text) old new next result → Stretches told cutter text old new next result
@@ -354,33 +345,17 @@ stretch_on {told} {cutter} {mid} {next} {text} {size} {old} {new} result fit dif
     let long : length line ≡ size = length-take-le size text within in
     let longer : length (line ++ more) ≡ length line + length more = length-append line more in
     let rest : length more ≡ gone.n = length-take-le gone.n (drop size text) gone.over.within in
-    let first : mid.lines ≡ cutter.lines + 1 = ap (λ (c : CutterState). c.lines) mid_is in record {
-      n = size + gone.n;
-      some = omega (arith, some);
-      within = within_on text size gone.n within gone.over.within;
-      whole = whole_on text size gone.n complete gone.over.whole;
-      took = subst (λ those. Takes told cutter those old new next (fault_in result)) (sym (take-add size gone.n text))
-          (took_held (subst IsSound end_is gone.over.sound) fit differs (let few = gone.over.few in omega (arith, few, long, longer, rest, first, some))
-          (ends_on line one complete mid_is tries gone.over end_is) (subst (λ (m : CutterState). Holds told m (m.window.held ++ (line ++ more)) old new next (fault_in result)) end_is gone.held));
-      size = ok_as result (λ passed is. is ∙ ap (λ k. k + gone.n) long) gone.size;
-      found = ok_as result (λ passed found. subst (λ those. IfSome passed.found (IsNextFound next those)) (drop-drop gone.n size text) found) (found_held (drop gone.n (drop size text)) result gone.held gone.found);
-    }
+    let first : mid.lines ≡ cutter.lines + 1 = ap (λ (c : CutterState). c.lines) mid_is in
+    stretched result some within gone.over.within complete gone.over.whole (took_held (subst IsSound end_is gone.over.sound) fit differs (let few = gone.over.few in omega (arith, few, long, longer, rest, first, some))
+    (ends_on line one complete mid_is tries gone.over end_is) (subst (λ (m : CutterState). Holds told m (m.window.held ++ (line ++ more)) old new next (fault_in result)) end_is gone.held)) gone.size (found_held (drop gone.n (drop size text)) result gone.held gone.found)
 
 -- It is cut, and none waits.
 pub stretch_cut : {told : Bool} {cutter mid next : CutterState} {text : List ℕ} {size : ℕ} {cut : Cut} {old new : List Slot} (result : Result Passed Fault) → IsFit cutter → (cutter.aim ≡ Below → ⊥) → 0 < size → size ≤ length text → IsLine (take size text) → IsWhole (take size text)
     → mid ≡ record cutter { lines = cutter.lines + 1; aim = mid.aim } → mid.window.held ≡ [] → WillCut mid cut → TriesNext cutter (take size text) mid (Some cut) → CutsOn told mid cut (take size text) (drop size text) old new next result → Stretches told cutter text old new next result
 stretch_cut {told} {cutter} {mid} {next} {text} {size} {cut} {old} {new} result fit differs some within one complete mid_is none will tries on =
     let line = take size text in
-    let more = take on.n (drop size text) in record {
-      n = size + on.n;
-      some = omega (arith, some);
-      within = within_on text size on.n within on.within;
-      whole = whole_on text size on.n complete on.whole;
-      took = subst (λ those. Takes told cutter those old new next (fault_in result)) (sym (take-add size on.n text))
-          (take_cut line more fit differs one mid_is will tries (alone (λ place those. CutsAll told mid cut place those line more old new next (fault_in result)) mid line none on.all));
-      size = ok_as result (λ passed is. is ∙ ap (λ k. k + on.n) (length-take-le size text within)) on.size;
-      found = ok_as result (λ passed found. subst (λ those. IfSome passed.found (IsNextFound next those)) (drop-drop on.n size text) found) on.found;
-    }
+    let more = take on.n (drop size text) in
+    stretched result some within on.within complete on.whole (take_cut line more fit differs one mid_is will tries (alone (λ place those. CutsAll told mid cut place those line more old new next (fault_in result)) mid line none on.all)) on.size on.found
 
 -- It is taken in by itself.
 pub stretch_first : {told : Bool} {cutter next : CutterState} {text : List ℕ} {size : ℕ} {old new : List Slot} (result : Result Passed Fault) → 0 < size → size ≤ length text → IsWhole (take size text) → Takes told cutter (take size text) old new next (fault_in result)

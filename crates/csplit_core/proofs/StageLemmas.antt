@@ -40,15 +40,6 @@ use Rattle.ports_core.specs.Engine as engine
 
 -- What the stage that takes in bytes does with the cutter of lines.
 
--- once lines go nowhere, more of them change nothing
-
--- the same lines, once more than where they go nowhere
-pub past_whole : {cutter : CutterState} {x : List ℕ} (t : List ℕ) → IsWhole x → cutter.aim ≡ Below → Stands cutter x → Stands cutter (x ++ t)
-past_whole t whole aim stands = inr (still_past t whole (is_past aim stands))
-
-pub past_settled : {cutter : CutterState} {x : List ℕ} (t : List ℕ) → IsWhole x → cutter.aim ≡ Below → Stands cutter x → settled_part cutter x ≡ settled_part cutter (x ++ t)
-past_settled t whole aim stands = past_part t whole (is_past aim stands)
-
 -- Want of memory
 
 closed_steps : (lines : List Line) (steps : List Step) → AreClosed (map contents_of (map (section_of lines) steps))
@@ -245,8 +236,8 @@ lines_in rest x piece is = ap (λ those. whole_lines x ++ whole_lines (those ++ 
 
 settled_by_cases : {stage : CsplitState} {x : List ℕ} (piece : List ℕ) → Holds stage x → (stage.cutter.aim ≡ Below) ⊎ (stage.cutter.aim ≡ Below → ⊥) → settled_part stage.cutter (whole_lines x ++ whole_lines (stage.rest ++ piece)) ≡ (work stage).settled (x ++ piece)
 settled_by_cases {stage} {x} piece holds (inl is_below) =
-    sym (past_settled (whole_lines (stage.rest ++ piece)) (lines_whole x) is_below holds.stands)
-    ∙ past_settled (whole_lines (open_line x ++ piece)) (lines_whole x) is_below holds.stands
+    sym (past_part (whole_lines (stage.rest ++ piece)) (lines_whole x) (is_past is_below holds.stands))
+    ∙ past_part (whole_lines (open_line x ++ piece)) (lines_whole x) (is_past is_below holds.stands)
     ∙ ap (settled_part stage.cutter) (sym (lines_more x piece)) ∙ settled_is stage (x ++ piece)
 settled_by_cases {stage} {x} piece holds (inr differs) = ap (settled_part stage.cutter) (lines_in stage.rest x piece (holds.live differs)) ∙ settled_is stage (x ++ piece)
 
@@ -270,7 +261,7 @@ not_verdict style old new fault breaks = absurd breaks
 holds_by : {told : Bool} {stage next : CsplitState} {piece : List ℕ} {old new : List Slot} {x : List ℕ} → Passes told stage piece old new next (Ok tt) → Holds stage x → (stage.cutter.aim ≡ Below) ⊎ (stage.cutter.aim ≡ Below → ⊥) → Holds next (x ++ piece)
 holds_by {stage = stage} {piece} {x} passed holds (inl is_below) = record {
   stands = subst (λ (c : CutterState). Stands c (whole_lines (x ++ piece))) (sym (passed.passed.still is_below))
-      (subst (Stands stage.cutter) (sym (lines_more x piece)) (past_whole (whole_lines (open_line x ++ piece)) (lines_whole x) is_below holds.stands));
+      (subst (Stands stage.cutter) (sym (lines_more x piece)) (inr (still_past (whole_lines (open_line x ++ piece)) (lines_whole x) (is_past is_below holds.stands))));
   live = λ differs. absurd (differs (ap (λ (c : CutterState). c.aim) (passed.passed.still is_below) ∙ is_below));
   past = λ still. passed.passed.past still holds.past;
 }

@@ -1,5 +1,5 @@
 -- Taking lines in, one by one and stretch by stretch.
-use Rattle.std.proofs.Common.{◌≡◌, ◌⊎◌, inl, inr, ℕ, suc, ◌+◌, ◌-◌, ◌<◌, ◌≤◌, max, Bool, true, false, Option, Some, None, List, [], ◌∷◌, ◌++◌, length, refl, sym, ◌∙◌, ap, subst, arith, append_assoc, length-append, IfSome, Ok, Err, take, drop}
+use Rattle.std.proofs.Common.{◌≡◌, ◌⊎◌, inl, inr, ℕ, ◌+◌, ◌-◌, ◌<◌, ◌≤◌, max, Bool, true, Option, Some, None, List, [], ◌∷◌, ◌++◌, length, refl, sym, ◌∙◌, ap, subst, arith, append_assoc, length-append, IfSome, Ok, Err, take, drop}
 use Rattle.std.proofs.lemmas.List.{append-nil, take-append-drop, length-drop}
 use Rattle.std.proofs.lemmas.Bool.{false≢true, cases_lt}
 use Rattle.seg_core.specs.Line.{line_count, delimiters}
@@ -11,47 +11,30 @@ use Rattle.ports_core.specs.Slot.{Slot}
 use Rattle.ports_core.specs.declared.fault.Fault.{Fault}
 use Rattle.csplit_core.specs.Input.{newline, all_lines}
 use Rattle.csplit_core.specs.Operand.{Operand, Line}
-use Rattle.csplit_core.specs.Plan.{State, start, Step, Ending, used_up, missed, above, below, CutsAt, state_after, Runs, cuts}
+use Rattle.csplit_core.specs.Plan.{State, Step, Ending, below, CutsAt, state_after, Runs, cuts}
 use Rattle.csplit_core.specs.Draft.{draft_part}
 use Rattle.csplit_core.specs.Output.{Style}
 use Rattle.csplit_core.specs.Planned.{Plan, plan, plan_within}
-use Rattle.csplit_core.specs.laws.PlanLaws.{cuts_still, runs, line_some, plan_runs}
-use Rattle.csplit_core.specs.inner.PlanLaws.{needed, EndsAs}
+use Rattle.csplit_core.specs.laws.PlanLaws.{runs, line_some, plan_runs}
+use Rattle.csplit_core.specs.inner.PlanLaws.{needed}
 use Rattle.seg_core.proofs.EndLines.{line_count-grows}
 use Rattle.csplit_core.specs.inner.Progress.{GoesPast}
 use Rattle.csplit_core.specs.Progress.{AimsAt}
 use Rattle.csplit_core.specs.Section.{is_final, most_waiting, settled_end}
-use Rattle.csplit_core.specs.laws.SectionLaws.{ends_as, front_of, none_there, missed_cut, cut_once, grows}
+use Rattle.csplit_core.specs.laws.SectionLaws.{ends_as, cuts_from, grows}
 use Rattle.csplit_core.specs.Writer.{Writes, IsReady, size_of}
 use Rattle.csplit_core.specs.declared.line_cutter.Cut.{Cut}
 use Rattle.csplit_core.specs.declared.progress.Turn.{Turn}
 use Rattle.csplit_core.specs.declared.progress.Turn.TheVariants.{Below}
 use Rattle.csplit_core.specs.Cutter.{CutterState, suppress_in, state_in, settled_draft, draft_by, AimHolds, IsFit, IsSound, IsAt, IsLive, IsPast, Stands, EndsNow, kept_by, load}
 use Rattle.csplit_core.specs.inner.Cutter.{settled_part, part_at, IsWhole, IsLine, Arrives, Held, Holds, CutsNow, CutsAll, WillCut, TriesNext, search_after, Takes, IsNextFound, Stretches}
-use Rattle.csplit_core.proofs.CutterLemmas.{runs_to, at_more, part_more, live_part, left_count, few_taken, settled_count, settled_part_is, most_is, aims_past, draft_is, final_count, ended_still, keeps_on, settled_same}
+use Rattle.csplit_core.proofs.CutterLemmas.{at_more, part_more, live_part, left_count, few_taken, live_taken, settled_part_is, most_is, aims_past, draft_is, final_count, ended_still, keeps_on, settled_same}
 use Rattle.csplit_core.proofs.LineLemmas.{all_lines-append, all_lines-line, length-all_lines, count-line, whole_count, whole_from, whole-append, whole_drop, rest_all}
 use Rattle.csplit_core.proofs.WriterLemmas.{leaves_still, reaches_as, reaches_still, where_well, reaches_again, stops_wider}
 use Rattle.csplit_core.proofs.StayLemmas.{EndsStill, stays}
 use Rattle.csplit_core.specs.declared.line_cutter.Passed.{Passed}
 
 -- Taking lines in.
-
--- What is settled stands before each cut of the next operand.
-settled_before : (suppress : Bool) (a b : List Line) (state : State) (ending : Ending) {operand : Operand} {operands : List Operand} (matched cut : ℕ) → EndsAs suppress a state ending → is_final ending ≡ false → state.operands ≡ operand ∷ operands → CutsAt suppress (a ++ b) state operand operand.target matched cut
-    → settled_end (length a) ending ≤ suc (length a) → settled_end (length a) ending ≤ cut
-settled_before suppress a b state used_up {operand} matched cut ends live are at most = absurd (none_there operand (sym ends ∙ are))
-settled_before suppress a b state (missed operand' repetition) {operand} matched cut (operands', is, none) live are at most =
-    let same = front_of operand' operand (sym is ∙ are) in
-    missed_cut suppress a b state operand' operand'.target none matched cut (subst (λ (o : Operand). CutsAt suppress (a ++ b) state o o.target matched cut) (sym same) at)
-settled_before suppress a b state (above operand' repetition matched' cut') {operand} matched cut (operands', is, at', far) live are at most =
-    let same = front_of operand' operand (sym is ∙ are) in
-    let one : cut' ≡ cut = (cut_once suppress (a ++ b) state operand' operand'.target cut' (cuts_still suppress a b state operand' operand'.target matched' cut' at') (subst (λ (o : Operand). CutsAt suppress (a ++ b) state o o.target matched cut) (sym same) at)).1 in
-    omega (arith, one, far, most)
-settled_before suppress a b state (below operand' repetition) matched cut ends live are at most = absurd (false≢true (sym live))
-
-settled_most : (total : ℕ) (ending : Ending) → is_final ending ≡ false → settled_end total ending ≤ suc total
-settled_most total used_up live = omega arith
-settled_most total _ live = omega arith
 
 -- a step of the plan is a cut
 
@@ -67,37 +50,25 @@ goes_cuts {suppress} {lines} {state} {matched} cut goes some =
 
 -- The lines that were left begin no later than a cut.
 
-taken_before : (total current taken most ending_at cut : ℕ) → taken ≡ total + 1 - current - most → total + 1 - current - most ≡ ending_at - current → ending_at ≤ cut → current ≤ cut → current + taken ≤ cut
-taken_before total current taken most ending_at cut taken_is is before from = omega (arith, taken_is, is, before, from)
+live_before : {cutter : CutterState} {x : List ℕ} (t : List ℕ) (live : IsLive cutter x) {operand : Operand} {operands : List Operand} (matched cut : ℕ) → (state_in cutter).operands ≡ operand ∷ operands
+    → CutsAt (suppress_in cutter) (all_lines x ++ all_lines t) (state_in cutter) operand operand.target matched cut → settled_end (line_count newline x) live.ends.ending ≤ cut
+live_before {cutter} {x} t live matched cut are at =
+    let so = cuts_from (suppress_in cutter) (all_lines x) (all_lines t) (state_in cutter) live.ends.ending (ends_as _ _ _ _ _ _ live.ends.runs) are in
+    subst (λ n. settled_end n live.ends.ending ≤ cut) (length-all_lines x) (so.1 matched cut at)
 
 pub place_before : {cutter : CutterState} {x : List ℕ} (t : List ℕ) {matched : ℕ} (cut : ℕ) (live : IsLive cutter x) → IsWhole x → (goes : GoesPast (suppress_in cutter) (all_lines (x ++ t)) (state_in cutter) matched cut) → IsFit cutter → cutter.progress.current ≤ cut → cutter.progress.current + live.at.taken ≤ cut
 place_before {cutter} {x} t {matched} cut live whole goes fit from =
-    let runs_here = runs_to live.at live.ends in
-    let ends = ends_as (suppress_in cutter) (all_lines x) (start cutter.operands) live.at.steps (state_in cutter) live.ends.ending runs_here in
     let at = subst (λ lines. CutsAt (suppress_in cutter) lines (state_in cutter) goes.operand goes.operand.target matched cut) (all_lines-append t whole)
-    (goes_cuts cut goes (let s = fit.fits.some in omega (arith, s, from))) in
-    let count : length (all_lines x) ≡ cutter.lines = length-all_lines x ∙ sym live.at.counted in
-    let before = settled_before (suppress_in cutter) (all_lines x) (all_lines t) (state_in cutter) live.ends.ending matched cut ends live.live goes.are at (settled_most (length (all_lines x)) live.ends.ending live.live) in
-    taken_before cutter.lines cutter.progress.current live.at.taken (most_waiting live.ends.ending) (settled_end cutter.lines live.ends.ending) cut live.settled (settled_count cutter.lines cutter.progress.current live.ends.ending live.live)
-    (subst (λ n. settled_end n live.ends.ending ≤ cut) count before) from
+    (goes_cuts cut goes (let s = fit.fits.some in omega (arith, s, from))) in omega (arith, live_taken live, live_before t live matched cut goes.are at, from)
 
 -- What arrives where more lines came.
 
-low_none : {cutter : CutterState} {x : List ℕ} (t : List ℕ) (live : IsLive cutter x) → IsWhole x → IsFit cutter → (ending : Ending) → Runs (suppress_in cutter) (all_lines (x ++ t)) (state_in cutter) [] (state_in cutter) ending → is_final ending ≡ true → live.at.taken ≡ 0
-low_none {cutter} {x} t live whole fit (below operand repetition) run past =
-    let here = ends_as (suppress_in cutter) (all_lines (x ++ t)) (state_in cutter) [] (state_in cutter) (below operand repetition) run in
-    by here.0 here.1 here.2 here.3 here.4 here.6 where
-      by : (operands : List Operand) (matched cut : ℕ) → (state_in cutter).operands ≡ operand ∷ operands → CutsAt (suppress_in cutter) (all_lines (x ++ t)) (state_in cutter) operand operand.target matched cut → cut < cutter.progress.current → live.at.taken ≡ 0
-      by operands matched cut are at low =
-          let runs_here = runs_to live.at live.ends in
-          let ends = ends_as (suppress_in cutter) (all_lines x) (start cutter.operands) live.at.steps (state_in cutter) live.ends.ending runs_here in
-          let count : length (all_lines x) ≡ cutter.lines = length-all_lines x ∙ sym live.at.counted in
-          let before = settled_before (suppress_in cutter) (all_lines x) (all_lines t) (state_in cutter) live.ends.ending matched cut ends live.live are
-          (subst (λ lines. CutsAt (suppress_in cutter) lines (state_in cutter) operand operand.target matched cut) (all_lines-append t whole) at) (settled_most (length (all_lines x)) live.ends.ending live.live) in
-          let e : settled_end cutter.lines live.ends.ending ≤ cut = subst (λ n. settled_end n live.ends.ending ≤ cut) count before in
-          let s = settled_count cutter.lines cutter.progress.current live.ends.ending live.live in
-          let t' : live.at.taken ≡ cutter.lines + 1 - cutter.progress.current - most_waiting live.ends.ending = live.settled in omega (arith, e, s, t', low)
-low_none t live whole fit _ run past = absurd (false≢true past)
+low_none : {cutter : CutterState} {x : List ℕ} (t : List ℕ) (live : IsLive cutter x) → IsWhole x → (ending : Ending) → Runs (suppress_in cutter) (all_lines (x ++ t)) (state_in cutter) [] (state_in cutter) ending → is_final ending ≡ true → live.at.taken ≡ 0
+low_none {cutter} {x} t live whole (below operand repetition) run past =
+    let here = ends_as _ _ _ _ _ _ run in
+    let low : here.2 < cutter.progress.current = here.6 in
+    let before = live_before t live here.1 here.2 here.3 (subst (λ lines. CutsAt (suppress_in cutter) lines (state_in cutter) operand operand.target here.1 here.2) (all_lines-append t whole) here.4) in omega (arith, before, live_taken live, low)
+low_none t live whole _ run past = absurd (false≢true past)
 
 enough_left : (lines current taken most : ℕ) {left : ℕ} → 1 ≤ current → current + taken ≤ lines + 1 → taken ≡ lines + 1 - current - most → left ≡ lines - (current + taken - 1) → (taken ≡ 0) ⊎ (most ≤ left)
 enough_left lines current taken most some few is left_is = elim (cases_lt most (lines + 1 - current)) [
@@ -110,11 +81,10 @@ pub arrives_more : {cutter : CutterState} {lines : ℕ} {aim : Turn} {x : List �
 unfolding at_more
 arrives_more {cutter} {x} t live whole fit count ends =
     let few = few_taken live.at in
-    let runs_here = runs_to live.at live.ends in
-    let most : cutter.window.most ≡ most_waiting live.ends.ending = fit.most ∙ most_is (suppress_in cutter) (all_lines x) (state_in cutter) live.ends.ending (ends_as (suppress_in cutter) (all_lines x) (start cutter.operands) live.at.steps (state_in cutter) live.ends.ending runs_here) live.live in
+    let most : cutter.window.most ≡ most_waiting live.ends.ending = fit.most ∙ most_is (suppress_in cutter) (all_lines x) (state_in cutter) live.ends.ending (ends_as _ _ _ _ _ _ live.ends.runs) live.live in
     let either = enough_left cutter.lines cutter.progress.current live.at.taken (most_waiting live.ends.ending) fit.fits.some few live.settled (left_count live.at) in record {
       ends = ends;
-      low = λ past. low_none t live whole fit ends.ending ends.runs past;
+      low = λ past. low_none t live whole ends.ending ends.runs past;
       enough = more either most;
     } where
       more : {taken most other : ℕ} → (taken ≡ 0) ⊎ (other ≤ line_count newline cutter.window.held) → most ≡ other → (taken ≡ 0) ⊎ (most ≤ line_count newline (cutter.window.held ++ t))

@@ -9,7 +9,7 @@ use Rattle.seg_core.specs.Line.{line_count}
 use Rattle.csplit_core.specs.Input.{newline, without_newline, marked, all_lines, is_match_of}
 use Rattle.csplit_core.specs.laws.PlanLaws.{search_past, search_some, match_still, cuts_still}
 use Rattle.csplit_core.specs.Operand.{Target, Number, Search, Operand, Line, unmarked, is_match}
-use Rattle.csplit_core.specs.Plan.{State, start, Ending, used_up, missed, above, below, search_line, line_after, CutsAt, Misses, Runs, cuts}
+use Rattle.csplit_core.specs.Plan.{State, Ending, used_up, missed, above, below, search_line, line_after, CutsAt, Misses, Runs, cuts}
 use Rattle.csplit_core.specs.inner.Progress.{AreSeen, Turns, MovesOn, GoesPast, Advances}
 use Rattle.csplit_core.specs.Progress.{AimsAt, EndsHere}
 use Rattle.csplit_core.specs.inner.PlanLaws.{EndsAs}
@@ -17,11 +17,10 @@ use Rattle.csplit_core.specs.laws.SectionLaws.{ends_as, front_of}
 use Rattle.csplit_core.specs.declared.line_cutter.Cut.{Cut}
 use Rattle.csplit_core.specs.declared.progress.Progress.{Progress}
 use Rattle.csplit_core.specs.declared.progress.Turn.{Turn}
-use Rattle.csplit_core.specs.declared.progress.Turn.TheVariants.{UsedUp, Missed, Above, Cuts}
+use Rattle.csplit_core.specs.declared.progress.Turn.TheVariants.{Missed, Above, Cuts}
 use Rattle.csplit_core.specs.Cutter.{CutterState, suppress_in, state_in, pattern_in, pattern_by, AimHolds, IsFit, IsLive, EndsNow}
 use Rattle.csplit_core.specs.inner.Cutter.{IsWhole, IsLine, Looked, IsFound, IsNoCut, search_after, StaysNear, Tries, TriesNext}
 use Rattle.csplit_core.proofs.TurnLemmas.{advances, capped}
-use Rattle.csplit_core.proofs.CutterLemmas.{runs_to}
 use Rattle.csplit_core.proofs.LineLemmas.{all_lines-append, all_lines-line, length-all_lines, count-append, count-line, whole-append}
 use Rattle.csplit_core.proofs.StayLemmas.{NoneFrom, search_grows, ends_still, EndsStill}
 
@@ -38,22 +37,13 @@ pub found_is : {cutter : CutterState} (line : List ℕ) {text : List ℕ} (numbe
 found_is line number (Number n) is sought says near = sym (says.none sought)
 found_is line number (Search pattern kept offset) is sought says near = sym (says.some pattern sought near ∙ ap (contains pattern) is)
 
-seen_all : {cutter : CutterState} {x : List ℕ} (line : List ℕ) {text : List ℕ} (number : ℕ) {found : Bool} → number ≡ cutter.lines → text ≡ without_newline line → IsFit cutter → IsFound cutter text number found → Looked cutter x line
-    → AreSeen (suppress_in cutter) (all_lines x) cutter.lines (state_in cutter) found
-seen_all {cutter} {x} line number number_is is fit says looked =
+seen_all : {cutter : CutterState} {x : List ℕ} (line : List ℕ) {found : Bool} → IsFit cutter → IsFound cutter (without_newline line) cutter.lines found → Looked cutter x line → AreSeen (suppress_in cutter) (all_lines x) cutter.lines (state_in cutter) found
+seen_all {cutter} {x} line fit says looked =
     let count : length (all_lines x) ≡ cutter.lines = length-all_lines x ∙ sym looked.counted in record {
       count = count;
-      last = λ operand operands are near. last_mark operand line looked.last.0 looked.last.1 count
-          ∙ found_is line number operand.target is (fit.sought ∙ ap pattern_by are) says (omega (arith, near, number_is));
+      last = λ operand operands are near. last_mark operand line looked.last.0 looked.last.1 count ∙ found_is line cutter.lines operand.target refl (fit.sought ∙ ap pattern_by are) says near;
       others = looked.others;
     }
-
-pub looked_turns : {cutter mid : CutterState} {x : List ℕ} (line : List ℕ) {text : List ℕ} (number : ℕ) {found : Bool} (turn : Turn) → mid ≡ cutter → number ≡ cutter.lines → text ≡ without_newline line → IsFit cutter → IsFound cutter text number found
-    → ((lines : List Line) → AreSeen (suppress_in mid) lines mid.lines (state_in mid) found → Turns (suppress_in mid) lines mid.lines (state_in mid) turn) → Looked cutter x line
-    → Turns (suppress_in cutter) (all_lines x) cutter.lines (state_in cutter) turn
-looked_turns {x} line number {found} turn same number_is is fit says turns looked =
-    subst (λ (those : CutterState). (lines : List Line) → AreSeen (suppress_in those) lines those.lines (state_in those) found → Turns (suppress_in those) lines those.lines (state_in those) turn) same turns
-    (all_lines x) (seen_all line number number_is is fit says looked)
 
 pub advance_ends : {suppress : Bool} {lines : List Line} {state : State} (turn : Turn) → IsNoCut turn → Advances suppress lines state turn → EndsHere suppress lines state turn
 advance_ends (Cuts matched line) no_cut ends = absurd no_cut
@@ -94,24 +84,16 @@ cut_near {cutter} {x} line cut is fit looked turns =
 
 -- what `try_last` owes
 
-pub tries_cut : {cutter mid : CutterState} (line : List ℕ) {text : List ℕ} (number : ℕ) {found : Bool} {turn : Turn} (cut : Cut) → mid ≡ cutter → number ≡ cutter.lines → text ≡ without_newline line → IsFit cutter → IsFound cutter text number found
-    → ((lines : List Line) → AreSeen (suppress_in mid) lines mid.lines (state_in mid) found → Turns (suppress_in mid) lines mid.lines (state_in mid) turn) → turn ≡ Cuts cut.matched cut.line
-    → (x : List ℕ) → Looked cutter x line → GoesPast (suppress_in cutter) (all_lines x) (state_in cutter) cut.matched cut.line × StaysNear cutter cut
-tries_cut {cutter} line number {turn} cut same number_is is fit says turns turn_is x looked =
-    let here = looked_turns line number turn same number_is is fit says turns looked in
-    let count : length (all_lines x) ≡ cutter.lines = length-all_lines x ∙ sym looked.counted in (
-      subst (Advances (suppress_in cutter) (all_lines x) (state_in cutter)) turn_is (advances (suppress_in cutter) (all_lines x) (state_in cutter) turn count here),
-      cut_near line cut turn_is fit looked here,
-    )
+module _ {cutter : CutterState} (line : List ℕ) {found : Bool} (turn : Turn) (fit : IsFit cutter) (says : IsFound cutter (without_newline line) cutter.lines found)
+    (turns : (lines : List Line) → AreSeen (suppress_in cutter) lines cutter.lines (state_in cutter) found → Turns (suppress_in cutter) lines cutter.lines (state_in cutter) turn) (x : List ℕ) (looked : Looked cutter x line) where
+  advanced : Advances (suppress_in cutter) (all_lines x) (state_in cutter) turn
+  advanced = advances (suppress_in cutter) (all_lines x) (state_in cutter) turn (length-all_lines x ∙ sym looked.counted) (turns (all_lines x) (seen_all line fit says looked))
 
-pub tries_none : {cutter mid before : CutterState} (line : List ℕ) {text : List ℕ} (number : ℕ) {found : Bool} {turn : Turn} → before ≡ mid → mid ≡ cutter → number ≡ cutter.lines → text ≡ without_newline line → IsFit cutter → IsFound cutter text number found
-    → ((lines : List Line) → AreSeen (suppress_in mid) lines mid.lines (state_in mid) found → Turns (suppress_in mid) lines mid.lines (state_in mid) turn) → IsNoCut turn
-    → (x : List ℕ) → Looked cutter x line → EndsNow (record before { aim = turn }) x
-tries_none {cutter} line number {turn} first same number_is is fit says turns no_cut x looked =
-    let here = looked_turns line number turn same number_is is fit says turns looked in
-    let count : length (all_lines x) ≡ cutter.lines = length-all_lines x ∙ sym looked.counted in
-    subst (λ (those : CutterState). EndsHere (suppress_in those) (all_lines x) (state_in those) turn) (sym (first ∙ same))
-    (advance_ends turn no_cut (advances (suppress_in cutter) (all_lines x) (state_in cutter) turn count here))
+  pub tries_cut : (cut : Cut) → turn ≡ Cuts cut.matched cut.line → GoesPast (suppress_in cutter) (all_lines x) (state_in cutter) cut.matched cut.line × StaysNear cutter cut
+  tries_cut cut is = (subst (Advances (suppress_in cutter) (all_lines x) (state_in cutter)) is advanced, cut_near line cut is fit looked (turns (all_lines x) (seen_all line fit says looked)))
+
+  pub tries_none : {before : CutterState} → before ≡ cutter → IsNoCut turn → EndsNow (record before { aim = turn }) x
+  tries_none same no_cut = subst (λ (those : CutterState). EndsHere (suppress_in those) (all_lines x) (state_in those) turn) (sym same) (advance_ends turn no_cut advanced)
 
 -- One more line comes.
 
@@ -163,7 +145,7 @@ lines_are {x} live = length-all_lines x ∙ sym live.at.counted
 -- the line of a cut that was above the last one came in
 above_cuts : {suppress : Bool} (lines : List Line) (line : Line) {state : State} {total matched at : ℕ} (ending : Ending) → length lines ≡ total → state.current ≤ total + 1 → EndsAs suppress lines state ending → AimsAt (Above matched at) ending → at ≤ total + 1 → total + 1 < 2 ^ 64 - 1
     → GoesPast suppress (lines ++ line ∷ []) state matched at × (at ≡ total + 1)
-above_cuts {suppress} lines line {state} {total} {at} (above operand repetition matched' cut) count within (operands, are, at_cut, far) aims near few =
+above_cuts {suppress} lines line {state} {total} {at} (above operand repetition matched' cut) count within (operands, are, at_cut, far, often) aims near few =
     let same : at ≡ cut = capped cut (2 ^ 64 - 1) at (total + 1) aims.1 near few in
     let here : cut ≡ total + 1 = omega (arith, same, near, far, count) in
     let all : length (lines ++ line ∷ []) ≡ length lines + 1 = length-append lines (line ∷ []) in (
@@ -183,8 +165,7 @@ pub next_cut : {cutter before : CutterState} {x : List ℕ} (line : List ℕ) {m
 next_cut {cutter} {before} {x} line {matched} {at} same total_is fit live whole one aim near few =
     let aim' : cutter.aim ≡ Above matched at = ap (λ (c : CutterState). c.aim) (sym same) ∙ aim in
     let lines' : before.lines ≡ cutter.lines = ap (λ (c : CutterState). c.lines) same in
-    let runs = runs_to live.at live.ends in
-    let ends = ends_as (suppress_in cutter) (all_lines x) (start cutter.operands) live.at.steps (state_in cutter) live.ends.ending runs in
+    let ends = ends_as _ _ _ _ _ _ live.ends.runs in
     let reached : at ≤ cutter.lines + 1 = omega (arith, near, lines') in
     let goes = above_cuts (all_lines x) (marked line) live.ends.ending (lines_are live) fit.fits.current ends (subst (λ a. AimsAt a live.ends.ending) aim' live.ends.aims) reached (omega (arith, few)) in (
       subst (λ lines. GoesPast (suppress_in cutter) lines (state_in cutter) matched at) (sym (all_lines-line line whole one)) goes.0,
@@ -195,7 +176,7 @@ next_cut {cutter} {before} {x} line {matched} {at} same total_is fit live whole 
 
 missed_looked : (suppress : Bool) (a : List Line) (line : Line) (state : State) (ending : Ending) → EndsAs suppress a state ending → AimsAt Missed ending → {operand : Operand} {operands : List Operand} → state.operands ≡ operand ∷ operands
     → (other : ℕ) → search_line suppress state ≤ other → other ≤ length a → is_match operand (a ++ line ∷ []) other ≡ false
-missed_looked suppress a line state (missed operand' repetition) (operands', is, none) aims {operand} are other from within =
+missed_looked suppress a line state (missed operand' repetition) (operands', is, none, often) aims {operand} are other from within =
     let some : 1 ≤ search_line suppress state = search_some suppress state in
     match_still operand a (line ∷ []) other (omega (arith, some, from)) within
     ∙ by operand.target (subst (λ (o : Operand). Misses suppress a state o o.target) (front_of operand' operand (sym is ∙ are)) none) where
@@ -205,7 +186,7 @@ missed_looked suppress a line state (missed operand' repetition) (operands', is,
 missed_looked suppress a line state _ ends aims are other from within = absurd aims
 
 missed_sought : (suppress : Bool) (a : List Line) (state : State) (ending : Ending) → EndsAs suppress a state ending → AimsAt Missed ending → pattern_by state.operands ≡ None → ⊥
-missed_sought suppress a state (missed operand repetition) (operands, is, misses) aims none = by operand.target misses (sym (ap pattern_by is) ∙ none) where
+missed_sought suppress a state (missed operand repetition) (operands, is, misses, often) aims none = by operand.target misses (sym (ap pattern_by is) ∙ none) where
   by : (target : Target) → Misses suppress a state operand target → pattern_in target ≡ None → ⊥
   by (Number n) misses none = misses
   by (Search pattern kept offset) misses none = cc
@@ -213,8 +194,7 @@ missed_sought suppress a state _ ends aims none = absurd aims
 
 pub next_looked : {cutter : CutterState} {x : List ℕ} (line : List ℕ) (live : IsLive cutter x) → IsWhole x → IsLine line → cutter.aim ≡ Missed → Looked (record cutter { lines = cutter.lines + 1 }) (x ++ line) line
 next_looked {cutter} {x} line live whole one aim =
-    let runs = runs_to live.at live.ends in
-    let ends = ends_as (suppress_in cutter) (all_lines x) (start cutter.operands) live.at.steps (state_in cutter) live.ends.ending runs in
+    let ends = ends_as _ _ _ _ _ _ live.ends.runs in
     let count = lines_are live in
     let aims = subst (λ a. AimsAt a live.ends.ending) aim live.ends.aims in record {
       counted = ap (λ n. n + 1) live.at.counted ∙ sym (count-line line whole one);
@@ -225,20 +205,16 @@ next_looked {cutter} {x} line live whole one aim =
 
 pub next_sought : {cutter : CutterState} {x : List ℕ} (live : IsLive cutter x) → IsFit cutter → cutter.aim ≡ Missed → cutter.sought ≡ None → ⊥
 next_sought {cutter} {x} live fit aim none =
-    let runs = runs_to live.at live.ends in
-    missed_sought (suppress_in cutter) (all_lines x) (state_in cutter) live.ends.ending (ends_as (suppress_in cutter) (all_lines x) (start cutter.operands) live.at.steps (state_in cutter) live.ends.ending runs)
+    missed_sought (suppress_in cutter) (all_lines x) (state_in cutter) live.ends.ending (ends_as _ _ _ _ _ _ live.ends.runs)
     (subst (λ a. AimsAt a live.ends.ending) aim live.ends.aims) (sym fit.sought ∙ none)
 
-pub next_tries : {cutter before mid next : CutterState} (line : List ℕ) (result : Option Cut) → before ≡ cutter → mid ≡ record before { lines = before.lines + 1 } → IsFit cutter → IsLine line → before.aim ≡ Missed → next ≡ record mid { aim = next.aim } → Tries mid line next result → TriesNext cutter line next result
-next_tries {cutter} {mid} line None same mid_is fit one aim next_is tries = λ x whole live.
-    let mid_as : mid ≡ record cutter { lines = cutter.lines + 1 } = mid_is ∙ ap (λ (c : CutterState). record c { lines = c.lines + 1 }) same in
+pub next_tries : {cutter before next : CutterState} (line : List ℕ) (result : Option Cut) → before ≡ cutter → IsFit cutter → IsLine line → before.aim ≡ Missed → next ≡ record before { lines = before.lines + 1; aim = next.aim } → Tries (record before { lines = before.lines + 1 }) line next result → TriesNext cutter line next result
+next_tries {cutter} line None same fit one aim next_is tries = λ x whole live.
+    tries (x ++ line) (subst (λ (c : CutterState). Looked (record c { lines = c.lines + 1 }) (x ++ line) line) (sym same) (next_looked line live whole one (ap (λ (c : CutterState). c.aim) (sym same) ∙ aim)))
+next_tries {cutter} {next = next} line (Some cut) same fit one aim next_is tries = λ x whole live.
     let aim' : cutter.aim ≡ Missed = ap (λ (c : CutterState). c.aim) (sym same) ∙ aim in
-    tries (x ++ line) (subst (λ (c : CutterState). Looked c (x ++ line) line) (sym mid_as) (next_looked line live whole one aim'))
-next_tries {cutter} {mid} {next} line (Some cut) same mid_is fit one aim next_is tries = λ x whole live.
-    let mid_as : mid ≡ record cutter { lines = cutter.lines + 1 } = mid_is ∙ ap (λ (c : CutterState). record c { lines = c.lines + 1 }) same in
-    let aim' : cutter.aim ≡ Missed = ap (λ (c : CutterState). c.aim) (sym same) ∙ aim in
-    let both = tries (x ++ line) (subst (λ (c : CutterState). Looked c (x ++ line) line) (sym mid_as) (next_looked line live whole one aim')) in
-    let near = subst (λ (c : CutterState). StaysNear c cut) mid_as both.1 (inr (next_sought live fit aim')) in (
-      subst (λ (c : CutterState). GoesPast (suppress_in c) (all_lines (x ++ line)) (state_in c) cut.matched cut.line) mid_as both.0,
-      (let lines' : next.lines ≡ cutter.lines + 1 = ap (λ (c : CutterState). c.lines) (next_is ∙ ap (λ (c : CutterState). record c { aim = next.aim }) mid_as) in omega (arith, near, lines')),
+    let both = tries (x ++ line) (subst (λ (c : CutterState). Looked (record c { lines = c.lines + 1 }) (x ++ line) line) (sym same) (next_looked line live whole one aim')) in
+    let near = subst (λ (c : CutterState). StaysNear (record c { lines = c.lines + 1 }) cut) same both.1 (inr (next_sought live fit aim')) in (
+      subst (λ (c : CutterState). GoesPast (suppress_in c) (all_lines (x ++ line)) (state_in c) cut.matched cut.line) same both.0,
+      (let lines' : next.lines ≡ cutter.lines + 1 = ap (λ (c : CutterState). c.lines) next_is ∙ ap (λ (c : CutterState). c.lines + 1) same in omega (arith, near, lines')),
     )

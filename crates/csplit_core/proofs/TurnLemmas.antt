@@ -1,5 +1,5 @@
 -- What a turn says of the plan, and how a run goes on after a cut.
-use Rattle.std.proofs.Common.{◌≡◌, inl, inr, ℕ, zero, suc, ◌+◌, ◌-◌, ◌*◌, ◌^◌, ◌<◌, ◌≤◌, Bool, true, false, List, [], ◌∷◌, length, drop, get_or, refl, sym, ◌∙◌, ap, subst, arith, Result, Ok, Err, OnOk}
+use Rattle.std.proofs.Common.{◌≡◌, inl, inr, ℕ, zero, suc, ◌+◌, ◌-◌, ◌*◌, ◌^◌, ◌<◌, ◌≤◌, Bool, true, false, List, [], ◌∷◌, length, drop, get_or, refl, sym, ◌∙◌, ap, subst, arith, Some, None, Result, Ok, Err, OnOk, IfErr}
 use Rattle.std.specs.Prelude.{min}
 use Rattle.std.proofs.lemmas.Bool.{cases_lt}
 use Rattle.std.proofs.Math.Nat.{min-eq_left, min-eq_right}
@@ -8,21 +8,23 @@ use Rattle.bre_core.specs.Pattern.{Pattern}
 use Rattle.csplit_core.specs.Operand.{Offset, Number, Search, Operand, Line, is_match, moved, has_more, Target}
 use Rattle.csplit_core.specs.Plan.{State, search_line, CutsAt, Misses, line_after, operands_after, repetition_after, state_after, step_of, Runs, is_used_up, misses, is_above, is_below, cuts}
 use Rattle.csplit_core.specs.Progress.{state_of}
-use Rattle.csplit_core.specs.inner.Progress.{AreSeen, MissesNow, Turns, FallsAt, Advances, MovesOn}
+use Rattle.csplit_core.specs.inner.Progress.{AreSeen, MissesNow, Turns, FallsAt, Advances}
 use Rattle.csplit_core.specs.declared.progress.Turn.{Turn}
 use Rattle.csplit_core.specs.declared.progress.Turn.TheVariants.{Above, Below, Cuts}
 use Rattle.csplit_core.proofs.StayLemmas.{looks_last, looks_past}
 use Rattle.csplit_core.specs.Measure.{Moves, IsRepeatedBy, IsRepeated, Fits}
 use Rattle.csplit_core.specs.declared.progress.Progress.{Progress}
-use Rattle.csplit_core.specs.laws.PlanLaws.{line_some, fewer_moves}
+use Rattle.csplit_core.specs.laws.PlanLaws.{line_some, fewer_left, fewer_moves}
 use Rattle.csplit_core.specs.inner.PlanLaws.{needed}
 use Rattle.csplit_core.proofs.WholeLemmas.{after_within}
 use Rattle.csplit_core.specs.laws.SectionLaws.{front_of}
 use Rattle.ports_core.specs.declared.fault.Fault.{Fault}
 use Rattle.csplit_core.specs.Input.{newline}
 use Rattle.csplit_core.specs.declared.line_cutter.Cut.{Cut}
-use Rattle.csplit_core.specs.Cutter.{CutterState, state_in, most_by, pattern_by, IsFit}
-use Rattle.csplit_core.specs.inner.Cutter.{WillCut}
+use Rattle.csplit_core.specs.Cutter.{CutterState, state_in, most_by, pattern_by, suppress_in, IsFit}
+use Rattle.csplit_core.specs.inner.Cutter.{WillCut, PassesOn, WentOn, PassesCut}
+use Rattle.csplit_core.specs.inner.Writer.{fault_in}
+use Rattle.ports_core.specs.declared.fault.Fault.TheVariants.{Memory}
 use Rattle.csplit_core.specs.declared.progress.Turn.TheVariants as turn_is
 
 -- What a turn says of the plan.
@@ -134,12 +136,8 @@ advances suppress lines state (turn_is.Cuts matched line) count here = record {
 
 repeated_again : (total : ℕ) (state next : State) (target : Target) {matched : ℕ} (cut : ℕ) → Moves total state target matched cut → 1 ≤ cut → cut ≤ total → next.repetition ≡ state.repetition + 1 → next.matched ≡ matched
     → IsRepeatedBy total state target → IsRepeatedBy total next target
-repeated_again total state next (Number zero) cut at some within again same few = absurd (none (omega (arith, at)) some) where
-  none : cut ≡ 0 → 1 ≤ cut → ⊥
-  none is some = omega (arith, is, some)
-repeated_again total state next (Number (suc n)) cut at some within again same few =
-    let is : suc n * (state.repetition + 1) ≡ n * (state.repetition + 1) + (state.repetition + 1) = omega arith in
-    let cut_is : cut ≡ suc n * (state.repetition + 1) = at in omega (arith, is, cut_is, within, again)
+repeated_again total state next (Number n) cut at some within again same few =
+    let less : total - next.repetition < total - state.repetition = fewer_left total state next (Number n) cut at some within again same in omega (arith, less, again)
 repeated_again total state next (Search pattern kept offset) cut at some within again same few = omega (arith, at.0, few, again, same)
 
 pub repeated_anew : (total : ℕ) (state : State) (operands : List Operand) → state.repetition ≡ 0 → IsRepeated total state operands
@@ -154,7 +152,7 @@ repeated_by : (total : ℕ) (state : State) (operand : Operand) (operands : List
 repeated_by total state operand operands cut at some within few true next again same = repeated_again total state next operand.target cut at some within again same few
 repeated_by total state operand operands cut at some within few false next again same = repeated_anew total next operands again
 
-pub fits_after : (suppress : Bool) {total : ℕ} {state : State} {operand : Operand} {operands : List Operand} (matched cut : ℕ) → Fits total state → state.operands ≡ operand ∷ operands → Moves total state operand.target matched cut → matched ≤ total → state.current ≤ cut → cut ≤ total
+fits_after : (suppress : Bool) {total : ℕ} {state : State} {operand : Operand} {operands : List Operand} (matched cut : ℕ) → Fits total state → state.operands ≡ operand ∷ operands → Moves total state operand.target matched cut → matched ≤ total → state.current ≤ cut → cut ≤ total
     → Fits total (state_after suppress operand operands state.repetition matched cut)
 fits_after suppress {total} {state} {operand} {operands} matched cut fits are at few least within = record {
   some = let more : cut ≤ line_after suppress cut = line_some suppress cut in omega (arith, more, fits.some, least);
@@ -164,56 +162,53 @@ fits_after suppress {total} {state} {operand} {operands} matched cut fits are at
       (has_more operand.times state.repetition) (state_after suppress operand operands state.repetition matched cut) refl refl;
 }
 
-pub passed : (suppress : Bool) (operands : List Operand) {total : ℕ} (old new : Progress) {operand : Operand} {matched : ℕ} (cut : ℕ) {turn : Turn} → Fits total (state_of operands old) → MovesOn operands total old turn → turn ≡ Cuts matched cut
-    → operand ≡ get_or operands old.done operand → ((rest : List Operand) → drop old.done operands ≡ operand ∷ rest → state_of operands new ≡ state_after suppress operand rest old.repetition matched cut)
-    → Fits total (state_of operands new) × (needed total (state_of operands new) < needed total (state_of operands old))
-passed suppress operands {total} old new {operand} {matched} cut fits moves is here next =
-    let on = subst (MovesOn operands total old) is moves in
-    let are = left_is operands old.done on.2 here in
-    let same = front_of on.0 operand (sym on.3 ∙ are) in
-    let at = subst (λ (o : Operand). Moves total (state_of operands old) o.target matched cut) same on.4 in
-    let so = next (drop (old.done + 1) operands) are in (
-      subst (Fits total) (sym so) (fits_after suppress matched cut fits are at on.5 on.6 on.7),
-      subst (λ state. needed total state < needed total (state_of operands old)) (sym so)
-          (fewer_moves suppress total (state_of operands old) matched cut are at (let some : 1 ≤ old.current = fits.some in let least : old.current ≤ cut = on.6 in omega (arith, some, least)) on.7),
-    )
+-- Going on after a cut, of a cutter that is known by its fields too.
 
--- Going on after a cut.
+module _ {cutter before : CutterState} {cut : Cut} {operand : Operand} (progress : Progress) {suppress : Rattle.std.specs.Prelude.Bool} (same : before ≡ cutter) (by : suppress ≡ suppress_in before) (fit : IsFit cutter) (none : cutter.window.held ≡ []) (will : WillCut cutter cut)
+    (here : operand ≡ get_or before.operands before.progress.done operand)
+    (next : (operands rest : List Operand) → drop before.progress.done operands ≡ operand ∷ rest → state_of operands progress ≡ state_after suppress operand rest before.progress.repetition cut.matched cut.line) where
+  fit' : IsFit before
+  fit' = subst IsFit (sym same) fit
 
--- what is so of the state after a cut
-abbrev pub IsOn : CutterState → Progress → Type 0
-IsOn cutter progress = Fits cutter.lines (state_of cutter.operands progress) × (needed cutter.lines (state_of cutter.operands progress) < needed cutter.lines (state_in cutter))
+  will' : WillCut before cut
+  will' = subst (λ (c : CutterState). WillCut c cut) (sym same) will
 
-pub goes_on_by : {cutter before : CutterState} (cut : Cut) {operand : Operand} (progress : Progress) (suppress : Rattle.std.specs.Prelude.Bool) → before ≡ cutter → IsFit cutter → WillCut cutter cut → operand ≡ get_or before.operands before.progress.done operand
-    → ((operands rest : List Operand) → drop before.progress.done operands ≡ operand ∷ rest → state_of operands progress ≡ state_after suppress operand rest before.progress.repetition cut.matched cut.line) → IsOn before progress
-goes_on_by {before} cut progress suppress same fit will here next =
-    let will' = subst (λ (c : CutterState). WillCut c cut) (sym same) will in
-    let fit' = subst IsFit (sym same) fit in
-    passed suppress before.operands before.progress progress cut.line fit'.fits
-    (will'.operand, will'.operands, will'.some, will'.left, will'.moves, will'.matched, will'.from, will'.within) refl here (next before.operands)
+  are : (state_in before).operands ≡ operand ∷ drop (before.progress.done + 1) before.operands
+  are = left_is before.operands before.progress.done will'.some here
 
--- the same operand is performed again
-pub fit_again : {cutter before : CutterState} {progress : Progress} → before ≡ cutter → IsFit cutter → IsOn before progress → progress.done ≡ before.progress.done → IsFit (record before { progress = progress })
-fit_again {before} same fit on done =
-    let fit' = subst IsFit (sym same) fit in record {
-      fits = on.0;
+  at : Moves before.lines (state_in before) operand.target cut.matched cut.line
+  at = subst (λ (o : Operand). Moves before.lines (state_in before) o.target cut.matched cut.line) (front_of will'.operand operand (sym will'.left ∙ are)) will'.moves
+
+  fits : Fits before.lines (state_of before.operands progress)
+  fits = subst (Fits before.lines) (sym (next before.operands _ are)) (fits_after suppress cut.matched cut.line fit'.fits are at will'.matched will'.from will'.within)
+
+  fewer : needed before.lines (state_of before.operands progress) < needed before.lines (state_in before)
+  fewer = subst (λ state. needed before.lines state < needed before.lines (state_in before)) (sym (next before.operands _ are))
+      (fewer_moves suppress before.lines (state_in before) cut.matched cut.line are at (omega (arith, fit'.fits.some, will'.from)) will'.within)
+
+  state : PassesOn before cut (record before { progress = progress })
+  state one more is = subst (λ o. state_of before.operands progress ≡ state_after (suppress_in before) o more before.progress.repetition cut.matched cut.line) (front_of operand one (sym are ∙ is))
+      (next before.operands more (subst (λ o. drop before.progress.done before.operands ≡ o ∷ more) (front_of one operand (sym is ∙ are)) is)
+      ∙ ap (λ s. state_after s operand more before.progress.repetition cut.matched cut.line) by)
+
+  -- the same operand is performed again
+  pub passes_again : progress.done ≡ before.progress.done → PassesCut cutter cut (record before { progress = progress }) None
+  passes_again done = subst (λ c. WentOn c cut (record before { progress = progress })) same (record {
+    same = refl;
+    held = ap (λ (c : CutterState). c.window.held) same ∙ none;
+    fit = record {
+      fits = fits;
       most = fit'.most ∙ ap (λ at. most_by (drop at before.operands)) (sym done);
       delim = fit'.delim;
       sought = fit'.sought ∙ ap (λ at. pattern_by (drop at before.operands)) (sym done);
-    }
+    };
+    fewer = fewer;
+    state = state;
+  })
 
--- the next operand has got what it needs
-pub fit_next : {cutter before : CutterState} (new : CutterState) (progress : Progress) (result : Result (Unit {0}) Fault) → before ≡ cutter → IsOn before progress
-    → OnOk result (new ≡ record before { progress = progress; window = record { most = most_by (drop progress.done before.operands); delim = newline; held = [] }; sought = pattern_by (drop progress.done before.operands) })
-    → OnOk result (IsFit new)
-fit_next new progress (Ok done) same on is = subst IsFit (sym is) (record { fits = on.0; most = refl; delim = refl; sought = refl })
-fit_next new progress (Err fault) same on is = tt
-
-pub fewer_again : {cutter before : CutterState} (progress : Progress) → before ≡ cutter → IsOn before progress → needed before.lines (state_of before.operands progress) < needed cutter.lines (state_in cutter)
-fewer_again {before} progress same on = subst (λ (c : CutterState). needed before.lines (state_of before.operands progress) < needed c.lines (state_in c)) same on.1
-
-pub fewer_next : {cutter before : CutterState} (new : CutterState) (progress : Progress) (result : Result (Unit {0}) Fault) → before ≡ cutter → IsOn before progress
-    → OnOk result (new ≡ record before { progress = progress; window = record { most = most_by (drop progress.done before.operands); delim = newline; held = [] }; sought = pattern_by (drop progress.done before.operands) })
-    → OnOk result (needed new.lines (state_in new) < needed cutter.lines (state_in cutter))
-fewer_next {cutter} new progress (Ok done) same on is = subst (λ (c : CutterState). needed c.lines (state_in c) < needed cutter.lines (state_in cutter)) (sym is) (fewer_again progress same on)
-fewer_next new progress (Err fault) same on is = tt
+  -- the next operand has got what it needs
+  pub passes_next : (new : CutterState) (result : Result (Unit {0}) Fault)
+      → OnOk result (new ≡ record before { progress = progress; window = record { most = most_by (drop progress.done before.operands); delim = newline; held = [] }; sought = pattern_by (drop progress.done before.operands) })
+      → IfErr result (λ fault. (fault ≡ Memory) × (new.writer ≡ before.writer) × (new.operands ≡ before.operands)) → PassesCut cutter cut new (fault_in result)
+  passes_next new (Ok done) is lacks = subst (λ c. WentOn c cut new) same (subst (WentOn before cut) (sym is) (record { same = refl; held = refl; fit = record { fits = fits; most = refl; delim = refl; sought = refl }; fewer = fewer; state = state }))
+  passes_next new (Err fault) is lacks = subst (λ c. PassesCut c cut new (Some fault)) same lacks

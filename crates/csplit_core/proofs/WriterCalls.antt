@@ -61,14 +61,8 @@ with_room {style} current same is = ap (λ those. state_of style those current) 
 
 -- What the open section is
 
-pub now_file : {writer : WriterState} {draft : Draft} {slot size : ℕ} → writer.current ≡ File slot size → Writes writer draft → (makes_file writer.style (last_contents false draft) ≡ true) × (size ≡ length draft.bytes)
-now_file {writer} {draft} is writes = subst (λ current. IsCurrent writer.style draft.is_kept draft.bytes current) is writes.current
-
-pub now_skipped : {writer : WriterState} {draft : Draft} → writer.current ≡ Skipped → Writes writer draft → draft.is_kept ≡ false
-now_skipped {writer} {draft} is writes = subst (λ current. IsCurrent writer.style draft.is_kept draft.bytes current) is writes.current
-
-pub now_unmade : {writer : WriterState} {draft : Draft} → writer.current ≡ Unmade → Writes writer draft → (draft.is_kept ≡ true) × (writer.style.elide ≡ true) × (draft.bytes ≡ [])
-now_unmade {writer} {draft} is writes = subst (λ current. IsCurrent writer.style draft.is_kept draft.bytes current) is writes.current
+pub now_is : {writer : WriterState} {draft : Draft} {current : Current} → writer.current ≡ current → Writes writer draft → IsCurrent writer.style draft.is_kept draft.bytes current
+now_is {writer} {draft} is writes = subst (λ current. IsCurrent writer.style draft.is_kept draft.bytes current) is writes.current
 
 -- a section that is skipped makes no file, and neither does an empty one where those are left out
 pub skips_file : (style : Style) (one : Contents) → one.is_kept ≡ false → makes_file style one ≡ false
@@ -90,11 +84,11 @@ skipped_part writer bytes draft kept =
 pub put_skipped : {told : Bool} {writer : WriterState} (bytes : List ℕ) {slots : List Slot} → writer.current ≡ Skipped → IsReady writer slots → Goes told writer (with_bytes bytes) slots slots writer None
 put_skipped {writer = writer} bytes is ready = record {
   leaves = leaves_still ready;
-  reaches = λ draft writes. reaches_still (skipped_part writer bytes draft (now_skipped is writes));
+  reaches = λ draft writes. reaches_still (skipped_part writer bytes draft (now_is is writes));
   writes = λ draft writes. record {
     closed = writes.closed;
-    made = writes.made ∙ ap (λ (part : Part). length part.files) (skipped_part writer bytes draft (now_skipped is writes));
-    current = subst (λ current. IsCurrent writer.style draft.is_kept (draft.bytes ++ bytes) current) (sym is) (now_skipped is writes);
+    made = writes.made ∙ ap (λ (part : Part). length part.files) (skipped_part writer bytes draft (now_is is writes));
+    current = subst (λ current. IsCurrent writer.style draft.is_kept (draft.bytes ++ bytes) current) (sym is) (now_is is writes);
   };
 }
 
@@ -142,11 +136,11 @@ pub put_file : {told : Bool} {writer next : WriterState} {slot size : ℕ} (byte
     → Goes told writer (with_bytes bytes) old new next fault
 put_file {told} {writer} bytes {old} {fault = fault} is ready appends = record {
   leaves = appends_leaves is ready appends;
-  reaches = λ draft writes. let now = now_file is writes in
+  reaches = λ draft writes. let now = now_is is writes in
       reaches_as (open_part writer.style draft now.0) (open_part writer.style (with_bytes bytes draft) (still_makes writer.style draft bytes now.0))
       (reaches_by (appends_leaves is ready appends).owns (λ last. writes_to told (size_lines writer.style draft.ended) (files_of writer.style 0 draft.ended) (name_after writer.style draft.ended)
       draft.bytes bytes old fault (closed_files writer.style 0 draft.ended writes.closed) (last_file writer old is last) appends.wrote));
-  writes = where_well fault appends.current (λ current draft writes. let now = now_file is writes in let makes = still_makes writer.style draft bytes now.0 in
+  writes = where_well fault appends.current (λ current draft writes. let now = now_is is writes in let makes = still_makes writer.style draft bytes now.0 in
       subst (λ those. Writes those (with_bytes bytes draft)) (sym (appends.same ∙ ap (λ current. record writer { current = current }) current)) (record {
         closed = writes.closed;
         made = writes.made ∙ count_made writer.style draft.ended (last_contents false draft) now.0 ∙ sym (count_made writer.style draft.ended (last_contents false (with_bytes bytes draft)) makes);
@@ -233,13 +227,13 @@ unwritten {writer} {bytes} {draft} is some writes = record {
   size = (let e : 0 + length bytes ≡ length bytes = omega arith in e) ∙ sym (ap (λ those. length (those ++ bytes)) now.2);
 } where
   now : (draft.is_kept ≡ true) × (writer.style.elide ≡ true) × (draft.bytes ≡ [])
-  now = now_unmade is writes
+  now = now_is is writes
 
   makes : makes_file writer.style (last_contents false (with_bytes bytes draft)) ≡ true
-  makes = let now = now_unmade is writes in first_makes writer.style draft bytes now.0 now.1 now.2 some
+  makes = first_makes writer.style draft bytes now.0 now.1 now.2 some
 
   none : makes_file writer.style (last_contents false draft) ≡ false
-  none = let now = now_unmade is writes in elides_file writer.style (last_contents false draft) now.1 now.2
+  none = elides_file writer.style (last_contents false draft) now.1 now.2
 
 pub put_first : {told : Bool} {writer made next : WriterState} {slot : ℕ} (bytes : List ℕ) {old mid new : List Slot} {fault : Option Fault} → writer.current ≡ Unmade → is_empty bytes ≡ false → IsReady writer old → Made writer old mid made slot
     → Appends told made slot 0 bytes mid new next fault → Goes told writer (with_bytes bytes) old new next fault
@@ -269,11 +263,11 @@ put_unmade {writer = writer} bytes is some makes = record {
 
 -- A section begins
 
-abbrev begun : Bool → Contents
+abbrev pub begun : Bool → Contents
 begun kept = record { is_kept = kept; is_closed = false; bytes = [] }
 
 -- one without a file
-begun_none : {told : Bool} {writer : WriterState} {kept : Bool} {current : Current} {slots : List Slot} → makes_file writer.style (begun kept) ≡ false → Rattle.csplit_core.specs.Writer.IsCurrent writer.style kept [] current → IsOpenAt current slots → IsLast current slots → size_of current ≡ 0
+pub begun_none : {told : Bool} {writer : WriterState} {kept : Bool} {current : Current} {slots : List Slot} → makes_file writer.style (begun kept) ≡ false → Rattle.csplit_core.specs.Writer.IsCurrent writer.style kept [] current → IsOpenAt current slots → IsLast current slots → size_of current ≡ 0
     → IsReady writer slots → Starts told writer kept slots slots (record writer { current = current }) None
 begun_none {told} {writer} {kept} {slots = slots} none is at last size ready = record {
   leaves = record {
@@ -288,12 +282,6 @@ begun_none {told} {writer} {kept} {slots = slots} none is at last size ready = r
   size = size;
   none_made = tt;
 }
-
-pub begin_skipped : {told : Bool} {writer : WriterState} {kept : Bool} {slots : List Slot} → kept ≡ false → IsReady writer slots → Starts told writer kept slots slots (record writer { current = Skipped }) None
-begin_skipped {writer = writer} {kept} is ready = begun_none (skips_file writer.style (begun kept) is) is tt tt refl ready
-
-pub begin_unmade : {told : Bool} {writer : WriterState} {kept : Bool} {slots : List Slot} → kept ≡ true → writer.style.elide ≡ true → IsReady writer slots → Starts told writer kept slots slots (record writer { current = Unmade }) None
-begin_unmade {writer = writer} {kept} is elide ready = begun_none (elides_file writer.style (begun kept) elide refl) (is, elide, refl) tt tt refl ready
 
 -- one with a file
 begun_makes : (style : Style) {kept : Bool} → kept ≡ true → style.elide ≡ false → makes_file style (begun kept) ≡ true
@@ -366,7 +354,7 @@ opens_not_begun {told} {style} {kept = kept} {old} {new} {next} {f} none two not
 
 -- A section without a file
 
-end_none : {told : Bool} {writer : WriterState} {slots : List Slot} → ((draft : Draft) → Writes writer draft → (closed : Bool) → makes_file writer.style (last_contents closed draft) ≡ false) → IsReady writer slots → Ends told writer slots slots writer None
+pub end_none : {told : Bool} {writer : WriterState} {slots : List Slot} → ((draft : Draft) → Writes writer draft → (closed : Bool) → makes_file writer.style (last_contents closed draft) ≡ false) → IsReady writer slots → Ends told writer slots slots writer None
 end_none {writer = writer} none ready = record {
   leaves = leaves_still ready;
   reaches = λ draft writes. reaches_still (part_none writer.style draft.ended (last_contents false draft) (none draft writes false) ∙ sym (part_none writer.style draft.ended (last_contents true draft) (none draft writes true)));
@@ -376,12 +364,6 @@ end_none {writer = writer} none ready = record {
   };
 }
 
-pub end_skipped : {told : Bool} {writer : WriterState} {slots : List Slot} → writer.current ≡ Skipped → IsReady writer slots → Ends told writer slots slots writer None
-end_skipped {writer = writer} is ready = end_none (λ draft writes closed. skips_file writer.style (last_contents closed draft) (now_skipped is writes)) ready
-
-pub end_unmade : {told : Bool} {writer : WriterState} {slots : List Slot} → writer.current ≡ Unmade → IsReady writer slots → Ends told writer slots slots writer None
-end_unmade {writer = writer} is ready = end_none (λ draft writes closed. elides_file writer.style (last_contents closed draft) (now_unmade is writes).1 (now_unmade is writes).2) ready
-
 -- A section with one
 
 abbrev pub ended_writer : WriterState → WriterState
@@ -390,7 +372,7 @@ ended_writer writer = record writer { current = Skipped }
 file_pauses : {writer : WriterState} {draft : Draft} (slot size : ℕ) → writer.current ≡ File slot size → Writes writer draft → Pauses (ended_writer writer) (draft.ended ++ last_contents true draft ∷ [])
 file_pauses {writer} {draft} slot size is writes = record {
   closed = all_closed draft.ended (last_contents true draft) writes.closed refl;
-  made = writes.made ∙ count_made writer.style draft.ended (last_contents false draft) (now_file is writes).0 ∙ sym (count_made writer.style draft.ended (last_contents true draft) (now_file is writes).0);
+  made = writes.made ∙ count_made writer.style draft.ended (last_contents false draft) (now_is is writes).0 ∙ sym (count_made writer.style draft.ended (last_contents true draft) (now_is is writes).0);
 }
 
 file_closed : {writer : WriterState} {old new : List Slot} → KeepsMade old new → KeepsFiles writer (ended_writer writer) old new
@@ -429,19 +411,19 @@ line_leaves told writer line {old} {new} (Some why) said_so ready cut =
 size_part : {writer : WriterState} {draft : Draft} (slot size : ℕ) → writer.current ≡ File slot size → writer.style.quiet ≡ false → Writes writer draft
     → ended_part writer.style draft ≡ with_last (size_lines writer.style draft.ended ++ (decimal size ++ newline ∷ [])) (files_of writer.style 0 draft.ended) (file_of (name_after writer.style draft.ended) draft.bytes state.Closed)
 size_part {writer} {draft} slot size is said_so writes =
-    closed_part writer.style draft (decimal size ++ newline ∷ []) (now_file is writes).0
-    (line_of writer.style draft false (now_file is writes).0 said_so ∙ ap (λ n. decimal n ++ newline ∷ []) (sym (now_file is writes).1))
+    closed_part writer.style draft (decimal size ++ newline ∷ []) (now_is is writes).0
+    (line_of writer.style draft false (now_is is writes).0 said_so ∙ ap (λ n. decimal n ++ newline ∷ []) (sym (now_is is writes).1))
 
 quiet_part : {writer : WriterState} {draft : Draft} (slot size : ℕ) → writer.current ≡ File slot size → writer.style.quiet ≡ true → Writes writer draft
     → ended_part writer.style draft ≡ with_last (size_lines writer.style draft.ended) (files_of writer.style 0 draft.ended) (file_of (name_after writer.style draft.ended) draft.bytes state.Closed)
 quiet_part {writer} {draft} slot size is quiet writes =
-    closed_part writer.style draft [] (now_file is writes).0 (line_of writer.style draft true (now_file is writes).0 quiet)
+    closed_part writer.style draft [] (now_is is writes).0 (line_of writer.style draft true (now_is is writes).0 quiet)
     ∙ ap (λ out. with_last out (files_of writer.style 0 draft.ended) (file_of (name_after writer.style draft.ended) draft.bytes state.Closed)) (append-nil (size_lines writer.style draft.ended))
 
 pub end_quiet : {told : Bool} {writer : WriterState} (slot size : ℕ) {old new : List Slot} → writer.current ≡ File slot size → IsReady writer old → writer.style.quiet ≡ true → new ≡ changed_at slot closes old → Ends told writer old new (ended_writer writer) None
 end_quiet {told} {writer} slot size {old} {new} is ready quiet closed = record {
   leaves = closed_leaves slot size is ready closed;
-  reaches = λ draft writes. reaches_as (open_part writer.style draft (now_file is writes).0) (quiet_part slot size is quiet writes) (reaches_by (closed_leaves slot size is ready closed).owns
+  reaches = λ draft writes. reaches_as (open_part writer.style draft (now_is is writes).0) (quiet_part slot size is quiet writes) (reaches_by (closed_leaves slot size is ready closed).owns
       (λ last. closes_last told (size_lines writer.style draft.ended) (files_of writer.style 0 draft.ended) (name_after writer.style draft.ended) draft.bytes old (last_file writer old is last) closed));
   pauses = λ draft writes. file_pauses slot size is writes;
 }
@@ -451,7 +433,7 @@ pub close_not : {told : Bool} {writer : WriterState} (slot size : ℕ) {old new 
     → Ends told writer old new (ended_writer writer) (Some f)
 close_not {told} {writer} slot size {old} {new} is ready which broken = subst (λ f. Ends told writer old new (ended_writer writer) (Some f)) (sym which) (record {
   leaves = record { style = refl; owns = owns; slots = close_breaks writer.style slot old (at_file is ready).0 (at_file is ready).1 broken; ready = tt };
-  reaches = λ draft writes. reaches_as (open_part writer.style draft (now_file is writes).0) (closed_part writer.style draft (size_line writer.style (last_contents true draft)) (now_file is writes).0 refl)
+  reaches = λ draft writes. reaches_as (open_part writer.style draft (now_is is writes).0) (closed_part writer.style draft (size_line writer.style (last_contents true draft)) (now_is is writes).0 refl)
       (reaches_by owns (λ last. falls_wider (closes_not told (size_lines writer.style draft.ended) (files_of writer.style 0 draft.ended) (name_after writer.style draft.ended) draft.bytes old
       (closed_files writer.style 0 draft.ended writes.closed) (last_file writer old is last) broken) (line_begins (size_line writer.style (last_contents true draft)))));
   pauses = tt;
@@ -468,7 +450,7 @@ pub end_sized : {told : Bool} {writer : WriterState} (slot size : ℕ) {old mid 
     → Wrote told 0 (decimal size ++ newline ∷ []) mid new fault → Ends told writer old new (ended_writer writer) fault
 end_sized {told} {writer} slot size {old} {mid} {new} {fault} is ready said_so closed wrote = record {
   leaves = leaves;
-  reaches = λ draft writes. reaches_as (open_part writer.style draft (now_file is writes).0) (size_part slot size is said_so writes) (reaches_by leaves.owns (λ last. becomes_again
+  reaches = λ draft writes. reaches_as (open_part writer.style draft (now_is is writes).0) (size_part slot size is said_so writes) (reaches_by leaves.owns (λ last. becomes_again
       (close_begins (size_lines writer.style draft.ended) (files_of writer.style 0 draft.ended) (name_after writer.style draft.ended) draft.bytes)
       (closes_last told (size_lines writer.style draft.ended) (files_of writer.style 0 draft.ended) (name_after writer.style draft.ended) draft.bytes old (last_file writer old is last) closed)
       (tells_line told (size_lines writer.style draft.ended) _ (decimal size ++ newline ∷ []) mid fault

@@ -2,7 +2,7 @@
 use Rattle.std.proofs.Common.{◌≡◌, ℕ, ◌+◌, ◌<◌, suc, Bool, false, List, [], ◌∷◌, ◌++◌, length, take, Option, Some, None, inl, inr, refl, sym, ◌∙◌, arith, length-append, true, Result, Ok, Err, OnOk, IsErrAnd, subst, append_assoc}
 use Rattle.ports_core.specs.Slot.{Slot, broke, numberless, opened, changed_at, adds, closes, with_written, with_broken, told_of}
 use Rattle.ports_core.specs.Part.{File, Part, OutputsAt, Begins, FilesBegin, IsNext, Marks, IsAt}
-use Rattle.ports_core.specs.inner.Part.{AllClosed, InTurn, StoppedInTurn}
+use Rattle.ports_core.specs.inner.Part.{AllClosed, InTurn}
 use Rattle.ports_core.specs.declared.fault.Fault.{Fault}
 use Rattle.ports_core.specs.declared.slot.Mode.TheVariants.{Fresh}
 use Rattle.ports_core.specs.declared.slot.State.{State}
@@ -27,20 +27,15 @@ use Rattle.ports_core.specs.inner.Write as short
 -- Outputs that have a part have another, as their last file is opened, written and closed, and standard output gets a line; or a fault stops
 -- them in between.
 
--- where outputs are that were to get from one part to another: there, or a fault stopped them between the two
-abbrev pub GetsTo : Bool → List Slot → Part → Part → List Slot → Option Fault → Type 0
-GetsTo told before low high new None = OutputsAt told before high new
-GetsTo told before low high new (Some fault) = StoppedInTurn told before low high fault new
-
 pub record Becomes (told : Bool) (low high : Part) (old new : List Slot) (fault : Option Fault) : Type 0 where
-  pub gets : (before : List Slot) → OutputsAt told before low old → GetsTo told before low high new fault
+  pub gets : (before : List Slot) → OutputsAt told before low old → IsThere told (OutputsAt told before high new) before low high new fault
 
-gets_from : (told : Bool) (before : List Slot) {low middle : Part} (high : Part) (new : List Slot) (fault : Option Fault) → Begins low middle → GetsTo told before middle high new fault → GetsTo told before low high new fault
-gets_from told before high new None begins at = at
-gets_from told before {low} {middle} high new (Some fault) begins at = turn_between told before low middle high high fault new begins at (part_begins_itself high)
+there_from : (told : Bool) (There : Type 0) (before : List Slot) {low middle : Part} (high : Part) (new : List Slot) (fault : Option Fault) → Begins low middle → IsThere told There before middle high new fault → IsThere told There before low high new fault
+there_from told There before high new None begins at = at
+there_from told There before {low} {middle} high new (Some fault) begins at = turn_between told before low middle high high fault new begins at (part_begins_itself high)
 
 pub becomes_again : {told : Bool} {low middle high : Part} {old mid new : List Slot} {fault : Option Fault} → Begins low middle → Becomes told low middle old mid None → Becomes told middle high mid new fault → Becomes told low high old new fault
-becomes_again {told} {high = high} {new = new} {fault} begins first second = record { gets = λ before at. gets_from told before high new fault begins (second.gets before (first.gets before at)) }
+becomes_again {told} {high = high} {new = new} {fault} begins first second = record { gets = λ before at. there_from told _ before high new fault begins (second.gets before (first.gets before at)) }
 
 pub falls_wider : {told : Bool} {low middle high : Part} {old new : List Slot} {fault : Fault} → Becomes told low middle old new (Some fault) → Begins middle high → Becomes told low high old new (Some fault)
 falls_wider {told} {low} {middle} {high} {new = new} {fault = fault} falls begins =
@@ -169,13 +164,9 @@ stop_is P result fault handed holds = subst (λ given. P (fault_in given)) (sym 
 
 -- From one state of the outputs to another. The writers follow from the steps.
 
-there_from : (told : Bool) (next : WriterState) (before : List Slot) {low middle : Part} (high : Part) (new : List Slot) (fault : Option Fault) → Begins low middle → IsThere told next before middle high new fault → IsThere told next before low high new fault
-there_from told next before high new None begins at = at
-there_from told next before {low} {middle} high new (Some fault) begins at = turn_between told before low middle high high fault new begins at (part_begins_itself high)
-
 pub reaches_again : {told : Bool} {low middle high : Part} {old mid new : List Slot} {fault : Option Fault} {one two three : WriterState} → Begins low middle → Reaches told one two low middle old mid None → Reaches told two three middle high mid new fault
     → Reaches told one three low high old new fault
-reaches_again {told} {high = high} {new = new} {fault} {three = three} begins first second = record { there = λ before at. there_from told three before high new fault begins (second.there before (first.there before at)) }
+reaches_again {told} {high = high} {new = new} {fault} {three = three} begins first second = record { there = λ before at. there_from told _ before high new fault begins (second.there before (first.there before at)) }
 
 -- it was stopped on its way to more
 pub stops_wider : {told : Bool} {low middle high : Part} {old new : List Slot} {fault : Fault} {writer next : WriterState} → Reaches told writer next low middle old new (Some fault) → Begins middle high → Reaches told writer next low high old new (Some fault)
@@ -189,7 +180,7 @@ stops_in stops = record { there = stops.there }
 -- a step that is known of the outputs alone, as long as the file of the open section is the last
 pub reaches_by : {told : Bool} {low high : Part} {old new : List Slot} {fault : Option Fault} {writer next : WriterState} → KeepsFiles writer next old new → (IsLast writer.current old → Becomes told low high old new fault) → Reaches told writer next low high old new fault
 reaches_by {told} {low} {high} {old} {new} {fault} {writer} {next} keeps becomes = record { there = λ before at. by fault before at ((becomes at.owns.last).gets before at.outputs) } where
-  by : (fault : Option Fault) (before : List Slot) → At told writer before low old → GetsTo told before low high new fault → IsThere told next before low high new fault
+  by : (fault : Option Fault) (before : List Slot) → At told writer before low old → IsThere told (OutputsAt told before high new) before low high new fault → IsThere told (At told next before high new) before low high new fault
   by None before at outputs = record { owns = keeps.owns (length before) at.owns; outputs = outputs }
   by (Some why) before at stops = stops
 

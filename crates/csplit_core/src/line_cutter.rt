@@ -9,11 +9,10 @@ ghost use Rattle.csplit_core.specs.Plan.{above, missed};
 ghost use Rattle.csplit_core.specs.Planned.{plan};
 ghost use Rattle.ports_core.specs.Swept.{AreThere};
 ghost use Rattle.csplit_core.specs.Cutter.{AimHolds, IsFit, IsSound, load, most_by, pattern_by, state_in, suppress_in};
-ghost use Rattle.csplit_core.specs.inner.Cutter.{AreClear, Clears, CutAt, CutsAll, CutsOn, EndsAll, GoesOn, IsJudged, Opens, Holds, IsFound, IsLine, IsNextFound, IsNoCut, IsWhole, PassesClear, PassesOn, PassesOver, Spread, StopsAt, Stretches, Takes, Tries, TriesNext, WillCut};
+ghost use Rattle.csplit_core.specs.inner.Cutter.{AreClear, Clears, CutAt, CutsAll, CutsOn, EndsAll, GoesOn, IsJudged, Opens, Holds, IsFound, IsLine, IsNextFound, IsNoCut, IsWhole, PassesClear, PassesCut, PassesOver, Spread, StopsAt, Stretches, Takes, Tries, TriesNext, WillCut};
 ghost use Rattle.csplit_core.specs.Input.{all_lines, newline, without_newline};
 ghost use Rattle.csplit_core.specs.Measure.{Fits};
 ghost use Rattle.csplit_core.specs.Operand.{Line};
-ghost use Rattle.csplit_core.specs.inner.PlanLaws.{needed};
 ghost use Rattle.csplit_core.specs.inner.Writer.{fault_in};
 ghost use Rattle.csplit_core.specs.inner.Progress.{AreSeen, MovesOn, Turns};
 ghost use Rattle.csplit_core.specs.Writer.{IsReady, size_of};
@@ -601,12 +600,7 @@ impl<'o> LineCutter<'o> {
         requires fit { IsFit self.old }
         requires none { self.old.window.held ≡ [] }
         requires cuts { WillCut self.old cut }
-        ensures same { OnOk result (self.new ≡ record self.old { progress = self.new.progress; window = self.new.window; sought = self.new.sought }) }
-        ensures held { OnOk result (self.new.window.held ≡ []) }
-        ensures fit { OnOk result (IsFit self.new) }
-        ensures fewer { OnOk result (needed self.new.lines (state_in self.new) < needed self.old.lines (state_in self.old)) }
-        ensures state { OnOk result (PassesOn self.old cut self.new) }
-        ensures err { IfErr result (λ fault. (fault ≡ Fault.Memory) × (self.new.writer ≡ self.old.writer) × (self.new.operands ≡ self.old.operands)) }
+        ensures { PassesCut self.old cut self.new (fault_in result) }
     {
         let done = self.progress.done;
         let suppress = self.writer.style().suppress;

@@ -7,6 +7,7 @@ use Rattle.ports_core.specs.Part.{Part, Begins, nothing}
 use Rattle.ports_core.specs.Slot.{Slot}
 use Rattle.ports_core.specs.Swept.{Removes}
 use Rattle.ports_core.specs.declared.fault.Fault.{Fault}
+use Rattle.ports_core.specs.declared.fault.Fault.TheVariants.{Memory}
 use Rattle.csplit_core.specs.Csplit.{settled_of, whole_of}
 use Rattle.csplit_core.specs.Draft.{draft_part}
 use Rattle.csplit_core.specs.Input.{newline, without_newline, marked, all_lines}
@@ -164,6 +165,18 @@ abbrev pub PassesOn : CutterState → Cut → CutterState → Type 0
 PassesOn cutter cut next = (operand : Operand) (operands : List Operand)
     → (state_in cutter).operands ≡ operand ∷ operands
     → state_in next ≡ state_after (suppress_in cutter) operand operands cutter.progress.repetition cut.matched cut.line
+
+-- The run went on after a cut, and nothing is written yet.
+pub record WentOn (cutter : CutterState) (cut : Cut) (next : CutterState) : Type 0 where
+  pub same : next ≡ record cutter { progress = next.progress; window = next.window; sought = next.sought }
+  pub held : next.window.held ≡ []
+  pub fit : IsFit next
+  pub fewer : needed next.lines (state_in next) < needed cutter.lines (state_in cutter)
+  pub state : PassesOn cutter cut next
+
+abbrev pub PassesCut : CutterState → Cut → CutterState → Option Fault → Type 0
+PassesCut cutter cut next None = WentOn cutter cut next
+PassesCut cutter cut next (Some fault) = (fault ≡ Memory) × (next.writer ≡ cutter.writer) × (next.operands ≡ cutter.operands)
 
 -- one text ends with another
 abbrev pub IsEnd : List ℕ → List ℕ → Type 0

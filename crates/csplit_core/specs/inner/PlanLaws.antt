@@ -1,6 +1,6 @@
 -- What private calls say: the plan that is computed is the one plan there is, and what sections are as more lines come.
-use Rattle.std.proofs.Common.{◌≡◌, ℕ, ◌+◌, ◌<◌, true, false, List, length, get_or, Option, Some, None, ◌-◌, ◌*◌, Bool, [], ◌∷◌, ◌≤◌, ◌++◌}
-use Rattle.csplit_core.specs.Operand.{Operand, Line, unmarked, Target, Number, Search}
+use Rattle.std.proofs.Common.{◌≡◌, ℕ, suc, ◌+◌, ◌<◌, true, false, List, length, get_or, Option, Some, None, ◌-◌, ◌*◌, Bool, [], ◌∷◌, ◌≤◌, ◌++◌}
+use Rattle.csplit_core.specs.Operand.{Operand, Line, unmarked, Target, Number, Search, is_kept, most_held}
 use Rattle.csplit_core.specs.Plan.{IsFirst, MatchesNone, State, Step, Ending, Runs, used_up, missed, above, below, CutsAt, Misses}
 use Rattle.csplit_core.specs.Planned.{Plan, Turn, ends, goes, turn, ended, with_step, plan_within, plan}
 use Rattle.csplit_core.specs.Section.{Section, settled_end}
@@ -54,12 +54,20 @@ abbrev pub EndsAs : Bool → List Line → State → Ending → Type 0
 EndsAs suppress lines state used_up = state.operands ≡ []
 EndsAs suppress lines state (missed operand repetition) = (operands : List Operand)
     × (state.operands ≡ operand ∷ operands) × Misses suppress lines state operand operand.target
+    × (repetition ≡ state.repetition)
 EndsAs suppress lines state (above operand repetition matched cut) = (operands : List Operand)
     × (state.operands ≡ operand ∷ operands) × CutsAt suppress lines state operand operand.target matched cut
-    × (length lines < cut)
+    × (length lines < cut) × (repetition ≡ state.repetition)
 EndsAs suppress lines state (below operand repetition) = (operands : List Operand) × (matched : ℕ) × (cut : ℕ)
     × (state.operands ≡ operand ∷ operands) × CutsAt suppress lines state operand operand.target matched cut
-    × (cut ≤ length lines) × (cut < state.current)
+    × (cut ≤ length lines) × (cut < state.current) × (repetition ≡ state.repetition)
+
+-- what is settled stands before each cut of the next operand, and more so where it misses
+abbrev pub CutsFrom : Bool → List Line → State → ℕ → Bool → List Operand → Type 0
+CutsFrom suppress lines state past kept [] = kept ≡ true
+CutsFrom suppress lines state past kept (operand ∷ operands) = (kept ≡ is_kept operand.target)
+    × ((matched cut : ℕ) → CutsAt suppress lines state operand operand.target matched cut → past ≤ cut)
+    × (Misses suppress lines state operand operand.target → past ≤ suc (length lines) - most_held operand.target)
 
 -- the steps lie within the lines
 abbrev pub AreWithin : ℕ → List Step → Type 0

@@ -46,13 +46,14 @@ fault_in (Ok result) = None
 fault_in (Err fault) = Some fault
 
 -- outputs that were to get from one part to another have that, or a fault stopped them between the two
-abbrev pub IsThere : Bool → WriterState → List Slot → Part → Part → List Slot → Option Fault → Type 0
-IsThere told next before low high new None = At told next before high new
-IsThere told next before low high new (Some fault) = StoppedInTurn told before low high fault new
+abbrev pub IsThere : Bool → Type 0 → List Slot → Part → Part → List Slot → Option Fault → Type 0
+IsThere told There before low high new None = There
+IsThere told There before low high new (Some fault) = StoppedInTurn told before low high fault new
 
 -- so it is of outputs that had the one part
 pub record Reaches (told : Bool) (writer next : WriterState) (low high : Part) (old new : List Slot) (fault : Option Fault) : Type 0 where
-  pub there : (before : List Slot) → At told writer before low old → IsThere told next before low high new fault
+  pub there : (before : List Slot) → At told writer before low old
+      → IsThere told (At told next before high new) before low high new fault
 
 -- the files stay its own, and there
 pub record KeepsFiles (writer next : WriterState) (old new : List Slot) : Type 0 where

@@ -69,22 +69,12 @@ one_first one other is are = elim (cases_lt one other) [
   ]
 ]
 
-some_by : {operand : Operand} {lines : List Line} {from : ℕ} (line : ℕ) → IsFirst operand lines from line
-    → (matched : Option ℕ) → MatchesAs operand lines from matched → matched ≡ Some line
-some_by line is None none = absurd (false≢true (sym (none line is.not_before is.within) ∙ is.match))
-some_by line is (Some other) are = ap Some (one_first other line are is)
-
-pub first_is_match : {operand : Operand} {lines : List Line} {from : ℕ} (line : ℕ) → 1 ≤ from
-    → IsFirst operand lines from line → first_match operand lines from ≡ Some line
-first_is_match {operand} {lines} {from} line some is = some_by line is (first_match operand lines from) (first_match_as operand lines from some)
-
-first_none : (operand : Operand) (lines : List Line) (from : ℕ) → MatchesNone operand lines from → (matched : Option ℕ)
-    → MatchesAs operand lines from matched → matched ≡ None
-first_none operand lines from none None is = refl
-first_none operand lines from none (Some line) is = absurd (false≢true (sym (none line is.not_before is.within) ∙ is.match))
-
-pub none_is_match : (operand : Operand) (lines : List Line) (from : ℕ) → 1 ≤ from → MatchesNone operand lines from → first_match operand lines from ≡ None
-none_is_match operand lines from some none = first_none operand lines from none (first_match operand lines from) (first_match_as operand lines from some)
+-- so there is one first match
+matches_once : (operand : Operand) (lines : List Line) (from : ℕ) (one other : Option ℕ) → MatchesAs operand lines from one → MatchesAs operand lines from other → one ≡ other
+matches_once operand lines from None None none also = refl
+matches_once operand lines from None (Some line) none is = absurd (false≢true (sym (none line is.not_before is.within) ∙ is.match))
+matches_once operand lines from (Some line) None is none = absurd (false≢true (sym (none line is.not_before is.within) ∙ is.match))
+matches_once operand lines from (Some line) (Some other) is are = ap Some (one_first line other is are)
 
 -- where the search begins
 search_by : (state : State) (b : Bool) → 1 ≤ cond b 1 (suc (max state.current state.matched))
@@ -102,6 +92,11 @@ past_by current matched one none is are = let e : matched ≤ max current matche
 pub search_past : (suppress : Bool) (state : State) → state.matched < search_line suppress state
 search_past true state = let e : state.matched ≤ max (state.current - 1) state.matched = le-max_right (state.current - 1) state.matched in omega (arith, e)
 search_past false state = past_by state.current state.matched (eqb state.current 1) (eqb state.matched 0) refl refl
+
+first_is : (suppress : Bool) (operand : Operand) (lines : List Line) (state : State) (matched : Option ℕ) → MatchesAs operand lines (search_line suppress state) matched
+    → first_match operand lines (search_line suppress state) ≡ matched
+first_is suppress operand lines state matched is =
+    matches_once operand lines (search_line suppress state) (first_match operand lines (search_line suppress state)) matched (first_match_as operand lines (search_line suppress state) (search_some suppress state)) is
 
 -- more lines
 pub match_still : (operand : Operand) (a b : List Line) (line : ℕ) → 1 ≤ line → line ≤ length a → is_match operand (a ++ b) line ≡ is_match operand a line
@@ -148,7 +143,7 @@ turn_at_cut suppress lines state operand operands (Number n) matched cut at =
     ap (λ f. turn_at suppress (length lines) state operand operands f (n * (state.repetition + 1))) (sym at.0)
     ∙ ap (turn_at suppress (length lines) state operand operands matched) (sym at.1)
 turn_at_cut suppress lines state operand operands (Search pattern kept offset) matched cut at =
-    ap (turn_from suppress (length lines) state operand operands offset) (first_is_match matched (search_some suppress state) at.0)
+    ap (turn_from suppress (length lines) state operand operands offset) (first_is suppress operand lines state (Some matched) at.0)
     ∙ ap (turn_at suppress (length lines) state operand operands matched) (sym at.1)
 
 turn_missed : (suppress : Bool) (lines : List Line) (state : State) {operand : Operand} (operands : List Operand) (target : Target)
@@ -156,7 +151,7 @@ turn_missed : (suppress : Bool) (lines : List Line) (state : State) {operand : O
 turn_missed suppress lines state operands (Number n) none = absurd none
 turn_missed suppress lines state {operand} operands (Search pattern kept offset) none =
     ap (turn_from suppress (length lines) state operand operands offset)
-    (none_is_match operand lines (search_line suppress state) (search_some suppress state) none)
+    (first_is suppress operand lines state None none)
 
 left_most : (total : ℕ) (state : State) (target : Target) → left_of total state target ≤ total
 left_most total state (Number n) = omega arith
@@ -174,7 +169,7 @@ moves_of suppress lines state operand (Number n) matched cut at = at.1
 moves_of suppress lines state operand (Search pattern kept offset) matched cut at =
     let more : state.matched < search_line suppress state = search_past suppress state in (omega (arith, more, at.0.not_before), at.0.within)
 
-fewer_left : (total : ℕ) (state next : State) (target : Target) {matched : ℕ} (cut : ℕ) → Moves total state target matched cut → 1 ≤ cut → cut ≤ total
+pub fewer_left : (total : ℕ) (state next : State) (target : Target) {matched : ℕ} (cut : ℕ) → Moves total state target matched cut → 1 ≤ cut → cut ≤ total
     → next.repetition ≡ state.repetition + 1 → next.matched ≡ matched → left_of total next target < left_of total state target
 fewer_left total state next (Number zero) cut at some within again same = absurd (none (omega (arith, at)) some) where
   none : cut ≡ 0 → 1 ≤ cut → ⊥
@@ -269,49 +264,36 @@ computed {suppress} {lines} all end (cuts state operand operands matched cut ste
     (length lines) state = fewer suppress lines state matched cut is at (omega (arith, some, from)) within in omega (arith, less, enough))
     (let least : cut ≤ line_after suppress cut = line_some suppress cut in omega (arith, least, some, from)))
 
-runs_at : (bound : ℕ) (suppress : Bool) (lines : List Line) (state : State) {operand : Operand}
-    {operands : List Operand} (matched cut : ℕ) → state.operands ≡ operand ∷ operands → CutsAt suppress lines state operand operand.target matched cut
-    → (state.current ≤ cut → cut ≤ length lines → RunsAs suppress lines (state_after suppress operand operands state.repetition matched cut)
-    (plan_within bound suppress lines (state_after suppress operand operands state.repetition matched cut)))
-    → (far low : Bool) → nat_lt (length lines) cut ≡ far → nat_lt cut state.current ≡ low → RunsAs suppress lines state (after bound suppress lines state
-    (cond far (ends (above operand state.repetition matched cut)) (cond low (ends (below operand state.repetition)) (goes (step_of state operand matched cut)
-    (state_after suppress operand operands state.repetition matched cut)))))
-runs_at bound suppress lines state {operand} {operands} matched cut is at rest true low far_is low_is =
-    is_above state operand operands matched cut is at (from_less (length lines) cut far_is)
-runs_at bound suppress lines state {operand} {operands} matched cut is at rest false true far_is low_is =
-    is_below state operand operands matched cut is at (from_not_less (length lines) cut far_is) (from_less cut state.current low_is)
-runs_at bound suppress lines state {operand} {operands} matched cut is at rest false false far_is low_is =
-    let from : state.current ≤ cut = from_not_less cut state.current low_is in
-    let within : cut ≤ length lines = from_not_less (length lines) cut far_is in
-    cuts state operand operands matched cut _ _ _ is at from within (rest from within)
+-- an operand is left, and a plan goes on after its cuts
+module _ (bound : ℕ) (suppress : Bool) (lines : List Line) (state : State) {operand : Operand} {operands : List Operand} (is : state.operands ≡ operand ∷ operands)
+    (rest : (matched cut : ℕ) → CutsAt suppress lines state operand operand.target matched cut → state.current ≤ cut → cut ≤ length lines
+    → RunsAs suppress lines (state_after suppress operand operands state.repetition matched cut)
+    (plan_within bound suppress lines (state_after suppress operand operands state.repetition matched cut))) where
+  runs_at : (matched cut : ℕ) → CutsAt suppress lines state operand operand.target matched cut → (far low : Bool) → nat_lt (length lines) cut ≡ far
+      → nat_lt cut state.current ≡ low → RunsAs suppress lines state (after bound suppress lines state
+      (cond far (ends (above operand state.repetition matched cut)) (cond low (ends (below operand state.repetition)) (goes (step_of state operand matched cut)
+      (state_after suppress operand operands state.repetition matched cut)))))
+  runs_at matched cut at true low far_is low_is = is_above state operand operands matched cut is at (from_less (length lines) cut far_is)
+  runs_at matched cut at false true far_is low_is =
+      is_below state operand operands matched cut is at (from_not_less (length lines) cut far_is) (from_less cut state.current low_is)
+  runs_at matched cut at false false far_is low_is =
+      let from : state.current ≤ cut = from_not_less cut state.current low_is in
+      let within : cut ≤ length lines = from_not_less (length lines) cut far_is in
+      cuts state operand operands matched cut _ _ _ is at from within (rest matched cut at from within)
 
-runs_matched : (bound : ℕ) (suppress : Bool) (lines : List Line) (state : State) {operand : Operand}
-    {operands : List Operand} (pattern' : Pattern) (kept : Bool) (offset : Offset) → state.operands ≡ operand ∷ operands
-    → operand.target ≡ Search pattern' kept offset → ((matched cut : ℕ) → CutsAt suppress lines state operand operand.target matched cut → state.current ≤ cut
-    → cut ≤ length lines → RunsAs suppress lines (state_after suppress operand operands state.repetition matched cut)
-    (plan_within bound suppress lines (state_after suppress operand operands state.repetition matched cut)))
-    → (matched : Option ℕ) → MatchesAs operand lines (search_line suppress state) matched → RunsAs suppress lines state (after bound suppress lines state
-    (turn_from suppress (length lines) state operand operands offset matched))
-runs_matched bound suppress lines state {operand} {operands} pattern' kept offset is target rest None none =
-    misses state operand operands is (subst (Misses suppress lines state operand) (sym target) none)
-runs_matched bound suppress lines state {operand} pattern' kept offset is target rest (Some matched) first =
-    let at : CutsAt suppress lines state operand operand.target matched (moved offset matched) =
-    subst (λ t. CutsAt suppress lines state operand t matched (moved offset matched)) (sym target) (first, refl) in
-    runs_at bound suppress lines state matched (moved offset matched) is at (rest matched (moved offset matched) at) _ _ refl refl
+  runs_matched : {pattern' : Pattern} {kept : Bool} (offset : Offset) → operand.target ≡ Search pattern' kept offset → (matched : Option ℕ)
+      → MatchesAs operand lines (search_line suppress state) matched → RunsAs suppress lines state (after bound suppress lines state
+      (turn_from suppress (length lines) state operand operands offset matched))
+  runs_matched offset target None none = misses state operand operands is (subst (Misses suppress lines state operand) (sym target) none)
+  runs_matched offset target (Some matched) first = runs_at matched (moved offset matched)
+      (subst (λ t. CutsAt suppress lines state operand t matched (moved offset matched)) (sym target) (first, refl)) _ _ refl refl
 
-runs_target : (bound : ℕ) (suppress : Bool) (lines : List Line) (state : State) {operand : Operand}
-    {operands : List Operand} → state.operands ≡ operand ∷ operands
-    → ((matched cut : ℕ) → CutsAt suppress lines state operand operand.target matched cut → state.current ≤ cut → cut ≤ length lines → RunsAs suppress lines
-    (state_after suppress operand operands state.repetition matched cut)
-    (plan_within bound suppress lines (state_after suppress operand operands state.repetition matched cut))) → (target : Target) → operand.target ≡ target
-    → RunsAs suppress lines state (after bound suppress lines state (turn_to suppress lines state operand operands target))
-runs_target bound suppress lines state {operand} is rest (Number n) target =
-    let at : CutsAt suppress lines state operand operand.target state.matched (n * (state.repetition + 1)) =
-    subst (λ t. CutsAt suppress lines state operand t state.matched (n * (state.repetition + 1))) (sym target) (refl, refl) in
-    runs_at bound suppress lines state state.matched (n * (state.repetition + 1)) is at (rest state.matched (n * (state.repetition + 1)) at) _ _ refl refl
-runs_target bound suppress lines state {operand} is rest (Search pattern' kept offset) target =
-    runs_matched bound suppress lines state pattern' kept offset is target rest (first_match operand lines (search_line suppress state))
-    (first_match_as operand lines (search_line suppress state) (search_some suppress state))
+  runs_target : (target : Target) → operand.target ≡ target
+      → RunsAs suppress lines state (after bound suppress lines state (turn_to suppress lines state operand operands target))
+  runs_target (Number n) target = runs_at state.matched (n * (state.repetition + 1))
+      (subst (λ t. CutsAt suppress lines state operand t state.matched (n * (state.repetition + 1))) (sym target) (refl, refl)) _ _ refl refl
+  runs_target (Search pattern' kept offset) target = runs_matched offset target (first_match operand lines (search_line suppress state))
+      (first_match_as operand lines (search_line suppress state) (search_some suppress state))
 
 mutual_runs : (bound : ℕ) (suppress : Bool) (lines : List Line) (state : State) (operands : List Operand) → state.operands ≡ operands
     → ((operand : Operand) (rest : List Operand) → state.operands ≡ operand ∷ rest → (matched cut : ℕ)
@@ -340,11 +322,7 @@ runs (suc bound) suppress lines state enough some =
     (omega (arith, less, enough)) (omega (arith, least, some, from)))
 
 enough_at_start : (total : ℕ) (operands : List Operand) → needed total (start operands) ≤ length operands * (total + 1)
-enough_at_start total [] = omega arith
-enough_at_start total (operand ∷ operands) =
-    let most : left_of total (start (operand ∷ operands)) operand.target ≤ total =
-    left_most total (start (operand ∷ operands)) operand.target in
-    let more : suc (length operands) * (total + 1) ≡ length operands * (total + 1) + (total + 1) = omega arith in omega (arith, most, more)
+enough_at_start total operands = let less = fewer_operands total (start operands) operands in omega (arith, less)
 
 pub plan_runs : (suppress : Bool) (operands : List Operand) (lines : List Line) → RunsAs suppress lines (start operands) (plan suppress operands lines)
 plan_runs suppress operands lines = runs (length operands * (length lines + 1)) suppress lines (start operands)

@@ -10,8 +10,8 @@ use Rattle.csplit_core.specs.Planned.{plan_within, plan}
 use Rattle.csplit_core.specs.Section.{Section, section, section_of, lines_between, bytes_of, is_last_kept, whole_end, settled_end, sections_by, settled_sections}
 use Rattle.csplit_core.specs.Output.{Style, Contents, contents_of, is_empty, makes_file, file_at, files_of, size_line, size_lines, part_by, part_of}
 use Rattle.csplit_core.specs.Csplit.{settled_of, whole_of}
-use Rattle.csplit_core.specs.laws.PlanLaws.{run_once, one_first, search_some, first_beyond, line_some, cuts_still, goes_on, runs, plan_runs, plan_once}
-use Rattle.csplit_core.specs.inner.PlanLaws.{needed, EndsAs, AreWithin, Next, Covers, Grow, GoesOn}
+use Rattle.csplit_core.specs.laws.PlanLaws.{one_first, search_some, first_beyond, line_some, cuts_still, goes_on, runs, plan_runs, plan_once}
+use Rattle.csplit_core.specs.inner.PlanLaws.{needed, EndsAs, AreWithin, Next, Covers, Grow, GoesOn, CutsFrom}
 
 -- Stretches of lines
 
@@ -47,9 +47,9 @@ between_grows first past more a b some within (inr less) =
 pub ends_as : (suppress : Bool) (lines : List Line) (first : State) (steps : List Step) (last : State) (ending : Ending)
     → Runs suppress lines first steps last ending → EndsAs suppress lines last ending
 ends_as suppress lines first steps last ending (is_used_up state none) = none
-ends_as suppress lines first steps last ending (misses state operand operands is none) = (operands, is, none)
-ends_as suppress lines first steps last ending (is_above state operand operands matched cut is at far) = (operands, is, at, far)
-ends_as suppress lines first steps last ending (is_below state operand operands matched cut is at within low) = (operands, matched, cut, is, at, within, low)
+ends_as suppress lines first steps last ending (misses state operand operands is none) = (operands, is, none, refl)
+ends_as suppress lines first steps last ending (is_above state operand operands matched cut is at far) = (operands, is, at, far, refl)
+ends_as suppress lines first steps last ending (is_below state operand operands matched cut is at within low) = (operands, matched, cut, is, at, within, low, refl)
 ends_as suppress lines first steps last ending (cuts state operand operands matched cut steps' last' ending' is at from within rest) =
     ends_as suppress lines (state_after suppress operand operands state.repetition matched cut) steps' last' ending' rest
 
@@ -71,11 +71,6 @@ closed_still a b (step ∷ steps) within =
 pub front_of : (one other : Operand) {ones others : List Operand} → one ∷ ones ≡ other ∷ others → one ≡ other
 front_of one other is = ap (λ those. elim those [ [] ↦ one | first ∷ rest ↦ first ]) is
 
-pub none_there : (one : Operand) {ones : List Operand} → [] ≡ one ∷ ones → ⊥
-none_there one {ones} is = let e : 0 ≡ suc (length ones) = ap length is in none (length ones) e where
-  none : (n : ℕ) → 0 ≡ suc n → ⊥
-  none n is = omega (arith, is)
-
 next_by : (a b : List Line) (current past more : ℕ) {kept : Bool} (closed : Bool) {other_kept : Bool} {rest : List Section} → 1 ≤ current
     → past ≤ length a + 1 → (past ≤ more) ⊎ (past ≤ current) → kept ≡ other_kept → Next (section kept false (lines_between current past a))
     (section other_kept closed (lines_between current more (a ++ b)) ∷ rest)
@@ -89,52 +84,6 @@ next_by a b current past more {kept} closed {other_kept} {rest} some within less
       rest = grown.0;
       lines = grown.1;
     }
-
-next_with : {suppress : Bool} (closed : Bool) (end_of : ℕ → Ending → ℕ) → Covers end_of
-    → (a b : List Line) {first : State} {operand : Operand} {operands : List Operand} (past : ℕ) → 1 ≤ first.current
-    → past ≤ length a + 1 → first.operands ≡ operand ∷ operands
-    → ((matched cut : ℕ) → CutsAt suppress (a ++ b) first operand operand.target matched cut → past ≤ cut)
-    → (Misses suppress (a ++ b) first operand operand.target → past ≤ suc (length (a ++ b)) - most_held operand.target)
-    → (more : List Step) (end : State) {how : Ending} → Runs suppress (a ++ b) first more end how
-    → Next (section (is_kept operand.target) false (lines_between first.current past a))
-    (sections_by closed end_of (a ++ b) (record { steps = more; last = end; ending = how }))
-next_with closed end_of covers a b {operand} past some within is cut_at missed_at more end (is_used_up state none) = absurd (none_there operand (sym none ∙ is))
-next_with {suppress} closed end_of covers a b {operand} past some within is cut_at missed_at more end (misses state operand' operands' are none) =
-    let same = front_of operand operand' (sym is ∙ are) in
-    let far = missed_at (subst (λ o. Misses suppress (a ++ b) state o o.target) (sym same) none) in
-    let most : suc (length (a ++ b)) - most_held operand'.target ≤ end_of (length (a ++ b)) (missed operand' state.repetition) =
-    covers (length (a ++ b)) (missed operand' state.repetition) in
-    let alike : most_held operand.target ≡ most_held operand'.target = ap (λ (o : Operand). most_held o.target) same in
-    next_by a b state.current past (end_of (length (a ++ b)) (missed operand' state.repetition)) closed some within (inl (omega (arith, far, most, alike)))
-    (ap (λ (o : Operand). is_kept o.target) same)
-next_with closed end_of covers a b {operand} past some within is cut_at missed_at more end (is_above state operand' operands' matched cut are at far) =
-    let same = front_of operand operand' (sym is ∙ are) in
-    let most : suc (length (a ++ b)) ≤ end_of (length (a ++ b)) (above operand' state.repetition matched cut) =
-    covers (length (a ++ b)) (above operand' state.repetition matched cut) in
-    let longer : length (a ++ b) ≡ length a + length b = length-append a b in
-    next_by a b state.current past (end_of (length (a ++ b)) (above operand' state.repetition matched cut)) closed some within
-    (inl (omega (arith, most, longer, within))) (ap (λ (o : Operand). is_kept o.target) same)
-next_with {suppress} closed end_of covers a b {operand} past some within is cut_at missed_at more end
-    (is_below state operand' operands' matched cut are at in_lines low) =
-    let same = front_of operand operand' (sym is ∙ are) in
-    let most : past ≤ cut = cut_at matched cut (subst (λ o. CutsAt suppress (a ++ b) state o o.target matched cut) (sym same) at) in
-    next_by a b state.current past (end_of (length (a ++ b)) (below operand' state.repetition)) closed some within (inr (omega (arith, most, low)))
-    (ap (λ (o : Operand). is_kept o.target) same)
-next_with {suppress} closed end_of covers a b {operand} past some within is cut_at missed_at more end
-    (cuts state operand' operands' matched cut steps' last' ending' are at from in_lines rest) =
-    let same = front_of operand operand' (sym is ∙ are) in
-    let most : past ≤ cut = cut_at matched cut (subst (λ o. CutsAt suppress (a ++ b) state o o.target matched cut) (sym same) at) in
-    next_by a b state.current past cut true some within (inl most) (ap (λ (o : Operand). is_kept o.target) same)
-
-next_used_up : {suppress : Bool} (closed : Bool) (end_of : ℕ → Ending → ℕ) → Covers end_of → (a b : List Line) {first : State}
-    → 1 ≤ first.current → first.operands ≡ [] → (more : List Step) (end : State) {how : Ending} → Runs suppress (a ++ b) first more end how
-    → Next (section true false (lines_between first.current (suc (length a)) a))
-    (sections_by closed end_of (a ++ b) (record { steps = more; last = end; ending = how }))
-next_used_up {suppress} closed end_of covers a b {first} some is more end run =
-    let most : suc (length (a ++ b)) ≤ end_of (length (a ++ b)) used_up = covers (length (a ++ b)) used_up in
-    let longer : length (a ++ b) ≡ length a + length b = length-append a b in
-    subst (λ plan. Next (section true false (lines_between first.current (suc (length a)) a)) (sections_by closed end_of (a ++ b) plan)) (sym (run_once some (is_used_up first is) run))
-    (next_by a b first.current (suc (length a)) (end_of (length (a ++ b)) used_up) closed some (omega arith) (inl (omega (arith, most, longer))) refl)
 
 -- where a pattern matched no line, the cut is past what is settled
 pub missed_cut : (suppress : Bool) (a b : List Line) (state : State) (operand : Operand) (target : Target)
@@ -163,23 +112,57 @@ cuts_or_misses suppress lines state operand (Number n) matched cut at none = non
 cuts_or_misses suppress lines state operand (Search pattern kept offset) matched cut at none =
     false≢true (sym (none matched at.0.not_before at.0.within) ∙ at.0.match)
 
-pub next_of : (suppress closed : Bool) (end_of : ℕ → Ending → ℕ) → Covers end_of
-    → (a b : List Line) (last : State) (ending : Ending) → 1 ≤ last.current → EndsAs suppress a last ending
-    → (more : List Step) (end : State) (how : Ending) → Runs suppress (a ++ b) last more end how
+-- what is settled stands before what the next operand does where more lines follow
+pub cuts_from : (suppress : Bool) (a b : List Line) (state : State) (ending : Ending) {operands : List Operand} → EndsAs suppress a state ending → state.operands ≡ operands
+    → CutsFrom suppress (a ++ b) state (settled_end (length a) ending) (is_last_kept ending) operands
+cuts_from suppress a b state used_up ends are = subst (CutsFrom suppress (a ++ b) state (suc (length a)) true) (sym ends ∙ are) refl
+cuts_from suppress a b state (missed operand repetition) (rest, is, none, often) are =
+    subst (CutsFrom suppress (a ++ b) state (suc (length a) - most_held operand.target) (is_kept operand.target)) (sym is ∙ are) (
+      refl,
+      missed_cut suppress a b state operand operand.target none,
+      λ again. let longer : length (a ++ b) ≡ length a + length b = length-append a b in omega (arith, longer),
+    )
+cuts_from suppress a b state (above operand repetition matched cut) (rest, is, at, far, often) are =
+    let still = cuts_still suppress a b state operand operand.target matched cut at in
+    subst (CutsFrom suppress (a ++ b) state (suc (length a)) (is_kept operand.target)) (sym is ∙ are) (
+      refl,
+      λ matched' cut' at'. let same : cut ≡ cut' = (cut_once suppress (a ++ b) state operand operand.target cut still at').1 in omega (arith, far, same),
+      λ none. absurd (cuts_or_misses suppress (a ++ b) state operand operand.target matched cut still none),
+    )
+cuts_from suppress a b state (below operand repetition) (rest, matched, cut, is, at, within, low, often) are =
+    subst (CutsFrom suppress (a ++ b) state 0 (is_kept operand.target)) (sym is ∙ are) (refl, (λ matched' cut' at'. omega arith), λ none. omega arith)
+
+pub settled_most : (total : ℕ) (ending : Ending) → settled_end total ending ≤ total + 1
+settled_most total used_up = omega arith
+settled_most total ending = omega arith
+
+next_of : {suppress : Bool} (closed : Bool) (end_of : ℕ → Ending → ℕ) → Covers end_of
+    → (a b : List Line) {last : State} (ending : Ending) → 1 ≤ last.current → EndsAs suppress a last ending
+    → (more : List Step) (end : State) {how : Ending} → Runs suppress (a ++ b) last more end how
     → Next (section (is_last_kept ending) false (lines_between last.current (settled_end (length a) ending) a))
     (sections_by closed end_of (a ++ b) (record { steps = more; last = end; ending = how }))
-next_of suppress closed end_of covers a b last used_up some is more end how rest = next_used_up closed end_of covers a b some is more end rest
-next_of suppress closed end_of covers a b last (missed operand repetition) some (operands, is, none) more end how rest =
-    next_with closed end_of covers a b (suc (length a) - most_held operand.target) some (omega arith) is
-    (missed_cut suppress a b last operand operand.target none)
-    (λ again. let longer : length (a ++ b) ≡ length a + length b = length-append a b in omega (arith, longer)) more end rest
-next_of suppress closed end_of covers a b last (above operand repetition matched cut) some (operands, is, at, far) more end how rest =
-    next_with closed end_of covers a b (suc (length a)) some (omega arith) is
-    (λ matched' cut' at'. let same : cut ≡ cut' = (cut_once suppress (a ++ b) last operand operand.target cut (cuts_still suppress a b last operand operand.target matched cut at) at').1 in omega
-    (arith, far, same)) (λ none. absurd (cuts_or_misses suppress (a ++ b) last operand operand.target matched cut
-    (cuts_still suppress a b last operand operand.target matched cut at) none)) more end rest
-next_of suppress closed end_of covers a b last (below operand repetition) some (operands, matched, cut, is, at, within, low) more end how rest =
-    next_with closed end_of covers a b 0 some (omega arith) is (λ matched' cut' at'. omega arith) (λ none. omega arith) more end rest
+next_of {suppress} closed end_of covers a b ending some ends more end (is_used_up state none) =
+    let far : suc (length (a ++ b)) ≤ end_of (length (a ++ b)) used_up = covers (length (a ++ b)) used_up in
+    next_by a b state.current (settled_end (length a) ending) (end_of (length (a ++ b)) used_up) closed some (settled_most (length a) ending)
+    (inl (omega (arith, far, settled_most (length a) ending, length-append a b))) (cuts_from suppress a b state ending ends none)
+next_of {suppress} closed end_of covers a b ending some ends more end (misses state operand operands are none) =
+    let so = cuts_from suppress a b state ending ends are in
+    let far : suc (length (a ++ b)) - most_held operand.target ≤ end_of (length (a ++ b)) (missed operand state.repetition) =
+    covers (length (a ++ b)) (missed operand state.repetition) in
+    next_by a b state.current (settled_end (length a) ending) (end_of (length (a ++ b)) (missed operand state.repetition)) closed some
+    (settled_most (length a) ending) (inl (let past = so.2 none in omega (arith, far, past))) so.0
+next_of {suppress} closed end_of covers a b ending some ends more end (is_above state operand operands matched cut are at far) =
+    let most : suc (length (a ++ b)) ≤ end_of (length (a ++ b)) (above operand state.repetition matched cut) =
+    covers (length (a ++ b)) (above operand state.repetition matched cut) in
+    next_by a b state.current (settled_end (length a) ending) (end_of (length (a ++ b)) (above operand state.repetition matched cut)) closed some
+    (settled_most (length a) ending) (inl (omega (arith, most, settled_most (length a) ending, length-append a b))) (let so = cuts_from suppress a b state ending ends are in so.0)
+next_of {suppress} closed end_of covers a b ending some ends more end (is_below state operand operands matched cut are at in_lines low) =
+    let so = cuts_from suppress a b state ending ends are in
+    next_by a b state.current (settled_end (length a) ending) (end_of (length (a ++ b)) (below operand state.repetition)) closed some
+    (settled_most (length a) ending) (inr (let past = so.1 matched cut at in omega (arith, past, low))) so.0
+next_of {suppress} closed end_of covers a b ending some ends more end (cuts state operand operands matched cut steps' last' ending' are at from in_lines rest) =
+    let so = cuts_from suppress a b state ending ends are in
+    next_by a b state.current (settled_end (length a) ending) cut true some (settled_most (length a) ending) (inl (so.1 matched cut at)) so.0
 
 sections_grow : {suppress : Bool} (closed : Bool) (end_of : ℕ → Ending → ℕ) → Covers end_of
     → {a : List Line} (b : List Line) {first : State} {steps : List Step} {last : State} {ending : Ending} (more : List Step)
@@ -196,7 +179,7 @@ sections_grow {suppress} closed end_of covers {a} b {first} {steps} {last} {endi
       high_is = ap (λ those. those ++ section (is_last_kept how) closed (lines_between end.current (end_of (length (a ++ b)) how) (a ++ b)) ∷ [])
           (map-append (section_of (a ++ b)) steps more ∙ ap (λ those. those ++ map (section_of (a ++ b)) more) (closed_still a b steps within.0))
           ∙ append_assoc (map (section_of a) steps) (map (section_of (a ++ b)) more) _;
-      next = next_of suppress closed end_of covers a b last ending within.1 (ends_as suppress a first steps last ending runs_a) more end how rest;
+      next = next_of closed end_of covers a b ending within.1 (ends_as suppress a first steps last ending runs_a) more end rest;
     }
 
 pub plan_goes_on : {suppress : Bool} (operands : List Operand) (a b : List Line) → GoesOn suppress operands a b

@@ -3,7 +3,9 @@ use Rattle.std.proofs.lemmas.Grind.{common_steps}
 use Rattle.csplit_core.specs.Cutter.{CutterState}
 use Rattle.csplit_core.specs.Writer.{IsReady}
 use Rattle.csplit_core.specs.inner.Cutter.{CutsAll}
-use Rattle.csplit_core.proofs.SpreadLemmas.{none_there, cut_alone, cut_drained, cut_lacks, waiting_count, waiting_size}
+use Rattle.csplit_core.proofs.CutLemmas.{cut_put_stopped}
+use Rattle.csplit_core.proofs.HoldLemmas.{goes_lacking}
+use Rattle.csplit_core.proofs.SpreadLemmas.{none_there, cut_alone, cut_drained, waiting_count, waiting_size}
 use Rattle.csplit_core.proofs.WriterLemmas.{stop_is}
 use Rattle.csplit_core.proofs.line_cutter.LineCutter.cut_line.Goals as goal
 
@@ -14,7 +16,8 @@ pub returns-then-is_empty : goal.returns-then-is_empty
 returns-then-is_empty g c = cut_alone c.self.view_is c.cut_all.view_is (none_there c.is_empty.ensures c.if-is_empty.true) c.cut_all-then-is_empty.ensures
 
 pub returns-in_err-waiting : goal.returns-in_err-waiting
-returns-in_err-waiting g c = stop_is (CutsAll _ _ _ _ _ _ _ _ _ _) _ _ c.from_residual.ensures.1 (cut_lacks c.self.view_is c.requires.fit c.requires.cuts c.in_err-waiting.ensures.err)
+returns-in_err-waiting g c = stop_is (CutsAll _ _ _ _ _ _ _ _ _ _) _ _ c.from_residual.ensures.1
+    (cut_put_stopped c.self.view_is c.requires.fit c.requires.cuts refl c.args.line.now refl (goes_lacking (subst (λ (cutter : CutterState). IsReady cutter.writer (g.O.Outs.slots c.args.outs.now)) (sym c.self.view_is) c.requires.ready) c.in_err-waiting.ensures.err))
 
 pub slice_bounds-count_delimiters-count : goal.slice_bounds-count_delimiters-count
 slice_bounds-count_delimiters-count g c = grind (arith, common_steps)
