@@ -2,6 +2,7 @@
 use Rattle.std.proofs.Common.{◌≡◌, ℕ, ◌+◌, ◌<◌, ◌≤◌, zero, suc, List, [], ◌∷◌, length, Bool, true, false, not, ◌&&◌, if◌then◌else◌, ◌⊎◌, inl, inr, refl, sym, ◌∙◌, ap, subst, arith}
 use Rattle.std.proofs.lemmas.Bool.{false≢true, cases_eq, cases_lt}
 use Rattle.std.proofs.lemmas.Bool.Decides.{nat_tests}
+use Rattle.tee_core.specs.inner.Turns.{Turns}
 use Rattle.ports_core.specs.Slot.{Slot, slot_at, changed_at, is_open}
 use Rattle.ports_core.proofs.SlotLemmas.{length-changed_at, slot_at-changed, slot_at-elsewhere}
 use Rattle.tee_core.specs.Outputs.{ChangesEach, newly_broken}
@@ -105,11 +106,6 @@ newly_in_two (o ∷ olds) (m ∷ mids) (n ∷ news) count_mid count_new first se
     let rest = newly_in_two olds mids news (omega (arith, count_mid)) (omega (arith, count_new)) (λ place broken. first (suc place) broken) (λ place broken. second (suc place) broken) in
     omega (arith, here, rest)
 
--- some outputs were changed, and `broke` of them broke
-pub record Turns (Change : Slot → Slot → Type 0) (IsOne : ℕ → Type 0) (old new : List Slot) (broke : ℕ) : Type 0 where
-  pub changes : ChangesEach Change IsOne old new
-  pub broke_are : broke ≡ newly_broken old new
-
 pub turned_none : {Change : Slot → Slot → Type 0} {IsOne : ℕ → Type 0} {slots : List Slot} → ((place : ℕ) → IsOne place → ⊥) → Turns Change IsOne slots slots 0
 turned_none {slots} none = record { changes = changes_none none; broke_are = sym (newly_none slots) }
 
@@ -140,10 +136,10 @@ pub record InTurn (Change : Slot → Slot → Type 0) (first n : ℕ) (old now :
 pub none_in_turn : {Change : Slot → Slot → Type 0} {first : ℕ} {slots : List Slot} → InTurn Change first 0 slots slots 0
 none_in_turn = record { turned = turned_none (λ place is. omega (arith, is.0, is.1)); few = omega arith }
 
-pub next_in_turn : {Change : Slot → Slot → Type 0} (first n broke more : ℕ) (old now new : List Slot) → ((before after : Slot) → Change before after → before.is_broken ≡ true → after.is_broken ≡ true) → InTurn Change first n old now broke → ChangesEach Change (λ place. place ≡ first + n) now new → more ≡ newly_broken now new → more ≤ 1 → InTurn Change first (n + 1) old new (broke + more)
-next_in_turn first n broke more old now new stays so_far changes are one = record {
+pub next_in_turn : {Change : Slot → Slot → Type 0} (first n broke more : ℕ) (old now new : List Slot) → ((before after : Slot) → Change before after → before.is_broken ≡ true → after.is_broken ≡ true) → InTurn Change first n old now broke → Turns Change (λ place. place ≡ first + n) now new more → more ≤ 1 → InTurn Change first (n + 1) old new (broke + more)
+next_in_turn first n broke more old now new stays so_far turned one = record {
   turned = turned_both broke more stays (is_between first (first + n)) (λ place. cases_eq place (first + n))
-      (λ place is other. omega (arith, is.1, other)) to from so_far.turned (record { changes = changes; broke_are = are });
+      (λ place is other. omega (arith, is.1, other)) to from so_far.turned turned;
   few = omega (arith, so_far.few);
 } where
   to : (place : ℕ) → ((first ≤ place) × (place < first + n)) ⊎ (place ≡ first + n) → (first ≤ place) × (place < first + (n + 1))
