@@ -11,11 +11,8 @@ use Rattle.split_core.specs.Parts.{whole_lines, open_line, most, measure, is_ful
 use Rattle.split_core.specs.laws.CutLaws.{has_lines, without_lines, whole_within, cuts_up, cut_once}
 use Rattle.split_core.specs.inner.CutLaws.{Cuts, stops, goes, cut_so}
 
-short_from_test : (most measure : ℕ) → measure < most → (nat_lt 0 most && nat_le most measure) ≡ false
-short_from_test most measure less = grind (arith, nat_tests, less)
-
 pub short_from : (limit : Limit) (x : List ℕ) → measure limit x < most limit → is_full limit x ≡ false
-short_from limit x less = short_from_test (most limit) (measure limit x) less
+short_from limit x less = grind (arith, nat_tests, less)
 
 -- whole lines
 
@@ -33,15 +30,12 @@ whole_is_take delim x = by (nat_lt 0 (delimiters delim x)) where
 
 -- the first part of a text that has it in full
 
-take-is_take : (n : ℕ) (x : List ℕ) → take n x ≡ take (length (take n x)) x
-take-is_take n x = sym (ap (λ k. take k x) (length-take n x) ∙ take_min n x)
-
 pub take-take_few : (k n : ℕ) (x : List ℕ) → k ≤ length (take n x) → take k (take n x) ≡ take k x
 take-take_few k n x few = take-take k n x (omega (arith, few, length-take n x))
 
 first_is_take : (limit : Limit) (x : List ℕ) → first_part limit x ≡ take (length (first_part limit x)) x
 first_is_take (Lines n delim) x = first_lines-is_take delim n x
-first_is_take (Bytes n) x = take-is_take n x
+first_is_take (Bytes n) x = sym (ap (λ k. take k x) (length-take n x) ∙ take_min n x)
 first_is_take (LineBytes n delim) x = whole_is_take delim (take n x) ∙ take-take_few (length (whole_lines delim (take n x))) n x (whole_within delim (take n x))
 
 pub first_then_after : (limit : Limit) (x : List ℕ) → first_part limit x ++ after_first limit x ≡ x

@@ -112,9 +112,6 @@ none_gets had line place start (suc count) before =
     ap (λ gets. cond gets (line ++ had start) (had start) ++ joined (map (λ file. cond (eqb place file) (line ++ had file) (had file)) (range_with_len (start + 1) count))) (ne_eqb place start (λ is. omega (arith, is)))
     ∙ ap (λ rest. had start ++ rest) (none_gets had line place (start + 1) count (omega arith))
 
-gets_step : (had : ℕ → List ℕ) (line rest more : List ℕ) (start : ℕ) → length rest ≡ length line + length more → length (had start ++ rest) ≡ length line + length (had start ++ more)
-gets_step had line rest more start is = omega (arith, is, length-append (had start) rest, length-append (had start) more)
-
 one_gets : (had : ℕ → List ℕ) (line : List ℕ) (place start count : ℕ) → start ≤ place → place < start + count
     → length (joined (map (λ file. cond (eqb place file) (line ++ had file) (had file)) (range_with_len start count))) ≡ length line + length (joined (map had (range_with_len start count)))
 one_gets had line place start zero from before = absurd (omega arith)
@@ -125,7 +122,7 @@ one_gets had line place start (suc count) from before = elim (cases_eq place sta
       ∙ three line (had start) (joined (map had (range_with_len (start + 1) count)))
   | inr other ↦
       ap (λ gets. length (cond gets (line ++ had start) (had start) ++ joined (map (λ file. cond (eqb place file) (line ++ had file) (had file)) (range_with_len (start + 1) count)))) (ne_eqb place start other)
-      ∙ gets_step had line _ _ start (one_gets had line place (start + 1) count (omega (arith, other)) (omega arith))
+      ∙ omega (arith, one_gets had line place (start + 1) count (omega (arith, other)) (omega arith), length-append {A = ℕ})
 ] where
   three : (line first rest : List ℕ) → length ((line ++ first) ++ rest) ≡ length line + length (first ++ rest)
   three line first rest = omega (arith, length-append (line ++ first) rest, length-append line first, length-append first rest)

@@ -70,9 +70,6 @@ run_at n i xs some = run_within (length xs) n i xs some (omega arith)
 abbrev AreFewest : ℕ → ℕ → ℕ → Type 0
 AreFewest runs n all = (all ≤ runs * n) × (runs * n < all + n)
 
-no_run : (n : ℕ) → 0 < n → AreFewest 0 n 0
-no_run n some = let none : 0 * n ≡ 0 = zero-mul n in (omega arith, omega arith)
-
 one_more : (runs n : ℕ) {left : ℕ} (all : ℕ) → left ≡ all - n → 0 < all → AreFewest runs n left → AreFewest (suc runs) n all
 one_more zero n all is some (low, high) = let none : 0 * n ≡ 0 = zero-mul n in let first : 1 * n ≡ 0 * n + n = suc-mul 0 n in (omega arith, omega arith)
 one_more (suc runs) n all is some (low, high) =
@@ -84,7 +81,7 @@ count_within zero n (x ∷ xs) some few = absurd (omega arith)
 count_within (suc bound) n (x ∷ xs) some few =
     let left : length (drop n (x ∷ xs)) ≡ suc (length xs) - n = length-drop n (x ∷ xs) in
     one_more (length (runs_within bound n (drop n (x ∷ xs)))) n (suc (length xs)) left (omega arith) (count_within bound n (drop n (x ∷ xs)) some (omega arith))
-count_within bound n xs some few = no_run n some
+count_within bound n xs some few = let none : 0 * n ≡ 0 = zero-mul n in (omega arith, omega arith)
 
 -- there are as few runs as can hold all members
 pub runs_count : {X : Type 0} (n : ℕ) (xs : List X) → 0 < n → AreFewest (length (runs_of n xs)) n (length xs)

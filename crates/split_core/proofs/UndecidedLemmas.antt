@@ -99,9 +99,6 @@ came_in : (limit : Limit) (names : Naming) {x : List ℕ} → are_named names (l
 came_in limit names {x} are = ap (λ bytes. bytes ++ waiting_rest limit (cut_up limit x).rest) (settled_bytes_in limit names x are) ∙ list_all limit x
 
 -- what stands after a beginning
-after_front : {x : List ℕ} (front rest : List ℕ) → front ++ rest ≡ x → x ≡ front ++ drop (length front) x
-after_front front rest is = sym is ∙ ap (λ those. front ++ those) (sym (ap (drop (length front)) (sym is) ∙ drop-append_seam front rest))
-
 none_wait : (limit : Limit) (names : Naming) (x : List ℕ) (i : ℕ) → are_named names (length (parts limit x)) ≡ true → waiting_rest limit (cut_up limit x).rest ≡ [] → length (settled_in limit names x) ≤ i → i < length x → ⊥
 none_wait limit names x i are none past within =
     omega (arith, ap length (sym (append-nil (settled_in limit names x)) ∙ ap (λ those. settled_in limit names x ++ those) (sym none) ∙ came_in limit names are), past, within)
@@ -166,7 +163,8 @@ parts_differ (LineBytes n delim) names {x} some are {i} past within = elim (case
 parts_undecided : (limit : Limit) (names : Naming) {x : List ℕ} → 0 < most limit → are_named names (length (parts limit x)) ≡ true → IsUndecided (parts_spots limit names) x ((parts_work limit names).waiting x)
 parts_undecided limit names {x} some are = record {
   before = settled_in limit names x;
-  are_last = after_front (settled_in limit names x) (waiting_rest limit (cut_up limit x).rest) (came_in limit names are);
+  are_last = sym (came_in limit names are) ∙ ap (λ those. settled_in limit names x ++ those)
+      (sym (ap (drop (length (settled_in limit names x))) (sym (came_in limit names are)) ∙ drop-append_seam (settled_in limit names x) (waiting_rest limit (cut_up limit x).rest)));
   differ = λ i past within. (let two = parts_differ limit names some are past within in (two.y, two.z, two.y_comes, two.z_comes, two.apart));
   decided = λ i less y z can also. parts_decided limit names x i less y ∙ sym (parts_decided limit names x i less z);
 }

@@ -13,23 +13,14 @@ use Rattle.split_core.specs.inner.CutLaws.{Cuts, stops, goes, cut_so}
 
 -- when a part is full
 
-full_test : (most measure : ℕ) → (nat_lt 0 most && nat_le most measure) ≡ true → (0 < most) × (most ≤ measure)
-full_test most measure is = (grind (arith, nat_tests, is), grind (arith, nat_tests, is))
-
 pub full_some : (limit : Limit) (x : List ℕ) → is_full limit x ≡ true → (0 < most limit) × (most limit ≤ measure limit x)
-full_some limit x full = full_test (most limit) (measure limit x) full
-
-full_from_test : (most measure : ℕ) → 0 < most → most ≤ measure → (nat_lt 0 most && nat_le most measure) ≡ true
-full_from_test most measure some enough = grind (arith, nat_tests, some, enough)
+full_some limit x full = (grind (arith, nat_tests, full), grind (arith, nat_tests, full))
 
 pub full_from : (limit : Limit) (x : List ℕ) → 0 < most limit → most limit ≤ measure limit x → is_full limit x ≡ true
-full_from limit x some enough = full_from_test (most limit) (measure limit x) some enough
-
-short_test : (most measure : ℕ) → (nat_lt 0 most && nat_le most measure) ≡ false → 0 < most → measure < most
-short_test most measure is some = grind (arith, nat_tests, is, some)
+full_from limit x some enough = grind (arith, nat_tests, some, enough)
 
 pub short_some : (limit : Limit) (x : List ℕ) → is_full limit x ≡ false → 0 < most limit → measure limit x < most limit
-short_some limit x short some = short_test (most limit) (measure limit x) short some
+short_some limit x short some = grind (arith, nat_tests, short, some)
 
 pub measure-append : (limit : Limit) (x y : List ℕ) → measure limit (x ++ y) ≡ measure limit x + measure limit y
 measure-append (Lines n delim) x y = delimiters-append delim x y
@@ -44,11 +35,8 @@ full-append limit x y full =
     let is = full_some limit x full in
     full_from limit (x ++ y) is.0 (omega (arith, measure-append limit x y, is.1))
 
-nothing_test : (most : ℕ) {measure : ℕ} → measure ≡ 0 → (nat_lt 0 most && nat_le most measure) ≡ false
-nothing_test most none = grind (arith, nat_tests, none)
-
 pub nothing_short : (limit : Limit) (x : List ℕ) → length x ≡ 0 → is_full limit x ≡ false
-nothing_short limit x none = nothing_test (most limit) (omega (arith, none, measure-le-length limit x))
+nothing_short limit x none = grind (arith, nat_tests, none, measure-le-length limit x)
 
 pub has_lines : (n : ℕ) → 0 < n → nat_lt 0 n ≡ true
 has_lines n some = grind (arith, nat_tests, some)
@@ -96,9 +84,6 @@ first_some_by (Lines n delim) x some enough = omega (arith, delimiters-first_lin
 first_some_by (Bytes n) x some enough = omega (arith, length-take-le n x enough)
 first_some_by (LineBytes n delim) x some enough = whole_some delim (take n x) (omega (arith, length-take-le n x enough))
 
-pub first_some : (limit : Limit) (x : List ℕ) → is_full limit x ≡ true → 0 < length (first_part limit x)
-first_some limit x full = let is = full_some limit x full in first_some_by limit x is.0 is.1
-
 first-append_by : (limit : Limit) (x y : List ℕ) → most limit ≤ measure limit x → first_part limit (x ++ y) ≡ first_part limit x
 first-append_by (Lines n delim) x y enough = first_lines-full delim n x y enough
 first-append_by (Bytes n) x y enough = take-append-le n x y enough
@@ -112,7 +97,7 @@ after-append limit x y full = ap (λ (first : List ℕ). drop (length first) (x 
     ∙ drop-append-le (length (first_part limit x)) x y (first_within limit x)
 
 after_less : (limit : Limit) (x : List ℕ) (bound : ℕ) → is_full limit x ≡ true → length x ≤ suc bound → length (after_first limit x) ≤ bound
-after_less limit x bound full within = omega (arith, first_some limit x full, length-drop (length (first_part limit x)) x)
+after_less limit x bound full within = omega (arith, first_some_by limit x (full_some limit x full).0 (full_some limit x full).1, length-drop (length (first_part limit x)) x)
 
 cuts_within : {limit : Limit} (bound : ℕ) {x : List ℕ} → length x ≤ bound → Cuts limit x (cut_within bound limit x).full (cut_within bound limit x).rest
 cuts_within {limit} zero {x} within = stops x (nothing_short limit x (omega arith))

@@ -58,9 +58,6 @@ dealt_none n file place (line ∷ lines) short within =
     ap (λ gets. cond gets (line ++ dealt n file (place + 1) lines) (dealt n file (place + 1) lines)) (differs n file place (omega arith) within)
     ∙ dealt_none n file (place + 1) lines (omega arith) within
 
-some_line : (line rest : List ℕ) → 0 < length line → 0 < length (line ++ rest)
-some_line line rest some = omega (arith, length-append line rest)
-
 some_either : (gets : Bool) (line rest : List ℕ) → 0 < length rest → 0 < length (cond gets (line ++ rest) rest)
 some_either true line rest some = omega (arith, length-append line rest)
 some_either false line rest some = some
@@ -76,7 +73,7 @@ dealt_some n file place (line ∷ lines) each from before within = elim (cases_e
   found : place ≡ file → 0 < length (dealt n file place (line ∷ lines))
   found here =
       let same : eqb (place % n) file ≡ true = eq-eqb (place % n) file (mod-eq_of_lt (omega arith) ∙ here) in
-      rw same (some_line line (dealt n file (place + 1) lines) each.0)
+      rw same (omega (arith, each.0, length-append line (dealt n file (place + 1) lines)))
 
 onto_each : (byte : ℕ) (lines : List (List ℕ)) → EachSome lines → EachSome (onto_first byte lines)
 onto_each byte [] each = (omega arith, tt)
