@@ -1,4 +1,5 @@
 -- What all continuations agree on, of files.
+use Rattle.std.proofs.lemmas.Bool.Decides.{nat_tests}
 use Rattle.std.proofs.Common.{◌≡◌, ℕ, ◌+◌, ◌-◌, ◌<◌, zero, suc, List, [], ◌∷◌, ◌++◌, length, map, replicate, Bool, true, false, cond, inl, inr, refl, sym, ◌∙◌, ap, subst, arith, append_assoc, length-append}
 use Rattle.std.proofs.Math.Nat.{zero-add}
 use Rattle.std.proofs.lemmas.Bool.{cases_lt, ne_eqb}
@@ -34,13 +35,9 @@ abbrev pub named_bytes : Naming → ℕ → List (List ℕ) → List (List ℕ)
 named_bytes names place [] = []
 named_bytes names place (one ∷ those) = cond (is_named names place) (one ∷ named_bytes names (place + 1) those) []
 
-file_step : (is : Bool) (file : File) (files : List File) {those : List (List ℕ)} → map (λ (file : File). file.bytes) files ≡ those → map (λ (file : File). file.bytes) (cond is (file ∷ files) []) ≡ cond is (file.bytes ∷ those) []
-file_step true file files are = ap (λ rest. file.bytes ∷ rest) are
-file_step false file files are = refl
-
 pub bytes_named : (names : Naming) (place : ℕ) (shares : List Share) → map (λ (file : File). file.bytes) (named names place shares) ≡ named_bytes names place (map (λ (file : Share). file.bytes) shares)
 bytes_named names place [] = refl
-bytes_named names place (one ∷ shares) = file_step (is_named names place) (file_at names place one) (named names (place + 1) shares) (bytes_named names (place + 1) shares)
+bytes_named names place (one ∷ shares) = grind (arith, nat_tests, bytes_named names (place + 1) shares)
 
 more_step : (is : Bool) (one : List ℕ) (all front : List (List ℕ)) → (more : List (List ℕ)) × (all ≡ front ++ more) → (more : List (List ℕ)) × (cond is (one ∷ all) [] ≡ cond is (one ∷ front) [] ++ more)
 more_step true one all front (more, are) = (more, ap (λ rest. one ∷ rest) are)
@@ -51,13 +48,9 @@ pub named_more : (names : Naming) (place : ℕ) (front back : List (List ℕ)) �
 named_more names place [] back = (named_bytes names place back, refl)
 named_more names place (one ∷ front) back = more_step (is_named names place) one _ _ (named_more names (place + 1) front back)
 
-count_step : (is : Bool) (one two : List ℕ) (these those : List (List ℕ)) → length these ≡ length those → length (cond is (one ∷ these) []) ≡ length (cond is (two ∷ those) [])
-count_step true one two these those same = ap suc same
-count_step false one two these those same = refl
-
 pub count_named : (names : Naming) (place : ℕ) (these those : List (List ℕ)) → length these ≡ length those → length (named_bytes names place these) ≡ length (named_bytes names place those)
 count_named names place [] [] same = refl
-count_named names place (one ∷ these) (two ∷ those) same = count_step (is_named names place) one two _ _ (count_named names (place + 1) these those (omega (arith, same)))
+count_named names place (one ∷ these) (two ∷ those) same = grind (arith, nat_tests, count_named names (place + 1) these those (omega (arith, same)))
 count_named names place these those same = absurd (omega (arith, same))
 
 named_each : (names : Naming) (place : ℕ) (one : List ℕ) (those : List (List ℕ)) → is_named names (place + length those) ≡ true → named_bytes names place (one ∷ those) ≡ one ∷ those

@@ -1,4 +1,5 @@
 -- Lemmas on delimiters that were seen ahead.
+use Rattle.std.proofs.lemmas.Bool.Decides.{nat_tests}
 use Rattle.std.proofs.Common.{◌≡◌, ◌≢◌, ℕ, ◌+◌, ◌-◌, ◌*◌, ◌/◌, ◌^◌, ◌<◌, ◌≤◌, zero, suc, min, Bool, true, false, not, cond, eqb, List, [], ◌∷◌, ◌++◌, length, take, drop, get_or, refl, sym, ◌∙◌, ap, subst, arith, length-append, replicate}
 use Rattle.std.specs.List.{prefix_len}
 use Rattle.std.specs.Int.Count.{count_trailing_zeros}
@@ -20,13 +21,9 @@ none_append delim [] y first rest = rest
 none_append delim (byte ∷ x) y first rest = (first.0, none_append delim x y first.1 rest)
 
 -- a mask without a bit
-unmarked_step : (delim : ℕ) (is : Bool) (byte : ℕ) {rest : ℕ} → eqb byte delim ≡ is → cond is 1 0 + 2 * rest ≡ 0 → (byte ≢ delim) × (rest ≡ 0)
-unmarked_step delim true byte here none = absurd (omega (arith, none))
-unmarked_step delim false byte here none = (eqb-false byte delim here, omega (arith, none))
-
 unmarked : (delim : ℕ) (x : List ℕ) → delimiter_mask delim x ≡ 0 → HasNone delim x
 unmarked delim [] none = tt
-unmarked delim (byte ∷ x) none = let first = unmarked_step delim (eqb byte delim) byte refl none in (first.0, unmarked delim x first.1)
+unmarked delim (byte ∷ x) none = (grind (arith, nat_tests, none), unmarked delim x (grind (arith, nat_tests, none)))
 
 -- how many bytes stand before the first delimiter
 abbrev pub before_first : ℕ → List ℕ → ℕ

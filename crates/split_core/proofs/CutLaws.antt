@@ -23,10 +23,7 @@ pub open_of_none : (delim : ℕ) (x : List ℕ) → delimiters delim x ≡ 0 →
 open_of_none delim x none = ap (λ has. cond has (after_lines delim (delimiters delim x) x) []) (without_lines none)
 
 whole_is_take : (delim : ℕ) (x : List ℕ) → whole_lines delim x ≡ take (length (whole_lines delim x)) x
-whole_is_take delim x = by (nat_lt 0 (delimiters delim x)) where
-  by : (has : Bool) → cond has (first_lines delim (delimiters delim x) x) x ≡ take (length (cond has (first_lines delim (delimiters delim x) x) x)) x
-  by true = first_lines-is_take delim (delimiters delim x) x
-  by false = sym (take_all (length x) x (omega arith))
+whole_is_take delim x = grind (arith, nat_tests, first_lines-is_take delim (delimiters delim x) x, take_all (length x) x (omega arith))
 
 -- the first part of a text that has it in full
 

@@ -1,4 +1,5 @@
 -- How the files of `split` change, as they are opened, written and closed.
+use Rattle.std.proofs.lemmas.Bool.Decides.{nat_tests}
 use Rattle.std.proofs.Common.{◌≡◌, ℕ, ◌+◌, ◌≤◌, zero, suc, List, [], ◌∷◌, ◌++◌, ◌⊎◌, length, take, Bool, true, false, cond, IsTrue, Option, Some, None, Result, Ok, Err, OnOk, IfErr, inl, inr, refl, sym, ◌∙◌, ap, subst, arith, length-append}
 use Rattle.std.proofs.Math.Nat.{add-zero, zero-add}
 use Rattle.std.proofs.lemmas.Bool.{false≢true}
@@ -29,10 +30,7 @@ use Rattle.split_core.specs.inner.Moves.{part_of, Goes, Reaches, RunsShort, Keep
 -- names
 
 pub named_before : (names : Naming) (place more : ℕ) → is_named names more ≡ true → place ≤ more → is_named names place ≡ true
-named_before names place more is less = by (is_named names place) refl where
-  by : (b : Bool) → is_named names place ≡ b → is_named names place ≡ true
-  by true e = e
-  by false e = absurd (false≢true (sym (no_more names place more e less) ∙ is))
+named_before names place more is less = grind (arith, nat_tests, is, less)
 
 -- the files of shares that all have names, and then the files of those after them
 pub named_on : (names : Naming) (place : ℕ) (front rest : List Share) → is_named names (place + length front) ≡ true → named names place (front ++ rest) ≡ named names place front ++ named names (place + length front) rest

@@ -1,4 +1,5 @@
 -- Where each line of a text is dealt to: the lines of a file by their places in the text.
+use Rattle.std.proofs.lemmas.Bool.Decides.{nat_tests}
 use Rattle.std.proofs.Common.{◌≡◌, ℕ, ◌+◌, ◌-◌, ◌*◌, ◌%◌, ◌<◌, ◌≤◌, zero, suc, min, List, [], ◌∷◌, ◌++◌, length, take, map, get_or, Bool, true, false, cond, eqb, if◌then◌else◌, ◌==◌, inl, inr, refl, sym, ◌∙◌, ap, arith, length-append}
 use Rattle.std.proofs.Math.Nat.{suc-mul, zero-mul, mod-lt, mod-add-mod, mod-eq_of_lt, add-mod_right}
 use Rattle.std.specs.List.{range_with_len}
@@ -17,13 +18,9 @@ abbrev pub lines_dealt : ℕ → ℕ → ℕ → List (List ℕ) → List (List 
 lines_dealt n file place [] = []
 lines_dealt n file place (line ∷ lines) = if place % n == file then line ∷ lines_dealt n file (place + 1) lines else lines_dealt n file (place + 1) lines
 
-joined_step : (gets : Bool) (line : List ℕ) {rest : List ℕ} (lines : List (List ℕ)) → rest ≡ joined lines → cond gets (line ++ rest) rest ≡ joined (cond gets (line ∷ lines) lines)
-joined_step true line lines is = ap (λ those. line ++ those) is
-joined_step false line lines is = is
-
 dealt_are : (n file place : ℕ) (lines : List (List ℕ)) → dealt n file place lines ≡ joined (lines_dealt n file place lines)
 dealt_are n file place [] = refl
-dealt_are n file place (line ∷ lines) = joined_step (eqb (place % n) file) line _ (dealt_are n file (place + 1) lines)
+dealt_are n file place (line ∷ lines) = grind (arith, nat_tests, dealt_are n file (place + 1) lines)
 
 -- what the file gets still consists of lines
 
@@ -37,13 +34,9 @@ before_some delim line (next ∷ lines) [] each few those = inl each.0
 before_some delim line [] (first ∷ chosen) each few those = absurd (omega arith)
 before_some delim line (next ∷ lines) (first ∷ chosen) each few those = (each.0, those)
 
-few_step : (gets : Bool) (line : List ℕ) (chosen lines : List (List ℕ)) → length chosen ≤ length lines → length (cond gets (line ∷ chosen) chosen) ≤ suc (length lines)
-few_step true line chosen lines few = omega arith
-few_step false line chosen lines few = omega arith
-
 few_dealt : (n file place : ℕ) (lines : List (List ℕ)) → length (lines_dealt n file place lines) ≤ length lines
 few_dealt n file place [] = omega arith
-few_dealt n file place (line ∷ lines) = few_step (eqb (place % n) file) line _ lines (few_dealt n file (place + 1) lines)
+few_dealt n file place (line ∷ lines) = grind (arith, nat_tests, few_dealt n file (place + 1) lines)
 
 lines_step : (delim : ℕ) (gets : Bool) (line : List ℕ) (lines chosen : List (List ℕ)) → AreLines delim (line ∷ lines) → length chosen ≤ length lines → AreLines delim chosen → AreLines delim (cond gets (line ∷ chosen) chosen)
 lines_step delim true line lines chosen each few those = before_some delim line lines chosen each few those

@@ -51,16 +51,10 @@ pub whole_of_none : (delim : ℕ) (x : List ℕ) → delimiters delim x ≡ 0 �
 whole_of_none delim x none = ap (λ has. cond has (first_lines delim (delimiters delim x) x) x) (without_lines none)
 
 pub whole_then_open : (delim : ℕ) {x : List ℕ} → whole_lines delim x ++ open_line delim x ≡ x
-whole_then_open delim {x} = by (nat_lt 0 (delimiters delim x)) where
-  by : (has : Bool) → cond has (first_lines delim (delimiters delim x) x) x ++ cond has (after_lines delim (delimiters delim x) x) [] ≡ x
-  by true = first_lines_then_rest delim (delimiters delim x) x
-  by false = append-nil x
+whole_then_open delim {x} = grind (arith, nat_tests, first_lines_then_rest delim (delimiters delim x) x, append-nil x)
 
 pub whole_within : (delim : ℕ) (x : List ℕ) → length (whole_lines delim x) ≤ length x
-whole_within delim x = by (nat_lt 0 (delimiters delim x)) where
-  by : (has : Bool) → length (cond has (first_lines delim (delimiters delim x) x) x) ≤ length x
-  by true = length-first_lines-le delim (delimiters delim x) x
-  by false = omega arith
+whole_within delim x = grind (arith, nat_tests, length-first_lines-le delim (delimiters delim x) x)
 
 pub whole_some : (delim : ℕ) (x : List ℕ) → 0 < length x → 0 < length (whole_lines delim x)
 whole_some delim x some = by (nat_lt 0 (delimiters delim x)) refl where
