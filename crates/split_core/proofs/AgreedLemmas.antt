@@ -93,8 +93,7 @@ decides_now {limit} {x} same = record {
 
 none_among : (delim k : ℕ) → delimiters delim (replicate k (other delim)) ≡ 0
 none_among delim zero = refl
-none_among delim (suc k) =
-    ap (λ is. cond is (delimiters delim (replicate k (other delim)) + 1) (delimiters delim (replicate k (other delim)))) (ne_eqb (other delim) delim (λ is. other_differs delim (sym is))) ∙ none_among delim k
+none_among delim (suc k) = cc (ne_eqb (other delim) delim (λ is. other_differs delim (sym is)), none_among delim k)
 
 -- as many further bytes as a part lacks, none of which is a delimiter
 abbrev pub filling : (delim n : ℕ) → List ℕ → List ℕ

@@ -138,8 +138,7 @@ sees_rest {delim} {x} {ahead} at sees inside is = record {
   place = omega arith
 
   window : drop (suc at) (take ahead.width (drop ahead.passed x)) ≡ take (ahead.width - (at + 1)) (drop (ahead.passed + at + 1) x)
-  window = ap (λ n. drop (suc at) (take n (drop ahead.passed x))) (sym further) ∙ drop-take (suc at) (ahead.width - (at + 1)) (drop ahead.passed x)
-      ∙ ap (take (ahead.width - (at + 1))) (drop-drop (suc at) ahead.passed x ∙ ap (λ n. drop n x) place)
+  window = cc (further, drop-take (suc at) (ahead.width - (at + 1)) (drop ahead.passed x), drop-drop (suc at) ahead.passed x, place)
 
 -- other bytes after a text leave the mask as it is
 pub mask_padded : (delim other : ℕ) (x : List ℕ) (n : ℕ) → eqb other delim ≡ false → delimiter_mask delim (x ++ replicate n other) ≡ delimiter_mask delim x

@@ -40,8 +40,7 @@ first_then_after limit x = ap (λ front. front ++ after_first limit x) (first_is
 
 cuts_all : {limit : Limit} {x : List ℕ} {parts : List (List ℕ)} {rest : List ℕ} → Cuts limit x parts rest → joined parts ++ rest ≡ x
 cuts_all (stops _ short) = refl
-cuts_all {limit} {x} {rest} (goes _ parts _ full after) =
-    append_assoc (first_part limit x) (joined parts) rest ∙ ap (λ those. first_part limit x ++ those) (cuts_all after) ∙ first_then_after limit x
+cuts_all {limit} {x} {rest} (goes _ parts _ full after) = cc (append_assoc (first_part limit x) (joined parts) rest, cuts_all after, first_then_after limit x)
 
 -- nothing is lost
 pub cut_all : (limit : Limit) {x : List ℕ} → joined (cut_up limit x).full ++ (cut_up limit x).rest ≡ x

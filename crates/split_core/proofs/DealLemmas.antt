@@ -55,10 +55,7 @@ came false had line rest = refl
 shares_next : {n : ℕ} (next place : ℕ) (gathered : List (List ℕ)) (line : List ℕ) (lines : List (List ℕ)) (file : ℕ) → length gathered ≡ n → next < n → file < n → dealt n file place lines ≡ dealt n file (next + 1) lines
     → get_or (changed_at next (λ had. had ++ line) gathered) file [] ++ dealt n file place lines ≡ get_or gathered file [] ++ dealt n file next (line ∷ lines)
 shares_next {n} next place gathered line lines file count within inside same =
-    ap (λ had. had ++ dealt n file place lines) (get_or-changed next line gathered file (omega arith))
-    ∙ came (eqb next file) (get_or gathered file []) line (dealt n file place lines)
-    ∙ ap (λ rest. get_or gathered file [] ++ cond (eqb next file) (line ++ rest) rest) same
-    ∙ ap (λ at. get_or gathered file [] ++ cond (eqb at file) (line ++ dealt n file (next + 1) lines) (dealt n file (next + 1) lines)) (sym (mod-eq_of_lt within))
+    cc (get_or-changed next line gathered file (omega arith), came (eqb next file) (get_or gathered file []) line (dealt n file place lines), same, mod-eq_of_lt within)
 
 counted : (delim : ℕ) (left line rest : List ℕ) → lines_of delim left ≡ line ∷ lines_of delim rest → line_count delim left ≡ suc (line_count delim rest)
 counted delim left line rest cut = ap length cut

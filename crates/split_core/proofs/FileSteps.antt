@@ -93,10 +93,7 @@ opens told files before these old new place drawn count is at = subst (λ those.
       place_is = omega (arith, length-map these (share Open))
 
       files_are : filed names 0 (map (share Open) (added these (only_at place []))) ≡ filed names 0 (map (share Open) these) ++ file_at names place (share Open []) ∷ []
-      files_are = ap (λ those. filed names 0 (map (share Open) those)) (new_at place these count)
-          ∙ ap (λ shares. filed names 0 shares) (map-append (share Open) these ([] ∷ []))
-          ∙ filed_more names 0 (map (share Open) these) (share Open [])
-          ∙ ap (λ place. filed names 0 (map (share Open) these) ++ file_at names place (share Open []) ∷ []) place_is
+      files_are = cc (new_at place these count, map-append (share Open) these ([] ∷ []), filed_more names 0 (map (share Open) these) (share Open []), place_is)
 
 marks_failed : (IsName : List ℕ → Type 0) {files next : FilesState} {old new : List Slot} {why : Fault} → IsName (next_name files.names) → FailsToFollow files old next new why → Marks IsName why old new
 marks_failed IsName {files} named (could_not _ (broke slot kept is kept_is made) drew) = (is, (next_name files.names, kept, named, kept_is, made))

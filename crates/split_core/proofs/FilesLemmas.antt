@@ -89,8 +89,7 @@ pub added_again : (these first second : List (List ℕ)) → added (added these 
 added_again [] first second = refl
 added_again (bytes ∷ these) [] second = refl
 added_again (bytes ∷ these) (one ∷ first) [] = refl
-added_again (bytes ∷ these) (one ∷ first) (next ∷ second) =
-    ap (λ all. all ∷ added (added these first) second) (append_assoc bytes one next) ∙ ap (λ rest. (bytes ++ (one ++ next)) ∷ rest) (added_again these first second)
+added_again (bytes ∷ these) (one ∷ first) (next ∷ second) = cc (append_assoc bytes one next, added_again these first second)
 
 take_added : (n : ℕ) (these more : List (List ℕ)) → take n (added these more) ≡ added (take n these) (take n more)
 take_added (suc n) [] more = refl
@@ -135,15 +134,13 @@ only_again (suc place) bytes = ap (λ rest. [] ∷ rest) (only_again place bytes
 -- nothing changes where no bytes go to files that are open
 pub idle_before : (place : ℕ) (bytes : List ℕ) (these : List (List ℕ)) → place ≤ length these → added these (take place (only_at place bytes)) ≡ these
 idle_before (suc place) bytes [] few = absurd (omega (arith, few))
-idle_before (suc place) bytes (one ∷ these) few =
-    ap (λ all. all ∷ added these (take place (only_at place bytes))) (append-nil one) ∙ ap (λ rest. one ∷ rest) (idle_before place bytes these (omega (arith, few)))
+idle_before (suc place) bytes (one ∷ these) few = cc (append-nil one, idle_before place bytes these (omega (arith, few)))
 idle_before place bytes these few = added_none these
 
 pub idle_at : (place : ℕ) (these : List (List ℕ)) → place < length these → added these (only_at place []) ≡ these
 idle_at place [] within = absurd (omega (arith, within))
 idle_at zero (one ∷ these) within = ap (λ all. all ∷ added these []) (append-nil one) ∙ ap (λ rest. one ∷ rest) (added_none these)
-idle_at (suc place) (one ∷ these) within =
-    ap (λ all. all ∷ added these (only_at place [])) (append-nil one) ∙ ap (λ rest. one ∷ rest) (idle_at place these (omega (arith, within)))
+idle_at (suc place) (one ∷ these) within = cc (append-nil one, idle_at place these (omega (arith, within)))
 
 -- the next file has nothing yet
 pub new_at : (place : ℕ) (these : List (List ℕ)) → length these ≡ place → added these (only_at place []) ≡ these ++ [] ∷ []
@@ -156,8 +153,7 @@ pub added_next : (place : ℕ) (more : List (List ℕ)) {bytes : List ℕ} → p
     → added (take place more) (only_at place bytes) ≡ take (suc place) more
 added_next place [] within is = absurd (omega (arith, within))
 added_next zero (next ∷ more) within is = ap (λ one. one ∷ []) is
-added_next (suc place) (next ∷ more) {bytes} within is =
-    ap (λ all. all ∷ added (take place more) (only_at place bytes)) (append-nil next) ∙ ap (λ rest. next ∷ rest) (added_next place more (omega (arith, within)) is)
+added_next (suc place) (next ∷ more) {bytes} within is = cc (append-nil next, added_next place more (omega (arith, within)) is)
 
 -- Files
 
@@ -178,9 +174,7 @@ pub filed_gets : (names : Naming) (from place : ℕ) (bytes : List ℕ) (these :
     → changed_at place (gets bytes) (filed names from (map (share Open) these)) ≡ filed names from (map (share Open) (added these (only_at place bytes)))
 filed_gets names from place bytes [] within = absurd (omega (arith, within))
 filed_gets names from zero bytes (one ∷ these) within = ap (λ rest. file_at names from (share Open (one ++ bytes)) ∷ filed names (from + 1) (map (share Open) rest)) (sym (added_none these))
-filed_gets names from (suc place) bytes (one ∷ these) within =
-    ap (λ had. file_at names from (share Open had) ∷ changed_at place (gets bytes) (filed names (from + 1) (map (share Open) these))) (sym (append-nil one))
-    ∙ ap (λ rest. file_at names from (share Open (one ++ [])) ∷ rest) (filed_gets names (from + 1) place bytes these (omega (arith, within)))
+filed_gets names from (suc place) bytes (one ∷ these) within = cc (append-nil one, filed_gets names (from + 1) place bytes these (omega (arith, within)))
 
 pub filed_ends : (names : Naming) (from place : ℕ) (these : List (List ℕ)) → changed_at place ended (filed names from (closed_first place these)) ≡ filed names from (closed_first (suc place) these)
 filed_ends names from zero [] = refl

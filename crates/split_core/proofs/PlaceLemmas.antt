@@ -101,9 +101,7 @@ line_at delim n file k x within =
 none_gets : (had : ℕ → List ℕ) (line : List ℕ) (place start count : ℕ) → place < start
     → joined (map (λ file. cond (eqb place file) (line ++ had file) (had file)) (range_with_len start count)) ≡ joined (map had (range_with_len start count))
 none_gets had line place start zero before = refl
-none_gets had line place start (suc count) before =
-    ap (λ gets. cond gets (line ++ had start) (had start) ++ joined (map (λ file. cond (eqb place file) (line ++ had file) (had file)) (range_with_len (start + 1) count))) (ne_eqb place start (λ is. omega (arith, is)))
-    ∙ ap (λ rest. had start ++ rest) (none_gets had line place (start + 1) count (omega arith))
+none_gets had line place start (suc count) before = cc (ne_eqb place start (λ is. omega (arith, is)), none_gets had line place (start + 1) count (omega arith))
 
 one_gets : (had : ℕ → List ℕ) (line : List ℕ) (place start count : ℕ) → start ≤ place → place < start + count
     → length (joined (map (λ file. cond (eqb place file) (line ++ had file) (had file)) (range_with_len start count))) ≡ length line + length (joined (map had (range_with_len start count)))

@@ -51,8 +51,7 @@ named_fewer names (suc last) count are within = named_at names count last are (o
 all_filed : (names : Naming) (count place : ℕ) (shares : List Share) → are_named names count ≡ true → place + length shares ≤ count → named (from_start names) place shares ≡ filed (from_start names) place shares
 all_filed names count place [] are few = refl
 all_filed names count place (one ∷ shares) are few =
-    ap (λ is. cond is (file_at (from_start names) place one ∷ named (from_start names) (place + 1) shares) []) (named_at names count place are (omega arith))
-    ∙ ap (λ rest. file_at (from_start names) place one ∷ rest) (all_filed names count (place + 1) shares are (omega arith))
+    cc (named_at names count place are (omega arith), all_filed names count (place + 1) shares are (omega arith))
 
 -- The files of a text
 
@@ -73,9 +72,7 @@ pub settled_is : (delim : ℕ) (names : Naming) (elide : Bool) (n : ℕ) (x : Li
 settled_is delim names elide n x are = ap only_files (filed_are delim Open names elide n x are)
 
 pub whole_is : (delim : ℕ) (names : Naming) (elide : Bool) (n : ℕ) (x : List ℕ) → are_named names n ≡ true → whole_by (round_plan delim n elide (from_start names)) x ≡ closing_part names (opened_by delim elide n x) (files_of delim elide n x)
-whole_is delim names elide n x are = ap only_files (filed_are delim Closed names elide n x are)
-    ∙ ap (λ shares. only_files (filed (from_start names) 0 shares)) (sym (closed_all (files_of delim elide n x)))
-    ∙ ap (λ count. closing_part names count (files_of delim elide n x)) (length-files_of delim elide n x)
+whole_is delim names elide n x are = cc (filed_are delim Closed names elide n x are, closed_all (files_of delim elide n x), length-files_of delim elide n x)
 
 pub never_short : (delim : ℕ) (names : Naming) (elide : Bool) (n : ℕ) (x : List ℕ) → are_named names n ≡ true → false ≡ is_short (round_plan delim n elide names) x
 never_short delim names elide n x are =
@@ -145,8 +142,7 @@ first_gathered delim n start {reached} piece is reached_is = ap (take reached) i
 pub same_work : (old new : RoundState) → new.delim ≡ old.delim → new.count ≡ old.count → new.elide ≡ old.elide → from_start new.files.names ≡ from_start old.files.names → work new ≡ work old
 same_work old new delim count elide names = ap round_work same where
   same : plan_of new ≡ plan_of old
-  same = ap (λ d. round_plan d new.count new.elide (from_start new.files.names)) delim ∙ ap (λ n. round_plan old.delim n new.elide (from_start new.files.names)) count
-      ∙ ap (λ those. round_plan old.delim old.count those (from_start new.files.names)) elide ∙ ap (λ those. round_plan old.delim old.count old.elide those) names
+  same = cc (delim, count, elide, names)
 
 -- what a piece makes of the files, where the stage can have been fed x
 made_is : {round : RoundState} {x : List ℕ} (piece : List ℕ) → Holds round x → open_part round.files.names (added (files_of round.delim round.elide round.count x) (dealt_first round.delim round.count round.next piece)) ≡ (work round).settled (x ++ piece)

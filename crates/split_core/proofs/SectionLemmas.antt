@@ -185,8 +185,7 @@ joined_one [] = refl
 joined_one (byte ∷ rest) = append-nil (byte ∷ rest)
 
 pub joined_parts : (limit : Limit) (x : List ℕ) → joined (parts limit x) ≡ x
-joined_parts limit x =
-    joined-append (cut_up limit x).full (unless_empty (cut_up limit x).rest) ∙ ap (λ rest. joined (cut_up limit x).full ++ rest) (joined_one (cut_up limit x).rest) ∙ cut_all limit
+joined_parts limit x = cc (joined-append (cut_up limit x).full (unless_empty (cut_up limit x).rest), joined_one (cut_up limit x).rest, cut_all limit {x = x})
 
 waits_few : (limit : Limit) (rest : List ℕ) → 0 < most limit → is_full limit rest ≡ false → length (waiting_rest limit rest) < most limit
 waits_few (LineBytes n delim) rest some short =

@@ -49,8 +49,7 @@ begun_so {parts} {x} stands = record { drawn = stands.drawn; enough = stands.eno
 -- what is begun, what waits and more are together what is left and more
 all_of : {parts : PartsState} {x : List ℕ} (more : List ℕ) → Stands parts x → begun_of parts x ++ (parts.waiting ++ more) ≡ rest_of parts x ++ more
 all_of {parts} {x} more stands =
-    ap (λ waits. begun_of parts x ++ (waits ++ more)) stands.waits ∙ sym (append_assoc (begun_of parts x) (waiting_rest parts.limit (rest_of parts x)) more)
-    ∙ ap (λ those. those ++ more) (settled_then_waiting parts.limit (rest_of parts x))
+    cc (stands.waits, append_assoc (begun_of parts x) (waiting_rest parts.limit (rest_of parts x)) more, settled_then_waiting parts.limit (rest_of parts x))
 
 -- a text that goes on, by how what was left of it is cut then
 
@@ -83,8 +82,7 @@ grown limit x piece bytes = subst (λ all. SharesBegin (settled_parts limit (x +
 turned_is : (parts : PartsState) (x taken : List ℕ) {first past : List ℕ} → IsTurned parts.limit (rest_of parts x ++ taken) first past
     → settled_parts parts.limit (x ++ taken) ≡ written (full_of parts x ++ share file_state.Closed first ∷ []) past
 turned_is parts x taken {first} {past} leads =
-    settled_by parts x taken (first ∷ []) past (cut_two parts.limit past leads.full leads.first_is leads.both leads.begun.short)
-    ∙ ap (written (full_of parts x ++ share file_state.Closed first ∷ [])) leads.begun.settled
+    cc (settled_by parts x taken (first ∷ []) past (cut_two parts.limit past leads.full leads.first_is leads.both leads.begun.short), leads.begun.settled)
 
 turned_below : (parts : PartsState) (x piece : List ℕ) (bytes : ℕ) {first past : List ℕ} → IsTurned parts.limit (rest_of parts x ++ take bytes piece) first past
     → SharesBegin (written (full_of parts x ++ share file_state.Closed first ∷ []) past) (settled_parts parts.limit (x ++ piece))
@@ -160,8 +158,7 @@ ends_on {parts} piece {past} end bytes result begun inside within leads is exten
 -- no part is full yet
 short_is : (parts : PartsState) (x taken : List ℕ) → is_full parts.limit (rest_of parts x ++ taken) ≡ false
     → settled_parts parts.limit (x ++ taken) ≡ written (full_of parts x) (settled_rest parts.limit (rest_of parts x ++ taken))
-short_is parts x taken short = settled_by parts x taken [] (rest_of parts x ++ taken) (cut_none parts.limit _ short)
-    ∙ ap (λ shares. written shares (settled_rest parts.limit (rest_of parts x ++ taken))) (append-nil (full_of parts x))
+short_is parts x taken short = cc (settled_by parts x taken [] (rest_of parts x ++ taken) (cut_none parts.limit _ short), append-nil (full_of parts x))
 
 -- all that is left goes to the part that was begun
 pub goes_on : {told : Bool} {parts fresh next : PartsState} (piece : List ℕ) (bytes left : ℕ) (has_line : Bool) {old new : List Slot} → LeadsOn parts piece (Goes bytes left has_line)

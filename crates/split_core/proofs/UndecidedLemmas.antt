@@ -176,9 +176,7 @@ dealt_bytes delim n elide x some = ap length (joined_files delim elide n x) ∙ 
 
 dealt_decided : (delim n : ℕ) (names : Naming) (x y : List ℕ) (i : ℕ) → i < length x → dealt_spots delim n names (x ++ y) i ≡ dealt_spots delim n names x i
 dealt_decided delim n names x y i less =
-    ap (λ within. cond (within && is_named names (dealt_to delim n (x ++ y) i)) (spot (dealt_to delim n (x ++ y) i + 1) (length (dealt n (dealt_to delim n (x ++ y) i) 0 (lines_of delim (take i (x ++ y))))) ∷ []) [])
-    (lt-ltb i (length (x ++ y)) (omega (arith, length-append x y, less)) ∙ sym (lt-ltb i (length x) less))
-    ∙ ap (λ front. cond (nat_lt i (length x) && is_named names (delimiters delim front % n)) (spot (delimiters delim front % n + 1) (length (dealt n (delimiters delim front % n) 0 (lines_of delim front))) ∷ []) []) (take-append-le i x y (omega (arith, less)))
+    cc (lt-ltb i (length (x ++ y)) (omega (arith, length-append x y, less)), lt-ltb i (length x) less, take-append-le i x y (omega (arith, less)))
 
 round_undecided : (delim n : ℕ) (elide : Bool) (names : Naming) {x : List ℕ} → 0 < n → are_named names (length (dealt_files delim elide n x)) ≡ true
     → IsUndecided (split_spots (round_plan delim n elide names)) x ((split_work (round_plan delim n elide names)).waiting x)

@@ -87,8 +87,7 @@ pub first-append : (limit : Limit) (x y : List ℕ) → is_full limit x ≡ true
 first-append limit x y full = first-append_by limit x y (full_some limit x full).1
 
 pub after-append : (limit : Limit) (x y : List ℕ) → is_full limit x ≡ true → after_first limit (x ++ y) ≡ after_first limit x ++ y
-after-append limit x y full = ap (λ (first : List ℕ). drop (length first) (x ++ y)) (first-append limit x y full)
-    ∙ drop-append-le (length (first_part limit x)) x y (first_within limit x)
+after-append limit x y full = cc (first-append limit x y full, drop-append-le (length (first_part limit x)) x y (first_within limit x))
 
 after_less : (limit : Limit) (x : List ℕ) (bound : ℕ) → is_full limit x ≡ true → length x ≤ suc bound → length (after_first limit x) ≤ bound
 after_less limit x bound full within = omega (arith, first_some_by limit x (full_some limit x full).0 (full_some limit x full).1, length-drop (length (first_part limit x)) x)
@@ -114,9 +113,7 @@ once_within zero within (stops _ short) = refl
 once_within {limit} zero {x} within (goes _ parts rest full more) = absurd (false≢true (sym (nothing_short limit x (omega arith)) ∙ full))
 once_within {limit} (suc bound) {x} within (stops _ short) =
     ap (λ full. cond full (part_before (first_part limit x) (cut_within bound limit (after_first limit x))) (uncut x)) short
-once_within {limit} (suc bound) {x} within (goes _ parts rest full more) =
-    ap (λ is. cond is (part_before (first_part limit x) (cut_within bound limit (after_first limit x))) (uncut x)) full ∙ ap (part_before (first_part limit x))
-    (once_within bound (after_less limit x bound full within) more)
+once_within {limit} (suc bound) {x} within (goes _ parts rest full more) = cc (full, once_within bound (after_less limit x bound full within) more)
 
 -- a text is cut in one way
 pub cut_once : (limit : Limit) {x : List ℕ} {parts : List (List ℕ)} {rest : List ℕ} → Cuts limit x parts rest → cut_up limit x ≡ cut_so parts rest

@@ -49,9 +49,7 @@ differs n file place before within = ne_eqb (place % n) file (λ same. let here 
 
 pub dealt_none : (n file place : ℕ) (lines : List (List ℕ)) → place + length lines ≤ file → file < n → dealt n file place lines ≡ []
 dealt_none n file place [] short within = refl
-dealt_none n file place (line ∷ lines) short within =
-    ap (λ gets. cond gets (line ++ dealt n file (place + 1) lines) (dealt n file (place + 1) lines)) (differs n file place (omega arith) within)
-    ∙ dealt_none n file (place + 1) lines (omega arith) within
+dealt_none n file place (line ∷ lines) short within = cc (differs n file place (omega arith) within, dealt_none n file (place + 1) lines (omega arith) within)
 
 some_either : (gets : Bool) (line rest : List ℕ) → 0 < length rest → 0 < length (cond gets (line ++ rest) rest)
 some_either true line rest some = omega (arith, length-append line rest)
