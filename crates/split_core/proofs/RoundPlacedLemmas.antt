@@ -89,9 +89,7 @@ found_after {delim} {n} {file} {place} {byte} {k} {x} {gets} is found = record {
   i = suc found.i;
   within = (omega (arith, found.within));
   goes = ap (λ those. those % n) (sym (next_place (eqb byte delim) place (delimiters delim (take found.i x)))) ∙ found.goes;
-  at = ap length (dealt_first (eqb byte delim) n file place byte (lines_of delim (take found.i x)))
-      ∙ ap (λ those. length (cond those (byte ∷ dealt n file (cond (eqb byte delim) (place + 1) place) (lines_of delim (take found.i x))) (dealt n file (cond (eqb byte delim) (place + 1) place) (lines_of delim (take found.i x))))) is
-      ∙ counted gets;
+  at = cc (dealt_first (eqb byte delim) n file place byte (lines_of delim (take found.i x)), is, counted gets);
 } where
   counted : (gets : Bool) → length (cond gets (byte ∷ dealt n file (cond (eqb byte delim) (place + 1) place) (lines_of delim (take found.i x))) (dealt n file (cond (eqb byte delim) (place + 1) place) (lines_of delim (take found.i x)))) ≡ cond gets (suc k) k
   counted true = ap suc found.at

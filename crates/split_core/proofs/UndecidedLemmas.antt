@@ -163,8 +163,7 @@ parts_differ (LineBytes n delim) names {x} some are {i} past within = elim (case
 parts_undecided : (limit : Limit) (names : Naming) {x : List ℕ} → 0 < most limit → are_named names (length (parts limit x)) ≡ true → IsUndecided (parts_spots limit names) x ((parts_work limit names).waiting x)
 parts_undecided limit names {x} some are = record {
   before = settled_in limit names x;
-  are_last = sym (came_in limit names are) ∙ ap (λ those. settled_in limit names x ++ those)
-      (sym (ap (drop (length (settled_in limit names x))) (sym (came_in limit names are)) ∙ drop-append_seam (settled_in limit names x) (waiting_rest limit (cut_up limit x).rest)));
+  are_last = cc (came_in limit names are, drop-append_seam (settled_in limit names x) (waiting_rest limit (cut_up limit x).rest));
   differ = λ i past within. (let two = parts_differ limit names some are past within in (two.y, two.z, two.y_comes, two.z_comes, two.apart));
   decided = λ i less y z can also. parts_decided limit names x i less y ∙ sym (parts_decided limit names x i less z);
 }
