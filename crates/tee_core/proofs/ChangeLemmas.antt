@@ -86,9 +86,7 @@ newly_none (slot ∷ slots) = same_flag slot.is_broken (newly_none slots)
 
 pub newly_one : (place : ℕ) (change : Slot → Slot) (old : List Slot) {flag : Bool} → place < length old → (slot_at old place).is_broken ≡ false → (change (slot_at old place)).is_broken ≡ flag → newly_broken old (changed_at place change old) ≡ (if flag then 1 else 0)
 newly_one place change [] within sound is = absurd (omega arith)
-newly_one zero change (slot ∷ slots) {flag} within sound is =
-    ap (λ (flag : Bool). (if not flag && (change slot).is_broken then 1 else 0) + newly_broken slots slots) sound
-    ∙ ap (λ (flag : Bool). (if flag then 1 else 0) + newly_broken slots slots) is ∙ last_flag flag (newly_none slots)
+newly_one zero change (slot ∷ slots) {flag} within sound is = cc (sound, is, last_flag flag (newly_none slots))
 newly_one (suc place) change (slot ∷ slots) within sound is = same_flag slot.is_broken (newly_one place change slots (omega arith) sound is)
 
 in_two : {a b c : Bool} → (a ≡ true → b ≡ true) → (b ≡ true → c ≡ true) → (if not a && c then 1 else 0) ≡ (if not a && b then 1 else 0) + (if not b && c then 1 else 0)

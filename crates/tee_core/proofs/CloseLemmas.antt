@@ -92,8 +92,7 @@ module _ (told : Bool) (mode : Mode) (names : List (List ℕ)) where
     output_left = next.output_is;
     files_left = next.files_are;
     said = said_after told mode names copies next says;
-    known_are = flags_are ∙ ap broken_of next.are ∙ ap (λ (flag : Bool). flag ∷ flags next.files) (output_flag told next.output_is)
-        ∙ ap (λ flags. not (is_none next.first) ∷ flags) (file_flags told next.files_are);
+    known_are = cc (flags_are, next.are, output_flag told next.output_is, file_flags told next.files_are);
     some_left = none_sooner (length pieces) (omega arith) next.marked ∙ copies.some_left;
     vain_is = none_sooner (suc (length pieces)) (omega arith) next.marked ∙ copies.is_vain;
   }

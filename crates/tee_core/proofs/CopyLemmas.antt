@@ -54,38 +54,31 @@ pub data AllMark (call : ℕ) : List (Option ℕ) → List (Option ℕ) → List
 pub said_marked : {call : ℕ} (names : List (List ℕ)) {befores afters : List (Option ℕ)} {known broken : List Bool} → AllMark call befores afters known broken → said_in call names afters ≡ said_since (fault_in call) names known broken
 said_marked [] marked = refl
 said_marked (name ∷ names) none_marked = refl
-said_marked {call} (name ∷ names) (all_marked before after was now befores afters known broken one rest) =
-    ap (λ (flag : Bool). if flag then message_of Tee (fault_in call) name ∷ said_in call names afters else said_in call names afters) one.said
-    ∙ ap (λ texts. if not was && now then message_of Tee (fault_in call) name ∷ texts else texts) (said_marked names rest)
+said_marked {call} (name ∷ names) (all_marked before after was now befores afters known broken one rest) = cc (one.said, said_marked names rest)
 
 said_older : {call : ℕ} (other : ℕ) (names : List (List ℕ)) {befores afters : List (Option ℕ)} {known broken : List Bool} → other < call → AllMark call befores afters known broken → said_in other names afters ≡ said_in other names befores
 said_older other [] less marked = refl
 said_older other (name ∷ names) less none_marked = refl
 said_older other (name ∷ names) less (all_marked before after was now befores afters known broken one rest) =
-    ap (λ (flag : Bool). if flag then message_of Tee (fault_in other) name ∷ said_in other names afters else said_in other names afters) (one.older other less)
-    ∙ ap (λ texts. if broke_in other before then message_of Tee (fault_in other) name ∷ texts else texts) (said_older other names less rest)
+    cc (one.older other less, said_older other names less rest)
 
 pub all_older : {call : ℕ} (end : ℕ) (names : List (List ℕ)) {befores afters : List (Option ℕ)} {known broken : List Bool} → end ≤ call → AllMark call befores afters known broken → said_before end names afters ≡ said_before end names befores
 all_older zero names past marked = refl
-all_older (suc end) names {befores} {afters} past marked = ap (λ texts. texts ++ said_in end names afters) (all_older end names (omega arith) marked)
-    ∙ ap (λ texts. said_before end names befores ++ texts) (said_older end names (omega arith) marked)
+all_older (suc end) names {befores} {afters} past marked = cc (all_older end names (omega arith) marked, said_older end names (omega arith) marked)
 
 -- whether no output is left
 
 pub none_sooner : {call : ℕ} (other : ℕ) {befores afters : List (Option ℕ)} {known broken : List Bool} → other ≤ call → AllMark call befores afters known broken → none_left other afters ≡ none_left other befores
 none_sooner other within none_marked = refl
-none_sooner other within (all_marked before after was now befores afters known broken one rest) =
-    ap (λ (flag : Bool). flag && none_left other afters) (one.sooner other within) ∙ ap (λ (flag : Bool). broke_before other before && flag) (none_sooner other within rest)
+none_sooner other within (all_marked before after was now befores afters known broken one rest) = cc (one.sooner other within, none_sooner other within rest)
 
 none_then : {call : ℕ} {befores afters : List (Option ℕ)} {known broken : List Bool} → AllMark call befores afters known broken → none_left call afters ≡ all_of known
 none_then none_marked = refl
-none_then {call} (all_marked before after was now befores afters known broken one rest) =
-    ap (λ (flag : Bool). flag && none_left call afters) one.then_is ∙ ap (λ (flag : Bool). was && flag) (none_then rest)
+none_then {call} (all_marked before after was now befores afters known broken one rest) = cc (one.then_is, none_then rest)
 
 pub none_now : {call : ℕ} {befores afters : List (Option ℕ)} {known broken : List Bool} → AllMark call befores afters known broken → none_left (suc call) afters ≡ all_of broken
 none_now none_marked = refl
-none_now {call} (all_marked before after was now befores afters known broken one rest) =
-    ap (λ (flag : Bool). flag && none_left (suc call) afters) one.now_is ∙ ap (λ (flag : Bool). now && flag) (none_now rest)
+none_now {call} (all_marked before after was now befores afters known broken one rest) = cc (one.now_is, none_now rest)
 
 -- one output
 
