@@ -95,14 +95,11 @@ in_two ab bc = grind (arith, nat_tests, ab, bc)
 -- one stretch after another
 pub newly_in_two : (old mid new : List Slot) → length mid ≡ length old → length new ≡ length mid → StayBroken old mid → StayBroken mid new → newly_broken old new ≡ newly_broken old mid + newly_broken mid new
 newly_in_two [] [] [] count_mid count_new first second = refl
-newly_in_two [] [] (n ∷ news) count_mid count_new first second = absurd (omega (arith, count_new))
-newly_in_two [] (m ∷ mids) news count_mid count_new first second = absurd (omega (arith, count_mid))
-newly_in_two (o ∷ olds) [] news count_mid count_new first second = absurd (omega (arith, count_mid))
-newly_in_two (o ∷ olds) (m ∷ mids) [] count_mid count_new first second = absurd (omega (arith, count_new))
 newly_in_two (o ∷ olds) (m ∷ mids) (n ∷ news) count_mid count_new first second =
     let here = in_two (first 0) (second 0) in
     let rest = newly_in_two olds mids news (omega (arith, count_mid)) (omega (arith, count_new)) (λ place broken. first (suc place) broken) (λ place broken. second (suc place) broken) in
     omega (arith, here, rest)
+newly_in_two old mid new count_mid count_new first second = absurd (omega (arith, count_new, count_mid))
 
 pub turned_none : {Change : Slot → Slot → Type 0} {IsOne : ℕ → Type 0} {slots : List Slot} → ((place : ℕ) → IsOne place → ⊥) → Turns Change IsOne slots slots 0
 turned_none {slots} none = record { changes = changes_none none; broke_are = sym (newly_none slots) }

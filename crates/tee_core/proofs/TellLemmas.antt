@@ -22,25 +22,21 @@ one_before false text texts = refl
 
 said_next : (fault : Fault) (names : List (List ℕ)) (known broken : List Bool) (n : ℕ) → n < length names → length known ≡ length names → length broken ≡ length names
     → said_since fault (drop n names) (drop n known) (drop n broken) ≡ said_one fault (get_or names n []) (get_or known n false) (get_or broken n false) ++ said_since fault (drop (suc n) names) (drop (suc n) known) (drop (suc n) broken)
-said_next fault [] known broken n within known_many many = absurd (omega arith)
-said_next fault (name ∷ names) [] broken n within known_many many = absurd (omega (arith, known_many))
-said_next fault (name ∷ names) (was ∷ known) [] n within known_many many = absurd (omega (arith, many))
 said_next fault (name ∷ names) (was ∷ known) (now ∷ broken) zero within known_many many = one_before (not was && now) (message_of Tee fault name) (said_since fault names known broken)
 said_next fault (name ∷ names) (was ∷ known) (now ∷ broken) (suc n) within known_many many = said_next fault names known broken n (omega arith) (omega (arith, known_many)) (omega (arith, many))
+said_next fault names known broken n within known_many many = absurd (omega (arith, known_many, many))
 
 -- flags that are brought up to date one after another
 
 set_next : (n : ℕ) (known broken : List Bool) → n < length known → length broken ≡ length known → set (take n broken ++ drop n known) n (get_or broken n false) ≡ take (suc n) broken ++ drop (suc n) known
-set_next n [] broken within many = absurd (omega arith)
-set_next n (was ∷ known) [] within many = absurd (omega (arith, many))
 set_next zero (was ∷ known) (now ∷ broken) within many = refl
 set_next (suc n) (was ∷ known) (now ∷ broken) within many = ap (λ rest. now ∷ rest) (set_next n known broken (omega arith) (omega (arith, many)))
+set_next n known broken within many = absurd (omega (arith, many))
 
 get_next : (n : ℕ) (known broken : List Bool) (other : Bool) → n < length known → length broken ≡ length known → get_or (take n broken ++ drop n known) n other ≡ get_or known n false
-get_next n [] broken other within many = absurd (omega arith)
-get_next n (was ∷ known) [] other within many = absurd (omega (arith, many))
 get_next zero (was ∷ known) (now ∷ broken) other within many = refl
 get_next (suc n) (was ∷ known) (now ∷ broken) other within many = get_next n known broken other (omega arith) (omega (arith, many))
+get_next n known broken other within many = absurd (omega (arith, many))
 
 -- where outputs stand
 
