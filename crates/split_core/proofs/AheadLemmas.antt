@@ -59,8 +59,7 @@ pub mask_after : (delim at : ℕ) (x : List ℕ) → delimiter_mask delim x / 2 
 mask_after delim at [] = ap (λ n. n / 2) (zero-div (2 ^ at)) ∙ zero-div 2
 mask_after delim zero (byte ∷ x) = ap (λ n. n / 2) (div-one _) ∙ half (eqb byte delim)
 mask_after delim (suc at) (byte ∷ x) =
-    ap (λ n. n / 2) (ap (λ power. (cond (eqb byte delim) 1 0 + 2 * delimiter_mask delim x) / power) power ∙ sym (div-div-eq-div-mul (cond (eqb byte delim) 1 0 + 2 * delimiter_mask delim x) 2 (2 ^ at)) ∙ ap (λ n. n / 2 ^ at) (half (eqb byte delim)))
-    ∙ mask_after delim at x where
+    cc (power, div-div-eq-div-mul (cond (eqb byte delim) 1 0 + 2 * delimiter_mask delim x) 2 (2 ^ at), half (eqb byte delim), mask_after delim at x) where
       power : 2 ^ suc at ≡ 2 * 2 ^ at
       power = omega arith
 

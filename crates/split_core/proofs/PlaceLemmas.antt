@@ -74,8 +74,7 @@ nth_step n {file} place left (suc k) line lines true few at is next =
     let none : left ≡ 0 = nothing_between n place few (at ∙ sym (eqb-true (place % n) file is)) in
     let there : left + suc k * n ≡ suc (n - 1 + k * n) = omega (arith, none, suc-mul k n, few) in
     let around : place + 1 + (n - 1) ≡ place + n = omega arith in
-    next (n - 1) k (omega arith) (ap (λ at. at % n) around ∙ add-mod_right place n ∙ eqb-true (place % n) file is)
-    ∙ ap (λ place. get_or (line ∷ lines) place []) (sym there)
+    cc (next (n - 1) k (omega arith) (ap (λ at. at % n) around ∙ add-mod_right place n ∙ eqb-true (place % n) file is), there)
 nth_step n {file} place zero k line lines false few at is next = absurd (eqb-false (place % n) file is (ap (λ at. at % n) same ∙ at)) where
   same : place ≡ place + 0
   same = omega arith
@@ -108,9 +107,7 @@ one_gets : (had : ℕ → List ℕ) (line : List ℕ) (place start count : ℕ) 
 one_gets had line place start zero from before = absurd (omega arith)
 one_gets had line place start (suc count) from before = elim (cases_eq place start) [
   | inl here ↦
-      ap (λ gets. length (cond gets (line ++ had start) (had start) ++ joined (map (λ file. cond (eqb place file) (line ++ had file) (had file)) (range_with_len (start + 1) count)))) (eq-eqb place start here)
-      ∙ ap (λ rest. length ((line ++ had start) ++ rest)) (none_gets had line place (start + 1) count (omega (arith, here)))
-      ∙ three line (had start) (joined (map had (range_with_len (start + 1) count)))
+      cc (eq-eqb place start here, none_gets had line place (start + 1) count (omega (arith, here)), three line (had start) (joined (map had (range_with_len (start + 1) count))))
   | inr other ↦
       ap (λ gets. length (cond gets (line ++ had start) (had start) ++ joined (map (λ file. cond (eqb place file) (line ++ had file) (had file)) (range_with_len (start + 1) count)))) (ne_eqb place start other)
       ∙ omega (arith, one_gets had line place (start + 1) count (omega (arith, other)) (omega arith), length-append {A = ℕ})
@@ -139,6 +136,5 @@ first_files delim n x = dealt_files_are delim true n x ∙ elim (cases_lt (line_
       ap (λ count. map (share_of delim n x) (range_with_len 0 count)) here ∙ sym (take-map-range_with_len (share_of delim n x) 0 n (line_count delim x) (omega (arith, fewer)))
   | inr many ↦
       let here : min n (line_count delim x) ≡ n = omega (arith, many) in
-      ap (λ count. map (share_of delim n x) (range_with_len 0 count)) here
-      ∙ sym (take_all (line_count delim x) (round_robin delim n x) (omega (arith, length-map-range_with_len (share_of delim n x) 0 n, many)))
+      cc (here, take_all (line_count delim x) (round_robin delim n x) (omega (arith, length-map-range_with_len (share_of delim n x) 0 n, many)))
 ]

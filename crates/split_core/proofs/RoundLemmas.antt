@@ -86,13 +86,11 @@ added_maps f more whole start zero zero none no_more both = let no_files : 0 ≡
 added_maps f more whole start zero (suc b) none no_more both =
     let count : suc (max 0 b) ≡ max 0 (suc b) = omega arith in
     let rest = added_maps f more whole (start + 1) zero b (λ file past within. none file (omega arith) (omega arith)) (λ file past within. absurd (omega arith)) both in
-    ap (λ bytes. (bytes ++ more start) ∷ map more (range_with_len (start + 1) b)) (sym (none start (omega arith) (omega arith)))
-    ∙ ap (λ bytes. bytes ∷ map more (range_with_len (start + 1) b)) (both start) ∙ ap (λ those. whole start ∷ those) rest ∙ ap (λ n. map whole (range_with_len start n)) count
+    cc (none start (omega arith) (omega arith), both start, rest, count)
 added_maps f more whole start (suc m) zero none no_more both =
     let count : suc (max m 0) ≡ max (suc m) 0 = omega arith in
     let rest = sym (added_none (map f (range_with_len (start + 1) m))) ∙ added_maps f more whole (start + 1) m zero (λ file past within. absurd (omega arith)) (λ file past within. no_more file (omega arith) (omega arith)) both in
-    ap (λ bytes. bytes ∷ map f (range_with_len (start + 1) m)) (sym (append-nil (f start)) ∙ ap (λ those. f start ++ those) (sym (no_more start (omega arith) (omega arith))) ∙ both start)
-    ∙ ap (λ those. whole start ∷ those) rest ∙ ap (λ n. map whole (range_with_len start n)) count
+    cc (append-nil (f start), no_more start (omega arith) (omega arith), both start, rest, count)
 added_maps f more whole start (suc m) (suc b) none no_more both =
     let count : suc (max m b) ≡ max (suc m) (suc b) = omega arith in
     let rest = added_maps f more whole (start + 1) m b (λ file past within. none file (omega arith) (omega arith)) (λ file past within. no_more file (omega arith) (omega arith)) both in
@@ -147,9 +145,7 @@ same_work old new delim count elide names = ap round_work same where
 -- what a piece makes of the files, where the stage can have been fed x
 made_is : {round : RoundState} {x : List ℕ} (piece : List ℕ) → Holds round x → open_part round.files.names (added (files_of round.delim round.elide round.count x) (dealt_first round.delim round.count round.next piece)) ≡ (work round).settled (x ++ piece)
 made_is {round} {x} piece holds =
-    ap (λ next. open_part round.files.names (added (files_of round.delim round.elide round.count x) (dealt_first round.delim round.count next piece))) holds.next
-    ∙ ap (open_part round.files.names) (files_after round.delim round.elide round.count x piece holds.some)
-    ∙ sym (settled_is round.delim round.files.names round.elide round.count (x ++ piece) holds.named)
+    cc (holds.next, files_after round.delim round.elide round.count x piece holds.some, settled_is round.delim round.files.names round.elide round.count (x ++ piece) holds.named)
 
 -- where the stage stands, its files do
 stand_at : (told : Bool) (round : RoundState) {before : List Slot} {x : List ℕ} {now : List Slot} → StandsAt ways.Holds ways.Owns (way.Round round) told before x ((work round).settled x) now → StandAt told round.files before (files_of round.delim round.elide round.count x) now

@@ -44,8 +44,7 @@ pub runs_last : {X : Type 0} (n : ℕ) (xs : List X) → 0 < length xs → lengt
 runs_last n [] has few = absurd (omega arith)
 runs_last n (x ∷ xs) has few =
     let left : length (drop n (x ∷ xs)) ≡ suc (length xs) - n = length-drop n (x ∷ xs) in
-    ap (λ run. run ∷ runs_within (length xs) n (drop n (x ∷ xs))) (take_all n (x ∷ xs) few)
-    ∙ ap (λ runs. (x ∷ xs) ∷ runs) (no_runs (length xs) n (drop n (x ∷ xs)) (omega arith)) where
+    cc (take_all n (x ∷ xs) few, no_runs (length xs) n (drop n (x ∷ xs)) (omega arith)) where
       no_runs : {X : Type 0} (bound n : ℕ) (xs : List X) → length xs ≡ 0 → runs_within bound n xs ≡ []
       no_runs (suc bound) n (x ∷ xs) empty = absurd (omega arith)
       no_runs bound n xs empty = refl
@@ -57,8 +56,7 @@ run_within (suc bound) n i [] some few = sym (ap (take n) (drop-nil (i * n)) ∙
 run_within (suc bound) n zero (x ∷ xs) some few = ap (λ place. take n (drop place (x ∷ xs))) (sym (zero-mul n))
 run_within (suc bound) n (suc i) (x ∷ xs) some few =
     let left : length (drop n (x ∷ xs)) ≡ suc (length xs) - n = length-drop n (x ∷ xs) in
-    run_within bound n i (drop n (x ∷ xs)) some (omega arith) ∙ ap (take n) (drop-drop (i * n) n (x ∷ xs))
-    ∙ ap (λ place. take n (drop place (x ∷ xs))) (sym (next_place i n)) where
+    cc (run_within bound n i (drop n (x ∷ xs)) some (omega arith), drop-drop (i * n) n (x ∷ xs), next_place i n) where
       next_place : (i n : ℕ) → suc i * n ≡ n + i * n
       next_place i n = omega (arith, suc-mul i n)
 
@@ -93,16 +91,13 @@ last_lines : (delim n : ℕ) (x : List ℕ) → delimiters delim x < n → unles
 last_lines delim n [] short = refl
 last_lines delim n (byte ∷ x) short =
     let few : line_count delim (byte ∷ x) ≤ delimiters delim (byte ∷ x) + 1 = (line_count_near delim (byte ∷ x)).1 in
-    sym (ap (map joined) (runs_last n (lines_of delim (byte ∷ x)) (line_count-some delim (byte ∷ x) (omega arith)) (omega arith))
-    ∙ ap (λ text. text ∷ []) (joined-lines_of delim (byte ∷ x)))
+    cc (runs_last n (lines_of delim (byte ∷ x)) (line_count-some delim (byte ∷ x) (omega arith)) (omega arith), joined-lines_of delim (byte ∷ x))
 
 lines_cut : (delim n : ℕ) {x : List ℕ} {full : List (List ℕ)} {rest : List ℕ} → 0 < n → Cuts (Lines n delim) x full rest → full ++ unless_empty rest ≡ line_parts delim n x
 lines_cut delim n {x} some (stops _ short) = last_lines delim n x (short_some (Lines n delim) x short some)
 lines_cut delim n {x} some (goes _ full _ is past) =
     let enough : n ≤ delimiters delim x = (full_some (Lines n delim) x is).1 in
-    ap (λ those. first_lines delim n x ∷ those) (lines_cut delim n some past)
-    ∙ ap (λ those. first_lines delim n x ∷ map joined (runs_of n those)) (lines_of-after delim n x enough)
-    ∙ sym (ap (map joined) (runs_next n (lines_of delim x) some (omega (arith, (line_count_near delim x).0))))
+    cc (lines_cut delim n some past, lines_of-after delim n x enough, runs_next n (lines_of delim x) some (omega (arith, (line_count_near delim x).0)))
 
 pub lines_are_runs : (delim n : ℕ) (x : List ℕ) → 0 < n → parts (Lines n delim) x ≡ line_parts delim n x
 lines_are_runs delim n x some = lines_cut delim n some (cuts_up)
@@ -115,8 +110,7 @@ bytes_cut : (n : ℕ) {x : List ℕ} {full : List (List ℕ)} {rest : List ℕ} 
 bytes_cut n {x} some (stops _ short) = last_bytes n x (short_some (Bytes n) x short some)
 bytes_cut n {x} some (goes _ full _ is past) =
     let enough : n ≤ length x = (full_some (Bytes n) x is).1 in
-    ap (λ those. take n x ∷ those) (bytes_cut n some past) ∙ ap (λ k. take n x ∷ runs_of n (drop k x)) (length-take-le n x enough)
-    ∙ sym (runs_next n x some (omega arith))
+    cc (bytes_cut n some past, length-take-le n x enough, runs_next n x some (omega arith))
 
 pub bytes_are_runs : (n : ℕ) (x : List ℕ) → 0 < n → parts (Bytes n) x ≡ byte_parts n x
 bytes_are_runs n x some = bytes_cut n some (cuts_up)

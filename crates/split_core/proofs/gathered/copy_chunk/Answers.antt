@@ -7,6 +7,4 @@ use Rattle.split_core.proofs.gathered.copy_chunk.Goals as goal
 pub returns-clause-copied : goal.returns-clause-copied
 returns-clause-copied c =
     let long : length (take CHUNK c.args.text.now) ≡ CHUNK = length-take-le CHUNK c.args.text.now c.requires.enough in
-    put_chunk_is c.args.at c.args.room.now (take CHUNK c.args.text.now) (omega (arith, long, c.requires.within))
-    ∙ ap (λ n. take c.args.at c.args.room.now ++ (take CHUNK c.args.text.now ++ drop n (drop c.args.at c.args.room.now))) long
-    ∙ ap (λ rest. take c.args.at c.args.room.now ++ (take CHUNK c.args.text.now ++ rest)) (drop-drop CHUNK c.args.at c.args.room.now)
+    cc (put_chunk_is c.args.at c.args.room.now (take CHUNK c.args.text.now) (omega (arith, long, c.requires.within)), long, drop-drop CHUNK c.args.at c.args.room.now)
