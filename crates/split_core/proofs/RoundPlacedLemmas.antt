@@ -196,13 +196,7 @@ not_before {delim} {n} {x} {i} {j} one two less =
 dealt_apart : (delim n : ℕ) (names : Naming) (x : List ℕ) {i j : ℕ} (at : Spot) → GoesTo at (dealt_spots delim n names x i) → GoesTo at (dealt_spots delim n names x j) → i ≡ j
 dealt_apart delim n names x {i} {j} at goes also =
     let one = dealt_goes names goes in let two = dealt_goes names also in
-    elim (cases_lt i j) [
-      | inl less ↦ absurd (not_before one two less)
-      | inr past ↦ elim (cases_lt j i) [
-        | inl less ↦ absurd (not_before two one less)
-        | inr further ↦ (let e : i ≡ j = omega (arith, past, further) in e)
-      ]
-    ]
+    grind (arith, λ (less : i < j). not_before one two less, λ (less : j < i). not_before two one less)
 
 pub round_placed : (delim n : ℕ) (elide : Bool) (names : Naming) → 0 < n → ArePlaced (split_work (round_plan delim n elide names)) (dealt_spots delim n names)
 round_placed delim n elide names some = record {

@@ -47,18 +47,15 @@ abbrev OnlyLastOpen : List File → Type 0
 OnlyLastOpen [] = Unit {0}
 OnlyLastOpen (file ∷ files) = (file.state ≡ Open → files ≡ []) × OnlyLastOpen files
 
-open_step : (is : Bool) (file : File) → OnlyLastOpen (cond is (file ∷ []) [])
-open_step true file = (λ opened. refl, tt)
-open_step false file = tt
-
-shut_step : (is : Bool) (file : File) (files : List File) → file.state ≡ Closed → OnlyLastOpen files → OnlyLastOpen (cond is (file ∷ files) [])
-shut_step true file files shut rest = (λ opened. absurd (false≢true (ap is_open (sym shut ∙ opened))), rest)
-shut_step false file files shut rest = tt
+last_step : (is : Bool) (file : File) (files : List File) → (file.state ≡ Open → files ≡ []) → OnlyLastOpen files → OnlyLastOpen (cond is (file ∷ files) [])
+last_step true file files none rest = (none, rest)
+last_step false file files none rest = tt
 
 last_open : (names : Naming) (place : ℕ) (full : List (List ℕ)) (rest : List ℕ) → OnlyLastOpen (named names place (map (share Closed) full ++ map (share Open) (unless_empty rest)))
 last_open names place [] [] = tt
-last_open names place [] (byte ∷ rest) = open_step (is_named names place) (file_at names place (share Open (byte ∷ rest)))
-last_open names place (part ∷ full) rest = shut_step (is_named names place) (file_at names place (share Closed part)) _ refl (last_open names (place + 1) full rest)
+last_open names place [] (byte ∷ rest) = last_step (is_named names place) (file_at names place (share Open (byte ∷ rest))) [] (λ opened. refl) tt
+last_open names place (part ∷ full) rest =
+    last_step (is_named names place) (file_at names place (share Closed part)) _ (λ opened. absurd (false≢true (ap is_open opened))) (last_open names (place + 1) full rest)
 
 -- bytes that files have stay where they are
 spots_stay : (place i : ℕ) (low high : List File) → FilesBegin low high → OnlyLastOpen low → i < length (joined (map (λ (file : File). file.bytes) low))
