@@ -171,12 +171,8 @@ takes_in : (told : Bool) {old new : RoundState} {piece : List ℕ} {before after
 takes_in told {old} {new} {piece} deals x holds = record {
   some = omega (arith, holds.some, deals.count);
   named = are_named_same old.files.names new.files.names new.count deals.adds.names ∙ ap (are_named old.files.names) deals.count ∙ holds.named;
-  next = deals.next ∙ ap (λ place. (place + delimiters old.delim piece) % old.count) holds.next ∙ mod-add-mod (delimiters old.delim x) old.count (delimiters old.delim piece) ∙ ap (λ lines. lines % old.count) (sym (delimiters-append old.delim x piece))
-      ∙ ap (λ n. delimiters old.delim (x ++ piece) % n) (sym deals.count) ∙ ap (λ d. delimiters d (x ++ piece) % new.count) (sym deals.delim);
-  opened = deals.adds.opened ∙ ap (max (length old.files.outputs)) (length-map-range_with_len (λ file. dealt old.count file old.next (lines_of old.delim piece)) 0 (reached_by old.delim old.count old.next piece))
-      ∙ ap (λ n. max n (reached_by old.delim old.count old.next piece)) holds.opened ∙ ap (λ place. max (opened_by old.delim old.elide old.count x) (reached_by old.delim old.count place piece)) holds.next
-      ∙ opened_after old.delim old.elide old.count x piece holds.some
-      ∙ sym (ap (λ (those : Bool). opened_by old.delim those new.count (x ++ piece)) deals.elide ∙ ap (λ n. opened_by old.delim old.elide n (x ++ piece)) deals.count) ∙ ap (λ d. opened_by d new.elide new.count (x ++ piece)) (sym deals.delim);
+  next = cc (deals.next, holds.next, mod-add-mod (delimiters old.delim x) old.count (delimiters old.delim piece), delimiters-append old.delim x piece, deals.count, deals.delim);
+  opened = cc (deals.adds.opened, length-map-range_with_len (λ file. dealt old.count file old.next (lines_of old.delim piece)) 0 (reached_by old.delim old.count old.next piece), holds.opened, holds.next, opened_after old.delim old.elide old.count x piece holds.some, deals.elide, deals.count, deals.delim);
 }
 
 pub passes_by : (told : Bool) (old new : RoundState) (piece : List ℕ) (before after : List Slot) (result : Result (Unit {0}) Fault)

@@ -45,10 +45,7 @@ follows delim n x i less =
     let place = 0 + delimiters delim (take i x) in
     let after = dealt n file (cond (eqb byte delim) (place + 1) place) (lines_of delim (drop (suc i) x)) in record {
       rest = after;
-      is = ap (λ those. dealt n file 0 (lines_of delim those)) (sym (take-append-drop i x)) ∙ dealt_append delim n file 0 (take i x) (drop i x)
-          ∙ ap (λ those. dealt n file 0 (lines_of delim (take i x)) ++ dealt n file place (lines_of delim those)) (drop-cons x i 0 less)
-          ∙ ap (λ those. dealt n file 0 (lines_of delim (take i x)) ++ those) (dealt_first (eqb byte delim) n file place byte (lines_of delim (drop (suc i) x)))
-          ∙ ap (λ is. dealt n file 0 (lines_of delim (take i x)) ++ cond is (byte ∷ after) after) (eq-eqb (place % n) file (ap (λ k. k % n) (let e : 0 + delimiters delim (take i x) ≡ delimiters delim (take i x) = omega arith in e)));
+      is = cc (take-append-drop i x, dealt_append delim n file 0 (take i x) (drop i x), drop-cons x i 0 less, dealt_first (eqb byte delim) n file place byte (lines_of delim (drop (suc i) x)), eq-eqb (place % n) file (ap (λ k. k % n) (zero-add (delimiters delim (take i x)))));
     }
 
 had_less : (delim n : ℕ) (x : List ℕ) (i : ℕ) → i < length x → had delim n (dealt_to delim n x i) x i < length (share_of delim n x (dealt_to delim n x i))
