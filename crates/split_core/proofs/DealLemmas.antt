@@ -170,6 +170,4 @@ by_delimiter one other {x} line {rest} same first = subst (λ delim. IsFirstLine
 pub chunk_taken : (room : List ℕ) {new : List ℕ} (text : List ℕ) (at n chunk : ℕ) → new ≡ take at room ++ (take chunk text ++ drop (at + chunk) room) → at ≤ length room → n ≤ chunk → chunk ≤ length text → take (at + n) new ≡ take at room ++ take n text
 chunk_taken room text at n chunk is within few enough =
     let long : length (take at room) ≡ at = length-take-le at room within in
-    ap (take (at + n)) is ∙ ap (λ k. take (k + n) (take at room ++ (take chunk text ++ drop (at + chunk) room))) (sym long)
-    ∙ take-append-add (take at room) (take chunk text ++ drop (at + chunk) room) n
-    ∙ ap (λ rest. take at room ++ rest) (take-append-le n (take chunk text) (drop (at + chunk) room) (omega (arith, length-take-le chunk text enough)) ∙ take-take n chunk text few)
+    cc (is, long, take-append-add (take at room) (take chunk text ++ drop (at + chunk) room) n, take-append-le n (take chunk text) (drop (at + chunk) room) (omega (arith, length-take-le chunk text enough)), take-take n chunk text few)

@@ -208,13 +208,11 @@ drop_filed (suc n) names place (one ∷ shares) = let further : place + 1 + n �
 
 pub take_open : (n : ℕ) (names : Naming) (these those : List (List ℕ)) → take n these ≡ take n those → take n (open_part names these).files ≡ take n (open_part names those).files
 take_open n names these those same =
-    take_filed n (from_start names) 0 (map (share Open) these) ∙ ap (filed (from_start names) 0) (take-map (share Open) n these ∙ ap (map (share Open)) same ∙ sym (take-map (share Open) n those))
-    ∙ sym (take_filed n (from_start names) 0 (map (share Open) those))
+    cc (take_filed n (from_start names) 0 (map (share Open) these), take-map (share Open) n these, same, take-map (share Open) n those, take_filed n (from_start names) 0 (map (share Open) those))
 
 pub drop_open : (n : ℕ) (names : Naming) (these those : List (List ℕ)) → drop n these ≡ drop n those → drop n (open_part names these).files ≡ drop n (open_part names those).files
 drop_open n names these those same =
-    drop_filed n (from_start names) 0 (map (share Open) these) ∙ ap (filed (from_start names) (0 + n)) (drop-map (share Open) n these ∙ ap (map (share Open)) same ∙ sym (drop-map (share Open) n those))
-    ∙ sym (drop_filed n (from_start names) 0 (map (share Open) those))
+    cc (drop_filed n (from_start names) 0 (map (share Open) these), drop-map (share Open) n these, same, drop-map (share Open) n those, drop_filed n (from_start names) 0 (map (share Open) those))
 
 -- the file at a place of a list
 next_filed : (names : Naming) (from n : ℕ) (shares : List Share) → n < length shares → (front : List File) × (one : Share) × (rest : List File) × (filed names from shares ≡ front ++ file_at names (from + n) one ∷ rest) × (length front ≡ n)

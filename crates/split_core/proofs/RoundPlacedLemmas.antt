@@ -171,11 +171,9 @@ dealt_stands delim n elide names some x i at goes =
 
 goes_there : (delim n : ℕ) (names : Naming) (x : List ℕ) (i : ℕ) {file offset : ℕ} → i < length x → dealt_to delim n x i ≡ file → had delim n file x i ≡ offset → is_named names file ≡ true → GoesTo (spot (suc file) offset) (dealt_spots delim n names x i)
 goes_there delim n names x i {file} {offset} less to at named =
-    let has : is_named names (dealt_to delim n x i) ≡ true = ap (is_named names) to ∙ named in
-    subst (GoesTo (spot (suc file) offset))
-    (sym (ap (λ within. cond (within && is_named names (dealt_to delim n x i)) (spot (dealt_to delim n x i + 1) (had delim n (dealt_to delim n x i) x i) ∷ []) []) (lt-ltb i (length x) less)
-    ∙ ap (λ is. cond is (spot (dealt_to delim n x i + 1) (had delim n (dealt_to delim n x i) x i) ∷ []) []) has))
-    (inl (ap (λ k. spot k offset) (let e : suc file ≡ dealt_to delim n x i + 1 = omega (arith, to) in e) ∙ ap (spot (dealt_to delim n x i + 1)) (sym at ∙ ap (λ k. had delim n k x i) (sym to))))
+    let next : suc file ≡ file + 1 = omega arith in
+    let is : spot (suc file) offset ∷ [] ≡ dealt_spots delim n names x i = cc (next, to, at, named, lt-ltb i (length x) less) in
+    subst (GoesTo (spot (suc file) offset)) is (inl refl)
 
 dealt_filled : (delim n : ℕ) (elide : Bool) (names : Naming) (x : List ℕ) (place offset : ℕ) → offset < length (get_or ([] ∷ files_of delim n elide names x) place []) → (i : ℕ) × (i < length x) × GoesTo (spot place offset) (dealt_spots delim n names x i)
 dealt_filled delim n elide names x zero offset less = absurd (omega (arith, less))

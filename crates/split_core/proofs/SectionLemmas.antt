@@ -117,9 +117,8 @@ bytes_are_runs n x some = bytes_cut n some (cuts_up)
 
 -- the lines of the part at a place
 pub part_lines : (delim n i : ℕ) (x : List ℕ) → 0 < n → lines_of delim (get_or (parts (Lines n delim) x) i []) ≡ take n (drop (i * n) (lines_of delim x))
-part_lines delim n i x some = ap (λ those. lines_of delim (get_or those i [])) (lines_are_runs delim n x some)
-    ∙ ap (lines_of delim) (get_or-map joined (runs_of n (lines_of delim x)) i [] ∙ ap joined (run_at n i (lines_of delim x) some ∙ ap (take n) (sym (lines_of-after_lines delim (i * n) x))))
-    ∙ lines_of-first_lines delim n (after_lines delim (i * n) x) ∙ ap (take n) (lines_of-after_lines delim (i * n) x)
+part_lines delim n i x some =
+    cc (lines_are_runs delim n x some, get_or-map joined (runs_of n (lines_of delim x)) i [], run_at n i (lines_of delim x) some, lines_of-after_lines delim (i * n) x, lines_of-first_lines delim n (after_lines delim (i * n) x))
 
 pub part_bytes : (n i : ℕ) (x : List ℕ) → 0 < n → get_or (parts (Bytes n) x) i [] ≡ take n (drop (i * n) x)
 part_bytes n i x some = ap (λ those. get_or those i []) (bytes_are_runs n x some) ∙ run_at n i x some
@@ -204,8 +203,7 @@ settled_bytes limit x =
 pub list_all : (limit : Limit) (x : List ℕ) → joined (settled_list limit x) ++ waiting_rest limit (cut_up limit x).rest ≡ x
 list_all limit x =
     let full = (cut_up limit x).full in let rest = (cut_up limit x).rest in
-    ap (λ bytes. bytes ++ waiting_rest limit rest) (joined-append full (unless_empty (settled_rest limit rest)) ∙ ap (λ bytes. joined full ++ bytes) (joined_one (settled_rest limit rest)))
-    ∙ append_assoc (joined full) (settled_rest limit rest) (waiting_rest limit rest) ∙ ap (λ bytes. joined full ++ bytes) (settled_then_waiting limit rest) ∙ cut_all limit
+    cc (joined-append full (unless_empty (settled_rest limit rest)), joined_one (settled_rest limit rest), append_assoc (joined full) (settled_rest limit rest) (waiting_rest limit rest), settled_then_waiting limit rest, cut_all limit {x = x})
 
 -- what is written and what waits are together what came in
 pub settled_all : (limit : Limit) (x : List ℕ) → joined (map (λ (file : Share). file.bytes) (settled_parts limit x)) ++ waiting_rest limit (cut_up limit x).rest ≡ x

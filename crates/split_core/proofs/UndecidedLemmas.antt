@@ -116,10 +116,7 @@ lines_here : (delim n : ℕ) (names : Naming) (x : List ℕ) → are_named names
     → parts_spots (LineBytes n delim) names (x ++ []) i ≡ spot (1 + length (cut_up (LineBytes n delim) x).full) (i - length (joined (cut_up (LineBytes n delim) x).full)) ∷ []
 lines_here delim n names x are lines i past within =
     let full = (cut_up (LineBytes n delim) x).full in let rest = (cut_up (LineBytes n delim) x).rest in
-    ap (λ all. parts_spots (LineBytes n delim) names all i) (append-nil x)
-    ∙ ap (λ files. spots_from 1 files i) (whole_files (LineBytes n delim) names x ∙ each_named names (parts (LineBytes n delim) x) are ∙ ap (λ those. full ++ those) (one_of rest (delimiters_some delim rest lines)))
-    ∙ spots_after 1 i full (rest ∷ []) past ∙ spot_in (1 + length full) (i - length (joined full)) rest []
-    (omega (arith, ap length (sym (cut_all (LineBytes n delim))) ∙ length-append (joined full) rest, past, within))
+    cc (append-nil x, whole_files (LineBytes n delim) names x, each_named names (parts (LineBytes n delim) x) are, one_of rest (delimiters_some delim rest lines), spots_after 1 i full (rest ∷ []) past, spot_in (1 + length full) (i - length (joined full)) rest [] (omega (arith, ap length (sym (cut_all (LineBytes n delim))) ∙ length-append (joined full) rest, past, within)))
 
 lines_there : (limit : Limit) (names : Naming) (x y : List ℕ) (next : List (List ℕ)) → are_named names (length (parts limit x)) ≡ true → parts limit (x ++ y) ≡ settled_list limit x ++ next
     → (i : ℕ) → length (joined (settled_list limit x)) ≤ i → (more : List (List ℕ)) × (parts_spots limit names (x ++ y) i ≡ spots_from (1 + length (settled_list limit x)) more (i - length (joined (settled_list limit x))))
