@@ -35,18 +35,12 @@ named_before names place more is less = grind (arith, nat_tests, is, less)
 -- the files of shares that all have names, and then the files of those after them
 pub named_on : (names : Naming) (place : ℕ) (front rest : List Share) → is_named names (place + length front) ≡ true → named names place (front ++ rest) ≡ named names place front ++ named names (place + length front) rest
 named_on names place [] rest is = ap (λ n. named names n rest) (sym (add-zero place))
-named_on names place (one ∷ front) rest is = ap (λ has. cond has (file_at names place one ∷ named names (place + 1) (front ++ rest)) []) here
-    ∙ ap (λ files. file_at names place one ∷ files) (named_on names (place + 1) front rest (subst (λ n. is_named names n ≡ true) (one_on place (length front)) is))
-    ∙ ap (λ n. file_at names place one ∷ (named names (place + 1) front ++ named names n rest)) (sym (one_on place (length front)))
-    ∙ ap (λ has. cond has (file_at names place one ∷ named names (place + 1) front) [] ++ named names (place + suc (length front)) rest) (sym here) where
-      here : is_named names place ≡ true
-      here = named_before names place (place + suc (length front)) is (omega arith)
+named_on names place (one ∷ front) rest is = cc (named_before names place (place + suc (length front)) is (omega arith), one_on place (length front),
+    named_on names (place + 1) front rest (subst (λ n. is_named names n ≡ true) (one_on place (length front)) is))
 
 pub named_at : (names : Naming) (front rest : List Share) (one : Share) → is_named names (length front) ≡ true
     → named names 0 (front ++ one ∷ rest) ≡ named names 0 front ++ file_at names (length front) one ∷ named names (length front + 1) rest
-named_at names front rest one is = named_on names 0 front (one ∷ rest) (subst (λ n. is_named names n ≡ true) (sym (zero-add (length front))) is)
-    ∙ ap (λ n. named names 0 front ++ named names n (one ∷ rest)) (zero-add (length front))
-    ∙ ap (λ has. named names 0 front ++ cond has (file_at names (length front) one ∷ named names (length front + 1) rest) []) is
+named_at names front rest one is = cc (named_on names 0 front (one ∷ rest) (subst (λ n. is_named names n ≡ true) (sym (zero-add (length front))) is), zero-add (length front), is)
 
 -- nor does it matter how many names were drawn
 pub are_named_same : (names next : Naming) (count : ℕ) → from_start next ≡ from_start names → are_named next count ≡ are_named names count
@@ -57,13 +51,10 @@ are_named_same names next (suc last) same = ap (λ (those : Naming). is_named th
 pub same_files : (names : Naming) (place : ℕ) (those high : List Share) → AllShut those → SharesBegin those high
     → is_named names (place + length those) ≡ false → named names place high ≡ named names place those
 same_files names place [] [] shut begins none = refl
-same_files names place [] (whole ∷ high) shut begins none =
-    ap (λ has. cond has (file_at names place whole ∷ named names (place + 1) high) []) (subst (λ n. is_named names n ≡ false) (add-zero place) none)
+same_files names place [] (whole ∷ high) shut begins none = cc (subst (λ n. is_named names n ≡ false) (add-zero place) none)
 same_files names place (one ∷ those) [] shut begins none = absurd begins
 same_files names place (one ∷ those) (whole ∷ high) shut begins none =
-    ap (λ file. cond (is_named names place) (file_at names place file ∷ named names (place + 1) high) []) (sym (same begins.0))
-    ∙ ap (λ files. cond (is_named names place) (file_at names place one ∷ files) [])
-    (same_files names (place + 1) those high shut.1 begins.2 (subst (λ n. is_named names n ≡ false) (one_on place (length those)) none)) where
+    cc (same begins.0, same_files names (place + 1) those high shut.1 begins.2 (subst (λ n. is_named names n ≡ false) (one_on place (length those)) none)) where
       same : (one.state ≡ state.Open) ⊎ (one ≡ whole) → one ≡ whole
       same (inl is) = absurd (let closed : one.state ≡ state.Closed = shut.0 in cc)
       same (inr is) = is
@@ -80,10 +71,8 @@ shut_files names place (one ∷ shares) shut = shut_by (is_named names place) (f
 
 named_count : (names : Naming) (place : ℕ) (shares : List Share) → is_named names (place + length shares) ≡ true → length (named names place shares) ≡ length shares
 named_count names place [] is = refl
-named_count names place (one ∷ shares) is = ap (λ has. length (cond has (file_at names place one ∷ named names (place + 1) shares) [])) here
-    ∙ ap suc (named_count names (place + 1) shares (subst (λ n. is_named names n ≡ true) (one_on place (length shares)) is)) where
-      here : is_named names place ≡ true
-      here = named_before names place (place + suc (length shares)) is (omega arith)
+named_count names place (one ∷ shares) is = cc (named_before names place (place + suc (length shares)) is (omega arith),
+    named_count names (place + 1) shares (subst (λ n. is_named names n ≡ true) (one_on place (length shares)) is))
 
 all_named : (names : Naming) (shares : List Share) → is_named names (length shares) ≡ true → length (named names 0 shares) ≡ length shares
 all_named names shares is = named_count names 0 shares (subst (λ n. is_named names n ≡ true) (sym (zero-add (length shares))) is)
