@@ -2,7 +2,7 @@
 use Rattle.std.proofs.lemmas.Bool.Decides.{nat_tests}
 use Rattle.std.proofs.Common.{◌≡◌, ℕ, ◌+◌, ◌≤◌, zero, suc, List, [], ◌∷◌, ◌++◌, ◌⊎◌, length, take, Bool, true, false, cond, IsTrue, Option, Some, None, Result, Ok, Err, OnOk, IfErr, inl, inr, refl, sym, ◌∙◌, ap, subst, arith, length-append}
 use Rattle.std.proofs.Math.Nat.{add-zero, zero-add}
-use Rattle.std.proofs.lemmas.Bool.{false≢true}
+use Rattle.std.proofs.lemmas.Bool.{cond_both, false≢true}
 use Rattle.std.proofs.lemmas.Result.{IfErr-weaker, on_ok_weaker}
 use Rattle.ports_core.specs.Name.{Naming, next_name}
 use Rattle.ports_core.specs.Slot.{Slot, changed_at, opened, unopened, adds, closes, with_written, with_broken, told_of, is_writable}
@@ -61,13 +61,9 @@ same_files names place (one ∷ those) (whole ∷ high) shut begins none =
 
 -- the files of closed shares are closed, and there are as many where the next has a name
 
-shut_by : (has : Bool) (file : File) (files : List File) → file.state ≡ state.Closed → AllClosed files → AllClosed (cond has (file ∷ files) [])
-shut_by true file files is closed = (is, closed)
-shut_by false file files is closed = tt
-
 pub shut_files : (names : Naming) (place : ℕ) (shares : List Share) → AllShut shares → AllClosed (named names place shares)
 shut_files names place [] shut = tt
-shut_files names place (one ∷ shares) shut = shut_by (is_named names place) (file_at names place one) (named names (place + 1) shares) shut.0 (shut_files names (place + 1) shares shut.1)
+shut_files names place (one ∷ shares) shut = cond_both (is_named names place) _ _ AllClosed (λ is. (shut.0, shut_files names (place + 1) shares shut.1)) (λ is. tt)
 
 named_count : (names : Naming) (place : ℕ) (shares : List Share) → is_named names (place + length shares) ≡ true → length (named names place shares) ≡ length shares
 named_count names place [] is = refl

@@ -3,7 +3,7 @@ use Rattle.std.proofs.Common.{◌≡◌, ℕ, ◌+◌, ◌%◌, ◌<◌, ◌&&�
 use Rattle.std.specs.List.{range_with_len}
 use Rattle.std.proofs.Math.Nat.{mod-lt, zero-add, add-zero}
 use Rattle.std.proofs.Math.Seq.{drop-cons, get_or-append_seam}
-use Rattle.std.proofs.lemmas.Bool.{cases_lt, lt-ltb, ltb-true, eq-eqb, eqb-true}
+use Rattle.std.proofs.lemmas.Bool.{cond_both, and_parts, cases_lt, lt-ltb, ltb-true, eq-eqb, eqb-true}
 use Rattle.std.proofs.lemmas.Bool.Decides.{nat_tests}
 use Rattle.std.proofs.lemmas.List.{take-take, take-append-drop, get_or_past, length-take-le}
 use Rattle.std.proofs.lemmas.List.FromFn.{get_or-map-range_with_len, length-map-range_with_len}
@@ -141,13 +141,9 @@ pub record Goes (delim n : ℕ) (names : Naming) (x : List ℕ) (i : ℕ) (at : 
   pub named : is_named names (dealt_to delim n x i) ≡ true
   pub is : at ≡ spot (dealt_to delim n x i + 1) (had delim n (dealt_to delim n x i) x i)
 
-goes_by : {delim n : ℕ} {names : Naming} {x : List ℕ} {i : ℕ} {at : Spot} (less has : Bool) → nat_lt i (length x) ≡ less → is_named names (dealt_to delim n x i) ≡ has
-    → GoesTo at (cond (less && has) (spot (dealt_to delim n x i + 1) (had delim n (dealt_to delim n x i) x i) ∷ []) []) → Goes delim n names x i at
-goes_by {x} {i} true true less has goes = record { within = ltb-true i (length x) less; named = has; is = only_spot _ goes }
-goes_by less has within named goes = absurd goes
-
 dealt_goes : {delim n : ℕ} (names : Naming) {x : List ℕ} {i : ℕ} {at : Spot} → GoesTo at (dealt_spots delim n names x i) → Goes delim n names x i at
-dealt_goes {delim} {n} names {x} {i} goes = goes_by (nat_lt i (length x)) (is_named names (dealt_to delim n x i)) refl refl goes
+dealt_goes {delim} {n} names {x} {i} {at} goes = cond_both (nat_lt i (length x) && is_named names (dealt_to delim n x i)) _ _ (λ those. GoesTo at those → Goes delim n names x i at)
+    (λ is goes. let both = and_parts _ _ is in record { within = ltb-true i (length x) both.0; named = both.1; is = only_spot _ goes }) (λ is goes. absurd goes) goes
 
 abbrev files_of : ℕ → ℕ → Bool → Naming → List ℕ → List (List ℕ)
 files_of delim n elide names x = file_bytes (whole_by (round_plan delim n elide names) x)

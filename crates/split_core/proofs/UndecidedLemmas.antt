@@ -2,7 +2,7 @@
 use Rattle.std.proofs.Common.{◌≡◌, ◌≢◌, ◌⊎◌, ℕ, ◌+◌, ◌-◌, ◌%◌, ◌<◌, ◌≤◌, ◌&&◌, nat_lt, suc, List, [], ◌∷◌, ◌++◌, length, map, take, drop, Bool, true, false, not, cond, inl, inr, refl, sym, ◌∙◌, ap, arith, length-append}
 use Rattle.std.proofs.Math.Seq.{drop-append_seam}
 use Rattle.std.proofs.Math.Nat.{add-zero, sub-zero}
-use Rattle.std.proofs.lemmas.Bool.{cases_lt, false≢true, lt-ltb, not-false}
+use Rattle.std.proofs.lemmas.Bool.{cond_both, cases_lt, false≢true, lt-ltb, not-false}
 use Rattle.std.proofs.lemmas.List.{append-nil, length-map, drop_all, take-append-le}
 use Rattle.seg_core.specs.Line.{joined, delimiters, lines_of}
 use Rattle.seg_core.proofs.FirstLines.{joined-append}
@@ -47,15 +47,11 @@ abbrev OnlyLastOpen : List File → Type 0
 OnlyLastOpen [] = Unit {0}
 OnlyLastOpen (file ∷ files) = (file.state ≡ Open → files ≡ []) × OnlyLastOpen files
 
-last_step : (is : Bool) (file : File) (files : List File) → (file.state ≡ Open → files ≡ []) → OnlyLastOpen files → OnlyLastOpen (cond is (file ∷ files) [])
-last_step true file files none rest = (none, rest)
-last_step false file files none rest = tt
-
 last_open : (names : Naming) (place : ℕ) (full : List (List ℕ)) (rest : List ℕ) → OnlyLastOpen (named names place (map (share Closed) full ++ map (share Open) (unless_empty rest)))
 last_open names place [] [] = tt
-last_open names place [] (byte ∷ rest) = last_step (is_named names place) (file_at names place (share Open (byte ∷ rest))) [] (λ opened. refl) tt
+last_open names place [] (byte ∷ rest) = cond_both (is_named names place) _ _ OnlyLastOpen (λ is. (λ opened. refl, tt)) (λ is. tt)
 last_open names place (part ∷ full) rest =
-    last_step (is_named names place) (file_at names place (share Closed part)) _ (λ opened. absurd (false≢true (ap is_open opened))) (last_open names (place + 1) full rest)
+    cond_both (is_named names place) _ _ OnlyLastOpen (λ is. (λ opened. absurd (false≢true (ap is_open opened)), last_open names (place + 1) full rest)) (λ is. tt)
 
 -- bytes that files have stay where they are
 spots_stay : (place i : ℕ) (low high : List File) → FilesBegin low high → OnlyLastOpen low → i < length (joined (map (λ (file : File). file.bytes) low))
