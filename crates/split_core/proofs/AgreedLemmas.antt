@@ -56,8 +56,7 @@ count_named names place these those same = absurd (omega (arith, same))
 named_each : (names : Naming) (place : ℕ) (one : List ℕ) (those : List (List ℕ)) → is_named names (place + length those) ≡ true → named_bytes names place (one ∷ those) ≡ one ∷ those
 named_each names place one [] is = ap (λ has. cond has (one ∷ []) []) (named_before names place (place + 0) is (omega arith))
 named_each names place one (two ∷ those) is =
-    ap (λ has. cond has (one ∷ named_bytes names (place + 1) (two ∷ those)) []) (named_before names place (place + suc (length those)) is (omega arith))
-    ∙ ap (λ rest. one ∷ rest) (named_each names (place + 1) two those (subst (λ n. is_named names n ≡ true) (one_on place (length those)) is))
+    cc (named_before names place (place + suc (length those)) is (omega arith), named_each names (place + 1) two those (subst (λ n. is_named names n ≡ true) (one_on place (length those)) is))
 
 -- where all have names, none is left out
 pub each_named : (names : Naming) (those : List (List ℕ)) → are_named names (length those) ≡ true → named_bytes names 0 those ≡ those
@@ -121,10 +120,8 @@ decides_lines delim n {x} some lines =
       y = filling delim n rest;
       comes = copies_come (n - length rest) (other delim) (other_comes delim);
       more = next;
-      are = parts_on (LineBytes n delim) x (filling delim n rest)
-          ∙ ap (λ those. full ++ those) (line_ends delim n rest some (short_some (LineBytes n delim) rest (rest_short (LineBytes n delim) x) some) lines)
-          ∙ sym (append_assoc full (whole_lines delim rest ∷ []) next)
-          ∙ ap (λ those. (full ++ those) ++ next) (sym (one_of (whole_lines delim rest) (whole_some delim rest (delimiters_some delim rest lines))));
+      are = cc (parts_on (LineBytes n delim) x (filling delim n rest), line_ends delim n rest some (short_some (LineBytes n delim) rest (rest_short (LineBytes n delim) x) some) lines,
+          append_assoc full (whole_lines delim rest ∷ []) next, one_of (whole_lines delim rest) (whole_some delim rest (delimiters_some delim rest lines)));
     }
 
 decides : (limit : Limit) → 0 < most limit → {x : List ℕ} → Decides limit x
@@ -141,9 +138,7 @@ parts_agreed_by {limit} names {x} decides =
     agreed_by (parts_work limit names) x [] decides.y further.0 (common (parts_work limit names) (part_law.lawful limit names) x) none_comes decides.comes count
     (ap (λ files. [] ∷ files) (whole_files limit names (x ++ decides.y) ∙ ap (named_bytes names 0) decides.are ∙ further.1 ∙ ap (λ files. files ++ further.0) (sym (settled_files limit names x)))) where
       count : length (outputs_of ((parts_work limit names).whole (x ++ []))) ≡ length (outputs_of ((parts_work limit names).settled x))
-      count = ap suc (ap length (whole_files limit names (x ++ []))
-          ∙ count_named names 0 (parts limit (x ++ [])) (settled_list limit x) (ap (λ all. length (parts limit all)) (append-nil x) ∙ sym (list_count limit x))
-          ∙ ap length (sym (settled_files limit names x)))
+      count = cc (whole_files limit names (x ++ []), count_named names 0 (parts limit (x ++ [])) (settled_list limit x) (ap (λ all. length (parts limit all)) (append-nil x) ∙ sym (list_count limit x)), settled_files limit names x)
 
 pub parts_agreed : (limit : Limit) (names : Naming) → 0 < most limit → {x : List ℕ} → IsAgreed (parts_work limit names) x ((parts_work limit names).settled x)
 parts_agreed limit names some = parts_agreed_by names (decides limit some)

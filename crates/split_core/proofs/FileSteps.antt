@@ -414,8 +414,7 @@ pub output_is : (files : FilesState) {items : List ℕ} (place : ℕ) {slot : �
 output_is files place {slot} same within is = is ∙ ap (λ those. get_or those place slot) same ∙ same_default files.outputs place slot 0 within
 
 pub unchanged : {files : FilesState} {names next : Naming} {items reserved : List ℕ} → record { names = names; outputs = items } ≡ files → reserved ≡ items → next ≡ names → record { names = next; outputs = reserved } ≡ files
-unchanged {names} {next} {items} is same names_same = ap (λ those. record { names = next; outputs = those }) same ∙ ap (λ those. record { names = those; outputs = items }) names_same ∙ is
+unchanged is same names_same = cc (is, same, names_same)
 
 pub drew_one : {files : FilesState} {names next : Naming} {items reserved : List ℕ} → record { names = names; outputs = items } ≡ files → reserved ≡ items → next ≡ with_one_drawn names → record { names = next; outputs = reserved } ≡ record files { names = with_one_drawn files.names }
-drew_one {names} {next} {items} is same drew =
-    ap (λ those. record { names = next; outputs = those }) same ∙ ap (λ those. record { names = those; outputs = items }) drew ∙ ap (λ (those : FilesState). record those { names = with_one_drawn those.names }) is
+drew_one is same drew = cc (is, same, drew)

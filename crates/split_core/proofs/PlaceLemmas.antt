@@ -3,7 +3,7 @@ use Rattle.std.proofs.lemmas.Bool.Decides.{nat_tests}
 use Rattle.std.proofs.Common.{◌≡◌, ℕ, ◌+◌, ◌-◌, ◌*◌, ◌%◌, ◌<◌, ◌≤◌, zero, suc, min, List, [], ◌∷◌, ◌++◌, length, take, map, get_or, Bool, true, false, cond, eqb, if◌then◌else◌, ◌==◌, inl, inr, refl, sym, ◌∙◌, ap, arith, length-append}
 use Rattle.std.proofs.Math.Nat.{suc-mul, zero-mul, mod-lt, mod-add-mod, mod-eq_of_lt, add-mod_right}
 use Rattle.std.specs.List.{range_with_len}
-use Rattle.std.proofs.lemmas.Bool.{cases_eq, cases_lt, eq-eqb, ne_eqb, eqb-true, eqb-false}
+use Rattle.std.proofs.lemmas.Bool.{cond_both, cases_eq, cases_lt, eq-eqb, ne_eqb, eqb-true, eqb-false}
 use Rattle.std.proofs.lemmas.List.{take_all}
 use Rattle.std.proofs.lemmas.List.FromFn.{length-map-range_with_len, get_or-map-range_with_len, take-map-range_with_len}
 use Rattle.seg_core.specs.Line.{joined, lines_of, line_count, AreLines}
@@ -38,14 +38,11 @@ few_dealt : (n file place : ℕ) (lines : List (List ℕ)) → length (lines_dea
 few_dealt n file place [] = omega arith
 few_dealt n file place (line ∷ lines) = grind (arith, nat_tests, few_dealt n file (place + 1) lines)
 
-lines_step : (delim : ℕ) (gets : Bool) (line : List ℕ) (lines chosen : List (List ℕ)) → AreLines delim (line ∷ lines) → length chosen ≤ length lines → AreLines delim chosen → AreLines delim (cond gets (line ∷ chosen) chosen)
-lines_step delim true line lines chosen each few those = before_some delim line lines chosen each few those
-lines_step delim false line lines chosen each few those = those
-
 are_dealt : (delim n file place : ℕ) (lines : List (List ℕ)) → AreLines delim lines → AreLines delim (lines_dealt n file place lines)
 are_dealt delim n file place [] each = tt
 are_dealt delim n file place (line ∷ lines) each =
-    lines_step delim (eqb (place % n) file) line lines _ each (few_dealt n file (place + 1) lines) (are_dealt delim n file (place + 1) lines (others delim line lines each))
+    let rest = are_dealt delim n file (place + 1) lines (others delim line lines each) in
+    cond_both (eqb (place % n) file) _ _ (AreLines delim) (λ is. before_some delim line lines _ each (few_dealt n file (place + 1) lines) rest) (λ is. rest)
 
 lines_of-dealt : (delim n file place : ℕ) (lines : List (List ℕ)) → AreLines delim lines → lines_of delim (dealt n file place lines) ≡ lines_dealt n file place lines
 lines_of-dealt delim n file place lines each = ap (lines_of delim) (dealt_are n file place lines) ∙ lines_of-joined delim _ (are_dealt delim n file place lines each)
