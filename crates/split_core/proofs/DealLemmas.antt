@@ -94,8 +94,7 @@ line_more line so_far cut is reached_is same goes = rw (goes, same) (complete_li
 pub line_goes_round : {delim n start : ℕ} {piece : List ℕ} {gathered now : List (List ℕ)} {next : ℕ} (reached : ℕ) {count : ℕ} {left : List ℕ} (line : List ℕ) {rest : List ℕ} → Dealing delim n start piece gathered next (max reached next) left
     → IsFirstLine delim left line rest → now ≡ changed_at next (λ had. had ++ line) gathered → count ≡ n → count ≤ next + 1 → Dealing delim n start piece now 0 (max count 0) rest
 line_goes_round {n} {next} reached line so_far cut is same last =
-    let few : max reached next ≤ n = so_far.few in
-    let inside : next < n = so_far.within in
+    let few = so_far.few in let inside = so_far.within in
     let all : next + 1 ≡ n = omega (arith, inside, same, last) in
     line_more line so_far cut is (omega (arith, few, all, same)) refl (sym (ap (λ k. k % n) all ∙ mod_self n))
 
