@@ -213,8 +213,7 @@ module _ (told : Bool) (mode : Mode) (names : List (List ℕ)) where
     by (output ∷ []) short = absurd (omega (arith, ap length short, count, ap length copies.are))
     by (output ∷ other ∷ files) are =
         let same : other ≡ copies.error = sym (ap (λ those. slot_at those 1) are) ∙ error ∙ ap (λ those. slot_at those 1) copies.are in
-        let here = one output (ap (λ those. slot_at those 0) are) in
-        let many : length copies.files ≡ length names = length-files copies.files_have in
+        let here = one output (ap (λ those. slot_at those 0) are) in let many = length-files copies.files_have in
         let rest = files_go go files (omega (arith, ap length are, count, ap length copies.are)) (λ n within. subst (λ slot. Change (slot_at copies.files n) slot)
         (ap (λ those. slot_at those (suc (suc n))) are) (subst (λ slot. Change slot (slot_at mid (suc (suc n)))) (ap (λ those. slot_at those (suc (suc n))) copies.are)
         (changes (suc (suc n)) (place_file n is (omega (arith, within, many)))))) copies.files_have in

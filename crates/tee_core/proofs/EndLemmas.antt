@@ -97,9 +97,8 @@ read_whole Leaves left sound (to_last_output x rest is leaves) = absurd (false�
 pub whole_if : {told_in : Bool} (told : Bool) {mode : Mode} {names : List (List ℕ)} {content : Content} {source : Source} {new : List Slot} {status : ℕ} → status ≡ 0 → EndsAs told_in told mode names content source new status → new ≡ all_copied told mode names content.bytes
 whole_if told zero_is (no_room error said left at one) = absurd (omega (arith, zero_is, one))
 whole_if told {mode} {names} zero_is (copied pieces fault first broke output error files read some output_left files_left said at is) =
-    let good = status_zero (is_none fault) (are_sound (first ∷ broke)) (sym is ∙ zero_is) in
-    let sounds = sound_first first (are_sound broke) good.0 in
-    let silent : messages_of names (first ∷ broke) (length pieces) fault ≡ [] = quiet fault (length pieces) (first ∷ broke) good.1 good.0 in
+    let good = status_zero (is_none fault) (are_sound (first ∷ broke)) (sym is ∙ zero_is) in let sounds = sound_first first (are_sound broke) good.0 in
+    let silent = quiet fault (length pieces) (first ∷ broke) good.1 good.0 in
     at ∙ ap (λ slot. slot ∷ error ∷ files) (whole_output told pieces first output sounds.0 output_left)
     ∙ ap (λ slot. adds (told_of told (concat pieces)) standard_output ∷ slot ∷ files) (subst (λ texts. SaysAll told Tee texts standard_error error) silent said)
     ∙ ap (λ those. adds (told_of told (concat pieces)) standard_output ∷ standard_error ∷ those) (whole_files told mode pieces names broke files sounds.1 files_left)
