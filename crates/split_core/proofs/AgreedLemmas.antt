@@ -120,8 +120,12 @@ decides_lines delim n {x} some lines =
       y = filling delim n rest;
       comes = copies_come (n - length rest) (other delim) (other_comes delim);
       more = next;
-      are = cc (parts_on (LineBytes n delim) x (filling delim n rest), line_ends delim n rest some (short_some (LineBytes n delim) rest (rest_short (LineBytes n delim) x) some) lines,
-          append_assoc full (whole_lines delim rest ∷ []) next, one_of (whole_lines delim rest) (whole_some delim rest (delimiters_some delim rest lines)));
+      are = cc (
+        parts_on (LineBytes n delim) x (filling delim n rest),
+        line_ends delim n rest some (short_some (LineBytes n delim) rest (rest_short (LineBytes n delim) x) some) lines,
+        append_assoc full (whole_lines delim rest ∷ []) next,
+        one_of (whole_lines delim rest) (whole_some delim rest (delimiters_some delim rest lines)),
+      );
     }
 
 decides : (limit : Limit) → 0 < most limit → {x : List ℕ} → Decides limit x

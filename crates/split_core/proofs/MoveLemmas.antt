@@ -35,8 +35,11 @@ named_before names place more is less = grind (arith, nat_tests, is, less)
 -- the files of shares that all have names, and then the files of those after them
 pub named_on : (names : Naming) (place : ℕ) (front rest : List Share) → is_named names (place + length front) ≡ true → named names place (front ++ rest) ≡ named names place front ++ named names (place + length front) rest
 named_on names place [] rest is = ap (λ n. named names n rest) (sym (add-zero place))
-named_on names place (one ∷ front) rest is = cc (named_before names place (place + suc (length front)) is (omega arith), one_on place (length front),
-    named_on names (place + 1) front rest (subst (λ n. is_named names n ≡ true) (one_on place (length front)) is))
+named_on names place (one ∷ front) rest is = cc (
+  named_before names place (place + suc (length front)) is (omega arith),
+  one_on place (length front),
+  named_on names (place + 1) front rest (subst (λ n. is_named names n ≡ true) (one_on place (length front)) is),
+)
 
 pub named_at : (names : Naming) (front rest : List Share) (one : Share) → is_named names (length front) ≡ true
     → named names 0 (front ++ one ∷ rest) ≡ named names 0 front ++ file_at names (length front) one ∷ named names (length front + 1) rest
@@ -67,8 +70,10 @@ shut_files names place (one ∷ shares) shut = cond_both (is_named names place) 
 
 named_count : (names : Naming) (place : ℕ) (shares : List Share) → is_named names (place + length shares) ≡ true → length (named names place shares) ≡ length shares
 named_count names place [] is = refl
-named_count names place (one ∷ shares) is = cc (named_before names place (place + suc (length shares)) is (omega arith),
-    named_count names (place + 1) shares (subst (λ n. is_named names n ≡ true) (one_on place (length shares)) is))
+named_count names place (one ∷ shares) is = cc (
+  named_before names place (place + suc (length shares)) is (omega arith),
+  named_count names (place + 1) shares (subst (λ n. is_named names n ≡ true) (one_on place (length shares)) is),
+)
 
 all_named : (names : Naming) (shares : List Share) → is_named names (length shares) ≡ true → length (named names 0 shares) ≡ length shares
 all_named names shares is = named_count names 0 shares (subst (λ n. is_named names n ≡ true) (sym (zero-add (length shares))) is)
