@@ -12,7 +12,7 @@ use Rattle.seg_core.proofs.LinesOf.{lines_of-open}
 use Rattle.ports_core.specs.Slot.{changed_at}
 use Rattle.ports_core.proofs.SlotLemmas.{length-changed_at, set-changed}
 use Rattle.split_core.specs.Parts.{dealt}
-use Rattle.split_core.specs.inner.Dealt.{dealt_piece, reached_by}
+use Rattle.split_core.specs.inner.Dealt.{dealt_piece, reached_by, Gathers}
 use Rattle.split_core.specs.inner.FirstLine.{IsFirstLine}
 use Rattle.split_core.proofs.DealLaws.{dealt_same}
 use Rattle.ports_core.proofs.CounterLemmas.{no_length}
@@ -123,12 +123,6 @@ pub appended : (gathered : List (List ℕ)) (place : ℕ) {had : List ℕ} (now 
     → OnOk result (set gathered place now ≡ changed_at place (λ those. those ++ line) gathered)
 appended gathered place {had} now line result within at is =
     on_ok_weaker result (λ (same : now ≡ had ++ line). ap (set gathered place) same ∙ set-changed gathered place (λ those. those ++ line) had within at) is
-
--- what `gather` owes where nothing is left
-pub record Gathers (delim n start : ℕ) (piece : List ℕ) (gathered : List (List ℕ)) (next reached : ℕ) : Type 0 where
-  pub gathered_is : gathered ≡ dealt_piece delim n start piece
-  pub next_is : next ≡ (start + delimiters delim piece) % n
-  pub reached_is : reached ≡ reached_by delim n start piece
 
 -- all is gathered
 ended : {delim n start : ℕ} {piece : List ℕ} {gathered : List (List ℕ)} {next reached : ℕ} → Dealing delim n start piece gathered next reached []
