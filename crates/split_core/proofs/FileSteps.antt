@@ -1,8 +1,8 @@
 -- One file is opened, written or closed.
 use Rattle.std.proofs.Common.{◌≡◌, ◌≢◌, ℕ, ◌+◌, ◌<◌, ◌≤◌, zero, suc, Bool, List, [], ◌∷◌, ◌++◌, length, map, take, drop, replicate, get_or, ◌⊎◌, inl, inr, refl, sym, ◌∙◌, ap, subst, arith, length-append, IsTrue, Ok, Err, Result, OnOk, IfErr}
-use Rattle.std.proofs.Math.Seq.{get_or-append_seam, take-length}
+use Rattle.std.proofs.Math.Seq.{get_or-append_seam}
 use Rattle.std.proofs.lemmas.Bool.{cases_lt, false≢true}
-use Rattle.std.proofs.lemmas.List.{map-append, length-map, length-replicate, length-take, get_or-replicate, get_or_append_left, take-append-drop, take-take}
+use Rattle.std.proofs.lemmas.List.{map-append, length-map, length-take, take_all, get_or_append_left, take-append-drop, take-take}
 use Rattle.ports_core.specs.Name.{Naming, next_name, with_one_drawn}
 use Rattle.ports_core.specs.Slot.{Slot, slot_at, changed_at, opened, adds, breaks, closes, is_writable, is_closable, with_written, with_broken, told_of, broke, numberless, Rose}
 use Rattle.ports_core.specs.inner.Write as short
@@ -361,36 +361,17 @@ sent_next {told} {files} {next} {old} {new} {place} more result before within is
     subst (λ those. Adds told files those 0 (place + 1) old next new result) (added_next place more within is ∙ ap (λ n. take n more) further)
     (adds_then result 0 (place + 1) before after (omega (arith, length-take place more)) (omega arith) (omega arith))
 
-pub sent_stops : {told : Bool} {files between next : FilesState} {old mid new : List Slot} {place : ℕ} {bytes : List ℕ} (more : List (List ℕ)) {why : Fault}
-    → Adds told files (take place more) 0 place old between mid (Ok tt) → place < length more → bytes ≡ get_or more place bytes
-    → Adds told between (only_at place bytes) place place mid next new (Err why) → Adds told files more 0 (length more) old next new (Err why)
-sent_stops {place} more {why} before within is after =
-    adds_wider (length more) (sent_next more (Err why) before within is after) (take_begin (place + 1) more) (omega (arith, within)) (λ n few. take-take n (place + 1) more few)
+pub sent_stops : {told : Bool} {files between next : FilesState} {old mid new : List Slot} {place most : ℕ} {bytes : List ℕ} (more : List (List ℕ)) {why : Fault} → length more ≡ most
+    → Adds told files (take place more) 0 place old between mid (Ok tt) → place < most → bytes ≡ get_or more place bytes
+    → Adds told between (only_at place bytes) place place mid next new (Err why) → Adds told files more 0 most old next new (Err why)
+sent_stops {place} {most} more {why} all before within is after =
+    adds_wider most (sent_next more (Err why) before (omega (arith, all, within)) is after) (take_begin (place + 1) more) (omega (arith, within)) (λ n few. take-take n (place + 1) more few)
 
 -- all of them were reached
-pub sent_all : {told : Bool} {files next : FilesState} {old new : List Slot} (place : ℕ) (more : List (List ℕ)) → place ≡ length more → Adds told files (take place more) 0 place old next new (Ok tt)
-    → Adds told files more 0 (length more) old next new (Ok tt)
-sent_all {told} {files} {next} {old} {new} place more is adds = subst (λ those. Adds told files those 0 (length more) old next new (Ok tt)) (take-length more)
+pub sent_all : {told : Bool} {files next : FilesState} {old new : List Slot} (place : ℕ) {most : ℕ} (more : List (List ℕ)) → length more ≡ most → place ≡ most
+    → Adds told files (take place more) 0 place old next new (Ok tt) → Adds told files more 0 most old next new (Ok tt)
+sent_all {told} {files} {next} {old} {new} place {most} more all is adds = subst (λ those. Adds told files those 0 most old next new (Ok tt)) (take_all most more (omega (arith, all)))
     (subst (λ n. Adds told files (take n more) 0 n old next new (Ok tt)) is adds)
-
--- files that are opened are sent nothing
-
-none_within : (count : ℕ) {place : ℕ} → place < count → place < length (replicate {A = List ℕ} count [])
-none_within count less = omega (arith, less, length-replicate {A = List ℕ} count [])
-
-pub opened_next : {told : Bool} {files between next : FilesState} {old mid new : List Slot} {place : ℕ} (count : ℕ) → Adds told files (take place (replicate count [])) 0 place old between mid (Ok tt)
-    → place < count → Adds told between (only_at place []) place place mid next new (Ok tt) → Adds told files (take (place + 1) (replicate count [])) 0 (place + 1) old next new (Ok tt)
-opened_next {place} count before less = sent_next (replicate count []) (Ok tt) before (none_within count less) (sym (get_or-replicate count place [] [] less))
-
-pub opened_stops : {told : Bool} {files between next : FilesState} {old mid new : List Slot} {place : ℕ} (count : ℕ) {why : Fault} → Adds told files (take place (replicate count [])) 0 place old between mid (Ok tt)
-    → place < count → Adds told between (only_at place []) place place mid next new (Err why) → Adds told files (replicate count []) 0 count old next new (Err why)
-opened_stops {told} {files} {next} {old} {new} {place} count {why} before less after = subst (λ n. Adds told files (replicate count []) 0 n old next new (Err why)) (length-replicate count [])
-    (sent_stops (replicate count []) before (none_within count less) (sym (get_or-replicate count place [] [] less)) after)
-
-pub opened_all : {told : Bool} {files next : FilesState} {old new : List Slot} (place count : ℕ) → place ≡ count → Adds told files (take place (replicate count [])) 0 place old next new (Ok tt)
-    → Adds told files (replicate count []) 0 count old next new (Ok tt)
-opened_all {told} {files} {next} {old} {new} place count is adds = subst (λ n. Adds told files (replicate count []) 0 n old next new (Ok tt)) (length-replicate count [])
-    (sent_all place (replicate count []) (is ∙ sym (length-replicate count [])) adds)
 
 -- closing, by the fault
 
