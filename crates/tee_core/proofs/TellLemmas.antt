@@ -90,10 +90,7 @@ tells_next told {fault} {names} {before} {known} other {n} {count} {old} {now} {
       flags = ap (λ those. set those n broken) so_far.known_are ∙ ap (set (take n (broken_of old) ++ drop n before) n) here ∙ set_next n before (broken_of old) within (broken_are ∙ sym many)
 
       step : said_since fault (drop n names) (drop n before) (drop n (broken_of old)) ≡ (if not (get_or known n other) && broken then message_of Tee fault name ∷ [] else []) ++ said_since fault (drop (suc n) names) (drop (suc n) before) (drop (suc n) (broken_of old))
-      step = said_next fault names before (broken_of old) n (omega (arith, names_many, within, many)) (many ∙ sym names_many) (broken_are ∙ sym names_many)
-          ∙ ap (λ (those : List ℕ). (if not (get_or before n false) && get_or (broken_of old) n false then message_of Tee fault those ∷ [] else []) ++ said_since fault (drop (suc n) names) (drop (suc n) before) (drop (suc n) (broken_of old))) (sym named)
-          ∙ ap (λ (flag : Bool). (if not flag && get_or (broken_of old) n false then message_of Tee fault name ∷ [] else []) ++ said_since fault (drop (suc n) names) (drop (suc n) before) (drop (suc n) (broken_of old))) (sym was)
-          ∙ ap (λ (flag : Bool). (if not (get_or known n other) && flag then message_of Tee fault name ∷ [] else []) ++ said_since fault (drop (suc n) names) (drop (suc n) before) (drop (suc n) (broken_of old))) (sym here)
+      step = cc (said_next fault names before (broken_of old) n (omega (arith, names_many, within, many)) (many ∙ sym names_many) (broken_are ∙ sym names_many), named, was, here)
 
       by : (flag : Bool) → (not (get_or known n other) && broken) ≡ flag → Telling told fault names before (suc n) old new (set known n broken)
       by true is = record {
