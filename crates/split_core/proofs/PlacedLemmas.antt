@@ -35,7 +35,7 @@ stands_first {place} i {bytes} {outputs} less is =
       from = omega arith;
       within = subst (λ those. i < length those) (sym here) less;
       is = ap (λ those. get_or those i 0) here ∙ is;
-      came = let before : length (joined (take (place - place) (bytes ∷ outputs))) ≡ 0 = ap (λ k. length (joined (take k (bytes ∷ outputs)))) none in omega (arith, before);
+      came = omega (arith, ap (λ k. length (joined (take k (bytes ∷ outputs)))) none);
     }
 
 stands_later : {place byte i : ℕ} {bytes : List ℕ} {outputs : List (List ℕ)} {at : Spot} → length bytes ≤ i → StandsIn (place + 1) outputs (i - length bytes) at byte → StandsIn place (bytes ∷ outputs) i at byte

@@ -14,7 +14,7 @@ pub lines-preserved-then-next-count : goal.lines-preserved-then-next-count
 lines-preserved-then-next-count c = (
   line_goes_on c.lines.reached _ c.lines.invariant.0 (by_delimiter _ _ _ c.lines.invariant.2 c.in-Some.ensures.some)
       (c.in_ok-append_to.ensures.ok ∙ ap (λ (line : List ℕ). changed_at c.lines.next (λ had. had ++ line) c.lines.self-inside.gathered.items) (first_taken _ (by_delimiter _ _ _ c.lines.invariant.2 c.in-Some.ensures.some) c.lines.invariant.1))
-      (let view : length c.self.inside.gathered.items ≡ length c.args.self.now.gathered = ap (λ (deal : DealState). length deal.gathered) c.self.view_is in omega (arith, view, c.len-count.ensures, c.clear.ensures.count)) c.if-next-count.true,
+      (omega (arith, ap (λ (deal : DealState). length deal.gathered) c.self.view_is, c.len-count.ensures, c.clear.ensures.count)) c.if-next-count.true,
   c.rest-left.ensures,
   c.next.ensures.same ∙ c.lines.invariant.2,
   c.lines.invariant.3,
@@ -25,7 +25,7 @@ pub lines-preserved : goal.lines-preserved
 lines-preserved c = (
   line_goes_round c.lines.reached _ c.lines.invariant.0 (by_delimiter _ _ _ c.lines.invariant.2 c.in-Some.ensures.some)
       (c.in_ok-append_to.ensures.ok ∙ ap (λ (line : List ℕ). changed_at c.lines.next (λ had. had ++ line) c.lines.self-inside.gathered.items) (first_taken _ (by_delimiter _ _ _ c.lines.invariant.2 c.in-Some.ensures.some) c.lines.invariant.1))
-      (let view : length c.self.inside.gathered.items ≡ length c.args.self.now.gathered = ap (λ (deal : DealState). length deal.gathered) c.self.view_is in omega (arith, view, c.len-count.ensures, c.clear.ensures.count)) (omega (arith, c.if-next-count.false)),
+      (omega (arith, ap (λ (deal : DealState). length deal.gathered) c.self.view_is, c.len-count.ensures, c.clear.ensures.count)) (omega (arith, c.if-next-count.false)),
   c.rest-left.ensures,
   c.next.ensures.same ∙ c.lines.invariant.2,
   c.lines.invariant.3,
