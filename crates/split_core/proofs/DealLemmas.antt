@@ -1,4 +1,5 @@
 -- Lemmas on gathering the lines of a piece.
+use Rattle.std.proofs.lemmas.Bool.Decides.{nat_tests}
 use Rattle.std.proofs.Common.{◌≡◌, ◌≢◌, ℕ, ◌+◌, ◌%◌, ◌<◌, ◌≤◌, zero, suc, min, max, Bool, true, false, cond, eqb, List, [], ◌∷◌, ◌++◌, length, get_or, set, take, drop, Result, OnOk, inl, inr, refl, sym, ◌∙◌, ap, subst, arith, append_assoc, length-append}
 use Rattle.std.proofs.Math.Nat.{mod-add-mod, mod-eq_of_lt, mod-mod, mod_self, mod-le}
 use Rattle.std.proofs.Math.Dec.{eqb-suc-suc}
@@ -27,29 +28,20 @@ pub record Dealing (delim n start : ℕ) (piece : List ℕ) (gathered : List (Li
   pub few : reached ≤ n
   pub over : next ≤ reached
 
-none_first : (ends : Bool) {count : ℕ} → cond ends (count + 1) count ≡ 0 → (ends ≡ false) × (count ≡ 0)
-none_first true none = absurd (omega (arith, none))
-none_first false none = (refl, none)
-
 pub has_none : (delim : ℕ) (x : List ℕ) → delimiters delim x ≡ 0 → HasNone delim x
 has_none delim [] none = tt
-has_none delim (byte ∷ x) none =
-    let first = none_first (eqb byte delim) none in
-    ((λ is. false≢true (sym first.0 ∙ eq-eqb byte delim is)), has_none delim x first.1)
+has_none delim (byte ∷ x) none = (grind (arith, nat_tests, none), has_none delim x (grind (arith, nat_tests, none)))
 
 get_or-changed : (place : ℕ) (line : List ℕ) (xs : List (List ℕ)) (file : ℕ) → file < length xs → get_or (changed_at place (λ had. had ++ line) xs) file [] ≡ cond (eqb place file) (get_or xs file [] ++ line) (get_or xs file [])
 get_or-changed place line [] file inside = absurd (omega arith)
 get_or-changed zero line (x ∷ xs) zero inside = refl
-get_or-changed zero line (x ∷ xs) (suc file) inside = let other : eqb 0 (suc file) ≡ false = ne_eqb 0 (suc file) (λ is. omega (arith, is)) in
-    sym (ap (λ is. cond is (get_or xs file [] ++ line) (get_or xs file [])) other)
-get_or-changed (suc place) line (x ∷ xs) zero inside = let other : eqb (suc place) 0 ≡ false = ne_eqb (suc place) 0 (λ is. omega (arith, is)) in
-    sym (ap (λ is. cond is (x ++ line) x) other)
+get_or-changed zero line (x ∷ xs) (suc file) inside = grind (arith, nat_tests)
+get_or-changed (suc place) line (x ∷ xs) zero inside = grind (arith, nat_tests)
 get_or-changed (suc place) line (x ∷ xs) (suc file) inside = get_or-changed place line xs file (omega arith) ∙ ap (λ is. cond is (get_or xs file [] ++ line) (get_or xs file [])) (sym (eqb-suc-suc place file))
 
 -- a line was appended to what its file had
 came : (gets : Bool) (had line rest : List ℕ) → cond gets (had ++ line) had ++ rest ≡ had ++ cond gets (line ++ rest) rest
-came true had line rest = append_assoc had line rest
-came false had line rest = refl
+came gets had line rest = grind (arith, nat_tests, append_assoc had line rest)
 
 -- a line was gathered, and the place is that of what follows
 shares_next : {n : ℕ} (next place : ℕ) (gathered : List (List ℕ)) (line : List ℕ) (lines : List (List ℕ)) (file : ℕ) → length gathered ≡ n → next < n → file < n → dealt n file place lines ≡ dealt n file (next + 1) lines

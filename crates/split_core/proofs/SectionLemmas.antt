@@ -28,23 +28,20 @@ runs_bound : {X : Type 0} (low high n : ℕ) (xs : List X) → 0 < n → length 
 runs_bound zero (suc high) n (x ∷ xs) some few little = absurd (omega arith)
 runs_bound (suc low) zero n (x ∷ xs) some few little = absurd (omega arith)
 runs_bound (suc low) (suc high) n (x ∷ xs) some few little =
-    let left : length (drop n (x ∷ xs)) ≡ suc (length xs) - n = length-drop n (x ∷ xs) in
-    ap (λ runs. take n (x ∷ xs) ∷ runs) (runs_bound low high n (drop n (x ∷ xs)) some (omega arith) (omega arith))
+    ap (λ runs. take n (x ∷ xs) ∷ runs) (runs_bound low high n (drop n (x ∷ xs)) some (omega (arith, length-drop n (x ∷ xs))) (omega (arith, length-drop n (x ∷ xs))))
 runs_bound low high n xs some few little = refl
 
 -- a run, and then the runs of what stands after it
 pub runs_next : {X : Type 0} (n : ℕ) (xs : List X) → 0 < n → 0 < length xs → runs_of n xs ≡ take n xs ∷ runs_of n (drop n xs)
 runs_next n [] some has = absurd (omega arith)
 runs_next n (x ∷ xs) some has =
-    let left : length (drop n (x ∷ xs)) ≡ suc (length xs) - n = length-drop n (x ∷ xs) in
-    ap (λ runs. take n (x ∷ xs) ∷ runs) (runs_bound (length xs) (length (drop n (x ∷ xs))) n (drop n (x ∷ xs)) some (omega arith) (omega arith))
+    ap (λ runs. take n (x ∷ xs) ∷ runs) (runs_bound (length xs) (length (drop n (x ∷ xs))) n (drop n (x ∷ xs)) some (omega (arith, length-drop n (x ∷ xs))) (omega (arith, length-drop n (x ∷ xs))))
 
 -- n members or fewer are one run
 pub runs_last : {X : Type 0} (n : ℕ) (xs : List X) → 0 < length xs → length xs ≤ n → runs_of n xs ≡ xs ∷ []
 runs_last n [] has few = absurd (omega arith)
 runs_last n (x ∷ xs) has few =
-    let left : length (drop n (x ∷ xs)) ≡ suc (length xs) - n = length-drop n (x ∷ xs) in
-    cc (take_all n (x ∷ xs) few, no_runs (length xs) n (drop n (x ∷ xs)) (omega arith)) where
+    cc (take_all n (x ∷ xs) few, no_runs (length xs) n (drop n (x ∷ xs)) (omega (arith, length-drop n (x ∷ xs)))) where
       no_runs : {X : Type 0} (bound n : ℕ) (xs : List X) → length xs ≡ 0 → runs_within bound n xs ≡ []
       no_runs (suc bound) n (x ∷ xs) empty = absurd (omega arith)
       no_runs bound n xs empty = refl
@@ -55,8 +52,7 @@ run_within zero n i (x ∷ xs) some few = absurd (omega arith)
 run_within (suc bound) n i [] some few = sym (ap (take n) (drop-nil (i * n)) ∙ take-nil n)
 run_within (suc bound) n zero (x ∷ xs) some few = ap (λ place. take n (drop place (x ∷ xs))) (sym (zero-mul n))
 run_within (suc bound) n (suc i) (x ∷ xs) some few =
-    let left : length (drop n (x ∷ xs)) ≡ suc (length xs) - n = length-drop n (x ∷ xs) in
-    cc (run_within bound n i (drop n (x ∷ xs)) some (omega arith), drop-drop (i * n) n (x ∷ xs), next_place i n) where
+    cc (run_within bound n i (drop n (x ∷ xs)) some (omega (arith, length-drop n (x ∷ xs))), drop-drop (i * n) n (x ∷ xs), next_place i n) where
       next_place : (i n : ℕ) → suc i * n ≡ n + i * n
       next_place i n = omega (arith, suc-mul i n)
 
@@ -77,8 +73,7 @@ one_more (suc runs) n all is some (low, high) =
 count_within : {X : Type 0} (bound n : ℕ) (xs : List X) → 0 < n → length xs ≤ bound → AreFewest (length (runs_within bound n xs)) n (length xs)
 count_within zero n (x ∷ xs) some few = absurd (omega arith)
 count_within (suc bound) n (x ∷ xs) some few =
-    let left : length (drop n (x ∷ xs)) ≡ suc (length xs) - n = length-drop n (x ∷ xs) in
-    one_more (length (runs_within bound n (drop n (x ∷ xs)))) n (suc (length xs)) left (omega arith) (count_within bound n (drop n (x ∷ xs)) some (omega arith))
+    one_more (length (runs_within bound n (drop n (x ∷ xs)))) n (suc (length xs)) (length-drop n (x ∷ xs)) (omega arith) (count_within bound n (drop n (x ∷ xs)) some (omega (arith, length-drop n (x ∷ xs))))
 count_within bound n xs some few = let none : 0 * n ≡ 0 = zero-mul n in (omega arith, omega arith)
 
 -- there are as few runs as can hold all members
@@ -90,8 +85,7 @@ runs_count n xs some = count_within (length xs) n xs some (omega arith)
 last_lines : (delim n : ℕ) (x : List ℕ) → delimiters delim x < n → unless_empty x ≡ line_parts delim n x
 last_lines delim n [] short = refl
 last_lines delim n (byte ∷ x) short =
-    let few : line_count delim (byte ∷ x) ≤ delimiters delim (byte ∷ x) + 1 = (line_count_near delim (byte ∷ x)).1 in
-    cc (runs_last n (lines_of delim (byte ∷ x)) (line_count-some delim (byte ∷ x) (omega arith)) (omega arith), joined-lines_of delim (byte ∷ x))
+    cc (runs_last n (lines_of delim (byte ∷ x)) (line_count-some delim (byte ∷ x) (omega arith)) (omega (arith, (line_count_near delim (byte ∷ x)).1)), joined-lines_of delim (byte ∷ x))
 
 lines_cut : (delim n : ℕ) {x : List ℕ} {full : List (List ℕ)} {rest : List ℕ} → 0 < n → Cuts (Lines n delim) x full rest → full ++ unless_empty rest ≡ line_parts delim n x
 lines_cut delim n {x} some (stops _ short) = last_lines delim n x (short_some (Lines n delim) x short some)
@@ -196,9 +190,7 @@ settled_list limit x = (cut_up limit x).full ++ unless_empty (settled_rest limit
 pub settled_bytes : (limit : Limit) (x : List ℕ) → map (λ (file : Share). file.bytes) (settled_parts limit x) ≡ settled_list limit x
 settled_bytes limit x =
     let full = (cut_up limit x).full in let rest = (cut_up limit x).rest in
-    map-append (λ (file : Share). file.bytes) (map (share Closed) full) (map (share Open) (unless_empty (settled_rest limit rest)))
-    ∙ ap (λ those. those ++ map (λ (file : Share). file.bytes) (map (share Open) (unless_empty (settled_rest limit rest)))) (bytes_of_shares Closed full)
-    ∙ ap (λ those. full ++ those) (bytes_of_shares Open (unless_empty (settled_rest limit rest)))
+    cc (map-append (λ (file : Share). file.bytes) (map (share Closed) full) (map (share Open) (unless_empty (settled_rest limit rest))), bytes_of_shares Closed full, bytes_of_shares Open (unless_empty (settled_rest limit rest)))
 
 pub list_all : (limit : Limit) (x : List ℕ) → joined (settled_list limit x) ++ waiting_rest limit (cut_up limit x).rest ≡ x
 list_all limit x =
