@@ -144,8 +144,7 @@ owned_ended slot old new same first owns = omega (arith, owns.0, owns.1, same)
 -- the file was opened
 pub owned_opened : {slot : ℕ} (one : Slot) (old : List Slot) {new : List Slot} → slot ≡ length old → new ≡ old ++ one ∷ [] → KeepsFile None old (Some slot) new
 owned_opened one old {new} at is first owns =
-    let above : first ≤ length old = owns in
-    let size : length new ≡ length old + 1 = ap length is ∙ length-append old (one ∷ []) in (omega (arith, at), omega (arith, at))
+    let size : length new ≡ length old + 1 = ap length is ∙ length-append old (one ∷ []) in (omega (arith, owns, at), omega (arith, owns, at))
 
 -- the file could not be opened
 pub owned_unopened : (names : Naming) (old new : List Slot) (fault : Fault) → OpensNone names old new fault → KeepsFile None old None new

@@ -67,8 +67,7 @@ AreFewest runs n all = (all ≤ runs * n) × (runs * n < all + n)
 one_more : (runs n : ℕ) {left : ℕ} (all : ℕ) → left ≡ all - n → 0 < all → AreFewest runs n left → AreFewest (suc runs) n all
 one_more zero n all is some (low, high) = let none : 0 * n ≡ 0 = zero-mul n in let first : 1 * n ≡ 0 * n + n = suc-mul 0 n in (omega arith, omega arith)
 one_more (suc runs) n all is some (low, high) =
-    let here : suc runs * n ≡ runs * n + n = suc-mul runs n in
-    let next : suc (suc runs) * n ≡ suc runs * n + n = suc-mul (suc runs) n in (omega arith, omega arith)
+    let next : suc (suc runs) * n ≡ suc runs * n + n = suc-mul (suc runs) n in (omega (arith, suc-mul runs n), omega (arith, suc-mul runs n))
 
 count_within : {X : Type 0} (bound n : ℕ) (xs : List X) → 0 < n → length xs ≤ bound → AreFewest (length (runs_within bound n xs)) n (length xs)
 count_within zero n (x ∷ xs) some few = absurd (omega arith)
@@ -153,9 +152,8 @@ line_bytes_once {delim} {n} some (more x these enough past) (more _ those _ othe
 
 line_bytes_first : (delim n : ℕ) (x : List ℕ) → 0 < n → n ≤ length x → (0 < length (whole_lines delim (take n x))) × (length (whole_lines delim (take n x)) ≤ n)
 line_bytes_first delim n x some enough =
-    let all : length (take n x) ≡ n = length-take-le n x enough in
     let both : length (whole_lines delim (take n x)) + length (open_line delim (take n x)) ≡ length (take n x) = sym (length-append (whole_lines delim (take n x)) (open_line delim (take n x))) ∙ ap length (whole_then_open delim) in
-    (whole_some delim (take n x) (omega arith), omega arith)
+    (whole_some delim (take n x) (omega (arith, length-take-le n x enough)), omega (arith, length-take-le n x enough))
 
 -- none is empty, and none has more than n bytes
 pub line_bytes_within : (delim n : ℕ) (x : List ℕ) (those : List (List ℕ)) → 0 < n → AreLineByteParts delim n x those → All (λ part. (0 < length part) × (length part ≤ n)) those
