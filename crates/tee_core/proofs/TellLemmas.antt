@@ -1,7 +1,8 @@
 -- Lemmas on the messages for outputs that broke.
+use Rattle.std.proofs.lemmas.Bool.{cond_both}
 use Rattle.std.proofs.Common.{◌≡◌, ℕ, ◌+◌, ◌<◌, zero, suc, List, [], ◌∷◌, ◌++◌, length, map, take, drop, get_or, set, Bor, Bool, true, false, not, ◌&&◌, if◌then◌else◌, refl, sym, ◌∙◌, ap, subst, arith, append_assoc}
 use Rattle.std.proofs.Math.ListN.{get_or-map}
-use Rattle.std.proofs.lemmas.List.{length-map}
+use Rattle.std.proofs.lemmas.List.{append-nil, length-map}
 use Rattle.ports_core.specs.Slot.{Slot, no_slot, slot_at, is_open}
 use Rattle.ports_core.specs.Text.{message_of}
 use Rattle.ports_core.specs.Message.{SaysOn}
@@ -76,7 +77,16 @@ pub tells_next : (told : Bool) {fault : Fault} {names : List (List ℕ)} {before
     → name ≡ get_or names n [] → broken ≡ (slot_at now (output_slot n)).is_broken → ((not (get_or known n other) && broken) ≡ true → SaysOn told Tee (message_of Tee fault name) now new) → ((not (get_or known n other) && broken) ≡ false → new ≡ now)
     → Telling told fault names before (n + 1) old new (set known n broken)
 tells_next told {fault} {names} {before} {known} other {n} {count} {old} {now} {new} {name} {broken} has names_many many within so_far named tells says quiet =
-    subst (λ k. Telling told fault names before k old new (set known n broken)) (let e : suc n ≡ n + 1 = omega arith in e) (by (not (get_or known n other) && broken) refl) where
+    subst (λ k. Telling told fault names before k old new (set known n broken)) (let e : suc n ≡ n + 1 = omega arith in e) (record {
+      so_far = so_far.so_far ++ here_said;
+      said = cond_both (not (get_or known n other) && broken) (message_of Tee fault name ∷ []) [] (λ texts. SaysTo told (so_far.so_far ++ texts) old new)
+          (λ is. says_too told so_far.so_far (message_of Tee fault name) now new has so_far.said (says is)) (λ is. rw (append-nil so_far.so_far, quiet is) so_far.said);
+      rest = append_assoc so_far.so_far here_said _ ∙ ap (λ texts. so_far.so_far ++ texts) (sym step) ∙ so_far.rest;
+      known_are = flags;
+    }) where
+      here_said : List (List ℕ)
+      here_said = if not (get_or known n other) && broken then message_of Tee fault name ∷ [] else []
+
       broken_are : length (broken_of old) ≡ count + 1
       broken_are = count_broken has
 
@@ -89,22 +99,8 @@ tells_next told {fault} {names} {before} {known} other {n} {count} {old} {now} {
       flags : set known n broken ≡ take (suc n) (broken_of old) ++ drop (suc n) before
       flags = ap (λ those. set those n broken) so_far.known_are ∙ ap (set (take n (broken_of old) ++ drop n before) n) here ∙ set_next n before (broken_of old) within (broken_are ∙ sym many)
 
-      step : said_since fault (drop n names) (drop n before) (drop n (broken_of old)) ≡ (if not (get_or known n other) && broken then message_of Tee fault name ∷ [] else []) ++ said_since fault (drop (suc n) names) (drop (suc n) before) (drop (suc n) (broken_of old))
+      step : said_since fault (drop n names) (drop n before) (drop n (broken_of old)) ≡ here_said ++ said_since fault (drop (suc n) names) (drop (suc n) before) (drop (suc n) (broken_of old))
       step = cc (said_next fault names before (broken_of old) n (omega (arith, names_many, within, many)) (many ∙ sym names_many) (broken_are ∙ sym names_many), named, was, here)
-
-      by : (flag : Bool) → (not (get_or known n other) && broken) ≡ flag → Telling told fault names before (suc n) old new (set known n broken)
-      by true is = record {
-        so_far = so_far.so_far ++ message_of Tee fault name ∷ [];
-        said = says_too told so_far.so_far (message_of Tee fault name) now new has so_far.said (says is);
-        rest = append_assoc so_far.so_far (message_of Tee fault name ∷ []) _ ∙ ap (λ texts. so_far.so_far ++ texts) (sym (step ∙ ap (λ (flag : Bool). (if flag then message_of Tee fault name ∷ [] else []) ++ said_since fault (drop (suc n) names) (drop (suc n) before) (drop (suc n) (broken_of old))) is)) ∙ so_far.rest;
-        known_are = flags;
-      }
-      by false is = record {
-        so_far = so_far.so_far;
-        said = subst (λ those. SaysTo told so_far.so_far old those) (sym (quiet is)) so_far.said;
-        rest = ap (λ texts. so_far.so_far ++ texts) (sym (step ∙ ap (λ (flag : Bool). (if flag then message_of Tee fault name ∷ [] else []) ++ said_since fault (drop (suc n) names) (drop (suc n) before) (drop (suc n) (broken_of old))) is)) ∙ so_far.rest;
-        known_are = flags;
-      }
 
 pub count_names : (names : List (Bor (List ℕ))) → length (output_names (map (λ name. name.now) names)) ≡ length names + 1
 count_names names = let many : length (map (λ (name : Bor (List ℕ)). name.now) names) ≡ length names = length-map names _ in let e : suc (length (map (λ (name : Bor (List ℕ)). name.now) names)) ≡ length names + 1 = omega arith in e
