@@ -1,4 +1,5 @@
 -- Lemmas on the messages for outputs that broke.
+use Rattle.std.proofs.lemmas.Bool.Decides.{nat_tests}
 use Rattle.std.proofs.lemmas.Bool.{cond_both}
 use Rattle.std.proofs.Common.{◌≡◌, ℕ, ◌+◌, ◌<◌, zero, suc, List, [], ◌∷◌, ◌++◌, length, map, take, drop, get_or, set, Bor, Bool, true, false, not, ◌&&◌, if◌then◌else◌, refl, sym, ◌∙◌, ap, subst, arith, append_assoc}
 use Rattle.std.proofs.Math.ListN.{get_or-map}
@@ -17,13 +18,9 @@ use Rattle.tee_core.specs.inner.Steps.{HasStreams, SaysTo, broken_of, output_slo
 abbrev said_one : Fault → List ℕ → Bool → Bool → List (List ℕ)
 said_one fault name was now = if not was && now then message_of Tee fault name ∷ [] else []
 
-one_before : (flag : Bool) (text : List ℕ) (texts : List (List ℕ)) → (if flag then text ∷ texts else texts) ≡ (if flag then text ∷ [] else []) ++ texts
-one_before true text texts = refl
-one_before false text texts = refl
-
 said_next : (fault : Fault) (names : List (List ℕ)) (known broken : List Bool) (n : ℕ) → n < length names → length known ≡ length names → length broken ≡ length names
     → said_since fault (drop n names) (drop n known) (drop n broken) ≡ said_one fault (get_or names n []) (get_or known n false) (get_or broken n false) ++ said_since fault (drop (suc n) names) (drop (suc n) known) (drop (suc n) broken)
-said_next fault (name ∷ names) (was ∷ known) (now ∷ broken) zero within known_many many = one_before (not was && now) (message_of Tee fault name) (said_since fault names known broken)
+said_next fault (name ∷ names) (was ∷ known) (now ∷ broken) zero within known_many many = grind (arith, nat_tests)
 said_next fault (name ∷ names) (was ∷ known) (now ∷ broken) (suc n) within known_many many = said_next fault names known broken n (omega arith) (omega (arith, known_many)) (omega (arith, many))
 said_next fault names known broken n within known_many many = absurd (omega (arith, known_many, many))
 
@@ -50,13 +47,10 @@ count_broken {count} has = ap (λ those. length (broken_of those)) has.are ∙ (
 
 -- standard error alone is written
 
-says_after : (told : Bool) (texts : List (List ℕ)) (text : List ℕ) (output error : Slot) (files now new : List Slot) → SaysTo told texts (output ∷ error ∷ files) now → SaysOn told Tee text now new → SaysTo told (texts ++ text ∷ []) (output ∷ error ∷ files) new
-says_after told texts text output error files now new so_far says =
-    let said = says output so_far.0 files so_far.2 in (said.0, says_more told Tee texts text error so_far.0 said.0 so_far.1 said.1, said.2)
-
 pub says_too : (told : Bool) (texts : List (List ℕ)) (text : List ℕ) {count : ℕ} {old : List Slot} (now new : List Slot) → HasStreams old count → SaysTo told texts old now → SaysOn told Tee text now new → SaysTo told (texts ++ text ∷ []) old new
-says_too told texts text now new has so_far says = subst (λ those. SaysTo told (texts ++ text ∷ []) those new) (sym has.are)
-    (says_after told texts text has.output has.error has.files now new (subst (λ those. SaysTo told texts those now) has.are so_far) says)
+says_too told texts text now new has so_far says =
+    let first = subst (λ those. SaysTo told texts those now) has.are so_far in let said = says has.output first.0 has.files first.2 in
+    subst (λ those. SaysTo told (texts ++ text ∷ []) those new) (sym has.are) (said.0, says_more told Tee texts text has.error first.0 said.0 first.1 said.1, said.2)
 
 broken_still : (told : Bool) (texts : List (List ℕ)) (output error : Slot) (files now : List Slot) (n : ℕ) → SaysTo told texts (output ∷ error ∷ files) now → (slot_at now (output_slot n)).is_broken ≡ get_or (broken_of (output ∷ error ∷ files)) n false
 broken_still told texts output error files now n said = ap (λ those. (slot_at those (output_slot n)).is_broken) said.2 ∙ broken_at output said.0 files n
