@@ -16,7 +16,7 @@ use Rattle.seg_core.specs.declared.cut.Cut.TheVariants as cut
 use Rattle.split_core.specs.declared.limit.Limit.{Limit}
 use Rattle.split_core.specs.declared.limit.Limit.TheVariants.{Lines, Bytes, LineBytes}
 use Rattle.split_core.specs.Parts.{whole_lines, most, after_first, cut_up, unless_empty, parts, settled_rest}
-use Rattle.split_core.specs.Split.{Plan, Share, share, is_named, are_named, named, file_at, settled_parts, settled_by, whole_by, split_work, dealt_files}
+use Rattle.split_core.specs.Split.{Plan, Share, share, is_named, are_named, named, settled_parts, settled_by, whole_by, split_work, dealt_files}
 use Rattle.split_core.specs.Splitter.{IsPositive}
 use Rattle.split_core.specs.PartState.{parts_work}
 use Rattle.split_core.specs.Round.{round_plan, round_work}

@@ -1,9 +1,9 @@
 -- Laws of parts that follow one another: what a text that goes on is cut into.
-use Rattle.std.proofs.Common.{◌≡◌, ℕ, ◌<◌, ◌≤◌, List, [], ◌∷◌, ◌++◌, length, take, drop, Bool, true, false, cond, ◌&&◌, nat_lt, nat_le, refl, sym, ◌∙◌, ap, subst, arith, append_assoc}
+use Rattle.std.proofs.Common.{◌≡◌, ℕ, ◌<◌, ◌≤◌, List, [], ◌∷◌, ◌++◌, length, take, drop, true, false, cond, refl, sym, ◌∙◌, ap, subst, arith, append_assoc}
 use Rattle.std.proofs.lemmas.Bool.Decides.{nat_tests}
 use Rattle.std.proofs.lemmas.List.{length-take, take_all, take_min, take-append-drop, take-take}
 use Rattle.std.proofs.Math.Seq.{drop-append_seam}
-use Rattle.seg_core.specs.Line.{joined, delimiters, first_lines, after_lines}
+use Rattle.seg_core.specs.Line.{joined, delimiters, after_lines}
 use Rattle.seg_core.proofs.FirstLines.{first_lines-is_take}
 use Rattle.split_core.specs.declared.limit.Limit.{Limit}
 use Rattle.split_core.specs.declared.limit.Limit.TheVariants.{Lines, Bytes, LineBytes}

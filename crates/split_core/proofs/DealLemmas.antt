@@ -3,7 +3,7 @@ use Rattle.std.proofs.lemmas.Bool.Decides.{nat_tests}
 use Rattle.std.proofs.Common.{◌≡◌, ◌≢◌, ℕ, ◌+◌, ◌%◌, ◌<◌, ◌≤◌, zero, suc, min, max, Bool, true, false, cond, eqb, List, [], ◌∷◌, ◌++◌, length, get_or, set, take, drop, Result, OnOk, inl, inr, refl, sym, ◌∙◌, ap, subst, arith, append_assoc, length-append}
 use Rattle.std.proofs.Math.Nat.{mod-add-mod, mod-eq_of_lt, mod-mod, mod_self, mod-le}
 use Rattle.std.proofs.Math.Dec.{eqb-suc-suc}
-use Rattle.std.proofs.lemmas.Bool.{cases_eq, eq-eqb, ne_eqb, eqb-true, eqb-false, false≢true}
+use Rattle.std.proofs.lemmas.Bool.{cases_eq, eqb-true, eqb-false}
 use Rattle.std.proofs.lemmas.List.{append-nil, ext_get_or, take_at, take-append-le, take-take, length-take-le}
 use Rattle.std.proofs.Math.Seq.{take-append-add}
 use Rattle.std.proofs.lemmas.Result.{on_ok_weaker}
@@ -13,7 +13,7 @@ use Rattle.seg_core.proofs.LinesOf.{lines_of-open}
 use Rattle.ports_core.specs.Slot.{changed_at}
 use Rattle.ports_core.proofs.SlotLemmas.{length-changed_at, set-changed}
 use Rattle.split_core.specs.Parts.{dealt}
-use Rattle.split_core.specs.inner.Dealt.{dealt_piece, reached_by, Gathers}
+use Rattle.split_core.specs.inner.Dealt.{dealt_piece, Gathers}
 use Rattle.split_core.specs.inner.FirstLine.{IsFirstLine}
 use Rattle.split_core.proofs.DealLaws.{dealt_same}
 use Rattle.ports_core.proofs.CounterLemmas.{no_length}
@@ -47,7 +47,12 @@ came gets had line rest = grind (arith, nat_tests, append_assoc had line rest)
 shares_next : {n : ℕ} (next place : ℕ) (gathered : List (List ℕ)) (line : List ℕ) (lines : List (List ℕ)) (file : ℕ) → length gathered ≡ n → next < n → file < n → dealt n file place lines ≡ dealt n file (next + 1) lines
     → get_or (changed_at next (λ had. had ++ line) gathered) file [] ++ dealt n file place lines ≡ get_or gathered file [] ++ dealt n file next (line ∷ lines)
 shares_next {n} next place gathered line lines file count within inside same =
-    cc (get_or-changed next line gathered file (omega arith), came (eqb next file) (get_or gathered file []) line (dealt n file place lines), same, mod-eq_of_lt within)
+    cc (
+      get_or-changed next line gathered file (omega arith),
+      came (eqb next file) (get_or gathered file []) line (dealt n file place lines),
+      same,
+      mod-eq_of_lt within,
+    )
 
 counted : (delim : ℕ) (left line rest : List ℕ) → lines_of delim left ≡ line ∷ lines_of delim rest → line_count delim left ≡ suc (line_count delim rest)
 counted delim left line rest cut = ap length cut

@@ -1,5 +1,5 @@
 -- One file is opened, written or closed.
-use Rattle.std.proofs.Common.{◌≡◌, ◌≢◌, ℕ, ◌+◌, ◌<◌, ◌≤◌, zero, suc, Bool, List, [], ◌∷◌, ◌++◌, length, map, take, drop, replicate, get_or, ◌⊎◌, inl, inr, refl, sym, ◌∙◌, ap, subst, arith, length-append, IsTrue, Ok, Err, Result, OnOk, IfErr}
+use Rattle.std.proofs.Common.{◌≡◌, ◌≢◌, ℕ, ◌+◌, ◌<◌, ◌≤◌, zero, suc, Bool, List, [], ◌∷◌, ◌++◌, length, map, take, drop, get_or, ◌⊎◌, inl, inr, refl, sym, ◌∙◌, ap, subst, arith, length-append, IsTrue, Ok, Err, Result, OnOk, IfErr}
 use Rattle.std.proofs.Math.Seq.{get_or-append_seam}
 use Rattle.std.proofs.lemmas.Bool.{cases_lt, false≢true}
 use Rattle.std.proofs.lemmas.List.{map-append, length-map, length-take, take_all, get_or_append_left, take-append-drop, take-take}
@@ -166,8 +166,10 @@ reached told {files} {old} {place} (Err why) ready here names made is fails = re
         done = take-take place place (only_at place []) (omega arith);
         reached = old;
         outputs = rw idle at.outputs;
-        marks = rw idle (marks_failed (IsDue files.names these (added these (only_at place [])))
-            (ap (name_of (from_start files.names)) (ready.drawn ∙ sym at.count), omega (arith, length-added these (only_at place []), length-only place [], long)) fails);
+        marks = rw idle (marks_failed (IsDue files.names these (added these (only_at place []))) (
+          ap (name_of (from_start files.names)) (ready.drawn ∙ sym at.count),
+          omega (arith, length-added these (only_at place []), length-only place [], long),
+        ) fails);
         from = rw idle (from_next (length before) (sym long) fails);
       };
 }
@@ -300,8 +302,8 @@ pub rose_closing : (told : Bool) {files : FilesState} {place : ℕ} {old now new
     → new ≡ with_broken (output_at files place) (changed_at (output_at files place) closes now) → Rose (output_at files place) old new
 rose_closing told {files} {place} {old} {now} ready within so_far is = (
   so_far.sound (output_at files place) (sound_at (output_at files place) now (so_far.left place (omega arith) within).1),
-  ap (λ slots. (slot_at slots (output_at files place)).is_broken) is
-      ∙ broken_there (output_at files place) _ (omega (arith, output_within place ready within, so_far.size, length-changed_at (output_at files place) closes now)),
+  ap (λ slots. (slot_at slots (output_at files place)).is_broken) is ∙ broken_there (output_at files place) _
+      (omega (arith, output_within place ready within, so_far.size, length-changed_at (output_at files place) closes now)),
 )
 
 -- there was no room for any of it
@@ -339,17 +341,21 @@ pub sent_writable : {told : Bool} {files between : FilesState} {old mid : List S
 sent_writable {mid} place adds slot_is = subst (λ at. IsTrue (is_writable mid at)) (sym slot_is) (adds.ready.closable place (sent_within adds)).1
 
 pub sent : {told : Bool} {files between : FilesState} {old mid new : List Slot} {place slot : ℕ} (bytes : List ℕ) (result : Result (Unit {0}) Fault)
-    → Adds told files (only_at place []) place place old between mid (Ok tt) → slot ≡ output_at between place → OnOk result (new ≡ with_written slot (told_of told bytes) mid)
+    → Adds told files (only_at place []) place place old between mid (Ok tt) → slot ≡ output_at between place
+    → OnOk result (new ≡ with_written slot (told_of told bytes) mid)
     → IfErr result (WritesShort told slot bytes mid new) → Adds told files (only_at place bytes) place place old between new result
-sent {told} {files} {between} {old} {mid} {new} {place} bytes result before slot_is ok err = subst (λ more. Adds told files more place place old between new result) (only_again place bytes)
+sent {told} {files} {between} {old} {mid} {new} {place} bytes result before slot_is ok err =
+    subst (λ more. Adds told files more place place old between new result) (only_again place bytes)
     (adds_then result place place before (written told place bytes result before.ready (sent_within before)
-    (subst (λ at. OnOk result (new ≡ with_written at (told_of told bytes) mid)) slot_is ok) (subst (λ at. IfErr result (WritesShort told at bytes mid new)) slot_is err))
+    (subst (λ at. OnOk result (new ≡ with_written at (told_of told bytes) mid)) slot_is ok)
+    (subst (λ at. IfErr result (WritesShort told at bytes mid new)) slot_is err))
     (omega (arith, length-only place [])) (omega arith) (omega arith))
 
 -- a file that couldn't be reached stops the write to it as well
 pub sent_unreached : {told : Bool} {files next : FilesState} {old new : List Slot} {place : ℕ} (bytes : List ℕ) {why : Fault} → Adds told files (only_at place []) place place old next new (Err why)
     → Adds told files (only_at place bytes) place place old next new (Err why)
-sent_unreached {place} bytes adds = adds_wider place adds (only_begin place [] bytes (nothing_begins bytes)) (omega arith) (λ n few. only_before n place [] bytes few)
+sent_unreached {place} bytes adds =
+    adds_wider place adds (only_begin place [] bytes (nothing_begins bytes)) (omega arith) (λ n few. only_before n place [] bytes few)
 
 -- the loop over all files
 
@@ -365,12 +371,14 @@ pub sent_stops : {told : Bool} {files between next : FilesState} {old mid new : 
     → Adds told files (take place more) 0 place old between mid (Ok tt) → place < most → bytes ≡ get_or more place bytes
     → Adds told between (only_at place bytes) place place mid next new (Err why) → Adds told files more 0 most old next new (Err why)
 sent_stops {place} {most} more {why} all before within is after =
-    adds_wider most (sent_next more (Err why) before (omega (arith, all, within)) is after) (take_begin (place + 1) more) (omega (arith, within)) (λ n few. take-take n (place + 1) more few)
+    adds_wider most (sent_next more (Err why) before (omega (arith, all, within)) is after) (take_begin (place + 1) more) (omega (arith, within))
+    (λ n few. take-take n (place + 1) more few)
 
 -- all of them were reached
 pub sent_all : {told : Bool} {files next : FilesState} {old new : List Slot} (place : ℕ) {most : ℕ} (more : List (List ℕ)) → length more ≡ most → place ≡ most
     → Adds told files (take place more) 0 place old next new (Ok tt) → Adds told files more 0 most old next new (Ok tt)
-sent_all {told} {files} {next} {old} {new} place {most} more all is adds = subst (λ those. Adds told files those 0 most old next new (Ok tt)) (take_all most more (omega (arith, all)))
+sent_all {told} {files} {next} {old} {new} place {most} more all is adds =
+    subst (λ those. Adds told files those 0 most old next new (Ok tt)) (take_all most more (omega (arith, all)))
     (subst (λ n. Adds told files (take n more) 0 n old next new (Ok tt)) is adds)
 
 -- closing, by the fault

@@ -145,7 +145,8 @@ idle_at (suc place) (one ∷ these) within = cc (append-nil one, idle_at place t
 -- the next file has nothing yet
 pub new_at : (place : ℕ) (these : List (List ℕ)) → length these ≡ place → added these (only_at place []) ≡ these ++ [] ∷ []
 new_at zero [] is = refl
-new_at (suc place) (one ∷ these) is = ap (λ all. all ∷ added these (only_at place [])) (append-nil one) ∙ ap (λ rest. one ∷ rest) (new_at place these (omega (arith, is)))
+new_at (suc place) (one ∷ these) is =
+    ap (λ all. all ∷ added these (only_at place [])) (append-nil one) ∙ ap (λ rest. one ∷ rest) (new_at place these (omega (arith, is)))
 new_at place these is = absurd (omega (arith, is))
 
 -- one more of what is to be added
@@ -208,11 +209,23 @@ drop_filed (suc n) names place (one ∷ shares) = let further : place + 1 + n �
 
 pub take_open : (n : ℕ) (names : Naming) (these those : List (List ℕ)) → take n these ≡ take n those → take n (open_part names these).files ≡ take n (open_part names those).files
 take_open n names these those same =
-    cc (take_filed n (from_start names) 0 (map (share Open) these), take-map (share Open) n these, same, take-map (share Open) n those, take_filed n (from_start names) 0 (map (share Open) those))
+    cc (
+      take_filed n (from_start names) 0 (map (share Open) these),
+      take-map (share Open) n these,
+      same,
+      take-map (share Open) n those,
+      take_filed n (from_start names) 0 (map (share Open) those),
+    )
 
 pub drop_open : (n : ℕ) (names : Naming) (these those : List (List ℕ)) → drop n these ≡ drop n those → drop n (open_part names these).files ≡ drop n (open_part names those).files
 drop_open n names these those same =
-    cc (drop_filed n (from_start names) 0 (map (share Open) these), drop-map (share Open) n these, same, drop-map (share Open) n those, drop_filed n (from_start names) 0 (map (share Open) those))
+    cc (
+      drop_filed n (from_start names) 0 (map (share Open) these),
+      drop-map (share Open) n these,
+      same,
+      drop-map (share Open) n those,
+      drop_filed n (from_start names) 0 (map (share Open) those),
+    )
 
 -- the file at a place of a list
 next_filed : (names : Naming) (from n : ℕ) (shares : List Share) → n < length shares → (front : List File) × (one : Share) × (rest : List File) × (filed names from shares ≡ front ++ file_at names (from + n) one ∷ rest) × (length front ≡ n)
@@ -270,9 +283,11 @@ adds_then {told} {files} {between} {next} {first} {second} {low} {high} {old} {m
   caused = IfErr-weaker result _ _ (λ why caused. (breaks_later before.sound caused.0, caused.1)) after.caused;
   leaves = λ start these at. further result start these (after.leaves start (added these first) (stand_then before at));
 } where
-  further : (result : Result (Unit {0}) Fault) (start : List Slot) (these : List (List ℕ)) → Leaves told start between.names (added these first) second low high new result
+  further : (result : Result (Unit {0}) Fault) (start : List Slot) (these : List (List ℕ))
+      → Leaves told start between.names (added these first) second low high new result
       → Leaves told start files.names these (added first second) lower most new result
-  further (Ok done) start these at = subst (λ those. OutputsAt told start (open_part files.names those) new) (added_again these first second) (renamed told files.names between.names _ before.names at)
+  further (Ok done) start these at = subst (λ those. OutputsAt told start (open_part files.names those) new) (added_again these first second)
+      (renamed told files.names between.names _ before.names at)
   further (Err why) start these stop = record {
     place = stop.place;
     after = omega (arith, stop.after, less);
@@ -284,7 +299,8 @@ adds_then {told} {files} {between} {next} {first} {second} {low} {high} {old} {m
     reached = stop.reached;
     outputs = subst (λ those. OutputsAt told start (open_part files.names those) stop.reached) (added_again these first stop.some)
         (renamed told files.names between.names _ before.names stop.outputs);
-    marks = rw (← added_again these first stop.some, ← added_again these first second) (subst (λ names. Marks (λ name. (name ≡ name_of names (length (added (added these first) stop.some)))
+    marks = rw (← added_again these first stop.some, ← added_again these first second)
+        (subst (λ names. Marks (λ name. (name ≡ name_of names (length (added (added these first) stop.some)))
         × (length (added (added these first) stop.some) < length (added (added these first) second))) why stop.reached new) before.names stop.marks);
     from = rw (← added_again these first stop.some) stop.from;
   }

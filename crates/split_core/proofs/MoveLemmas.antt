@@ -1,6 +1,6 @@
 -- How the files of `split` change, as they are opened, written and closed.
 use Rattle.std.proofs.lemmas.Bool.Decides.{nat_tests}
-use Rattle.std.proofs.Common.{◌≡◌, ℕ, ◌+◌, ◌≤◌, zero, suc, List, [], ◌∷◌, ◌++◌, ◌⊎◌, length, take, Bool, true, false, cond, IsTrue, Option, Some, None, Result, Ok, Err, OnOk, IfErr, inl, inr, refl, sym, ◌∙◌, ap, subst, arith, length-append}
+use Rattle.std.proofs.Common.{◌≡◌, ℕ, ◌+◌, ◌≤◌, zero, suc, List, [], ◌∷◌, ◌++◌, ◌⊎◌, length, take, Bool, true, false, IsTrue, Option, Some, None, Result, Ok, Err, OnOk, IfErr, inl, inr, refl, sym, ◌∙◌, ap, subst, arith, length-append}
 use Rattle.std.proofs.Math.Nat.{add-zero, zero-add}
 use Rattle.std.proofs.lemmas.Bool.{cond_both, false≢true}
 use Rattle.std.proofs.lemmas.Result.{IfErr-weaker, on_ok_weaker}
@@ -22,7 +22,7 @@ use Rattle.ports_core.proofs.SlotSteps.{keeps_again, rose_later, write_rose, ope
 use Rattle.split_core.specs.Split.{Share, share, split_means, is_named, are_named, from_start, only_files, file_at, named, name_of}
 use Rattle.split_core.specs.inner.ShareLaws.{AllShut, SharesBegin}
 use Rattle.split_core.proofs.ShareLaws.{shares_more, shares_themselves, shares_trans, last_grows}
-use Rattle.split_core.specs.laws.ShareLaws.{part_begins, no_more, one_on, shares_fewer}
+use Rattle.split_core.specs.laws.ShareLaws.{part_begins, one_on, shares_fewer}
 use Rattle.split_core.specs.inner.PartsState.{IsAtEnd}
 use Rattle.split_core.specs.PartsState.{PartsState, OwnsFile}
 use Rattle.split_core.specs.inner.Moves.{part_of, Goes, Reaches, RunsShort, Keeps, KeepsFile, Breaks, CannotClose, OpensNone, wants_memory, breaks_write, breaks_open, lacks_names}
@@ -175,7 +175,8 @@ goes_then {told} {names} {current} {next} {low} {mid} {high} {old} {wet} {new} r
     moves = λ last before at. ran.moves (stays_last current next old wet owned last) before (one.moves last before at);
   }) other.short;
 } where
-  further : (result : Result (Unit {0}) Fault) (before : List Slot) → Reaches told before names mid high new result → Reaches told before names low high new result
+  further : (result : Result (Unit {0}) Fault) (before : List Slot) → Reaches told before names mid high new result
+      → Reaches told before names low high new result
   further (Ok done) before at = at
   further (Err fault) before stop = turn_between told before _ _ _ _ fault new (part_begins names low mid one.grows) stop (part_begins_itself _)
 

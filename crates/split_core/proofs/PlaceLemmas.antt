@@ -104,7 +104,11 @@ one_gets : (had : ℕ → List ℕ) (line : List ℕ) (place start count : ℕ) 
 one_gets had line place start zero from before = absurd (omega arith)
 one_gets had line place start (suc count) from before = elim (cases_eq place start) [
   | inl here ↦
-      cc (eq-eqb place start here, none_gets had line place (start + 1) count (omega (arith, here)), three line (had start) (joined (map had (range_with_len (start + 1) count))))
+      cc (
+        eq-eqb place start here,
+        none_gets had line place (start + 1) count (omega (arith, here)),
+        three line (had start) (joined (map had (range_with_len (start + 1) count))),
+      )
   | inr other ↦
       ap (λ gets. length (cond gets (line ++ had start) (had start) ++ joined (map (λ file. cond (eqb place file) (line ++ had file) (had file)) (range_with_len (start + 1) count)))) (ne_eqb place start other)
       ∙ omega (arith, one_gets had line place (start + 1) count (omega (arith, other)) (omega arith), length-append {A = ℕ})

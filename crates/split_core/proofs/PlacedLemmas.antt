@@ -1,5 +1,5 @@
 -- The spots of split's files are right, where one part follows another.
-use Rattle.std.proofs.Common.{take, ◌≡◌, ℕ, ◌+◌, ◌-◌, ◌<◌, ◌≤◌, zero, suc, List, [], ◌∷◌, ◌++◌, length, get_or, Bool, true, false, cond, inl, inr, refl, sym, ◌∙◌, ap, subst, arith, append_assoc, length-append}
+use Rattle.std.proofs.Common.{take, ◌≡◌, ℕ, ◌+◌, ◌-◌, ◌<◌, ◌≤◌, zero, suc, List, [], ◌∷◌, ◌++◌, length, get_or, inl, inr, refl, sym, ◌∙◌, ap, subst, arith, append_assoc, length-append}
 use Rattle.std.proofs.lemmas.Bool.{cond_both, cases_lt}
 use Rattle.std.proofs.lemmas.List.{get_or_append_left}
 use Rattle.std.proofs.Math.Seq.{get_or-append_right}
@@ -96,7 +96,8 @@ named_front : (names : Naming) (place : ℕ) (those : List (List ℕ)) → (more
 named_front names place [] = ([], refl)
 named_front names place (one ∷ those) =
     let rest = named_front names (place + 1) those in
-    cond_both (is_named names place) _ _ (λ front. (more : List (List ℕ)) × (one ∷ those ≡ front ++ more)) (λ is. (rest.0, ap (λ those. one ∷ those) rest.1)) (λ is. (one ∷ those, refl))
+    cond_both (is_named names place) _ _ (λ front. (more : List (List ℕ)) × (one ∷ those ≡ front ++ more)) (λ is. (rest.0, ap (λ those. one ∷ those) rest.1))
+    (λ is. (one ∷ those, refl))
 
 -- the files are together a beginning of the text
 files_together : (limit : Limit) (names : Naming) {x : List ℕ} → (rest : List ℕ) × (x ≡ joined (file_bytes ((parts_work limit names).whole x)) ++ rest)

@@ -21,7 +21,7 @@ use Rattle.ports_core.specs.declared.slot.State.{State}
 use Rattle.ports_core.specs.declared.slot.State.TheVariants.{Open, Closed}
 use Rattle.ports_core.proofs.PartLemmas.{outputs_count}
 use Rattle.split_core.specs.Parts.{dealt, round_robin}
-use Rattle.split_core.specs.Split.{Share, share, named, is_named, are_named, from_start, file_at, only_files, dealt_files, settled_by, whole_by, is_short, is_some, split_means, split_work, bytes_in, waiting_after}
+use Rattle.split_core.specs.Split.{Share, share, named, is_named, are_named, from_start, only_files, dealt_files, settled_by, whole_by, is_short, is_some, split_means, split_work, bytes_in, waiting_after}
 use Rattle.split_core.specs.inner.Dealt.{dealt_piece, dealt_first, reached_by}
 use Rattle.split_core.specs.FilesState.{FilesState}
 use Rattle.split_core.specs.RoundState.{RoundState}
@@ -75,8 +75,13 @@ pub whole_is : (delim : ℕ) (names : Naming) (elide : Bool) (n : ℕ) (x : List
 whole_is delim names elide n x are = cc (filed_are delim Closed names elide n x are, closed_all (files_of delim elide n x), length-files_of delim elide n x)
 
 pub never_short : (delim : ℕ) (names : Naming) (elide : Bool) (n : ℕ) (x : List ℕ) → are_named names n ≡ true → false ≡ is_short (round_plan delim n elide names) x
-never_short delim names elide n x are =
-    sym (ap not (named_fewer names (length (map (share Closed) (dealt_files delim elide n x))) n are (omega (arith, length-map (dealt_files delim elide n x) (share Closed), ap length (dealt_files_are delim elide n x) ∙ length-files_of delim elide n x, opened_by-most delim elide n x))))
+never_short delim names elide n x are = sym (ap not (named_fewer names (length (map (share Closed) (dealt_files delim elide n x))) n are
+    (omega (
+      arith,
+      length-map (dealt_files delim elide n x) (share Closed),
+      ap length (dealt_files_are delim elide n x) ∙ length-files_of delim elide n x,
+      opened_by-most delim elide n x,
+    ))))
 
 -- One more piece
 
@@ -144,8 +149,11 @@ same_work old new delim count elide names = ap round_work same where
 
 -- what a piece makes of the files, where the stage can have been fed x
 made_is : {round : RoundState} {x : List ℕ} (piece : List ℕ) → Holds round x → open_part round.files.names (added (files_of round.delim round.elide round.count x) (dealt_first round.delim round.count round.next piece)) ≡ (work round).settled (x ++ piece)
-made_is {round} {x} piece holds =
-    cc (holds.next, files_after round.delim round.elide round.count x piece holds.some, settled_is round.delim round.files.names round.elide round.count (x ++ piece) holds.named)
+made_is {round} {x} piece holds = cc (
+  holds.next,
+  files_after round.delim round.elide round.count x piece holds.some,
+  settled_is round.delim round.files.names round.elide round.count (x ++ piece) holds.named,
+)
 
 -- where the stage stands, its files do
 stand_at : (told : Bool) (round : RoundState) {before : List Slot} {x : List ℕ} {now : List Slot} → StandsAt ways.Holds ways.Owns (way.Round round) told before x ((work round).settled x) now → StandAt told round.files before (files_of round.delim round.elide round.count x) now
@@ -156,12 +164,14 @@ stand_at told round {before} {x} {now} at = record {
 }
 
 puts_out : (told : Bool) (round : RoundState) (piece : List ℕ) {low high : ℕ} {next : FilesState} {old new : List Slot}
-    → Adds told round.files (dealt_first round.delim round.count round.next piece) low high old next new (Ok tt) → PutsOut ways.Holds ways.Owns ways.work (way.Round round) piece told old new
+    → Adds told round.files (dealt_first round.delim round.count round.next piece) low high old next new (Ok tt)
+    → PutsOut ways.Holds ways.Owns ways.work (way.Round round) piece told old new
 puts_out told round piece {new} adds before x at =
     subst (λ part. OutputsAt told before part new) (made_is piece at.holds) (adds.leaves before (files_of round.delim round.elide round.count x) (stand_at told round at))
 
 cuts_off : (told : Bool) (round : RoundState) (piece : List ℕ) {low high : ℕ} {next : FilesState} {old new : List Slot} (why : Fault)
-    → Adds told round.files (dealt_first round.delim round.count round.next piece) low high old next new (Err why) → CutsOff ways.Holds ways.Owns ways.work (way.Round round) piece told old new why
+    → Adds told round.files (dealt_first round.delim round.count round.next piece) low high old next new (Err why)
+    → CutsOff ways.Holds ways.Owns ways.work (way.Round round) piece told old new why
 cuts_off told round piece {new} why adds before x at =
     cut (unjudged adds.caused.0 adds.caused.1) (subst (λ high. StoppedBetween told before ((work round).settled x) high why new) (made_is piece at.holds)
     (rw (settled_is round.delim round.files.names round.elide round.count x at.holds.named)
@@ -171,8 +181,25 @@ takes_in : (told : Bool) {old new : RoundState} {piece : List ℕ} {before after
 takes_in told {old} {new} {piece} deals x holds = record {
   some = omega (arith, holds.some, deals.count);
   named = are_named_same old.files.names new.files.names new.count deals.adds.names ∙ ap (are_named old.files.names) deals.count ∙ holds.named;
-  next = cc (deals.next, holds.next, mod-add-mod (delimiters old.delim x) old.count (delimiters old.delim piece), delimiters-append old.delim x piece, deals.count, deals.delim);
-  opened = cc (deals.adds.opened, length-map-range_with_len (λ file. dealt old.count file old.next (lines_of old.delim piece)) 0 (reached_by old.delim old.count old.next piece), holds.opened, holds.next, opened_after old.delim old.elide old.count x piece holds.some, deals.elide, deals.count, deals.delim);
+  next = cc (
+    deals.next,
+    holds.next,
+    mod-add-mod (delimiters old.delim x) old.count (delimiters old.delim piece),
+    delimiters-append old.delim x piece,
+    deals.count,
+    deals.delim,
+  );
+  opened = cc (
+    deals.adds.opened,
+    length-map-range_with_len (λ file. dealt old.count file old.next (lines_of old.delim piece)) 0
+        (reached_by old.delim old.count old.next piece),
+    holds.opened,
+    holds.next,
+    opened_after old.delim old.elide old.count x piece holds.some,
+    deals.elide,
+    deals.count,
+    deals.delim,
+  );
 }
 
 pub passes_by : (told : Bool) (old new : RoundState) (piece : List ℕ) (before after : List Slot) (result : Result (Unit {0}) Fault)
@@ -260,7 +287,8 @@ module _ (told : Bool) (names : Naming) (count : ℕ) {files next : FilesState} 
   opens_own = adds.owned (length old) (subst (λ (those : FilesState). OwnsFiles those (length old) old) (sym is) (none_owned names))
 
   opens : (before : List Slot) → OutputsAt told before nothing old → Leaves told before names [] (replicate count []) 0 count new result
-  opens before at = (subst (λ (those : FilesState). Adds told those (replicate count []) 0 count old next new result) is adds).leaves before [] (none_stand told names at)
+  opens before at =
+      (subst (λ (those : FilesState). Adds told those (replicate count []) 0 count old next new result) is adds).leaves before [] (none_stand told names at)
 
 pub opens_all : (delim : ℕ) (told elide : Bool) (names : Naming) (n : ℕ) {count : ℕ} {files next : FilesState} {old new : List Slot} → files ≡ no_files names → names.drawn ≡ 0 → are_named names n ≡ true → count ≡ opened_by delim elide n []
     → Adds told files (replicate count []) 0 count old next new (Ok tt) → (before : List Slot) → OutputsAt told before nothing old → OutputsAt told before (settled_by (round_plan delim n elide names) []) new

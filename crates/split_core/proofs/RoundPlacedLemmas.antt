@@ -45,7 +45,13 @@ follows delim n x i less =
     let place = 0 + delimiters delim (take i x) in
     let after = dealt n file (cond (eqb byte delim) (place + 1) place) (lines_of delim (drop (suc i) x)) in record {
       rest = after;
-      is = cc (take-append-drop i x, dealt_append delim n file 0 (take i x) (drop i x), drop-cons x i 0 less, dealt_first (eqb byte delim) n file place byte (lines_of delim (drop (suc i) x)), eq-eqb (place % n) file (ap (λ k. k % n) (zero-add (delimiters delim (take i x)))));
+      is = cc (
+        take-append-drop i x,
+        dealt_append delim n file 0 (take i x) (drop i x),
+        drop-cons x i 0 less,
+        dealt_first (eqb byte delim) n file place byte (lines_of delim (drop (suc i) x)),
+        eq-eqb (place % n) file (ap (λ k. k % n) (zero-add (delimiters delim (take i x)))),
+      );
     }
 
 had_less : (delim n : ℕ) (x : List ℕ) (i : ℕ) → i < length x → had delim n (dealt_to delim n x i) x i < length (share_of delim n x (dealt_to delim n x i))
@@ -119,7 +125,13 @@ file_is delim elide n x file within = ap (λ files. get_or files file []) (dealt
 named_at : (names : Naming) (place : ℕ) (those : List (List ℕ)) (k : ℕ) → get_or (named_bytes names place those) k [] ≡ cond (is_named names (place + k)) (get_or those k []) []
 named_at names place [] k = grind (arith, nat_tests)
 named_at names place (one ∷ those) zero = grind (arith, nat_tests, ap (is_named names) (add-zero place))
-named_at names place (one ∷ those) (suc k) = grind (arith, nat_tests, named_at names (place + 1) those k, ap (is_named names) (one_on place k), λ (is : is_named names (place + suc k) ≡ true). named_before names place (place + suc k) is (omega arith))
+named_at names place (one ∷ those) (suc k) = grind (
+  arith,
+  nat_tests,
+  named_at names (place + 1) those k,
+  ap (is_named names) (one_on place k),
+  λ (is : is_named names (place + suc k) ≡ true). named_before names place (place + suc k) is (omega arith),
+)
 
 -- a file that has a byte has a name, and is one of n
 there_by : (has : Bool) (these : List ℕ) {offset : ℕ} → offset < length (cond has these []) → (has ≡ true) × (offset < length these)
@@ -142,8 +154,10 @@ pub record Goes (delim n : ℕ) (names : Naming) (x : List ℕ) (i : ℕ) (at : 
   pub is : at ≡ spot (dealt_to delim n x i + 1) (had delim n (dealt_to delim n x i) x i)
 
 dealt_goes : {delim n : ℕ} (names : Naming) {x : List ℕ} {i : ℕ} {at : Spot} → GoesTo at (dealt_spots delim n names x i) → Goes delim n names x i at
-dealt_goes {delim} {n} names {x} {i} {at} goes = cond_both (nat_lt i (length x) && is_named names (dealt_to delim n x i)) _ _ (λ those. GoesTo at those → Goes delim n names x i at)
-    (λ is goes. let both = and_parts _ _ is in record { within = ltb-true i (length x) both.0; named = both.1; is = only_spot _ goes }) (λ is goes. absurd goes) goes
+dealt_goes {delim} {n} names {x} {i} {at} goes =
+    cond_both (nat_lt i (length x) && is_named names (dealt_to delim n x i)) _ _ (λ those. GoesTo at those → Goes delim n names x i at)
+    (λ is goes. let both = and_parts _ _ is in record { within = ltb-true i (length x) both.0; named = both.1; is = only_spot _ goes })
+    (λ is goes. absurd goes) goes
 
 abbrev files_of : ℕ → ℕ → Bool → Naming → List ℕ → List (List ℕ)
 files_of delim n elide names x = file_bytes (whole_by (round_plan delim n elide names) x)
@@ -152,7 +166,8 @@ file_there : (delim n : ℕ) (elide : Bool) (names : Naming) (x : List ℕ) (fil
 file_there delim n elide names x file within named =
     ap (λ k. get_or ([] ∷ files_of delim n elide names x) k []) (let e : file + 1 ≡ suc file = omega arith in e)
     ∙ ap (λ files. get_or files file []) (dealt_whole delim n elide names x)
-    ∙ named_at names 0 (dealt_files delim elide n x) file ∙ ap (λ has. cond has (get_or (dealt_files delim elide n x) file []) []) (ap (is_named names) (zero-add file) ∙ named)
+    ∙ named_at names 0 (dealt_files delim elide n x) file
+    ∙ ap (λ has. cond has (get_or (dealt_files delim elide n x) file []) []) (ap (is_named names) (zero-add file) ∙ named)
     ∙ file_is delim elide n x file within
 
 abbrev StandsThere : List (List ℕ) → Spot → ℕ → Type 0
@@ -176,8 +191,12 @@ dealt_filled delim n elide names x zero offset less = absurd (omega (arith, less
 dealt_filled delim n elide names x (suc file) offset less =
     let there = there_by (is_named names (0 + file)) (get_or (dealt_files delim elide n x) file []) (subst (λ those. offset < length those) (ap (λ files. get_or files file []) (dealt_whole delim n elide names x) ∙ named_at names 0 (dealt_files delim elide n x) file) less) in
     let within = within_n delim elide n x file offset there.1 in
-    let found = find 0 x (subst (λ those. offset < length those) (file_is delim elide n x file within) there.1) in
-    (found.i, found.within, goes_there delim n names x found.i found.within (ap (λ k. k % n) (sym (zero-add (delimiters delim (take found.i x)))) ∙ found.goes) found.at (ap (is_named names) (sym (zero-add file)) ∙ there.0))
+    let found = find 0 x (subst (λ those. offset < length those) (file_is delim elide n x file within) there.1) in (
+      found.i,
+      found.within,
+      goes_there delim n names x found.i found.within
+          (ap (λ k. k % n) (sym (zero-add (delimiters delim (take found.i x)))) ∙ found.goes) found.at (ap (is_named names) (sym (zero-add file)) ∙ there.0),
+    )
 
 not_before : {delim n : ℕ} {names : Naming} {x : List ℕ} {i j : ℕ} {at : Spot} → Goes delim n names x i at → Goes delim n names x j at → i < j → ⊥
 not_before {delim} {n} {x} {i} {j} one two less =

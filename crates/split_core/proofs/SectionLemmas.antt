@@ -6,7 +6,7 @@ use Rattle.std.proofs.Math.Seq.{take-nil, drop-nil}
 use Rattle.std.specs.List.{All}
 use Rattle.std.proofs.lemmas.List.Elements.{All-nil, All-cons}
 use Rattle.std.proofs.lemmas.List.{append-nil, take_all, drop-drop, length-map, length-take-le, map-append}
-use Rattle.seg_core.specs.Line.{joined, lines_of, delimiters, first_lines, after_lines, line_count}
+use Rattle.seg_core.specs.Line.{joined, lines_of, delimiters, after_lines, line_count}
 use Rattle.seg_core.proofs.FirstLines.{joined-append, lines_of-first_lines, lines_of-after, lines_of-after_lines}
 use Rattle.seg_core.proofs.LineCounts.{line_count-some, line_count_near}
 use Rattle.seg_core.proofs.LinesOf.{joined-lines_of}
@@ -28,14 +28,16 @@ runs_bound : {X : Type 0} (low high n : ℕ) (xs : List X) → 0 < n → length 
 runs_bound zero (suc high) n (x ∷ xs) some few little = absurd (omega arith)
 runs_bound (suc low) zero n (x ∷ xs) some few little = absurd (omega arith)
 runs_bound (suc low) (suc high) n (x ∷ xs) some few little =
-    ap (λ runs. take n (x ∷ xs) ∷ runs) (runs_bound low high n (drop n (x ∷ xs)) some (omega (arith, length-drop n (x ∷ xs))) (omega (arith, length-drop n (x ∷ xs))))
+    ap (λ runs. take n (x ∷ xs) ∷ runs) (runs_bound low high n (drop n (x ∷ xs)) some (omega (arith, length-drop n (x ∷ xs)))
+    (omega (arith, length-drop n (x ∷ xs))))
 runs_bound low high n xs some few little = refl
 
 -- a run, and then the runs of what stands after it
 pub runs_next : {X : Type 0} (n : ℕ) (xs : List X) → 0 < n → 0 < length xs → runs_of n xs ≡ take n xs ∷ runs_of n (drop n xs)
 runs_next n [] some has = absurd (omega arith)
 runs_next n (x ∷ xs) some has =
-    ap (λ runs. take n (x ∷ xs) ∷ runs) (runs_bound (length xs) (length (drop n (x ∷ xs))) n (drop n (x ∷ xs)) some (omega (arith, length-drop n (x ∷ xs))) (omega (arith, length-drop n (x ∷ xs))))
+    ap (λ runs. take n (x ∷ xs) ∷ runs) (runs_bound (length xs) (length (drop n (x ∷ xs))) n (drop n (x ∷ xs)) some (omega (arith, length-drop n (x ∷ xs)))
+    (omega (arith, length-drop n (x ∷ xs))))
 
 -- n members or fewer are one run
 pub runs_last : {X : Type 0} (n : ℕ) (xs : List X) → 0 < length xs → length xs ≤ n → runs_of n xs ≡ xs ∷ []
@@ -84,7 +86,10 @@ runs_count n xs some = count_within (length xs) n xs some (omega arith)
 last_lines : (delim n : ℕ) (x : List ℕ) → delimiters delim x < n → unless_empty x ≡ line_parts delim n x
 last_lines delim n [] short = refl
 last_lines delim n (byte ∷ x) short =
-    cc (runs_last n (lines_of delim (byte ∷ x)) (line_count-some delim (byte ∷ x) (omega arith)) (omega (arith, (line_count_near delim (byte ∷ x)).1)), joined-lines_of delim (byte ∷ x))
+    cc (
+      runs_last n (lines_of delim (byte ∷ x)) (line_count-some delim (byte ∷ x) (omega arith)) (omega (arith, (line_count_near delim (byte ∷ x)).1)),
+      joined-lines_of delim (byte ∷ x),
+    )
 
 lines_cut : (delim n : ℕ) {x : List ℕ} {full : List (List ℕ)} {rest : List ℕ} → 0 < n → Cuts (Lines n delim) x full rest → full ++ unless_empty rest ≡ line_parts delim n x
 lines_cut delim n {x} some (stops _ short) = last_lines delim n x (short_some (Lines n delim) x short some)
@@ -193,7 +198,13 @@ settled_bytes limit x =
 pub list_all : (limit : Limit) (x : List ℕ) → joined (settled_list limit x) ++ waiting_rest limit (cut_up limit x).rest ≡ x
 list_all limit x =
     let full = (cut_up limit x).full in let rest = (cut_up limit x).rest in
-    cc (joined-append full (unless_empty (settled_rest limit rest)), joined_one (settled_rest limit rest), append_assoc (joined full) (settled_rest limit rest) (waiting_rest limit rest), settled_then_waiting limit rest, cut_all limit {x = x})
+    cc (
+      joined-append full (unless_empty (settled_rest limit rest)),
+      joined_one (settled_rest limit rest),
+      append_assoc (joined full) (settled_rest limit rest) (waiting_rest limit rest),
+      settled_then_waiting limit rest,
+      cut_all limit {x = x},
+    )
 
 -- what is written and what waits are together what came in
 pub settled_all : (limit : Limit) (x : List ℕ) → joined (map (λ (file : Share). file.bytes) (settled_parts limit x)) ++ waiting_rest limit (cut_up limit x).rest ≡ x

@@ -1,10 +1,10 @@
 -- Which bytes continuations put into different files.
-use Rattle.std.proofs.Common.{◌≡◌, ◌≢◌, ◌⊎◌, ℕ, ◌+◌, ◌-◌, ◌%◌, ◌<◌, ◌≤◌, ◌&&◌, nat_lt, suc, List, [], ◌∷◌, ◌++◌, length, map, take, drop, Bool, true, false, not, cond, inl, inr, refl, sym, ◌∙◌, ap, arith, length-append}
+use Rattle.std.proofs.Common.{◌≡◌, ◌≢◌, ◌⊎◌, ℕ, ◌+◌, ◌-◌, ◌<◌, ◌≤◌, suc, List, [], ◌∷◌, ◌++◌, length, map, Bool, true, false, not, inl, inr, refl, sym, ◌∙◌, ap, arith, length-append}
 use Rattle.std.proofs.Math.Seq.{drop-append_seam}
 use Rattle.std.proofs.Math.Nat.{add-zero, sub-zero}
 use Rattle.std.proofs.lemmas.Bool.{cond_both, cases_lt, false≢true, lt-ltb, not-false}
 use Rattle.std.proofs.lemmas.List.{append-nil, length-map, drop_all, take-append-le}
-use Rattle.seg_core.specs.Line.{joined, delimiters, lines_of}
+use Rattle.seg_core.specs.Line.{joined, delimiters}
 use Rattle.seg_core.proofs.FirstLines.{joined-append}
 use Rattle.ports_core.specs.Name.{Naming}
 use Rattle.ports_core.specs.Part.{File, FilesBegin}
@@ -16,11 +16,11 @@ use Rattle.seg_core.specs.declared.cut.Cut.{Cut}
 use Rattle.seg_core.specs.declared.cut.Cut.TheVariants as cut
 use Rattle.split_core.specs.declared.limit.Limit.{Limit}
 use Rattle.split_core.specs.declared.limit.Limit.TheVariants.{Lines, Bytes, LineBytes}
-use Rattle.split_core.specs.Parts.{whole_lines, most, cut_up, unless_empty, parts, settled_rest, waiting_rest, dealt}
-use Rattle.split_core.specs.Split.{Plan, share, is_named, are_named, named, file_at, settled_by, is_short, split_work, dealt_files, bytes_in}
+use Rattle.split_core.specs.Parts.{whole_lines, most, cut_up, unless_empty, parts, settled_rest, waiting_rest}
+use Rattle.split_core.specs.Split.{Plan, share, is_named, are_named, named, settled_by, is_short, split_work, dealt_files, bytes_in}
 use Rattle.split_core.specs.Splitter.{IsPositive}
 use Rattle.split_core.specs.PartState.{parts_work}
-use Rattle.split_core.specs.Place.{dealt_to, dealt_spots, split_spots}
+use Rattle.split_core.specs.Place.{dealt_spots, split_spots}
 use Rattle.split_core.specs.Round.{round_plan}
 use Rattle.split_core.specs.laws.CutLaws.{whole_some}
 use Rattle.split_core.proofs.CutLaws.{open_of_none, cut_all}
@@ -51,7 +51,8 @@ last_open : (names : Naming) (place : ℕ) (full : List (List ℕ)) (rest : List
 last_open names place [] [] = tt
 last_open names place [] (byte ∷ rest) = cond_both (is_named names place) _ _ OnlyLastOpen (λ is. (λ opened. refl, tt)) (λ is. tt)
 last_open names place (part ∷ full) rest =
-    cond_both (is_named names place) _ _ OnlyLastOpen (λ is. (λ opened. absurd (false≢true (ap is_open opened)), last_open names (place + 1) full rest)) (λ is. tt)
+    cond_both (is_named names place) _ _ OnlyLastOpen (λ is. (λ opened. absurd (false≢true (ap is_open opened)), last_open names (place + 1) full rest))
+    (λ is. tt)
 
 -- bytes that files have stay where they are
 spots_stay : (place i : ℕ) (low high : List File) → FilesBegin low high → OnlyLastOpen low → i < length (joined (map (λ (file : File). file.bytes) low))
@@ -112,7 +113,15 @@ lines_here : (delim n : ℕ) (names : Naming) (x : List ℕ) → are_named names
     → parts_spots (LineBytes n delim) names (x ++ []) i ≡ spot (1 + length (cut_up (LineBytes n delim) x).full) (i - length (joined (cut_up (LineBytes n delim) x).full)) ∷ []
 lines_here delim n names x are lines i past within =
     let full = (cut_up (LineBytes n delim) x).full in let rest = (cut_up (LineBytes n delim) x).rest in
-    cc (append-nil x, whole_files (LineBytes n delim) names x, each_named names (parts (LineBytes n delim) x) are, one_of rest (delimiters_some delim rest lines), spots_after 1 i full (rest ∷ []) past, spot_in (1 + length full) (i - length (joined full)) rest [] (omega (arith, ap length (sym (cut_all (LineBytes n delim))) ∙ length-append (joined full) rest, past, within)))
+    cc (
+      append-nil x,
+      whole_files (LineBytes n delim) names x,
+      each_named names (parts (LineBytes n delim) x) are,
+      one_of rest (delimiters_some delim rest lines),
+      spots_after 1 i full (rest ∷ []) past,
+      spot_in (1 + length full) (i - length (joined full)) rest []
+          (omega (arith, ap length (sym (cut_all (LineBytes n delim))) ∙ length-append (joined full) rest, past, within)),
+    )
 
 lines_there : (limit : Limit) (names : Naming) (x y : List ℕ) (next : List (List ℕ)) → are_named names (length (parts limit x)) ≡ true → parts limit (x ++ y) ≡ settled_list limit x ++ next
     → (i : ℕ) → length (joined (settled_list limit x)) ≤ i → (more : List (List ℕ)) × (parts_spots limit names (x ++ y) i ≡ spots_from (1 + length (settled_list limit x)) more (i - length (joined (settled_list limit x))))

@@ -1,5 +1,5 @@
 -- What all continuations agree on, of a copied input.
-use Rattle.std.proofs.Common.{◌≡◌, ℕ, ◌+◌, ◌<◌, ◌≤◌, nat_lt, zero, suc, List, [], ◌∷◌, ◌++◌, length, map, get_or, Bool, true, false, cond, inl, inr, refl, sym, ◌∙◌, ap, subst, arith, length-append}
+use Rattle.std.proofs.Common.{◌≡◌, ℕ, ◌+◌, ◌<◌, ◌≤◌, nat_lt, zero, suc, List, [], ◌∷◌, ◌++◌, length, map, get_or, Bool, cond, inl, inr, refl, sym, ◌∙◌, ap, subst, arith, length-append}
 use Rattle.std.proofs.lemmas.Bool.{cond_both, lt-ltb}
 use Rattle.std.proofs.lemmas.List.{append-nil}
 use Rattle.ports_core.specs.Agreed.{IsAgreed, IsUndecided, Spot, spot, output_at, GoesTo, ArePlaced}
@@ -43,7 +43,8 @@ each_goes place (name ∷ names) at (inl is) = (ap (λ those. those.offset) is, 
 each_goes place (name ∷ names) at (inr goes) = (let rest = each_goes (place + 1) names at goes in (rest.0, (omega (arith, rest.1)), (omega (arith, rest.2))))
 
 tee_goes : (names : List (List ℕ)) (x : List ℕ) {i : ℕ} (at : Spot) → GoesTo at (tee_spots names x i) → (at.offset ≡ i) × (at.place < 1 + length names)
-tee_goes names x {i} at goes = cond_both (nat_lt i (length x)) (spots_each 0 ([] ∷ names) i) [] (λ those. GoesTo at those → (at.offset ≡ i) × (at.place < 1 + length names))
+tee_goes names x {i} at goes =
+    cond_both (nat_lt i (length x)) (spots_each 0 ([] ∷ names) i) [] (λ those. GoesTo at those → (at.offset ≡ i) × (at.place < 1 + length names))
     (λ is goes. let each = each_goes 0 ([] ∷ names) at goes in (each.0, omega (arith, each.2))) (λ is goes. absurd goes) goes
 
 file_has : (mode : Mode) (names : List (List ℕ)) {x : List ℕ} (place : ℕ) → place < length names → get_or (map (λ (file : File). file.bytes) (map (copy_in mode Closed x) names)) place [] ≡ x

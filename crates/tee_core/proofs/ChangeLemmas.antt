@@ -59,11 +59,17 @@ newly_in_two (o ∷ olds) (m ∷ mids) (n ∷ news) count_mid count_new first se
 newly_in_two old mid new count_mid count_new first second = absurd (omega (arith, count_new, count_mid))
 
 pub turned_none : {Change : Slot → Slot → Type 0} {IsOne : ℕ → Type 0} {slots : List Slot} → ((place : ℕ) → IsOne place → ⊥) → Turns Change IsOne slots slots 0
-turned_none {slots} none = record { changes = record { count = refl; each = λ place is. absurd (none place is); others = λ place differs. refl }; broke_are = sym (newly_none slots) }
+turned_none {slots} none =
+    record { changes = record { count = refl; each = λ place is. absurd (none place is); others = λ place differs. refl }; broke_are = sym (newly_none slots) }
 
 pub turned_same : {Change : Slot → Slot → Type 0} (place : ℕ) {slots : List Slot} → Change (slot_at slots place) (slot_at slots place) → Turns Change (λ other. other ≡ place) slots slots 0
 turned_same {Change} place {slots} changes = record {
-  changes = record { count = refl; each = λ other here. subst (λ at. Change (slot_at slots at) (slot_at slots at)) (sym here) changes; others = λ other differs. refl };
+  changes = record {
+    count = refl;
+    each = λ other here. subst (λ at. Change (slot_at slots at) (slot_at slots at))
+        (sym here) changes;
+    others = λ other differs. refl;
+  };
   broke_are = sym (newly_none slots);
 }
 

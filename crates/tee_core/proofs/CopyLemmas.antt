@@ -1,12 +1,11 @@
 -- Lemmas on copying a piece: what the outputs have after it, and what is said of it.
-use Rattle.std.proofs.Common.{append_assoc, ◌≡◌, ℕ, ◌+◌, ◌<◌, ◌≤◌, zero, suc, List, [], ◌∷◌, ◌++◌, length, map, take, Bool, true, false, not, ◌&&◌, if◌then◌else◌, Option, Some, None, inl, inr, refl, sym, ◌∙◌, ap, subst, arith, length-append}
+use Rattle.std.proofs.Common.{append_assoc, ◌≡◌, ℕ, ◌+◌, ◌<◌, ◌≤◌, zero, suc, List, [], ◌∷◌, ◌++◌, length, map, take, Bool, true, false, not, ◌&&◌, Option, Some, None, inl, inr, refl, sym, ◌∙◌, ap, subst, arith, length-append}
 use Rattle.std.specs.List.{concat}
 use Rattle.std.proofs.lemmas.List.Folds.{concat-append}
 use Rattle.std.proofs.lemmas.List.{append-nil}
 use Rattle.std.proofs.lemmas.Bool.{false≢true, eq-eqb, ne_eqb, le-ltb, lt-ltb}
 use Rattle.ports_core.specs.Slot.{Slot, slot_at, changed_at, is_open, opened, adds, breaks, told_of}
 use Rattle.ports_core.specs.Message.{SaysAll}
-use Rattle.ports_core.specs.Text.{message_of}
 use Rattle.ports_core.specs.declared.slot.Mode.{Mode}
 use Rattle.ports_core.specs.declared.tool.Tool.TheVariants.{Tee}
 use Rattle.ports_core.proofs.MessageLemmas.{all_said_state, says_after}
@@ -135,7 +134,8 @@ flags files = map (λ (file : Slot). file.is_broken) files
 
 -- each is changed by the call
 pub files_go : {Is Then : List ℕ → Option ℕ → Slot → Type 0} {Change : Slot → Slot → Type 0} {call : ℕ} {names : List (List ℕ)} {broke : List (Option ℕ)} {olds : List Slot}
-    → ((name : List ℕ) (first : Option ℕ) (old new : Slot) → Is name first old → Change old new → Marked (Then name) call first old.is_broken new) → (news : List Slot)
+    → ((name : List ℕ) (first : Option ℕ) (old new : Slot) → Is name first old → Change old new → Marked (Then name) call first old.is_broken new)
+    → (news : List Slot)
     → length news ≡ length olds → ((n : ℕ) → n < length olds → Change (slot_at olds n) (slot_at news n)) → EachFile Is names broke olds
     → (after : List (Option ℕ)) × EachFile Then names after news × AllMark call broke after (flags olds) (flags news)
 files_go go [] many changes no_more = ([], no_more, none_marked)
@@ -190,7 +190,8 @@ module _ (told : Bool) (mode : Mode) (names : List (List ℕ)) where
         (files_usable told there.0 (omega (arith, there.2, length-files copies.files_have)) copies.files_have)
 
   -- the outputs after a call, before anything is said of it
-  pub record After (OutputIs : Option ℕ → Slot → Type 0) (FileIs : List ℕ → Option ℕ → Slot → Type 0) (call : ℕ) {pieces messages : List (List ℕ)} {old : List Slot} {known : List Bool}
+  pub record After (OutputIs : Option ℕ → Slot → Type 0) (FileIs : List ℕ → Option ℕ → Slot → Type 0)
+      (call : ℕ) {pieces messages : List (List ℕ)} {old : List Slot} {known : List Bool}
       (copies : Copies told mode names pieces messages old known) (mid : List Slot) : Type 0 where
     pub output : Slot
     pub files : List Slot
@@ -214,8 +215,10 @@ module _ (told : Bool) (mode : Mode) (names : List (List ℕ)) where
     by (output ∷ other ∷ files) are =
         let same : other ≡ copies.error = sym (ap (λ those. slot_at those 1) are) ∙ error ∙ ap (λ those. slot_at those 1) copies.are in
         let here = one output (ap (λ those. slot_at those 0) are) in let many = length-files copies.files_have in
-        let rest = files_go go files (omega (arith, ap length are, count, ap length copies.are)) (λ n within. subst (λ slot. Change (slot_at copies.files n) slot)
-        (ap (λ those. slot_at those (suc (suc n))) are) (subst (λ slot. Change slot (slot_at mid (suc (suc n)))) (ap (λ those. slot_at those (suc (suc n))) copies.are)
+        let rest = files_go go files (omega (arith, ap length are, count, ap length copies.are))
+        (λ n within. subst (λ slot. Change (slot_at copies.files n) slot)
+        (ap (λ those. slot_at those (suc (suc n))) are)
+        (subst (λ slot. Change slot (slot_at mid (suc (suc n)))) (ap (λ those. slot_at those (suc (suc n))) copies.are)
         (changes (suc (suc n)) (place_file n is (omega (arith, within, many)))))) copies.files_have in
         record {
           output = output;
@@ -235,7 +238,8 @@ module _ (told : Bool) (mode : Mode) (names : List (List ℕ)) where
       (copies : Copies told mode names pieces messages old known) → (next : After OutputIs FileIs (suc (length pieces)) copies mid)
       → (says : SaysTo told (said_since (fault_in (suc (length pieces))) (output_names names) known (broken_of mid)) mid new)
       → SaysAll told Tee ((said_before (suc (length pieces)) (output_names names) (next.first ∷ next.broke) ++ messages) ++ said_in (suc (length pieces)) (output_names names) (next.first ∷ next.broke)) standard_error says.0
-  said_after {pieces} {messages} {mid} {known} copies next says = rw (said_marked (output_names names) next.marked, all_older (suc (length pieces)) (output_names names) (omega arith) next.marked, ← copies.known_are)
+  said_after {pieces} {messages} {mid} {known} copies next says =
+      rw (said_marked (output_names names) next.marked, all_older (suc (length pieces)) (output_names names) (omega arith) next.marked, ← copies.known_are)
       (says_after told Tee (said_before (suc (length pieces)) (output_names names) (copies.first ∷ copies.broke) ++ messages) _ standard_error copies.error says.0 copies.said
       (subst (λ slot. SaysAll told Tee (said_since (fault_in (suc (length pieces))) (output_names names) known (broken_of mid)) slot says.0) (ap (λ those. slot_at those 1) next.are) says.1))
 
@@ -263,7 +267,8 @@ module _ (told : Bool) (mode : Mode) (names : List (List ℕ)) where
     output_has = next.output_is;
     files_have = next.files_are;
     said = subst (λ texts. SaysAll told Tee texts standard_error says.0) (ap (λ texts. texts ++ said_in (suc (length pieces)) (output_names names) (next.first ∷ next.broke)) (append-nil _)
-        ∙ sym (append-nil _) ∙ ap (λ call. said_before (suc call) (output_names names) (next.first ∷ next.broke) ++ []) one_more_call) (said_after copies next says);
+        ∙ sym (append-nil _) ∙ ap (λ call. said_before (suc call) (output_names names) (next.first ∷ next.broke) ++ []) one_more_call)
+        (said_after copies next says);
     known_are = flags_are ∙ ap broken_of next.are ∙ sym (ap broken_of new_is);
     some_left = ap (λ call. none_left call (next.first ∷ next.broke)) (sym one_more_call) ∙ none_then next.marked ∙ ap all_of (sym copies.known_are) ∙ some;
     is_vain = ap (λ call. none_left (suc call) (next.first ∷ next.broke)) (sym one_more_call) ∙ none_now next.marked ∙ ap all_of (sym flags_are);

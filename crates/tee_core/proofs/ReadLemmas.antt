@@ -48,7 +48,8 @@ pub long_read : (told : Bool) {content : Content} {x old_buffer buffer : List �
     → IsRead content (LeavesOf told (source_at new 0)) false x (Some TooLong)
 long_read told {content} {x} {old_buffer} {buffer} size {n} {sources} {new} read can gave counted within most many is =
     let more = read_more content x 0 sources new old_buffer buffer size n read can gave is in
-    to_limit x (take n buffer) (source_at new 0).left.bytes more.bytes (omega (arith, counted, within, many, length-append x (take n buffer), length-take n buffer)) (omega (arith, most, length-take n buffer)) (λ _. refl)
+    to_limit x (take n buffer) (source_at new 0).left.bytes more.bytes
+    (omega (arith, counted, within, many, length-append x (take n buffer), length-take n buffer)) (omega (arith, most, length-take n buffer)) (λ _. refl)
 
 pub long_untold : (told : Bool) {x : List ℕ} (buffer : List ℕ) {fed n : ℕ} (source : Source) → told ≡ false → fed ≡ length x → n ≤ length buffer → length buffer ≤ largest_piece → 2 ^ 63 ≤ fed + n → IsRead (record { bytes = x ++ take n buffer; breaks_off = false }) (LeavesOf told source) false x (Some TooLong)
 long_untold told {x} buffer {n} source tells counted within most many = to_limit x (take n buffer) [] (sym (append-nil (x ++ take n buffer))) (omega (arith, counted, within, many, length-append x (take n buffer), length-take n buffer)) (omega (arith, most, length-take n buffer)) (untold told source [] tells)

@@ -50,7 +50,8 @@ count_broken {count} has = ap (λ those. length (broken_of those)) has.are ∙ (
 pub says_too : (told : Bool) (texts : List (List ℕ)) (text : List ℕ) {count : ℕ} {old : List Slot} (now new : List Slot) → HasStreams old count → SaysTo told texts old now → SaysOn told Tee text now new → SaysTo told (texts ++ text ∷ []) old new
 says_too told texts text now new has so_far says =
     let first = subst (λ those. SaysTo told texts those now) has.are so_far in let said = says has.output first.0 has.files first.2 in
-    subst (λ those. SaysTo told (texts ++ text ∷ []) those new) (sym has.are) (said.0, says_more told Tee texts text has.error first.0 said.0 first.1 said.1, said.2)
+    subst (λ those. SaysTo told (texts ++ text ∷ []) those new) (sym has.are)
+    (said.0, says_more told Tee texts text has.error first.0 said.0 first.1 said.1, said.2)
 
 broken_still : (told : Bool) (texts : List (List ℕ)) (output error : Slot) (files now : List Slot) (n : ℕ) → SaysTo told texts (output ∷ error ∷ files) now → (slot_at now (output_slot n)).is_broken ≡ get_or (broken_of (output ∷ error ∷ files)) n false
 broken_still told texts output error files now n said = ap (λ those. (slot_at those (output_slot n)).is_broken) said.2 ∙ broken_at output said.0 files n
@@ -74,7 +75,8 @@ tells_next told {fault} {names} {before} {known} other {n} {count} {old} {now} {
     subst (λ k. Telling told fault names before k old new (set known n broken)) (let e : suc n ≡ n + 1 = omega arith in e) (record {
       so_far = so_far.so_far ++ here_said;
       said = cond_both (not (get_or known n other) && broken) (message_of Tee fault name ∷ []) [] (λ texts. SaysTo told (so_far.so_far ++ texts) old new)
-          (λ is. says_too told so_far.so_far (message_of Tee fault name) now new has so_far.said (says is)) (λ is. rw (append-nil so_far.so_far, quiet is) so_far.said);
+          (λ is. says_too told so_far.so_far (message_of Tee fault name) now new has so_far.said (says is))
+          (λ is. rw (append-nil so_far.so_far, quiet is) so_far.said);
       rest = append_assoc so_far.so_far here_said _ ∙ ap (λ texts. so_far.so_far ++ texts) (sym step) ∙ so_far.rest;
       known_are = flags;
     }) where

@@ -1,9 +1,9 @@
 -- Laws that traits cite: laws of parts that follow one another: what a text that goes on is cut into.
-use Rattle.std.proofs.Common.{◌≡◌, ℕ, ◌+◌, ◌-◌, ◌<◌, ◌≤◌, zero, suc, List, [], ◌∷◌, ◌++◌, length, take, drop, Bool, true, false, cond, ◌&&◌, nat_lt, nat_le, refl, sym, ◌∙◌, ap, subst, arith, length-append, length-drop}
+use Rattle.std.proofs.Common.{◌≡◌, ℕ, ◌+◌, ◌<◌, ◌≤◌, zero, suc, List, [], ◌∷◌, ◌++◌, length, take, Bool, true, false, cond, nat_lt, refl, sym, ◌∙◌, ap, subst, arith, length-append, length-drop}
 use Rattle.std.proofs.lemmas.Bool.{false≢true, ltb-true}
 use Rattle.std.proofs.lemmas.Bool.Decides.{nat_tests}
 use Rattle.std.proofs.lemmas.List.{append-nil, take-append-le, drop-append-le, length-take, length-take-le}
-use Rattle.seg_core.specs.Line.{delimiters, first_lines, after_lines}
+use Rattle.seg_core.specs.Line.{delimiters, first_lines}
 use Rattle.seg_core.proofs.Delimiters.{delimiters-append, delimiters-le-length}
 use Rattle.seg_core.proofs.FirstLines.{first_lines-full, first_lines_then_rest, length-first_lines-le, delimiters-first_lines}
 use Rattle.split_core.specs.declared.limit.Limit.{Limit}
@@ -90,7 +90,8 @@ pub after-append : (limit : Limit) (x y : List ℕ) → is_full limit x ≡ true
 after-append limit x y full = cc (first-append limit x y full, drop-append-le (length (first_part limit x)) x y (first_within limit x))
 
 after_less : (limit : Limit) (x : List ℕ) (bound : ℕ) → is_full limit x ≡ true → length x ≤ suc bound → length (after_first limit x) ≤ bound
-after_less limit x bound full within = omega (arith, first_some_by limit x (full_some limit x full).0 (full_some limit x full).1, length-drop (length (first_part limit x)) x)
+after_less limit x bound full within =
+    omega (arith, first_some_by limit x (full_some limit x full).0 (full_some limit x full).1, length-drop (length (first_part limit x)) x)
 
 cuts_within : {limit : Limit} (bound : ℕ) {x : List ℕ} → length x ≤ bound → Cuts limit x (cut_within bound limit x).full (cut_within bound limit x).rest
 cuts_within {limit} zero {x} within = stops x (nothing_short limit x (omega arith))

@@ -6,7 +6,9 @@ pub returns-then-broken : goal.returns-then-broken
 returns-then-broken g c = record { turned = left_out g.O.Outs.told (sym c.broken.ensures ∙ c.if-broken.true); few = search rules }
 
 pub returns-in-Ok : goal.returns-in-Ok
-returns-in-Ok g c = record { turned = written_whole g.O.Outs.told c.requires (sym c.broken.ensures ∙ c.if-broken.false) c.in-Ok.ensures.whole; few = search rules }
+returns-in-Ok g c =
+    record { turned = written_whole g.O.Outs.told c.requires (sym c.broken.ensures ∙ c.if-broken.false) c.in-Ok.ensures.whole; few = search rules }
 
 pub returns-in-Err : goal.returns-in-Err
-returns-in-Err g c = record { turned = written_short g.O.Outs.told c.requires (sym c.broken.ensures ∙ c.if-broken.false) c.in-Err.ensures.cut; few = search rules }
+returns-in-Err g c =
+    record { turned = written_short g.O.Outs.told c.requires (sym c.broken.ensures ∙ c.if-broken.false) c.in-Err.ensures.cut; few = search rules }

@@ -1,4 +1,4 @@
-use Rattle.std.proofs.Common.{List, ℕ, ◌++◌, length, max, sym, ap, ◌∙◌, ◌≡◌, subst, arith}
+use Rattle.std.proofs.Common.{List, ℕ, ◌++◌, length, sym, ap, ◌∙◌, ◌≡◌, subst, arith}
 use Rattle.std.proofs.lemmas.List.{take_all}
 use Rattle.ports_core.specs.Slot.{changed_at}
 use Rattle.seg_core.specs.Line.{LinesLeft, delimiters}
@@ -33,7 +33,9 @@ lines-preserved c = (
 )
 
 pub returns-then-is_empty-clause-gathers : goal.returns-then-is_empty-clause-gathers
-returns-then-is_empty-clause-gathers c = subst (Gathers c.args.self.now.delim (length c.args.self.now.gathered) c.args.self.now.next c.args.piece.now c.lines.self-inside.gathered.items c.lines.next) (sym c.max.ensures)
+returns-then-is_empty-clause-gathers c = subst
+    (Gathers c.args.self.now.delim (length c.args.self.now.gathered) c.args.self.now.next c.args.piece.now c.lines.self-inside.gathered.items c.lines.next)
+    (sym c.max.ensures)
     (ends_here _ c.lines.invariant.0 (c.rest-open.ensures ∙ ap (λ (left : LinesLeft). left.text) c.in_default.ensures.stays) (sym c.if-is_empty.ensures))
 
 pub returns-clause-gathers : goal.returns-clause-gathers

@@ -22,7 +22,8 @@ returns g c = rw (← c.self.view_is) (record {
   count = c.gather.ensures.count;
   elide = refl;
   next = on_ok c.write.result c.in_ok-reached.ensures.gathers.next_is;
-  adds = subst (λ more. Adds g.O.Outs.told c.self.inside.files more 0 (length more) (g.O.Outs.slots c.args.outs.now) c.write.new.self (g.O.Outs.slots c.write.new.outs) c.write.result)
+  adds = subst (λ more. Adds g.O.Outs.told c.self.inside.files more 0 (length more) (g.O.Outs.slots c.args.outs.now) c.write.new.self
+      (g.O.Outs.slots c.write.new.outs) c.write.result)
       (c.first.ensures ∙ first_gathered c.self.inside.deal.delim (length c.self.inside.deal.gathered) c.self.inside.deal.next c.args.piece.now c.in_ok-reached.ensures.gathers.gathered_is c.in_ok-reached.ensures.gathers.reached_is)
       c.write.ensures;
 })
