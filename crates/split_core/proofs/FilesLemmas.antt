@@ -209,23 +209,13 @@ drop_filed (suc n) names place (one ∷ shares) = let further : place + 1 + n �
 
 pub take_open : (n : ℕ) (names : Naming) (these those : List (List ℕ)) → take n these ≡ take n those → take n (open_part names these).files ≡ take n (open_part names those).files
 take_open n names these those same =
-    cc (
-      take_filed n (from_start names) 0 (map (share Open) these),
-      take-map (share Open) n these,
-      same,
-      take-map (share Open) n those,
-      take_filed n (from_start names) 0 (map (share Open) those),
-    )
+    let first = take_filed n (from_start names) 0 (map (share Open) these) in let second = take_filed n (from_start names) 0 (map (share Open) those) in
+    cc (first, take-map (share Open) n these, same, take-map (share Open) n those, second)
 
 pub drop_open : (n : ℕ) (names : Naming) (these those : List (List ℕ)) → drop n these ≡ drop n those → drop n (open_part names these).files ≡ drop n (open_part names those).files
 drop_open n names these those same =
-    cc (
-      drop_filed n (from_start names) 0 (map (share Open) these),
-      drop-map (share Open) n these,
-      same,
-      drop-map (share Open) n those,
-      drop_filed n (from_start names) 0 (map (share Open) those),
-    )
+    let first = drop_filed n (from_start names) 0 (map (share Open) these) in let second = drop_filed n (from_start names) 0 (map (share Open) those) in
+    cc (first, drop-map (share Open) n these, same, drop-map (share Open) n those, second)
 
 -- the file at a place of a list
 next_filed : (names : Naming) (from n : ℕ) (shares : List Share) → n < length shares → (front : List File) × (one : Share) × (rest : List File) × (filed names from shares ≡ front ++ file_at names (from + n) one ∷ rest) × (length front ≡ n)

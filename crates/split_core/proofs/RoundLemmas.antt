@@ -181,14 +181,8 @@ takes_in : (told : Bool) {old new : RoundState} {piece : List ℕ} {before after
 takes_in told {old} {new} {piece} deals x holds = record {
   some = omega (arith, holds.some, deals.count);
   named = are_named_same old.files.names new.files.names new.count deals.adds.names ∙ ap (are_named old.files.names) deals.count ∙ holds.named;
-  next = cc (
-    deals.next,
-    holds.next,
-    mod-add-mod (delimiters old.delim x) old.count (delimiters old.delim piece),
-    delimiters-append old.delim x piece,
-    deals.count,
-    deals.delim,
-  );
+  next = let moved = mod-add-mod (delimiters old.delim x) old.count (delimiters old.delim piece) in
+      cc (deals.next, holds.next, moved, delimiters-append old.delim x piece, deals.count, deals.delim);
   opened = cc (
     deals.adds.opened,
     length-map-range_with_len (λ file. dealt old.count file old.next (lines_of old.delim piece)) 0

@@ -45,13 +45,10 @@ follows delim n x i less =
     let place = 0 + delimiters delim (take i x) in
     let after = dealt n file (cond (eqb byte delim) (place + 1) place) (lines_of delim (drop (suc i) x)) in record {
       rest = after;
-      is = cc (
-        take-append-drop i x,
-        dealt_append delim n file 0 (take i x) (drop i x),
-        drop-cons x i 0 less,
-        dealt_first (eqb byte delim) n file place byte (lines_of delim (drop (suc i) x)),
-        eq-eqb (place % n) file (ap (λ k. k % n) (zero-add (delimiters delim (take i x)))),
-      );
+      is = let parted = dealt_append delim n file 0 (take i x) (drop i x) in
+          let first = dealt_first (eqb byte delim) n file place byte (lines_of delim (drop (suc i) x)) in
+          let here = eq-eqb (place % n) file (ap (λ k. k % n) (zero-add (delimiters delim (take i x)))) in
+          cc (take-append-drop i x, parted, drop-cons x i 0 less, first, here);
     }
 
 had_less : (delim n : ℕ) (x : List ℕ) (i : ℕ) → i < length x → had delim n (dealt_to delim n x i) x i < length (share_of delim n x (dealt_to delim n x i))
