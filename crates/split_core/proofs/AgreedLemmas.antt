@@ -1,4 +1,5 @@
 -- What all continuations agree on, of files.
+use Rattle.std.proofs.lemmas.Bool.Decides.{nat_tests}
 use Rattle.std.proofs.Common.{◌≡◌, ℕ, ◌+◌, ◌-◌, ◌<◌, zero, suc, List, [], ◌∷◌, ◌++◌, length, map, replicate, Bool, true, false, cond, inl, inr, refl, sym, ◌∙◌, ap, subst, arith, append_assoc, length-append}
 use Rattle.std.proofs.Math.Nat.{zero-add}
 use Rattle.std.proofs.lemmas.Bool.{cases_lt, ne_eqb}
@@ -15,7 +16,7 @@ use Rattle.seg_core.specs.declared.cut.Cut.TheVariants as cut
 use Rattle.split_core.specs.declared.limit.Limit.{Limit}
 use Rattle.split_core.specs.declared.limit.Limit.TheVariants.{Lines, Bytes, LineBytes}
 use Rattle.split_core.specs.Parts.{whole_lines, most, after_first, cut_up, unless_empty, parts, settled_rest}
-use Rattle.split_core.specs.Split.{Plan, Share, share, is_named, are_named, named, file_at, settled_parts, settled_by, whole_by, split_work, dealt_files}
+use Rattle.split_core.specs.Split.{Plan, Share, share, is_named, are_named, named, settled_parts, settled_by, whole_by, split_work, dealt_files}
 use Rattle.split_core.specs.Splitter.{IsPositive}
 use Rattle.split_core.specs.PartState.{parts_work}
 use Rattle.split_core.specs.Round.{round_plan, round_work}
@@ -34,13 +35,9 @@ abbrev pub named_bytes : Naming → ℕ → List (List ℕ) → List (List ℕ)
 named_bytes names place [] = []
 named_bytes names place (one ∷ those) = cond (is_named names place) (one ∷ named_bytes names (place + 1) those) []
 
-file_step : (is : Bool) (file : File) (files : List File) {those : List (List ℕ)} → map (λ (file : File). file.bytes) files ≡ those → map (λ (file : File). file.bytes) (cond is (file ∷ files) []) ≡ cond is (file.bytes ∷ those) []
-file_step true file files are = ap (λ rest. file.bytes ∷ rest) are
-file_step false file files are = refl
-
 pub bytes_named : (names : Naming) (place : ℕ) (shares : List Share) → map (λ (file : File). file.bytes) (named names place shares) ≡ named_bytes names place (map (λ (file : Share). file.bytes) shares)
 bytes_named names place [] = refl
-bytes_named names place (one ∷ shares) = file_step (is_named names place) (file_at names place one) (named names (place + 1) shares) (bytes_named names (place + 1) shares)
+bytes_named names place (one ∷ shares) = grind (arith, nat_tests, bytes_named names (place + 1) shares)
 
 more_step : (is : Bool) (one : List ℕ) (all front : List (List ℕ)) → (more : List (List ℕ)) × (all ≡ front ++ more) → (more : List (List ℕ)) × (cond is (one ∷ all) [] ≡ cond is (one ∷ front) [] ++ more)
 more_step true one all front (more, are) = (more, ap (λ rest. one ∷ rest) are)
@@ -51,20 +48,15 @@ pub named_more : (names : Naming) (place : ℕ) (front back : List (List ℕ)) �
 named_more names place [] back = (named_bytes names place back, refl)
 named_more names place (one ∷ front) back = more_step (is_named names place) one _ _ (named_more names (place + 1) front back)
 
-count_step : (is : Bool) (one two : List ℕ) (these those : List (List ℕ)) → length these ≡ length those → length (cond is (one ∷ these) []) ≡ length (cond is (two ∷ those) [])
-count_step true one two these those same = ap suc same
-count_step false one two these those same = refl
-
 pub count_named : (names : Naming) (place : ℕ) (these those : List (List ℕ)) → length these ≡ length those → length (named_bytes names place these) ≡ length (named_bytes names place those)
 count_named names place [] [] same = refl
-count_named names place (one ∷ these) (two ∷ those) same = count_step (is_named names place) one two _ _ (count_named names (place + 1) these those (omega (arith, same)))
+count_named names place (one ∷ these) (two ∷ those) same = grind (arith, nat_tests, count_named names (place + 1) these those (omega (arith, same)))
 count_named names place these those same = absurd (omega (arith, same))
 
 named_each : (names : Naming) (place : ℕ) (one : List ℕ) (those : List (List ℕ)) → is_named names (place + length those) ≡ true → named_bytes names place (one ∷ those) ≡ one ∷ those
 named_each names place one [] is = ap (λ has. cond has (one ∷ []) []) (named_before names place (place + 0) is (omega arith))
 named_each names place one (two ∷ those) is =
-    ap (λ has. cond has (one ∷ named_bytes names (place + 1) (two ∷ those)) []) (named_before names place (place + suc (length those)) is (omega arith))
-    ∙ ap (λ rest. one ∷ rest) (named_each names (place + 1) two those (subst (λ n. is_named names n ≡ true) (one_on place (length those)) is))
+    cc (named_before names place (place + suc (length those)) is (omega arith), named_each names (place + 1) two those (subst (λ n. is_named names n ≡ true) (one_on place (length those)) is))
 
 -- where all have names, none is left out
 pub each_named : (names : Naming) (those : List (List ℕ)) → are_named names (length those) ≡ true → named_bytes names 0 those ≡ those
@@ -100,8 +92,7 @@ decides_now {limit} {x} same = record {
 
 none_among : (delim k : ℕ) → delimiters delim (replicate k (other delim)) ≡ 0
 none_among delim zero = refl
-none_among delim (suc k) =
-    ap (λ is. cond is (delimiters delim (replicate k (other delim)) + 1) (delimiters delim (replicate k (other delim)))) (ne_eqb (other delim) delim (λ is. other_differs delim (sym is))) ∙ none_among delim k
+none_among delim (suc k) = cc (ne_eqb (other delim) delim (λ is. other_differs delim (sym is)), none_among delim k)
 
 -- as many further bytes as a part lacks, none of which is a delimiter
 abbrev pub filling : (delim n : ℕ) → List ℕ → List ℕ
@@ -129,10 +120,12 @@ decides_lines delim n {x} some lines =
       y = filling delim n rest;
       comes = copies_come (n - length rest) (other delim) (other_comes delim);
       more = next;
-      are = parts_on (LineBytes n delim) x (filling delim n rest)
-          ∙ ap (λ those. full ++ those) (line_ends delim n rest some (short_some (LineBytes n delim) rest (rest_short (LineBytes n delim) x) some) lines)
-          ∙ sym (append_assoc full (whole_lines delim rest ∷ []) next)
-          ∙ ap (λ those. (full ++ those) ++ next) (sym (one_of (whole_lines delim rest) (whole_some delim rest (delimiters_some delim rest lines))));
+      are = cc (
+        parts_on (LineBytes n delim) x (filling delim n rest),
+        line_ends delim n rest some (short_some (LineBytes n delim) rest (rest_short (LineBytes n delim) x) some) lines,
+        append_assoc full (whole_lines delim rest ∷ []) next,
+        one_of (whole_lines delim rest) (whole_some delim rest (delimiters_some delim rest lines)),
+      );
     }
 
 decides : (limit : Limit) → 0 < most limit → {x : List ℕ} → Decides limit x
@@ -149,9 +142,7 @@ parts_agreed_by {limit} names {x} decides =
     agreed_by (parts_work limit names) x [] decides.y further.0 (common (parts_work limit names) (part_law.lawful limit names) x) none_comes decides.comes count
     (ap (λ files. [] ∷ files) (whole_files limit names (x ++ decides.y) ∙ ap (named_bytes names 0) decides.are ∙ further.1 ∙ ap (λ files. files ++ further.0) (sym (settled_files limit names x)))) where
       count : length (outputs_of ((parts_work limit names).whole (x ++ []))) ≡ length (outputs_of ((parts_work limit names).settled x))
-      count = ap suc (ap length (whole_files limit names (x ++ []))
-          ∙ count_named names 0 (parts limit (x ++ [])) (settled_list limit x) (ap (λ all. length (parts limit all)) (append-nil x) ∙ sym (list_count limit x))
-          ∙ ap length (sym (settled_files limit names x)))
+      count = cc (whole_files limit names (x ++ []), count_named names 0 (parts limit (x ++ [])) (settled_list limit x) (ap (λ all. length (parts limit all)) (append-nil x) ∙ sym (list_count limit x)), settled_files limit names x)
 
 pub parts_agreed : (limit : Limit) (names : Naming) → 0 < most limit → {x : List ℕ} → IsAgreed (parts_work limit names) x ((parts_work limit names).settled x)
 parts_agreed limit names some = parts_agreed_by names (decides limit some)

@@ -1,4 +1,5 @@
 -- Lemmas on delimiters that were seen ahead.
+use Rattle.std.proofs.lemmas.Bool.Decides.{nat_tests}
 use Rattle.std.proofs.Common.{◌≡◌, ◌≢◌, ℕ, ◌+◌, ◌-◌, ◌*◌, ◌/◌, ◌^◌, ◌<◌, ◌≤◌, zero, suc, min, Bool, true, false, not, cond, eqb, List, [], ◌∷◌, ◌++◌, length, take, drop, get_or, refl, sym, ◌∙◌, ap, subst, arith, length-append, replicate}
 use Rattle.std.specs.List.{prefix_len}
 use Rattle.std.specs.Int.Count.{count_trailing_zeros}
@@ -20,13 +21,9 @@ none_append delim [] y first rest = rest
 none_append delim (byte ∷ x) y first rest = (first.0, none_append delim x y first.1 rest)
 
 -- a mask without a bit
-unmarked_step : (delim : ℕ) (is : Bool) (byte : ℕ) {rest : ℕ} → eqb byte delim ≡ is → cond is 1 0 + 2 * rest ≡ 0 → (byte ≢ delim) × (rest ≡ 0)
-unmarked_step delim true byte here none = absurd (omega (arith, none))
-unmarked_step delim false byte here none = (eqb-false byte delim here, omega (arith, none))
-
 unmarked : (delim : ℕ) (x : List ℕ) → delimiter_mask delim x ≡ 0 → HasNone delim x
 unmarked delim [] none = tt
-unmarked delim (byte ∷ x) none = let first = unmarked_step delim (eqb byte delim) byte refl none in (first.0, unmarked delim x first.1)
+unmarked delim (byte ∷ x) none = (grind (arith, nat_tests, none), unmarked delim x (grind (arith, nat_tests, none)))
 
 -- how many bytes stand before the first delimiter
 abbrev pub before_first : ℕ → List ℕ → ℕ
@@ -62,8 +59,7 @@ pub mask_after : (delim at : ℕ) (x : List ℕ) → delimiter_mask delim x / 2 
 mask_after delim at [] = ap (λ n. n / 2) (zero-div (2 ^ at)) ∙ zero-div 2
 mask_after delim zero (byte ∷ x) = ap (λ n. n / 2) (div-one _) ∙ half (eqb byte delim)
 mask_after delim (suc at) (byte ∷ x) =
-    ap (λ n. n / 2) (ap (λ power. (cond (eqb byte delim) 1 0 + 2 * delimiter_mask delim x) / power) power ∙ sym (div-div-eq-div-mul (cond (eqb byte delim) 1 0 + 2 * delimiter_mask delim x) 2 (2 ^ at)) ∙ ap (λ n. n / 2 ^ at) (half (eqb byte delim)))
-    ∙ mask_after delim at x where
+    cc (power, div-div-eq-div-mul (cond (eqb byte delim) 1 0 + 2 * delimiter_mask delim x) 2 (2 ^ at), half (eqb byte delim), mask_after delim at x) where
       power : 2 ^ suc at ≡ 2 * 2 ^ at
       power = omega arith
 
@@ -141,8 +137,7 @@ sees_rest {delim} {x} {ahead} at sees inside is = record {
   place = omega arith
 
   window : drop (suc at) (take ahead.width (drop ahead.passed x)) ≡ take (ahead.width - (at + 1)) (drop (ahead.passed + at + 1) x)
-  window = ap (λ n. drop (suc at) (take n (drop ahead.passed x))) (sym further) ∙ drop-take (suc at) (ahead.width - (at + 1)) (drop ahead.passed x)
-      ∙ ap (take (ahead.width - (at + 1))) (drop-drop (suc at) ahead.passed x ∙ ap (λ n. drop n x) place)
+  window = cc (further, drop-take (suc at) (ahead.width - (at + 1)) (drop ahead.passed x), drop-drop (suc at) ahead.passed x, place)
 
 -- other bytes after a text leave the mask as it is
 pub mask_padded : (delim other : ℕ) (x : List ℕ) (n : ℕ) → eqb other delim ≡ false → delimiter_mask delim (x ++ replicate n other) ≡ delimiter_mask delim x

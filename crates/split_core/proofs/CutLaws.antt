@@ -1,9 +1,9 @@
 -- Laws of parts that follow one another: what a text that goes on is cut into.
-use Rattle.std.proofs.Common.{◌≡◌, ℕ, ◌<◌, ◌≤◌, List, [], ◌∷◌, ◌++◌, length, take, drop, Bool, true, false, cond, ◌&&◌, nat_lt, nat_le, refl, sym, ◌∙◌, ap, subst, arith, append_assoc}
+use Rattle.std.proofs.Common.{◌≡◌, ℕ, ◌<◌, ◌≤◌, List, [], ◌∷◌, ◌++◌, length, take, drop, true, false, cond, refl, sym, ◌∙◌, ap, subst, arith, append_assoc}
 use Rattle.std.proofs.lemmas.Bool.Decides.{nat_tests}
 use Rattle.std.proofs.lemmas.List.{length-take, take_all, take_min, take-append-drop, take-take}
 use Rattle.std.proofs.Math.Seq.{drop-append_seam}
-use Rattle.seg_core.specs.Line.{joined, delimiters, first_lines, after_lines}
+use Rattle.seg_core.specs.Line.{joined, delimiters, after_lines}
 use Rattle.seg_core.proofs.FirstLines.{first_lines-is_take}
 use Rattle.split_core.specs.declared.limit.Limit.{Limit}
 use Rattle.split_core.specs.declared.limit.Limit.TheVariants.{Lines, Bytes, LineBytes}
@@ -11,11 +11,8 @@ use Rattle.split_core.specs.Parts.{whole_lines, open_line, most, measure, is_ful
 use Rattle.split_core.specs.laws.CutLaws.{has_lines, without_lines, whole_within, cuts_up, cut_once}
 use Rattle.split_core.specs.inner.CutLaws.{Cuts, stops, goes, cut_so}
 
-short_from_test : (most measure : ℕ) → measure < most → (nat_lt 0 most && nat_le most measure) ≡ false
-short_from_test most measure less = grind (arith, nat_tests, less)
-
 pub short_from : (limit : Limit) (x : List ℕ) → measure limit x < most limit → is_full limit x ≡ false
-short_from limit x less = short_from_test (most limit) (measure limit x) less
+short_from limit x less = grind (arith, nat_tests, less)
 
 -- whole lines
 
@@ -26,22 +23,16 @@ pub open_of_none : (delim : ℕ) (x : List ℕ) → delimiters delim x ≡ 0 →
 open_of_none delim x none = ap (λ has. cond has (after_lines delim (delimiters delim x) x) []) (without_lines none)
 
 whole_is_take : (delim : ℕ) (x : List ℕ) → whole_lines delim x ≡ take (length (whole_lines delim x)) x
-whole_is_take delim x = by (nat_lt 0 (delimiters delim x)) where
-  by : (has : Bool) → cond has (first_lines delim (delimiters delim x) x) x ≡ take (length (cond has (first_lines delim (delimiters delim x) x) x)) x
-  by true = first_lines-is_take delim (delimiters delim x) x
-  by false = sym (take_all (length x) x (omega arith))
+whole_is_take delim x = grind (arith, nat_tests, first_lines-is_take delim (delimiters delim x) x, take_all (length x) x (omega arith))
 
 -- the first part of a text that has it in full
-
-take-is_take : (n : ℕ) (x : List ℕ) → take n x ≡ take (length (take n x)) x
-take-is_take n x = sym (ap (λ k. take k x) (length-take n x) ∙ take_min n x)
 
 pub take-take_few : (k n : ℕ) (x : List ℕ) → k ≤ length (take n x) → take k (take n x) ≡ take k x
 take-take_few k n x few = take-take k n x (omega (arith, few, length-take n x))
 
 first_is_take : (limit : Limit) (x : List ℕ) → first_part limit x ≡ take (length (first_part limit x)) x
 first_is_take (Lines n delim) x = first_lines-is_take delim n x
-first_is_take (Bytes n) x = take-is_take n x
+first_is_take (Bytes n) x = sym (ap (λ k. take k x) (length-take n x) ∙ take_min n x)
 first_is_take (LineBytes n delim) x = whole_is_take delim (take n x) ∙ take-take_few (length (whole_lines delim (take n x))) n x (whole_within delim (take n x))
 
 pub first_then_after : (limit : Limit) (x : List ℕ) → first_part limit x ++ after_first limit x ≡ x
@@ -49,8 +40,7 @@ first_then_after limit x = ap (λ front. front ++ after_first limit x) (first_is
 
 cuts_all : {limit : Limit} {x : List ℕ} {parts : List (List ℕ)} {rest : List ℕ} → Cuts limit x parts rest → joined parts ++ rest ≡ x
 cuts_all (stops _ short) = refl
-cuts_all {limit} {x} {rest} (goes _ parts _ full after) =
-    append_assoc (first_part limit x) (joined parts) rest ∙ ap (λ those. first_part limit x ++ those) (cuts_all after) ∙ first_then_after limit x
+cuts_all {limit} {x} {rest} (goes _ parts _ full after) = cc (append_assoc (first_part limit x) (joined parts) rest, cuts_all after, first_then_after limit x)
 
 -- nothing is lost
 pub cut_all : (limit : Limit) {x : List ℕ} → joined (cut_up limit x).full ++ (cut_up limit x).rest ≡ x

@@ -4,14 +4,12 @@ use Rattle.std.proofs.Math.Nat.{mod-add-mod}
 use Rattle.split_core.specs.Parts.{dealt}
 use Rattle.split_core.specs.Round.{opened_by}
 
-next_same : (n one other : ℕ) → one % n ≡ other % n → (one + 1) % n ≡ (other + 1) % n
-next_same n one other same = sym (mod-add-mod one n 1) ∙ ap (λ place. (place + 1) % n) same ∙ mod-add-mod other n 1
-
 -- places that leave the same remainder are dealt alike
 pub dealt_same : (n file one other : ℕ) (lines : List (List ℕ)) → one % n ≡ other % n → dealt n file one lines ≡ dealt n file other lines
 dealt_same n file one other [] same = refl
 dealt_same n file one other (line ∷ lines) same = ap (λ place. cond (eqb place file) (line ++ dealt n file (one + 1) lines) (dealt n file (one + 1) lines)) same
-    ∙ ap (λ rest. cond (eqb (other % n) file) (line ++ rest) rest) (dealt_same n file (one + 1) (other + 1) lines (next_same n one other same))
+    ∙ ap (λ rest. cond (eqb (other % n) file) (line ++ rest) rest)
+    (dealt_same n file (one + 1) (other + 1) lines (sym (mod-add-mod one n 1) ∙ ap (λ place. (place + 1) % n) same ∙ mod-add-mod other n 1))
 
 pub opened_by-most : (delim : ℕ) (elide : Bool) (n : ℕ) (x : List ℕ) → opened_by delim elide n x ≤ n
 opened_by-most delim true n x = omega arith

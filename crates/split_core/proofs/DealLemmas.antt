@@ -1,8 +1,9 @@
 -- Lemmas on gathering the lines of a piece.
+use Rattle.std.proofs.lemmas.Bool.Decides.{nat_tests}
 use Rattle.std.proofs.Common.{◌≡◌, ◌≢◌, ℕ, ◌+◌, ◌%◌, ◌<◌, ◌≤◌, zero, suc, min, max, Bool, true, false, cond, eqb, List, [], ◌∷◌, ◌++◌, length, get_or, set, take, drop, Result, OnOk, inl, inr, refl, sym, ◌∙◌, ap, subst, arith, append_assoc, length-append}
 use Rattle.std.proofs.Math.Nat.{mod-add-mod, mod-eq_of_lt, mod-mod, mod_self, mod-le}
 use Rattle.std.proofs.Math.Dec.{eqb-suc-suc}
-use Rattle.std.proofs.lemmas.Bool.{cases_eq, eq-eqb, ne_eqb, eqb-true, eqb-false, false≢true}
+use Rattle.std.proofs.lemmas.Bool.{cases_eq, eqb-true, eqb-false}
 use Rattle.std.proofs.lemmas.List.{append-nil, ext_get_or, take_at, take-append-le, take-take, length-take-le}
 use Rattle.std.proofs.Math.Seq.{take-append-add}
 use Rattle.std.proofs.lemmas.Result.{on_ok_weaker}
@@ -12,7 +13,7 @@ use Rattle.seg_core.proofs.LinesOf.{lines_of-open}
 use Rattle.ports_core.specs.Slot.{changed_at}
 use Rattle.ports_core.proofs.SlotLemmas.{length-changed_at, set-changed}
 use Rattle.split_core.specs.Parts.{dealt}
-use Rattle.split_core.specs.inner.Dealt.{dealt_piece, reached_by}
+use Rattle.split_core.specs.inner.Dealt.{dealt_piece, Gathers}
 use Rattle.split_core.specs.inner.FirstLine.{IsFirstLine}
 use Rattle.split_core.proofs.DealLaws.{dealt_same}
 use Rattle.ports_core.proofs.CounterLemmas.{no_length}
@@ -27,38 +28,31 @@ pub record Dealing (delim n start : ℕ) (piece : List ℕ) (gathered : List (Li
   pub few : reached ≤ n
   pub over : next ≤ reached
 
-none_first : (ends : Bool) {count : ℕ} → cond ends (count + 1) count ≡ 0 → (ends ≡ false) × (count ≡ 0)
-none_first true none = absurd (omega (arith, none))
-none_first false none = (refl, none)
-
 pub has_none : (delim : ℕ) (x : List ℕ) → delimiters delim x ≡ 0 → HasNone delim x
 has_none delim [] none = tt
-has_none delim (byte ∷ x) none =
-    let first = none_first (eqb byte delim) none in
-    ((λ is. false≢true (sym first.0 ∙ eq-eqb byte delim is)), has_none delim x first.1)
+has_none delim (byte ∷ x) none = (grind (arith, nat_tests, none), has_none delim x (grind (arith, nat_tests, none)))
 
 get_or-changed : (place : ℕ) (line : List ℕ) (xs : List (List ℕ)) (file : ℕ) → file < length xs → get_or (changed_at place (λ had. had ++ line) xs) file [] ≡ cond (eqb place file) (get_or xs file [] ++ line) (get_or xs file [])
 get_or-changed place line [] file inside = absurd (omega arith)
 get_or-changed zero line (x ∷ xs) zero inside = refl
-get_or-changed zero line (x ∷ xs) (suc file) inside = let other : eqb 0 (suc file) ≡ false = ne_eqb 0 (suc file) (λ is. omega (arith, is)) in
-    sym (ap (λ is. cond is (get_or xs file [] ++ line) (get_or xs file [])) other)
-get_or-changed (suc place) line (x ∷ xs) zero inside = let other : eqb (suc place) 0 ≡ false = ne_eqb (suc place) 0 (λ is. omega (arith, is)) in
-    sym (ap (λ is. cond is (x ++ line) x) other)
+get_or-changed zero line (x ∷ xs) (suc file) inside = grind (arith, nat_tests)
+get_or-changed (suc place) line (x ∷ xs) zero inside = grind (arith, nat_tests)
 get_or-changed (suc place) line (x ∷ xs) (suc file) inside = get_or-changed place line xs file (omega arith) ∙ ap (λ is. cond is (get_or xs file [] ++ line) (get_or xs file [])) (sym (eqb-suc-suc place file))
 
 -- a line was appended to what its file had
 came : (gets : Bool) (had line rest : List ℕ) → cond gets (had ++ line) had ++ rest ≡ had ++ cond gets (line ++ rest) rest
-came true had line rest = append_assoc had line rest
-came false had line rest = refl
+came gets had line rest = grind (arith, nat_tests, append_assoc had line rest)
 
 -- a line was gathered, and the place is that of what follows
 shares_next : {n : ℕ} (next place : ℕ) (gathered : List (List ℕ)) (line : List ℕ) (lines : List (List ℕ)) (file : ℕ) → length gathered ≡ n → next < n → file < n → dealt n file place lines ≡ dealt n file (next + 1) lines
     → get_or (changed_at next (λ had. had ++ line) gathered) file [] ++ dealt n file place lines ≡ get_or gathered file [] ++ dealt n file next (line ∷ lines)
 shares_next {n} next place gathered line lines file count within inside same =
-    ap (λ had. had ++ dealt n file place lines) (get_or-changed next line gathered file (omega arith))
-    ∙ came (eqb next file) (get_or gathered file []) line (dealt n file place lines)
-    ∙ ap (λ rest. get_or gathered file [] ++ cond (eqb next file) (line ++ rest) rest) same
-    ∙ ap (λ at. get_or gathered file [] ++ cond (eqb at file) (line ++ dealt n file (next + 1) lines) (dealt n file (next + 1) lines)) (sym (mod-eq_of_lt within))
+    cc (
+      get_or-changed next line gathered file (omega arith),
+      came (eqb next file) (get_or gathered file []) line (dealt n file place lines),
+      same,
+      mod-eq_of_lt within,
+    )
 
 counted : (delim : ℕ) (left line rest : List ℕ) → lines_of delim left ≡ line ∷ lines_of delim rest → line_count delim left ≡ suc (line_count delim rest)
 counted delim left line rest cut = ap length cut
@@ -97,8 +91,7 @@ line_more line so_far cut is reached_is same goes = rw (goes, same) (complete_li
 pub line_goes_round : {delim n start : ℕ} {piece : List ℕ} {gathered now : List (List ℕ)} {next : ℕ} (reached : ℕ) {count : ℕ} {left : List ℕ} (line : List ℕ) {rest : List ℕ} → Dealing delim n start piece gathered next (max reached next) left
     → IsFirstLine delim left line rest → now ≡ changed_at next (λ had. had ++ line) gathered → count ≡ n → count ≤ next + 1 → Dealing delim n start piece now 0 (max count 0) rest
 line_goes_round {n} {next} reached line so_far cut is same last =
-    let few : max reached next ≤ n = so_far.few in
-    let inside : next < n = so_far.within in
+    let few = so_far.few in let inside = so_far.within in
     let all : next + 1 ≡ n = omega (arith, inside, same, last) in
     line_more line so_far cut is (omega (arith, few, all, same)) refl (sym (ap (λ k. k % n) all ∙ mod_self n))
 
@@ -127,12 +120,6 @@ pub appended : (gathered : List (List ℕ)) (place : ℕ) {had : List ℕ} (now 
     → OnOk result (set gathered place now ≡ changed_at place (λ those. those ++ line) gathered)
 appended gathered place {had} now line result within at is =
     on_ok_weaker result (λ (same : now ≡ had ++ line). ap (set gathered place) same ∙ set-changed gathered place (λ those. those ++ line) had within at) is
-
--- what `gather` owes where nothing is left
-pub record Gathers (delim n start : ℕ) (piece : List ℕ) (gathered : List (List ℕ)) (next reached : ℕ) : Type 0 where
-  pub gathered_is : gathered ≡ dealt_piece delim n start piece
-  pub next_is : next ≡ (start + delimiters delim piece) % n
-  pub reached_is : reached ≡ reached_by delim n start piece
 
 -- all is gathered
 ended : {delim n start : ℕ} {piece : List ℕ} {gathered : List (List ℕ)} {next reached : ℕ} → Dealing delim n start piece gathered next reached []
@@ -173,6 +160,4 @@ by_delimiter one other {x} line {rest} same first = subst (λ delim. IsFirstLine
 pub chunk_taken : (room : List ℕ) {new : List ℕ} (text : List ℕ) (at n chunk : ℕ) → new ≡ take at room ++ (take chunk text ++ drop (at + chunk) room) → at ≤ length room → n ≤ chunk → chunk ≤ length text → take (at + n) new ≡ take at room ++ take n text
 chunk_taken room text at n chunk is within few enough =
     let long : length (take at room) ≡ at = length-take-le at room within in
-    ap (take (at + n)) is ∙ ap (λ k. take (k + n) (take at room ++ (take chunk text ++ drop (at + chunk) room))) (sym long)
-    ∙ take-append-add (take at room) (take chunk text ++ drop (at + chunk) room) n
-    ∙ ap (λ rest. take at room ++ rest) (take-append-le n (take chunk text) (drop (at + chunk) room) (omega (arith, length-take-le chunk text enough)) ∙ take-take n chunk text few)
+    cc (is, long, take-append-add (take at room) (take chunk text ++ drop (at + chunk) room) n, take-append-le n (take chunk text) (drop (at + chunk) room) (omega (arith, length-take-le chunk text enough)), take-take n chunk text few)

@@ -1,8 +1,8 @@
 -- One file is opened, written or closed.
-use Rattle.std.proofs.Common.{◌≡◌, ◌≢◌, ℕ, ◌+◌, ◌<◌, ◌≤◌, zero, suc, Bool, List, [], ◌∷◌, ◌++◌, length, map, take, drop, replicate, get_or, ◌⊎◌, inl, inr, refl, sym, ◌∙◌, ap, subst, arith, length-append, IsTrue, Ok, Err, Result, OnOk, IfErr}
-use Rattle.std.proofs.Math.Seq.{get_or-append_seam, take-length}
+use Rattle.std.proofs.Common.{◌≡◌, ◌≢◌, ℕ, ◌+◌, ◌<◌, ◌≤◌, zero, suc, Bool, List, [], ◌∷◌, ◌++◌, length, map, take, drop, get_or, ◌⊎◌, inl, inr, refl, sym, ◌∙◌, ap, subst, arith, length-append, IsTrue, Ok, Err, Result, OnOk, IfErr}
+use Rattle.std.proofs.Math.Seq.{get_or-append_seam}
 use Rattle.std.proofs.lemmas.Bool.{cases_lt, false≢true}
-use Rattle.std.proofs.lemmas.List.{map-append, length-map, length-replicate, length-take, get_or-replicate, get_or_append_left, take-append-drop, take-take}
+use Rattle.std.proofs.lemmas.List.{map-append, length-map, length-take, take_all, get_or_append_left, take-append-drop, take-take}
 use Rattle.ports_core.specs.Name.{Naming, next_name, with_one_drawn}
 use Rattle.ports_core.specs.Slot.{Slot, slot_at, changed_at, opened, adds, breaks, closes, is_writable, is_closable, with_written, with_broken, told_of, broke, numberless, Rose}
 use Rattle.ports_core.specs.inner.Write as short
@@ -93,10 +93,7 @@ opens told files before these old new place drawn count is at = subst (λ those.
       place_is = omega (arith, length-map these (share Open))
 
       files_are : filed names 0 (map (share Open) (added these (only_at place []))) ≡ filed names 0 (map (share Open) these) ++ file_at names place (share Open []) ∷ []
-      files_are = ap (λ those. filed names 0 (map (share Open) those)) (new_at place these count)
-          ∙ ap (λ shares. filed names 0 shares) (map-append (share Open) these ([] ∷ []))
-          ∙ filed_more names 0 (map (share Open) these) (share Open [])
-          ∙ ap (λ place. filed names 0 (map (share Open) these) ++ file_at names place (share Open []) ∷ []) place_is
+      files_are = cc (new_at place these count, map-append (share Open) these ([] ∷ []), filed_more names 0 (map (share Open) these) (share Open []), place_is)
 
 marks_failed : (IsName : List ℕ → Type 0) {files next : FilesState} {old new : List Slot} {why : Fault} → IsName (next_name files.names) → FailsToFollow files old next new why → Marks IsName why old new
 marks_failed IsName {files} named (could_not _ (broke slot kept is kept_is made) drew) = (is, (next_name files.names, kept, named, kept_is, made))
@@ -169,8 +166,10 @@ reached told {files} {old} {place} (Err why) ready here names made is fails = re
         done = take-take place place (only_at place []) (omega arith);
         reached = old;
         outputs = rw idle at.outputs;
-        marks = rw idle (marks_failed (IsDue files.names these (added these (only_at place [])))
-            (ap (name_of (from_start files.names)) (ready.drawn ∙ sym at.count), omega (arith, length-added these (only_at place []), length-only place [], long)) fails);
+        marks = rw idle (marks_failed (IsDue files.names these (added these (only_at place []))) (
+          ap (name_of (from_start files.names)) (ready.drawn ∙ sym at.count),
+          omega (arith, length-added these (only_at place []), length-only place [], long),
+        ) fails);
         from = rw idle (from_next (length before) (sym long) fails);
       };
 }
@@ -303,8 +302,8 @@ pub rose_closing : (told : Bool) {files : FilesState} {place : ℕ} {old now new
     → new ≡ with_broken (output_at files place) (changed_at (output_at files place) closes now) → Rose (output_at files place) old new
 rose_closing told {files} {place} {old} {now} ready within so_far is = (
   so_far.sound (output_at files place) (sound_at (output_at files place) now (so_far.left place (omega arith) within).1),
-  ap (λ slots. (slot_at slots (output_at files place)).is_broken) is
-      ∙ broken_there (output_at files place) _ (omega (arith, output_within place ready within, so_far.size, length-changed_at (output_at files place) closes now)),
+  ap (λ slots. (slot_at slots (output_at files place)).is_broken) is ∙ broken_there (output_at files place) _
+      (omega (arith, output_within place ready within, so_far.size, length-changed_at (output_at files place) closes now)),
 )
 
 -- there was no room for any of it
@@ -342,17 +341,21 @@ pub sent_writable : {told : Bool} {files between : FilesState} {old mid : List S
 sent_writable {mid} place adds slot_is = subst (λ at. IsTrue (is_writable mid at)) (sym slot_is) (adds.ready.closable place (sent_within adds)).1
 
 pub sent : {told : Bool} {files between : FilesState} {old mid new : List Slot} {place slot : ℕ} (bytes : List ℕ) (result : Result (Unit {0}) Fault)
-    → Adds told files (only_at place []) place place old between mid (Ok tt) → slot ≡ output_at between place → OnOk result (new ≡ with_written slot (told_of told bytes) mid)
+    → Adds told files (only_at place []) place place old between mid (Ok tt) → slot ≡ output_at between place
+    → OnOk result (new ≡ with_written slot (told_of told bytes) mid)
     → IfErr result (WritesShort told slot bytes mid new) → Adds told files (only_at place bytes) place place old between new result
-sent {told} {files} {between} {old} {mid} {new} {place} bytes result before slot_is ok err = subst (λ more. Adds told files more place place old between new result) (only_again place bytes)
+sent {told} {files} {between} {old} {mid} {new} {place} bytes result before slot_is ok err =
+    subst (λ more. Adds told files more place place old between new result) (only_again place bytes)
     (adds_then result place place before (written told place bytes result before.ready (sent_within before)
-    (subst (λ at. OnOk result (new ≡ with_written at (told_of told bytes) mid)) slot_is ok) (subst (λ at. IfErr result (WritesShort told at bytes mid new)) slot_is err))
+    (subst (λ at. OnOk result (new ≡ with_written at (told_of told bytes) mid)) slot_is ok)
+    (subst (λ at. IfErr result (WritesShort told at bytes mid new)) slot_is err))
     (omega (arith, length-only place [])) (omega arith) (omega arith))
 
 -- a file that couldn't be reached stops the write to it as well
 pub sent_unreached : {told : Bool} {files next : FilesState} {old new : List Slot} {place : ℕ} (bytes : List ℕ) {why : Fault} → Adds told files (only_at place []) place place old next new (Err why)
     → Adds told files (only_at place bytes) place place old next new (Err why)
-sent_unreached {place} bytes adds = adds_wider place adds (only_begin place [] bytes (nothing_begins bytes)) (omega arith) (λ n few. only_before n place [] bytes few)
+sent_unreached {place} bytes adds =
+    adds_wider place adds (only_begin place [] bytes (nothing_begins bytes)) (omega arith) (λ n few. only_before n place [] bytes few)
 
 -- the loop over all files
 
@@ -364,36 +367,19 @@ sent_next {told} {files} {next} {old} {new} {place} more result before within is
     subst (λ those. Adds told files those 0 (place + 1) old next new result) (added_next place more within is ∙ ap (λ n. take n more) further)
     (adds_then result 0 (place + 1) before after (omega (arith, length-take place more)) (omega arith) (omega arith))
 
-pub sent_stops : {told : Bool} {files between next : FilesState} {old mid new : List Slot} {place : ℕ} {bytes : List ℕ} (more : List (List ℕ)) {why : Fault}
-    → Adds told files (take place more) 0 place old between mid (Ok tt) → place < length more → bytes ≡ get_or more place bytes
-    → Adds told between (only_at place bytes) place place mid next new (Err why) → Adds told files more 0 (length more) old next new (Err why)
-sent_stops {place} more {why} before within is after =
-    adds_wider (length more) (sent_next more (Err why) before within is after) (take_begin (place + 1) more) (omega (arith, within)) (λ n few. take-take n (place + 1) more few)
+pub sent_stops : {told : Bool} {files between next : FilesState} {old mid new : List Slot} {place most : ℕ} {bytes : List ℕ} (more : List (List ℕ)) {why : Fault} → length more ≡ most
+    → Adds told files (take place more) 0 place old between mid (Ok tt) → place < most → bytes ≡ get_or more place bytes
+    → Adds told between (only_at place bytes) place place mid next new (Err why) → Adds told files more 0 most old next new (Err why)
+sent_stops {place} {most} more {why} all before within is after =
+    adds_wider most (sent_next more (Err why) before (omega (arith, all, within)) is after) (take_begin (place + 1) more) (omega (arith, within))
+    (λ n few. take-take n (place + 1) more few)
 
 -- all of them were reached
-pub sent_all : {told : Bool} {files next : FilesState} {old new : List Slot} (place : ℕ) (more : List (List ℕ)) → place ≡ length more → Adds told files (take place more) 0 place old next new (Ok tt)
-    → Adds told files more 0 (length more) old next new (Ok tt)
-sent_all {told} {files} {next} {old} {new} place more is adds = subst (λ those. Adds told files those 0 (length more) old next new (Ok tt)) (take-length more)
+pub sent_all : {told : Bool} {files next : FilesState} {old new : List Slot} (place : ℕ) {most : ℕ} (more : List (List ℕ)) → length more ≡ most → place ≡ most
+    → Adds told files (take place more) 0 place old next new (Ok tt) → Adds told files more 0 most old next new (Ok tt)
+sent_all {told} {files} {next} {old} {new} place {most} more all is adds =
+    subst (λ those. Adds told files those 0 most old next new (Ok tt)) (take_all most more (omega (arith, all)))
     (subst (λ n. Adds told files (take n more) 0 n old next new (Ok tt)) is adds)
-
--- files that are opened are sent nothing
-
-none_within : (count : ℕ) {place : ℕ} → place < count → place < length (replicate {A = List ℕ} count [])
-none_within count less = omega (arith, less, length-replicate {A = List ℕ} count [])
-
-pub opened_next : {told : Bool} {files between next : FilesState} {old mid new : List Slot} {place : ℕ} (count : ℕ) → Adds told files (take place (replicate count [])) 0 place old between mid (Ok tt)
-    → place < count → Adds told between (only_at place []) place place mid next new (Ok tt) → Adds told files (take (place + 1) (replicate count [])) 0 (place + 1) old next new (Ok tt)
-opened_next {place} count before less = sent_next (replicate count []) (Ok tt) before (none_within count less) (sym (get_or-replicate count place [] [] less))
-
-pub opened_stops : {told : Bool} {files between next : FilesState} {old mid new : List Slot} {place : ℕ} (count : ℕ) {why : Fault} → Adds told files (take place (replicate count [])) 0 place old between mid (Ok tt)
-    → place < count → Adds told between (only_at place []) place place mid next new (Err why) → Adds told files (replicate count []) 0 count old next new (Err why)
-opened_stops {told} {files} {next} {old} {new} {place} count {why} before less after = subst (λ n. Adds told files (replicate count []) 0 n old next new (Err why)) (length-replicate count [])
-    (sent_stops (replicate count []) before (none_within count less) (sym (get_or-replicate count place [] [] less)) after)
-
-pub opened_all : {told : Bool} {files next : FilesState} {old new : List Slot} (place count : ℕ) → place ≡ count → Adds told files (take place (replicate count [])) 0 place old next new (Ok tt)
-    → Adds told files (replicate count []) 0 count old next new (Ok tt)
-opened_all {told} {files} {next} {old} {new} place count is adds = subst (λ n. Adds told files (replicate count []) 0 n old next new (Ok tt)) (length-replicate count [])
-    (sent_all place (replicate count []) (is ∙ sym (length-replicate count [])) adds)
 
 -- closing, by the fault
 
@@ -417,8 +403,7 @@ pub output_is : (files : FilesState) {items : List ℕ} (place : ℕ) {slot : �
 output_is files place {slot} same within is = is ∙ ap (λ those. get_or those place slot) same ∙ same_default files.outputs place slot 0 within
 
 pub unchanged : {files : FilesState} {names next : Naming} {items reserved : List ℕ} → record { names = names; outputs = items } ≡ files → reserved ≡ items → next ≡ names → record { names = next; outputs = reserved } ≡ files
-unchanged {names} {next} {items} is same names_same = ap (λ those. record { names = next; outputs = those }) same ∙ ap (λ those. record { names = those; outputs = items }) names_same ∙ is
+unchanged is same names_same = cc (is, same, names_same)
 
 pub drew_one : {files : FilesState} {names next : Naming} {items reserved : List ℕ} → record { names = names; outputs = items } ≡ files → reserved ≡ items → next ≡ with_one_drawn names → record { names = next; outputs = reserved } ≡ record files { names = with_one_drawn files.names }
-drew_one {names} {next} {items} is same drew =
-    ap (λ those. record { names = next; outputs = those }) same ∙ ap (λ those. record { names = those; outputs = items }) drew ∙ ap (λ (those : FilesState). record those { names = with_one_drawn those.names }) is
+drew_one is same drew = cc (is, same, drew)

@@ -89,8 +89,7 @@ pub added_again : (these first second : List (List ℕ)) → added (added these 
 added_again [] first second = refl
 added_again (bytes ∷ these) [] second = refl
 added_again (bytes ∷ these) (one ∷ first) [] = refl
-added_again (bytes ∷ these) (one ∷ first) (next ∷ second) =
-    ap (λ all. all ∷ added (added these first) second) (append_assoc bytes one next) ∙ ap (λ rest. (bytes ++ (one ++ next)) ∷ rest) (added_again these first second)
+added_again (bytes ∷ these) (one ∷ first) (next ∷ second) = cc (append_assoc bytes one next, added_again these first second)
 
 take_added : (n : ℕ) (these more : List (List ℕ)) → take n (added these more) ≡ added (take n these) (take n more)
 take_added (suc n) [] more = refl
@@ -135,20 +134,19 @@ only_again (suc place) bytes = ap (λ rest. [] ∷ rest) (only_again place bytes
 -- nothing changes where no bytes go to files that are open
 pub idle_before : (place : ℕ) (bytes : List ℕ) (these : List (List ℕ)) → place ≤ length these → added these (take place (only_at place bytes)) ≡ these
 idle_before (suc place) bytes [] few = absurd (omega (arith, few))
-idle_before (suc place) bytes (one ∷ these) few =
-    ap (λ all. all ∷ added these (take place (only_at place bytes))) (append-nil one) ∙ ap (λ rest. one ∷ rest) (idle_before place bytes these (omega (arith, few)))
+idle_before (suc place) bytes (one ∷ these) few = cc (append-nil one, idle_before place bytes these (omega (arith, few)))
 idle_before place bytes these few = added_none these
 
 pub idle_at : (place : ℕ) (these : List (List ℕ)) → place < length these → added these (only_at place []) ≡ these
 idle_at place [] within = absurd (omega (arith, within))
 idle_at zero (one ∷ these) within = ap (λ all. all ∷ added these []) (append-nil one) ∙ ap (λ rest. one ∷ rest) (added_none these)
-idle_at (suc place) (one ∷ these) within =
-    ap (λ all. all ∷ added these (only_at place [])) (append-nil one) ∙ ap (λ rest. one ∷ rest) (idle_at place these (omega (arith, within)))
+idle_at (suc place) (one ∷ these) within = cc (append-nil one, idle_at place these (omega (arith, within)))
 
 -- the next file has nothing yet
 pub new_at : (place : ℕ) (these : List (List ℕ)) → length these ≡ place → added these (only_at place []) ≡ these ++ [] ∷ []
 new_at zero [] is = refl
-new_at (suc place) (one ∷ these) is = ap (λ all. all ∷ added these (only_at place [])) (append-nil one) ∙ ap (λ rest. one ∷ rest) (new_at place these (omega (arith, is)))
+new_at (suc place) (one ∷ these) is =
+    ap (λ all. all ∷ added these (only_at place [])) (append-nil one) ∙ ap (λ rest. one ∷ rest) (new_at place these (omega (arith, is)))
 new_at place these is = absurd (omega (arith, is))
 
 -- one more of what is to be added
@@ -156,8 +154,7 @@ pub added_next : (place : ℕ) (more : List (List ℕ)) {bytes : List ℕ} → p
     → added (take place more) (only_at place bytes) ≡ take (suc place) more
 added_next place [] within is = absurd (omega (arith, within))
 added_next zero (next ∷ more) within is = ap (λ one. one ∷ []) is
-added_next (suc place) (next ∷ more) {bytes} within is =
-    ap (λ all. all ∷ added (take place more) (only_at place bytes)) (append-nil next) ∙ ap (λ rest. next ∷ rest) (added_next place more (omega (arith, within)) is)
+added_next (suc place) (next ∷ more) {bytes} within is = cc (append-nil next, added_next place more (omega (arith, within)) is)
 
 -- Files
 
@@ -178,9 +175,7 @@ pub filed_gets : (names : Naming) (from place : ℕ) (bytes : List ℕ) (these :
     → changed_at place (gets bytes) (filed names from (map (share Open) these)) ≡ filed names from (map (share Open) (added these (only_at place bytes)))
 filed_gets names from place bytes [] within = absurd (omega (arith, within))
 filed_gets names from zero bytes (one ∷ these) within = ap (λ rest. file_at names from (share Open (one ++ bytes)) ∷ filed names (from + 1) (map (share Open) rest)) (sym (added_none these))
-filed_gets names from (suc place) bytes (one ∷ these) within =
-    ap (λ had. file_at names from (share Open had) ∷ changed_at place (gets bytes) (filed names (from + 1) (map (share Open) these))) (sym (append-nil one))
-    ∙ ap (λ rest. file_at names from (share Open (one ++ [])) ∷ rest) (filed_gets names (from + 1) place bytes these (omega (arith, within)))
+filed_gets names from (suc place) bytes (one ∷ these) within = cc (append-nil one, filed_gets names (from + 1) place bytes these (omega (arith, within)))
 
 pub filed_ends : (names : Naming) (from place : ℕ) (these : List (List ℕ)) → changed_at place ended (filed names from (closed_first place these)) ≡ filed names from (closed_first (suc place) these)
 filed_ends names from zero [] = refl
@@ -214,13 +209,13 @@ drop_filed (suc n) names place (one ∷ shares) = let further : place + 1 + n �
 
 pub take_open : (n : ℕ) (names : Naming) (these those : List (List ℕ)) → take n these ≡ take n those → take n (open_part names these).files ≡ take n (open_part names those).files
 take_open n names these those same =
-    take_filed n (from_start names) 0 (map (share Open) these) ∙ ap (filed (from_start names) 0) (take-map (share Open) n these ∙ ap (map (share Open)) same ∙ sym (take-map (share Open) n those))
-    ∙ sym (take_filed n (from_start names) 0 (map (share Open) those))
+    let first = take_filed n (from_start names) 0 (map (share Open) these) in let second = take_filed n (from_start names) 0 (map (share Open) those) in
+    cc (first, take-map (share Open) n these, same, take-map (share Open) n those, second)
 
 pub drop_open : (n : ℕ) (names : Naming) (these those : List (List ℕ)) → drop n these ≡ drop n those → drop n (open_part names these).files ≡ drop n (open_part names those).files
 drop_open n names these those same =
-    drop_filed n (from_start names) 0 (map (share Open) these) ∙ ap (filed (from_start names) (0 + n)) (drop-map (share Open) n these ∙ ap (map (share Open)) same ∙ sym (drop-map (share Open) n those))
-    ∙ sym (drop_filed n (from_start names) 0 (map (share Open) those))
+    let first = drop_filed n (from_start names) 0 (map (share Open) these) in let second = drop_filed n (from_start names) 0 (map (share Open) those) in
+    cc (first, drop-map (share Open) n these, same, drop-map (share Open) n those, second)
 
 -- the file at a place of a list
 next_filed : (names : Naming) (from n : ℕ) (shares : List Share) → n < length shares → (front : List File) × (one : Share) × (rest : List File) × (filed names from shares ≡ front ++ file_at names (from + n) one ∷ rest) × (length front ≡ n)
@@ -278,9 +273,11 @@ adds_then {told} {files} {between} {next} {first} {second} {low} {high} {old} {m
   caused = IfErr-weaker result _ _ (λ why caused. (breaks_later before.sound caused.0, caused.1)) after.caused;
   leaves = λ start these at. further result start these (after.leaves start (added these first) (stand_then before at));
 } where
-  further : (result : Result (Unit {0}) Fault) (start : List Slot) (these : List (List ℕ)) → Leaves told start between.names (added these first) second low high new result
+  further : (result : Result (Unit {0}) Fault) (start : List Slot) (these : List (List ℕ))
+      → Leaves told start between.names (added these first) second low high new result
       → Leaves told start files.names these (added first second) lower most new result
-  further (Ok done) start these at = subst (λ those. OutputsAt told start (open_part files.names those) new) (added_again these first second) (renamed told files.names between.names _ before.names at)
+  further (Ok done) start these at = subst (λ those. OutputsAt told start (open_part files.names those) new) (added_again these first second)
+      (renamed told files.names between.names _ before.names at)
   further (Err why) start these stop = record {
     place = stop.place;
     after = omega (arith, stop.after, less);
@@ -292,7 +289,8 @@ adds_then {told} {files} {between} {next} {first} {second} {low} {high} {old} {m
     reached = stop.reached;
     outputs = subst (λ those. OutputsAt told start (open_part files.names those) stop.reached) (added_again these first stop.some)
         (renamed told files.names between.names _ before.names stop.outputs);
-    marks = rw (← added_again these first stop.some, ← added_again these first second) (subst (λ names. Marks (λ name. (name ≡ name_of names (length (added (added these first) stop.some)))
+    marks = rw (← added_again these first stop.some, ← added_again these first second)
+        (subst (λ names. Marks (λ name. (name ≡ name_of names (length (added (added these first) stop.some)))
         × (length (added (added these first) stop.some) < length (added (added these first) second))) why stop.reached new) before.names stop.marks);
     from = rw (← added_again these first stop.some) stop.from;
   }

@@ -1,7 +1,8 @@
 -- How the files of `split` change, as they are opened, written and closed.
-use Rattle.std.proofs.Common.{◌≡◌, ℕ, ◌+◌, ◌≤◌, zero, suc, List, [], ◌∷◌, ◌++◌, ◌⊎◌, length, take, Bool, true, false, cond, IsTrue, Option, Some, None, Result, Ok, Err, OnOk, IfErr, inl, inr, refl, sym, ◌∙◌, ap, subst, arith, length-append}
+use Rattle.std.proofs.lemmas.Bool.Decides.{nat_tests}
+use Rattle.std.proofs.Common.{◌≡◌, ℕ, ◌+◌, ◌≤◌, zero, suc, List, [], ◌∷◌, ◌++◌, ◌⊎◌, length, take, Bool, true, false, IsTrue, Option, Some, None, Result, Ok, Err, OnOk, IfErr, inl, inr, refl, sym, ◌∙◌, ap, subst, arith, length-append}
 use Rattle.std.proofs.Math.Nat.{add-zero, zero-add}
-use Rattle.std.proofs.lemmas.Bool.{false≢true}
+use Rattle.std.proofs.lemmas.Bool.{cond_both, false≢true}
 use Rattle.std.proofs.lemmas.Result.{IfErr-weaker, on_ok_weaker}
 use Rattle.ports_core.specs.Name.{Naming, next_name}
 use Rattle.ports_core.specs.Slot.{Slot, changed_at, opened, unopened, adds, closes, with_written, with_broken, told_of, is_writable}
@@ -21,7 +22,7 @@ use Rattle.ports_core.proofs.SlotSteps.{keeps_again, rose_later, write_rose, ope
 use Rattle.split_core.specs.Split.{Share, share, split_means, is_named, are_named, from_start, only_files, file_at, named, name_of}
 use Rattle.split_core.specs.inner.ShareLaws.{AllShut, SharesBegin}
 use Rattle.split_core.proofs.ShareLaws.{shares_more, shares_themselves, shares_trans, last_grows}
-use Rattle.split_core.specs.laws.ShareLaws.{part_begins, no_more, one_on, shares_fewer}
+use Rattle.split_core.specs.laws.ShareLaws.{part_begins, one_on, shares_fewer}
 use Rattle.split_core.specs.inner.PartsState.{IsAtEnd}
 use Rattle.split_core.specs.PartsState.{PartsState, OwnsFile}
 use Rattle.split_core.specs.inner.Moves.{part_of, Goes, Reaches, RunsShort, Keeps, KeepsFile, Breaks, CannotClose, OpensNone, wants_memory, breaks_write, breaks_open, lacks_names}
@@ -29,26 +30,20 @@ use Rattle.split_core.specs.inner.Moves.{part_of, Goes, Reaches, RunsShort, Keep
 -- names
 
 pub named_before : (names : Naming) (place more : ℕ) → is_named names more ≡ true → place ≤ more → is_named names place ≡ true
-named_before names place more is less = by (is_named names place) refl where
-  by : (b : Bool) → is_named names place ≡ b → is_named names place ≡ true
-  by true e = e
-  by false e = absurd (false≢true (sym (no_more names place more e less) ∙ is))
+named_before names place more is less = grind (arith, nat_tests, is, less)
 
 -- the files of shares that all have names, and then the files of those after them
 pub named_on : (names : Naming) (place : ℕ) (front rest : List Share) → is_named names (place + length front) ≡ true → named names place (front ++ rest) ≡ named names place front ++ named names (place + length front) rest
 named_on names place [] rest is = ap (λ n. named names n rest) (sym (add-zero place))
-named_on names place (one ∷ front) rest is = ap (λ has. cond has (file_at names place one ∷ named names (place + 1) (front ++ rest)) []) here
-    ∙ ap (λ files. file_at names place one ∷ files) (named_on names (place + 1) front rest (subst (λ n. is_named names n ≡ true) (one_on place (length front)) is))
-    ∙ ap (λ n. file_at names place one ∷ (named names (place + 1) front ++ named names n rest)) (sym (one_on place (length front)))
-    ∙ ap (λ has. cond has (file_at names place one ∷ named names (place + 1) front) [] ++ named names (place + suc (length front)) rest) (sym here) where
-      here : is_named names place ≡ true
-      here = named_before names place (place + suc (length front)) is (omega arith)
+named_on names place (one ∷ front) rest is = cc (
+  named_before names place (place + suc (length front)) is (omega arith),
+  one_on place (length front),
+  named_on names (place + 1) front rest (subst (λ n. is_named names n ≡ true) (one_on place (length front)) is),
+)
 
 pub named_at : (names : Naming) (front rest : List Share) (one : Share) → is_named names (length front) ≡ true
     → named names 0 (front ++ one ∷ rest) ≡ named names 0 front ++ file_at names (length front) one ∷ named names (length front + 1) rest
-named_at names front rest one is = named_on names 0 front (one ∷ rest) (subst (λ n. is_named names n ≡ true) (sym (zero-add (length front))) is)
-    ∙ ap (λ n. named names 0 front ++ named names n (one ∷ rest)) (zero-add (length front))
-    ∙ ap (λ has. named names 0 front ++ cond has (file_at names (length front) one ∷ named names (length front + 1) rest) []) is
+named_at names front rest one is = cc (named_on names 0 front (one ∷ rest) (subst (λ n. is_named names n ≡ true) (sym (zero-add (length front))) is), zero-add (length front), is)
 
 -- nor does it matter how many names were drawn
 pub are_named_same : (names next : Naming) (count : ℕ) → from_start next ≡ from_start names → are_named next count ≡ are_named names count
@@ -59,33 +54,26 @@ are_named_same names next (suc last) same = ap (λ (those : Naming). is_named th
 pub same_files : (names : Naming) (place : ℕ) (those high : List Share) → AllShut those → SharesBegin those high
     → is_named names (place + length those) ≡ false → named names place high ≡ named names place those
 same_files names place [] [] shut begins none = refl
-same_files names place [] (whole ∷ high) shut begins none =
-    ap (λ has. cond has (file_at names place whole ∷ named names (place + 1) high) []) (subst (λ n. is_named names n ≡ false) (add-zero place) none)
+same_files names place [] (whole ∷ high) shut begins none = cc (subst (λ n. is_named names n ≡ false) (add-zero place) none)
 same_files names place (one ∷ those) [] shut begins none = absurd begins
 same_files names place (one ∷ those) (whole ∷ high) shut begins none =
-    ap (λ file. cond (is_named names place) (file_at names place file ∷ named names (place + 1) high) []) (sym (same begins.0))
-    ∙ ap (λ files. cond (is_named names place) (file_at names place one ∷ files) [])
-    (same_files names (place + 1) those high shut.1 begins.2 (subst (λ n. is_named names n ≡ false) (one_on place (length those)) none)) where
+    cc (same begins.0, same_files names (place + 1) those high shut.1 begins.2 (subst (λ n. is_named names n ≡ false) (one_on place (length those)) none)) where
       same : (one.state ≡ state.Open) ⊎ (one ≡ whole) → one ≡ whole
       same (inl is) = absurd (let closed : one.state ≡ state.Closed = shut.0 in cc)
       same (inr is) = is
 
 -- the files of closed shares are closed, and there are as many where the next has a name
 
-shut_by : (has : Bool) (file : File) (files : List File) → file.state ≡ state.Closed → AllClosed files → AllClosed (cond has (file ∷ files) [])
-shut_by true file files is closed = (is, closed)
-shut_by false file files is closed = tt
-
 pub shut_files : (names : Naming) (place : ℕ) (shares : List Share) → AllShut shares → AllClosed (named names place shares)
 shut_files names place [] shut = tt
-shut_files names place (one ∷ shares) shut = shut_by (is_named names place) (file_at names place one) (named names (place + 1) shares) shut.0 (shut_files names (place + 1) shares shut.1)
+shut_files names place (one ∷ shares) shut = cond_both (is_named names place) _ _ AllClosed (λ is. (shut.0, shut_files names (place + 1) shares shut.1)) (λ is. tt)
 
 named_count : (names : Naming) (place : ℕ) (shares : List Share) → is_named names (place + length shares) ≡ true → length (named names place shares) ≡ length shares
 named_count names place [] is = refl
-named_count names place (one ∷ shares) is = ap (λ has. length (cond has (file_at names place one ∷ named names (place + 1) shares) [])) here
-    ∙ ap suc (named_count names (place + 1) shares (subst (λ n. is_named names n ≡ true) (one_on place (length shares)) is)) where
-      here : is_named names place ≡ true
-      here = named_before names place (place + suc (length shares)) is (omega arith)
+named_count names place (one ∷ shares) is = cc (
+  named_before names place (place + suc (length shares)) is (omega arith),
+  named_count names (place + 1) shares (subst (λ n. is_named names n ≡ true) (one_on place (length shares)) is),
+)
 
 all_named : (names : Naming) (shares : List Share) → is_named names (length shares) ≡ true → length (named names 0 shares) ≡ length shares
 all_named names shares is = named_count names 0 shares (subst (λ n. is_named names n ≡ true) (sym (zero-add (length shares))) is)
@@ -156,8 +144,7 @@ owned_ended slot old new same first owns = omega (arith, owns.0, owns.1, same)
 -- the file was opened
 pub owned_opened : {slot : ℕ} (one : Slot) (old : List Slot) {new : List Slot} → slot ≡ length old → new ≡ old ++ one ∷ [] → KeepsFile None old (Some slot) new
 owned_opened one old {new} at is first owns =
-    let above : first ≤ length old = owns in
-    let size : length new ≡ length old + 1 = ap length is ∙ length-append old (one ∷ []) in (omega (arith, at), omega (arith, at))
+    let size : length new ≡ length old + 1 = ap length is ∙ length-append old (one ∷ []) in (omega (arith, owns, at), omega (arith, owns, at))
 
 -- the file could not be opened
 pub owned_unopened : (names : Naming) (old new : List Slot) (fault : Fault) → OpensNone names old new fault → KeepsFile None old None new
@@ -188,7 +175,8 @@ goes_then {told} {names} {current} {next} {low} {mid} {high} {old} {wet} {new} r
     moves = λ last before at. ran.moves (stays_last current next old wet owned last) before (one.moves last before at);
   }) other.short;
 } where
-  further : (result : Result (Unit {0}) Fault) (before : List Slot) → Reaches told before names mid high new result → Reaches told before names low high new result
+  further : (result : Result (Unit {0}) Fault) (before : List Slot) → Reaches told before names mid high new result
+      → Reaches told before names low high new result
   further (Ok done) before at = at
   further (Err fault) before stop = turn_between told before _ _ _ _ fault new (part_begins names low mid one.grows) stop (part_begins_itself _)
 

@@ -152,7 +152,8 @@ found_made told parts old new next slot none ready at has next_is made_it = subs
   };
   can = can;
   last = λ shares begun had. (ap (λ n. n + 1) (begun_yet had none).1 ∙ add-one (length shares), named shares begun had);
-  goes = λ shares begun had. rw ((begun_yet had none).0, append-nil shares) (open_goes told (from_start parts.names) parts.current shares old new (named shares begun had)
+  goes = λ shares begun had. rw ((begun_yet had none).0, append-nil shares)
+      (open_goes told (from_start parts.names) parts.current shares old new (named shares begun had)
       (made_it ∙ ap (λ n. old ++ opened (name_of parts.names n) Fresh ∷ []) (begun_yet had none).1));
 }) where
   named : (shares : List Share) (begun : List ℕ) → Begun parts.names parts.current shares begun → is_named parts.names (length shares) ≡ true
@@ -174,7 +175,8 @@ pub extended : {told : Bool} {parts : PartsState} (bytes held : List ℕ) {old m
     → OnOk result (new ≡ with_written slot (told_of told (parts.waiting ++ bytes)) mid) → IfErr result (WritesShort told slot (parts.waiting ++ bytes) mid new)
     → next ≡ record fresh { waiting = held } → OnOk result (held ≡ []) → Extends told parts bytes old new next result
 extended {told} {parts} bytes held {old} {mid} {new} {fresh} {next} {slot} result some facts ok err is none =
-    subst (λ those. Extends told parts bytes old new those result) (sym (is ∙ ap (λ (those : PartsState). record those { waiting = held }) facts.same)) (record {
+    subst (λ those. Extends told parts bytes old new those result) (sym (is ∙ ap (λ (those : PartsState). record those { waiting = held }) facts.same))
+    (record {
       same = on_ok_weaker result (ap (λ waits. record parts { names = fresh.names; waiting = waits; current = Some slot })) none;
       keeps = keeps_then result (subst (λ those. Keeps parts old mid those (Ok tt)) facts.same facts.keeps)
           (write_keeps told (record parts { names = fresh.names; current = Some slot }) held _ result refl facts.can ok err);
@@ -186,7 +188,8 @@ extended {told} {parts} bytes held {old} {mid} {new} {fresh} {next} {slot} resul
             shut = has.shut;
           });
       goes = λ shares begun has. rw (written_some shares (begun ++ (parts.waiting ++ bytes)) (all begun))
-          (goes_then result (subst (λ (those : PartsState). KeepsFile parts.current old those.current mid) facts.same facts.keeps.owned) (facts.goes shares begun has)
+          (goes_then result (subst (λ (those : PartsState). KeepsFile parts.current old those.current mid) facts.same facts.keeps.owned)
+          (facts.goes shares begun has)
           (write_goes told (from_start parts.names) shares begun mid slot has.shut (facts.last shares begun has).1 (parts.waiting ++ bytes) result ok err));
     }) where
       all : (begun : List ℕ) → is_some (begun ++ (parts.waiting ++ bytes)) ≡ true
@@ -208,6 +211,11 @@ no_file told parts bytes {old} {new} {next} f some none = record {
     breaks = open_breaks parts.names f none.opens;
   };
   begun = tt;
-  goes = λ shares begun has. rw ((begun_yet has none.none).0, append-nil shares, written_some shares (parts.waiting ++ bytes) (some_bytes parts.waiting bytes some))
-      (open_stops told parts.names parts.current shares [] (share state.Open (parts.waiting ++ bytes)) old new f has.shut (begun_yet has none.none).1 none.opens);
+  goes = λ shares begun has. rw (
+    (begun_yet has none.none).0,
+    append-nil shares,
+    written_some shares (parts.waiting ++ bytes) (some_bytes parts.waiting bytes some),
+  )
+      (open_stops told parts.names parts.current shares [] (share state.Open (parts.waiting ++ bytes)) old new f has.shut
+      (begun_yet has none.none).1 none.opens);
 }

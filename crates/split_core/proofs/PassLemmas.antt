@@ -109,7 +109,8 @@ module _ (told : Bool) (state : PartsState) (x : List ℕ) {slot : ℕ} (stands 
   rest_goes : {old wet : List Slot} (result : Result (Unit {0}) Fault) → OnOk result (wet ≡ with_written slot (told_of told state.waiting) old)
       → IfErr result (WritesShort told slot state.waiting old wet)
       → Goes told (from_start state.names) state.current (settled_parts state.limit x) (written (full_of state x) (rest_of state x)) old wet result
-  rest_goes {old} {wet} result ok err = rw (written_some (full_of state x) (begun_of state x) some, written_some (full_of state x) (rest_of state x) some_rest, is)
+  rest_goes {old} {wet} result ok err =
+      rw (written_some (full_of state x) (begun_of state x) some, written_some (full_of state x) (rest_of state x) some_rest, is)
       (subst (λ rest. Goes told (from_start state.names) (Some slot) (full_of state x ++ share file_state.Open (begun_of state x) ∷ [])
       (full_of state x ++ share file_state.Open rest ∷ []) old wet result) rest_is
       (write_goes told (from_start state.names) (full_of state x) (begun_of state x) old slot (shut_map (cut_up state.limit x).full)
@@ -117,17 +118,18 @@ module _ (told : Bool) (state : PartsState) (x : List ℕ) {slot : ℕ} (stands 
 
 pub held_stops : {told : Bool} {state next : PartsState} {slot : ℕ} {old new : List Slot} {f : Fault} (held : List ℕ) → IsReady state.current old → state.current ≡ Some slot
     → WritesShort told slot state.waiting old new f → next ≡ record state { waiting = held } → Finishes told state old new next (Err f)
-held_stops {told} {state} {slot} {old} {new} {f} held ready is short next_is = subst (λ those. Finishes told state old new those (Err f)) (sym next_is) (record {
-  keeps = write_keeps told state held state.waiting (Err f) is can tt short;
-  caused = caused short;
-  goes = λ x stands. goes_wider (rest_goes told state x stands is (Err f) tt short) (rw (whole_shut told state x stands is, append-nil)
-      (begun_grows (full_of state x) [] file_state.Closed (rest_of state x) (rest_of state x) (begins_itself _)));
-}) where
-  can : is_closable old slot
-  can = subst (λ current. IsReady current old) is ready
+held_stops {told} {state} {slot} {old} {new} {f} held ready is short next_is =
+    subst (λ those. Finishes told state old new those (Err f)) (sym next_is) (record {
+      keeps = write_keeps told state held state.waiting (Err f) is can tt short;
+      caused = caused short;
+      goes = λ x stands. goes_wider (rest_goes told state x stands is (Err f) tt short) (rw (whole_shut told state x stands is, append-nil)
+          (begun_grows (full_of state x) [] file_state.Closed (rest_of state x) (rest_of state x) (begins_itself _)));
+    }) where
+      can : is_closable old slot
+      can = subst (λ current. IsReady current old) is ready
 
-  caused : {f : Fault} → WritesShort told slot state.waiting old new f → CannotClose old new f
-  caused (broke n cut) = (slot, refl, can.0, write_rose told slot state.waiting n old new can.1 cut)
+      caused : {f : Fault} → WritesShort told slot state.waiting old new f → CannotClose old new f
+      caused (broke n cut) = (slot, refl, can.0, write_rose told slot state.waiting n old new can.1 cut)
 
 -- the file is still there to be closed
 pub held_ready : (told : Bool) (state : PartsState) {mid : PartsState} {slot : ℕ} (old : List Slot) {wet : List Slot} (held : List ℕ) → IsReady state.current old → state.current ≡ Some slot
@@ -148,5 +150,6 @@ held_ends {told} {state} {next} {slot} {old} {wet} {new} held result ready is wr
         keeps = keeps_then result kept (subst (λ those. Keeps (record state { waiting = held }) wet new those result) (sym shuts.same) shuts.keeps);
         caused = IfErr-weaker result _ _ (λ f why. (why.0, why.1, why.2, rose_later why.0 old wet new kept.sound why.3)) shuts.caused;
         goes = λ x stands. goes_then result kept.owned (rest_goes told state x stands is (Ok tt) wrote tt)
-            (rw (whole_shut told state x stands is) (shuts.goes (full_of state x) (rest_of state x) (rest_begun told state x stands is) (some_rest told state x stands is)));
+            (rw (whole_shut told state x stands is) (shuts.goes (full_of state x) (rest_of state x) (rest_begun told state x stands is)
+            (some_rest told state x stands is)));
       }

@@ -1,8 +1,9 @@
 -- Where each line of a text is dealt to: the lines of a file by their places in the text.
+use Rattle.std.proofs.lemmas.Bool.Decides.{nat_tests}
 use Rattle.std.proofs.Common.{◌≡◌, ℕ, ◌+◌, ◌-◌, ◌*◌, ◌%◌, ◌<◌, ◌≤◌, zero, suc, min, List, [], ◌∷◌, ◌++◌, length, take, map, get_or, Bool, true, false, cond, eqb, if◌then◌else◌, ◌==◌, inl, inr, refl, sym, ◌∙◌, ap, arith, length-append}
 use Rattle.std.proofs.Math.Nat.{suc-mul, zero-mul, mod-lt, mod-add-mod, mod-eq_of_lt, add-mod_right}
 use Rattle.std.specs.List.{range_with_len}
-use Rattle.std.proofs.lemmas.Bool.{cases_eq, cases_lt, eq-eqb, ne_eqb, eqb-true, eqb-false}
+use Rattle.std.proofs.lemmas.Bool.{cond_both, cases_eq, cases_lt, eq-eqb, ne_eqb, eqb-true, eqb-false}
 use Rattle.std.proofs.lemmas.List.{take_all}
 use Rattle.std.proofs.lemmas.List.FromFn.{length-map-range_with_len, get_or-map-range_with_len, take-map-range_with_len}
 use Rattle.seg_core.specs.Line.{joined, lines_of, line_count, AreLines}
@@ -17,13 +18,9 @@ abbrev pub lines_dealt : ℕ → ℕ → ℕ → List (List ℕ) → List (List 
 lines_dealt n file place [] = []
 lines_dealt n file place (line ∷ lines) = if place % n == file then line ∷ lines_dealt n file (place + 1) lines else lines_dealt n file (place + 1) lines
 
-joined_step : (gets : Bool) (line : List ℕ) {rest : List ℕ} (lines : List (List ℕ)) → rest ≡ joined lines → cond gets (line ++ rest) rest ≡ joined (cond gets (line ∷ lines) lines)
-joined_step true line lines is = ap (λ those. line ++ those) is
-joined_step false line lines is = is
-
 dealt_are : (n file place : ℕ) (lines : List (List ℕ)) → dealt n file place lines ≡ joined (lines_dealt n file place lines)
 dealt_are n file place [] = refl
-dealt_are n file place (line ∷ lines) = joined_step (eqb (place % n) file) line _ (dealt_are n file (place + 1) lines)
+dealt_are n file place (line ∷ lines) = grind (arith, nat_tests, dealt_are n file (place + 1) lines)
 
 -- what the file gets still consists of lines
 
@@ -37,22 +34,15 @@ before_some delim line (next ∷ lines) [] each few those = inl each.0
 before_some delim line [] (first ∷ chosen) each few those = absurd (omega arith)
 before_some delim line (next ∷ lines) (first ∷ chosen) each few those = (each.0, those)
 
-few_step : (gets : Bool) (line : List ℕ) (chosen lines : List (List ℕ)) → length chosen ≤ length lines → length (cond gets (line ∷ chosen) chosen) ≤ suc (length lines)
-few_step true line chosen lines few = omega arith
-few_step false line chosen lines few = omega arith
-
 few_dealt : (n file place : ℕ) (lines : List (List ℕ)) → length (lines_dealt n file place lines) ≤ length lines
 few_dealt n file place [] = omega arith
-few_dealt n file place (line ∷ lines) = few_step (eqb (place % n) file) line _ lines (few_dealt n file (place + 1) lines)
-
-lines_step : (delim : ℕ) (gets : Bool) (line : List ℕ) (lines chosen : List (List ℕ)) → AreLines delim (line ∷ lines) → length chosen ≤ length lines → AreLines delim chosen → AreLines delim (cond gets (line ∷ chosen) chosen)
-lines_step delim true line lines chosen each few those = before_some delim line lines chosen each few those
-lines_step delim false line lines chosen each few those = those
+few_dealt n file place (line ∷ lines) = grind (arith, nat_tests, few_dealt n file (place + 1) lines)
 
 are_dealt : (delim n file place : ℕ) (lines : List (List ℕ)) → AreLines delim lines → AreLines delim (lines_dealt n file place lines)
 are_dealt delim n file place [] each = tt
 are_dealt delim n file place (line ∷ lines) each =
-    lines_step delim (eqb (place % n) file) line lines _ each (few_dealt n file (place + 1) lines) (are_dealt delim n file (place + 1) lines (others delim line lines each))
+    let rest = are_dealt delim n file (place + 1) lines (others delim line lines each) in
+    cond_both (eqb (place % n) file) _ _ (AreLines delim) (λ is. before_some delim line lines _ each (few_dealt n file (place + 1) lines) rest) (λ is. rest)
 
 lines_of-dealt : (delim n file place : ℕ) (lines : List (List ℕ)) → AreLines delim lines → lines_of delim (dealt n file place lines) ≡ lines_dealt n file place lines
 lines_of-dealt delim n file place lines each = ap (lines_of delim) (dealt_are n file place lines) ∙ lines_of-joined delim _ (are_dealt delim n file place lines each)
@@ -81,8 +71,7 @@ nth_step n {file} place left (suc k) line lines true few at is next =
     let none : left ≡ 0 = nothing_between n place few (at ∙ sym (eqb-true (place % n) file is)) in
     let there : left + suc k * n ≡ suc (n - 1 + k * n) = omega (arith, none, suc-mul k n, few) in
     let around : place + 1 + (n - 1) ≡ place + n = omega arith in
-    next (n - 1) k (omega arith) (ap (λ at. at % n) around ∙ add-mod_right place n ∙ eqb-true (place % n) file is)
-    ∙ ap (λ place. get_or (line ∷ lines) place []) (sym there)
+    cc (next (n - 1) k (omega arith) (ap (λ at. at % n) around ∙ add-mod_right place n ∙ eqb-true (place % n) file is), there)
 nth_step n {file} place zero k line lines false few at is next = absurd (eqb-false (place % n) file is (ap (λ at. at % n) same ∙ at)) where
   same : place ≡ place + 0
   same = omega arith
@@ -108,24 +97,21 @@ line_at delim n file k x within =
 none_gets : (had : ℕ → List ℕ) (line : List ℕ) (place start count : ℕ) → place < start
     → joined (map (λ file. cond (eqb place file) (line ++ had file) (had file)) (range_with_len start count)) ≡ joined (map had (range_with_len start count))
 none_gets had line place start zero before = refl
-none_gets had line place start (suc count) before =
-    ap (λ gets. cond gets (line ++ had start) (had start) ++ joined (map (λ file. cond (eqb place file) (line ++ had file) (had file)) (range_with_len (start + 1) count))) (ne_eqb place start (λ is. omega (arith, is)))
-    ∙ ap (λ rest. had start ++ rest) (none_gets had line place (start + 1) count (omega arith))
-
-gets_step : (had : ℕ → List ℕ) (line rest more : List ℕ) (start : ℕ) → length rest ≡ length line + length more → length (had start ++ rest) ≡ length line + length (had start ++ more)
-gets_step had line rest more start is = omega (arith, is, length-append (had start) rest, length-append (had start) more)
+none_gets had line place start (suc count) before = cc (ne_eqb place start (λ is. omega (arith, is)), none_gets had line place (start + 1) count (omega arith))
 
 one_gets : (had : ℕ → List ℕ) (line : List ℕ) (place start count : ℕ) → start ≤ place → place < start + count
     → length (joined (map (λ file. cond (eqb place file) (line ++ had file) (had file)) (range_with_len start count))) ≡ length line + length (joined (map had (range_with_len start count)))
 one_gets had line place start zero from before = absurd (omega arith)
 one_gets had line place start (suc count) from before = elim (cases_eq place start) [
   | inl here ↦
-      ap (λ gets. length (cond gets (line ++ had start) (had start) ++ joined (map (λ file. cond (eqb place file) (line ++ had file) (had file)) (range_with_len (start + 1) count)))) (eq-eqb place start here)
-      ∙ ap (λ rest. length ((line ++ had start) ++ rest)) (none_gets had line place (start + 1) count (omega (arith, here)))
-      ∙ three line (had start) (joined (map had (range_with_len (start + 1) count)))
+      cc (
+        eq-eqb place start here,
+        none_gets had line place (start + 1) count (omega (arith, here)),
+        three line (had start) (joined (map had (range_with_len (start + 1) count))),
+      )
   | inr other ↦
       ap (λ gets. length (cond gets (line ++ had start) (had start) ++ joined (map (λ file. cond (eqb place file) (line ++ had file) (had file)) (range_with_len (start + 1) count)))) (ne_eqb place start other)
-      ∙ gets_step had line _ _ start (one_gets had line place (start + 1) count (omega (arith, other)) (omega arith))
+      ∙ omega (arith, one_gets had line place (start + 1) count (omega (arith, other)) (omega arith), length-append {A = ℕ})
 ] where
   three : (line first rest : List ℕ) → length ((line ++ first) ++ rest) ≡ length line + length (first ++ rest)
   three line first rest = omega (arith, length-append (line ++ first) rest, length-append line first, length-append first rest)
@@ -151,6 +137,5 @@ first_files delim n x = dealt_files_are delim true n x ∙ elim (cases_lt (line_
       ap (λ count. map (share_of delim n x) (range_with_len 0 count)) here ∙ sym (take-map-range_with_len (share_of delim n x) 0 n (line_count delim x) (omega (arith, fewer)))
   | inr many ↦
       let here : min n (line_count delim x) ≡ n = omega (arith, many) in
-      ap (λ count. map (share_of delim n x) (range_with_len 0 count)) here
-      ∙ sym (take_all (line_count delim x) (round_robin delim n x) (omega (arith, length-map-range_with_len (share_of delim n x) 0 n, many)))
+      cc (here, take_all (line_count delim x) (round_robin delim n x) (omega (arith, length-map-range_with_len (share_of delim n x) 0 n, many)))
 ]

@@ -1,6 +1,6 @@
 -- The spots of split's files are right, where one part follows another.
-use Rattle.std.proofs.Common.{◌≡◌, ℕ, ◌+◌, ◌-◌, ◌<◌, ◌≤◌, zero, suc, List, [], ◌∷◌, ◌++◌, length, get_or, Bool, true, false, cond, inl, inr, refl, sym, ◌∙◌, ap, subst, arith, append_assoc, length-append}
-use Rattle.std.proofs.lemmas.Bool.{cases_lt}
+use Rattle.std.proofs.Common.{take, ◌≡◌, ℕ, ◌+◌, ◌-◌, ◌<◌, ◌≤◌, zero, suc, List, [], ◌∷◌, ◌++◌, length, get_or, inl, inr, refl, sym, ◌∙◌, ap, subst, arith, append_assoc, length-append}
+use Rattle.std.proofs.lemmas.Bool.{cond_both, cases_lt}
 use Rattle.std.proofs.lemmas.List.{get_or_append_left}
 use Rattle.std.proofs.Math.Seq.{get_or-append_right}
 use Rattle.seg_core.specs.Line.{joined}
@@ -18,42 +18,45 @@ use Rattle.split_core.proofs.AgreedLemmas.{named_bytes, whole_files}
 -- Outputs that are, one after another, a text
 
 -- the byte at a spot of the outputs from a place on
-pub record StandsIn (place : ℕ) (outputs : List (List ℕ)) (at : Spot) (byte : ℕ) : Type 0 where
+pub record StandsIn (place : ℕ) (outputs : List (List ℕ)) (i : ℕ) (at : Spot) (byte : ℕ) : Type 0 where
   pub from : place ≤ at.place
   pub within : at.offset < length (get_or outputs (at.place - place) [])
   pub is : get_or (get_or outputs (at.place - place) []) at.offset 0 ≡ byte
+  pub came : i ≡ length (joined (take (at.place - place) outputs)) + at.offset
 
 pub only_spot : {at : Spot} (one : Spot) → GoesTo at (one ∷ []) → at ≡ one
 only_spot one (inl is) = is
 only_spot one (inr none) = absurd none
 
-stands_first : {place : ℕ} (i : ℕ) {byte : ℕ} {bytes : List ℕ} {outputs : List (List ℕ)} → i < length bytes → get_or bytes i 0 ≡ byte → StandsIn place (bytes ∷ outputs) (spot place i) byte
+stands_first : {place : ℕ} (i : ℕ) {byte : ℕ} {bytes : List ℕ} {outputs : List (List ℕ)} → i < length bytes → get_or bytes i 0 ≡ byte → StandsIn place (bytes ∷ outputs) i (spot place i) byte
 stands_first {place} i {bytes} {outputs} less is =
     let none : place - place ≡ 0 = omega arith in
     let here : get_or (bytes ∷ outputs) (place - place) [] ≡ bytes = ap (λ k. get_or (bytes ∷ outputs) k []) none in record {
       from = omega arith;
       within = subst (λ those. i < length those) (sym here) less;
       is = ap (λ those. get_or those i 0) here ∙ is;
+      came = omega (arith, ap (λ k. length (joined (take k (bytes ∷ outputs)))) none);
     }
 
-stands_later : {place byte : ℕ} {bytes : List ℕ} {outputs : List (List ℕ)} {at : Spot} → StandsIn (place + 1) outputs at byte → StandsIn place (bytes ∷ outputs) at byte
-stands_later {place} {bytes} {outputs} {at} stands =
+stands_later : {place byte i : ℕ} {bytes : List ℕ} {outputs : List (List ℕ)} {at : Spot} → length bytes ≤ i → StandsIn (place + 1) outputs (i - length bytes) at byte → StandsIn place (bytes ∷ outputs) i at byte
+stands_later {place} {bytes} {outputs} {at} later stands =
     let past = stands.from in
     let next : at.place - place ≡ suc (at.place - (place + 1)) = omega (arith, past) in
     let there : get_or (bytes ∷ outputs) (at.place - place) [] ≡ get_or outputs (at.place - (place + 1)) [] = ap (λ k. get_or (bytes ∷ outputs) k []) next in record {
       from = omega (arith, past);
       within = subst (λ those. at.offset < length those) (sym there) stands.within;
       is = ap (λ those. get_or those at.offset 0) there ∙ stands.is;
+      came = omega (arith, ap (λ k. length (joined (take k (bytes ∷ outputs)))) next ∙ length-append bytes (joined (take (at.place - (place + 1)) outputs)), stands.came, later);
     }
 
-pub spots_stand : (place : ℕ) (outputs : List (List ℕ)) (rest : List ℕ) (i : ℕ) {at : Spot} → GoesTo at (spots_from place outputs i) → StandsIn place outputs at (get_or (joined outputs ++ rest) i 0)
+pub spots_stand : (place : ℕ) (outputs : List (List ℕ)) (rest : List ℕ) (i : ℕ) {at : Spot} → GoesTo at (spots_from place outputs i) → StandsIn place outputs i at (get_or (joined outputs ++ rest) i 0)
 spots_stand place [] rest i goes = absurd goes
 spots_stand place (bytes ∷ outputs) rest i {at} goes = elim (cases_lt i (length bytes)) [
   | inl less ↦
-      subst (λ those. StandsIn place (bytes ∷ outputs) those (get_or (joined (bytes ∷ outputs) ++ rest) i 0)) (sym (only_spot (spot place i) (subst (GoesTo at) (spot_in place i bytes outputs less) goes)))
+      subst (λ those. StandsIn place (bytes ∷ outputs) i those (get_or (joined (bytes ∷ outputs) ++ rest) i 0)) (sym (only_spot (spot place i) (subst (GoesTo at) (spot_in place i bytes outputs less) goes)))
       (stands_first i less (sym (ap (λ those. get_or those i 0) (append_assoc bytes (joined outputs) rest) ∙ get_or_append_left bytes (joined outputs ++ rest) 0 i less)))
-  | inr past ↦ stands_later
-      (subst (StandsIn (place + 1) outputs at) (sym (ap (λ those. get_or those i 0) (append_assoc bytes (joined outputs) rest) ∙ get_or-append_right bytes (joined outputs ++ rest) i 0 past))
+  | inr past ↦ stands_later past
+      (subst (StandsIn (place + 1) outputs (i - length bytes) at) (sym (ap (λ those. get_or those i 0) (append_assoc bytes (joined outputs) rest) ∙ get_or-append_right bytes (joined outputs ++ rest) i 0 past))
       (spots_stand (place + 1) outputs rest (i - length bytes) (subst (GoesTo at) (spot_past place i bytes outputs past) goes)))
 ]
 
@@ -83,39 +86,18 @@ spots_filled place [] k offset less = absurd (omega (arith, less))
 spots_filled place (bytes ∷ outputs) zero offset less = filled_first offset less
 spots_filled place (bytes ∷ outputs) (suc k) offset less = filled_later k offset (spots_filled (place + 1) outputs k offset less)
 
-first_spot : (place i : ℕ) (bytes : List ℕ) (outputs : List (List ℕ)) {at : Spot} → i < length bytes → GoesTo at (spots_from place (bytes ∷ outputs) i) → at ≡ spot place i
-first_spot place i bytes outputs {at} less goes = only_spot (spot place i) (subst (GoesTo at) (spot_in place i bytes outputs less) goes)
-
-later_spot : (place i : ℕ) (bytes : List ℕ) (outputs : List (List ℕ)) (at : Spot) → length bytes ≤ i → GoesTo at (spots_from place (bytes ∷ outputs) i) → GoesTo at (spots_from (place + 1) outputs (i - length bytes))
-later_spot place i bytes outputs at past goes = subst (GoesTo at) (spot_past place i bytes outputs past) goes
-
--- a byte of the first output goes to none of the others
-not_both : (place i j : ℕ) (bytes : List ℕ) (outputs : List (List ℕ)) (at : Spot) → i < length bytes → length bytes ≤ j → GoesTo at (spots_from place (bytes ∷ outputs) i) → GoesTo at (spots_from place (bytes ∷ outputs) j) → ⊥
-not_both place i j bytes outputs at less past goes also =
-    omega (arith, ap (λ those. those.place) (first_spot place i bytes outputs less goes), (spots_stand (place + 1) outputs [] (j - length bytes) (later_spot place j bytes outputs at past also)).from)
-
+-- the spot tells which byte it was
 pub spots_apart : (place : ℕ) (outputs : List (List ℕ)) {i j : ℕ} (at : Spot) → GoesTo at (spots_from place outputs i) → GoesTo at (spots_from place outputs j) → i ≡ j
-spots_apart place [] at goes also = absurd goes
-spots_apart place (bytes ∷ outputs) {i} {j} at goes also = elim (cases_lt i (length bytes)) [
-  | inl less ↦ elim (cases_lt j (length bytes)) [
-    | inl within ↦ ap (λ those. those.offset) (sym (first_spot place i bytes outputs less goes) ∙ first_spot place j bytes outputs within also)
-    | inr past ↦ absurd (not_both place i j bytes outputs at less past goes also)
-  ]
-  | inr later ↦ elim (cases_lt j (length bytes)) [
-    | inl within ↦ absurd (not_both place j i bytes outputs at within later also goes)
-    | inr past ↦ (omega (arith, spots_apart (place + 1) outputs at (later_spot place i bytes outputs at later goes) (later_spot place j bytes outputs at past also), later, past))
-  ]
-]
+spots_apart place outputs {i} {j} at goes also = omega (arith, (spots_stand place outputs [] i goes).came, (spots_stand place outputs [] j also).came)
 
 -- Parts that follow one another, as far as there are names
 
-front_step : (is : Bool) (one : List ℕ) {those : List (List ℕ)} (front : List (List ℕ)) → (more : List (List ℕ)) × (those ≡ front ++ more) → (more : List (List ℕ)) × (one ∷ those ≡ cond is (one ∷ front) [] ++ more)
-front_step true one front (more, are) = (more, ap (λ rest. one ∷ rest) are)
-front_step false one {those} front (more, are) = (one ∷ those, refl)
-
 named_front : (names : Naming) (place : ℕ) (those : List (List ℕ)) → (more : List (List ℕ)) × (those ≡ named_bytes names place those ++ more)
 named_front names place [] = ([], refl)
-named_front names place (one ∷ those) = front_step (is_named names place) one _ (named_front names (place + 1) those)
+named_front names place (one ∷ those) =
+    let rest = named_front names (place + 1) those in
+    cond_both (is_named names place) _ _ (λ front. (more : List (List ℕ)) × (one ∷ those ≡ front ++ more)) (λ is. (rest.0, ap (λ those. one ∷ those) rest.1))
+    (λ is. (one ∷ those, refl))
 
 -- the files are together a beginning of the text
 files_together : (limit : Limit) (names : Naming) {x : List ℕ} → (rest : List ℕ) × (x ≡ joined (file_bytes ((parts_work limit names).whole x)) ++ rest)

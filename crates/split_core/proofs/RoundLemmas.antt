@@ -21,7 +21,7 @@ use Rattle.ports_core.specs.declared.slot.State.{State}
 use Rattle.ports_core.specs.declared.slot.State.TheVariants.{Open, Closed}
 use Rattle.ports_core.proofs.PartLemmas.{outputs_count}
 use Rattle.split_core.specs.Parts.{dealt, round_robin}
-use Rattle.split_core.specs.Split.{Share, share, named, is_named, are_named, from_start, file_at, only_files, dealt_files, settled_by, whole_by, is_short, is_some, split_means, split_work, bytes_in, waiting_after}
+use Rattle.split_core.specs.Split.{Share, share, named, is_named, are_named, from_start, only_files, dealt_files, settled_by, whole_by, is_short, is_some, split_means, split_work, bytes_in, waiting_after}
 use Rattle.split_core.specs.inner.Dealt.{dealt_piece, dealt_first, reached_by}
 use Rattle.split_core.specs.FilesState.{FilesState}
 use Rattle.split_core.specs.RoundState.{RoundState}
@@ -51,8 +51,7 @@ named_fewer names (suc last) count are within = named_at names count last are (o
 all_filed : (names : Naming) (count place : ℕ) (shares : List Share) → are_named names count ≡ true → place + length shares ≤ count → named (from_start names) place shares ≡ filed (from_start names) place shares
 all_filed names count place [] are few = refl
 all_filed names count place (one ∷ shares) are few =
-    ap (λ is. cond is (file_at (from_start names) place one ∷ named (from_start names) (place + 1) shares) []) (named_at names count place are (omega arith))
-    ∙ ap (λ rest. file_at (from_start names) place one ∷ rest) (all_filed names count (place + 1) shares are (omega arith))
+    cc (named_at names count place are (omega arith), all_filed names count (place + 1) shares are (omega arith))
 
 -- The files of a text
 
@@ -73,13 +72,16 @@ pub settled_is : (delim : ℕ) (names : Naming) (elide : Bool) (n : ℕ) (x : Li
 settled_is delim names elide n x are = ap only_files (filed_are delim Open names elide n x are)
 
 pub whole_is : (delim : ℕ) (names : Naming) (elide : Bool) (n : ℕ) (x : List ℕ) → are_named names n ≡ true → whole_by (round_plan delim n elide (from_start names)) x ≡ closing_part names (opened_by delim elide n x) (files_of delim elide n x)
-whole_is delim names elide n x are = ap only_files (filed_are delim Closed names elide n x are)
-    ∙ ap (λ shares. only_files (filed (from_start names) 0 shares)) (sym (closed_all (files_of delim elide n x)))
-    ∙ ap (λ count. closing_part names count (files_of delim elide n x)) (length-files_of delim elide n x)
+whole_is delim names elide n x are = cc (filed_are delim Closed names elide n x are, closed_all (files_of delim elide n x), length-files_of delim elide n x)
 
 pub never_short : (delim : ℕ) (names : Naming) (elide : Bool) (n : ℕ) (x : List ℕ) → are_named names n ≡ true → false ≡ is_short (round_plan delim n elide names) x
-never_short delim names elide n x are =
-    sym (ap not (named_fewer names (length (map (share Closed) (dealt_files delim elide n x))) n are (omega (arith, length-map (dealt_files delim elide n x) (share Closed), ap length (dealt_files_are delim elide n x) ∙ length-files_of delim elide n x, opened_by-most delim elide n x))))
+never_short delim names elide n x are = sym (ap not (named_fewer names (length (map (share Closed) (dealt_files delim elide n x))) n are
+    (omega (
+      arith,
+      length-map (dealt_files delim elide n x) (share Closed),
+      ap length (dealt_files_are delim elide n x) ∙ length-files_of delim elide n x,
+      opened_by-most delim elide n x,
+    ))))
 
 -- One more piece
 
@@ -89,13 +91,11 @@ added_maps f more whole start zero zero none no_more both = let no_files : 0 ≡
 added_maps f more whole start zero (suc b) none no_more both =
     let count : suc (max 0 b) ≡ max 0 (suc b) = omega arith in
     let rest = added_maps f more whole (start + 1) zero b (λ file past within. none file (omega arith) (omega arith)) (λ file past within. absurd (omega arith)) both in
-    ap (λ bytes. (bytes ++ more start) ∷ map more (range_with_len (start + 1) b)) (sym (none start (omega arith) (omega arith)))
-    ∙ ap (λ bytes. bytes ∷ map more (range_with_len (start + 1) b)) (both start) ∙ ap (λ those. whole start ∷ those) rest ∙ ap (λ n. map whole (range_with_len start n)) count
+    cc (none start (omega arith) (omega arith), both start, rest, count)
 added_maps f more whole start (suc m) zero none no_more both =
     let count : suc (max m 0) ≡ max (suc m) 0 = omega arith in
     let rest = sym (added_none (map f (range_with_len (start + 1) m))) ∙ added_maps f more whole (start + 1) m zero (λ file past within. absurd (omega arith)) (λ file past within. no_more file (omega arith) (omega arith)) both in
-    ap (λ bytes. bytes ∷ map f (range_with_len (start + 1) m)) (sym (append-nil (f start)) ∙ ap (λ those. f start ++ those) (sym (no_more start (omega arith) (omega arith))) ∙ both start)
-    ∙ ap (λ those. whole start ∷ those) rest ∙ ap (λ n. map whole (range_with_len start n)) count
+    cc (append-nil (f start), no_more start (omega arith) (omega arith), both start, rest, count)
 added_maps f more whole start (suc m) (suc b) none no_more both =
     let count : suc (max m b) ≡ max (suc m) (suc b) = omega arith in
     let rest = added_maps f more whole (start + 1) m b (λ file past within. none file (omega arith) (omega arith)) (λ file past within. no_more file (omega arith) (omega arith)) both in
@@ -145,15 +145,15 @@ first_gathered delim n start {reached} piece is reached_is = ap (take reached) i
 pub same_work : (old new : RoundState) → new.delim ≡ old.delim → new.count ≡ old.count → new.elide ≡ old.elide → from_start new.files.names ≡ from_start old.files.names → work new ≡ work old
 same_work old new delim count elide names = ap round_work same where
   same : plan_of new ≡ plan_of old
-  same = ap (λ d. round_plan d new.count new.elide (from_start new.files.names)) delim ∙ ap (λ n. round_plan old.delim n new.elide (from_start new.files.names)) count
-      ∙ ap (λ those. round_plan old.delim old.count those (from_start new.files.names)) elide ∙ ap (λ those. round_plan old.delim old.count old.elide those) names
+  same = cc (delim, count, elide, names)
 
 -- what a piece makes of the files, where the stage can have been fed x
 made_is : {round : RoundState} {x : List ℕ} (piece : List ℕ) → Holds round x → open_part round.files.names (added (files_of round.delim round.elide round.count x) (dealt_first round.delim round.count round.next piece)) ≡ (work round).settled (x ++ piece)
-made_is {round} {x} piece holds =
-    ap (λ next. open_part round.files.names (added (files_of round.delim round.elide round.count x) (dealt_first round.delim round.count next piece))) holds.next
-    ∙ ap (open_part round.files.names) (files_after round.delim round.elide round.count x piece holds.some)
-    ∙ sym (settled_is round.delim round.files.names round.elide round.count (x ++ piece) holds.named)
+made_is {round} {x} piece holds = cc (
+  holds.next,
+  files_after round.delim round.elide round.count x piece holds.some,
+  settled_is round.delim round.files.names round.elide round.count (x ++ piece) holds.named,
+)
 
 -- where the stage stands, its files do
 stand_at : (told : Bool) (round : RoundState) {before : List Slot} {x : List ℕ} {now : List Slot} → StandsAt ways.Holds ways.Owns (way.Round round) told before x ((work round).settled x) now → StandAt told round.files before (files_of round.delim round.elide round.count x) now
@@ -164,12 +164,14 @@ stand_at told round {before} {x} {now} at = record {
 }
 
 puts_out : (told : Bool) (round : RoundState) (piece : List ℕ) {low high : ℕ} {next : FilesState} {old new : List Slot}
-    → Adds told round.files (dealt_first round.delim round.count round.next piece) low high old next new (Ok tt) → PutsOut ways.Holds ways.Owns ways.work (way.Round round) piece told old new
+    → Adds told round.files (dealt_first round.delim round.count round.next piece) low high old next new (Ok tt)
+    → PutsOut ways.Holds ways.Owns ways.work (way.Round round) piece told old new
 puts_out told round piece {new} adds before x at =
     subst (λ part. OutputsAt told before part new) (made_is piece at.holds) (adds.leaves before (files_of round.delim round.elide round.count x) (stand_at told round at))
 
 cuts_off : (told : Bool) (round : RoundState) (piece : List ℕ) {low high : ℕ} {next : FilesState} {old new : List Slot} (why : Fault)
-    → Adds told round.files (dealt_first round.delim round.count round.next piece) low high old next new (Err why) → CutsOff ways.Holds ways.Owns ways.work (way.Round round) piece told old new why
+    → Adds told round.files (dealt_first round.delim round.count round.next piece) low high old next new (Err why)
+    → CutsOff ways.Holds ways.Owns ways.work (way.Round round) piece told old new why
 cuts_off told round piece {new} why adds before x at =
     cut (unjudged adds.caused.0 adds.caused.1) (subst (λ high. StoppedBetween told before ((work round).settled x) high why new) (made_is piece at.holds)
     (rw (settled_is round.delim round.files.names round.elide round.count x at.holds.named)
@@ -179,12 +181,19 @@ takes_in : (told : Bool) {old new : RoundState} {piece : List ℕ} {before after
 takes_in told {old} {new} {piece} deals x holds = record {
   some = omega (arith, holds.some, deals.count);
   named = are_named_same old.files.names new.files.names new.count deals.adds.names ∙ ap (are_named old.files.names) deals.count ∙ holds.named;
-  next = deals.next ∙ ap (λ place. (place + delimiters old.delim piece) % old.count) holds.next ∙ mod-add-mod (delimiters old.delim x) old.count (delimiters old.delim piece) ∙ ap (λ lines. lines % old.count) (sym (delimiters-append old.delim x piece))
-      ∙ ap (λ n. delimiters old.delim (x ++ piece) % n) (sym deals.count) ∙ ap (λ d. delimiters d (x ++ piece) % new.count) (sym deals.delim);
-  opened = deals.adds.opened ∙ ap (max (length old.files.outputs)) (length-map-range_with_len (λ file. dealt old.count file old.next (lines_of old.delim piece)) 0 (reached_by old.delim old.count old.next piece))
-      ∙ ap (λ n. max n (reached_by old.delim old.count old.next piece)) holds.opened ∙ ap (λ place. max (opened_by old.delim old.elide old.count x) (reached_by old.delim old.count place piece)) holds.next
-      ∙ opened_after old.delim old.elide old.count x piece holds.some
-      ∙ sym (ap (λ (those : Bool). opened_by old.delim those new.count (x ++ piece)) deals.elide ∙ ap (λ n. opened_by old.delim old.elide n (x ++ piece)) deals.count) ∙ ap (λ d. opened_by d new.elide new.count (x ++ piece)) (sym deals.delim);
+  next = let moved = mod-add-mod (delimiters old.delim x) old.count (delimiters old.delim piece) in
+      cc (deals.next, holds.next, moved, delimiters-append old.delim x piece, deals.count, deals.delim);
+  opened = cc (
+    deals.adds.opened,
+    length-map-range_with_len (λ file. dealt old.count file old.next (lines_of old.delim piece)) 0
+        (reached_by old.delim old.count old.next piece),
+    holds.opened,
+    holds.next,
+    opened_after old.delim old.elide old.count x piece holds.some,
+    deals.elide,
+    deals.count,
+    deals.delim,
+  );
 }
 
 pub passes_by : (told : Bool) (old new : RoundState) (piece : List ℕ) (before after : List Slot) (result : Result (Unit {0}) Fault)
@@ -272,7 +281,8 @@ module _ (told : Bool) (names : Naming) (count : ℕ) {files next : FilesState} 
   opens_own = adds.owned (length old) (subst (λ (those : FilesState). OwnsFiles those (length old) old) (sym is) (none_owned names))
 
   opens : (before : List Slot) → OutputsAt told before nothing old → Leaves told before names [] (replicate count []) 0 count new result
-  opens before at = (subst (λ (those : FilesState). Adds told those (replicate count []) 0 count old next new result) is adds).leaves before [] (none_stand told names at)
+  opens before at =
+      (subst (λ (those : FilesState). Adds told those (replicate count []) 0 count old next new result) is adds).leaves before [] (none_stand told names at)
 
 pub opens_all : (delim : ℕ) (told elide : Bool) (names : Naming) (n : ℕ) {count : ℕ} {files next : FilesState} {old new : List Slot} → files ≡ no_files names → names.drawn ≡ 0 → are_named names n ≡ true → count ≡ opened_by delim elide n []
     → Adds told files (replicate count []) 0 count old next new (Ok tt) → (before : List Slot) → OutputsAt told before nothing old → OutputsAt told before (settled_by (round_plan delim n elide names) []) new

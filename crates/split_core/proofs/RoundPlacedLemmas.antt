@@ -1,9 +1,10 @@
 -- The spots of split's files are right, where lines are dealt.
 use Rattle.std.proofs.Common.{◌≡◌, ℕ, ◌+◌, ◌%◌, ◌<◌, ◌&&◌, nat_lt, zero, suc, List, [], ◌∷◌, ◌++◌, length, map, take, drop, get_or, Bool, true, false, cond, eqb, inl, inr, refl, sym, ◌∙◌, ap, subst, arith, length-append}
 use Rattle.std.specs.List.{range_with_len}
-use Rattle.std.proofs.Math.Nat.{mod-lt, zero-add}
+use Rattle.std.proofs.Math.Nat.{mod-lt, zero-add, add-zero}
 use Rattle.std.proofs.Math.Seq.{drop-cons, get_or-append_seam}
-use Rattle.std.proofs.lemmas.Bool.{cases_lt, lt-ltb, ltb-true, eq-eqb, eqb-true}
+use Rattle.std.proofs.lemmas.Bool.{cond_both, and_parts, cases_lt, lt-ltb, ltb-true, eq-eqb, eqb-true}
+use Rattle.std.proofs.lemmas.Bool.Decides.{nat_tests}
 use Rattle.std.proofs.lemmas.List.{take-take, take-append-drop, get_or_past, length-take-le}
 use Rattle.std.proofs.lemmas.List.FromFn.{get_or-map-range_with_len, length-map-range_with_len}
 use Rattle.seg_core.specs.Line.{delimiters, lines_of}
@@ -22,6 +23,7 @@ use Rattle.split_core.specs.laws.DealLaws.{dealt_append, dealt_first, next_place
 use Rattle.split_core.proofs.DealLaws.{opened_by-most}
 use Rattle.split_core.proofs.MoveLemmas.{named_before}
 use Rattle.split_core.proofs.AgreedLemmas.{named_bytes, dealt_whole, plan_by}
+use Rattle.split_core.specs.laws.ShareLaws.{one_on}
 use Rattle.split_core.proofs.PlacedLemmas.{only_spot, parts_placed}
 use Rattle.split_core.proofs.RoundLemmas.{none_yet}
 
@@ -43,10 +45,10 @@ follows delim n x i less =
     let place = 0 + delimiters delim (take i x) in
     let after = dealt n file (cond (eqb byte delim) (place + 1) place) (lines_of delim (drop (suc i) x)) in record {
       rest = after;
-      is = ap (λ those. dealt n file 0 (lines_of delim those)) (sym (take-append-drop i x)) ∙ dealt_append delim n file 0 (take i x) (drop i x)
-          ∙ ap (λ those. dealt n file 0 (lines_of delim (take i x)) ++ dealt n file place (lines_of delim those)) (drop-cons x i 0 less)
-          ∙ ap (λ those. dealt n file 0 (lines_of delim (take i x)) ++ those) (dealt_first (eqb byte delim) n file place byte (lines_of delim (drop (suc i) x)))
-          ∙ ap (λ is. dealt n file 0 (lines_of delim (take i x)) ++ cond is (byte ∷ after) after) (eq-eqb (place % n) file (ap (λ k. k % n) (let e : 0 + delimiters delim (take i x) ≡ delimiters delim (take i x) = omega arith in e)));
+      is = let parted = dealt_append delim n file 0 (take i x) (drop i x) in
+          let first = dealt_first (eqb byte delim) n file place byte (lines_of delim (drop (suc i) x)) in
+          let here = eq-eqb (place % n) file (ap (λ k. k % n) (zero-add (delimiters delim (take i x)))) in
+          cc (take-append-drop i x, parted, drop-cons x i 0 less, first, here);
     }
 
 had_less : (delim n : ℕ) (x : List ℕ) (i : ℕ) → i < length x → had delim n (dealt_to delim n x i) x i < length (share_of delim n x (dealt_to delim n x i))
@@ -89,9 +91,7 @@ found_after {delim} {n} {file} {place} {byte} {k} {x} {gets} is found = record {
   i = suc found.i;
   within = (omega (arith, found.within));
   goes = ap (λ those. those % n) (sym (next_place (eqb byte delim) place (delimiters delim (take found.i x)))) ∙ found.goes;
-  at = ap length (dealt_first (eqb byte delim) n file place byte (lines_of delim (take found.i x)))
-      ∙ ap (λ those. length (cond those (byte ∷ dealt n file (cond (eqb byte delim) (place + 1) place) (lines_of delim (take found.i x))) (dealt n file (cond (eqb byte delim) (place + 1) place) (lines_of delim (take found.i x))))) is
-      ∙ counted gets;
+  at = cc (dealt_first (eqb byte delim) n file place byte (lines_of delim (take found.i x)), is, counted gets);
 } where
   counted : (gets : Bool) → length (cond gets (byte ∷ dealt n file (cond (eqb byte delim) (place + 1) place) (lines_of delim (take found.i x))) (dealt n file (cond (eqb byte delim) (place + 1) place) (lines_of delim (take found.i x)))) ≡ cond gets (suc k) k
   counted true = ap suc found.at
@@ -119,28 +119,21 @@ file_is delim elide n x file within = ap (λ files. get_or files file []) (dealt
       ∙ sym (none_yet delim elide n x file past within)
 ]
 
-named_at : (names : Naming) (place : ℕ) (those : List (List ℕ)) (k : ℕ) → is_named names (place + k) ≡ true → get_or (named_bytes names place those) k [] ≡ get_or those k []
-named_at names place [] k is = refl
-named_at names place (one ∷ those) zero is = ap (λ has. get_or (cond has (one ∷ named_bytes names (place + 1) those) []) 0 []) (named_before names place (place + 0) is (omega arith))
-named_at names place (one ∷ those) (suc k) is =
-    ap (λ has. get_or (cond has (one ∷ named_bytes names (place + 1) those) []) (suc k) []) (named_before names place (place + suc k) is (omega arith))
-    ∙ named_at names (place + 1) those k (subst (λ m. is_named names m ≡ true) (let e : place + suc k ≡ place + 1 + k = omega arith in e) is)
+named_at : (names : Naming) (place : ℕ) (those : List (List ℕ)) (k : ℕ) → get_or (named_bytes names place those) k [] ≡ cond (is_named names (place + k)) (get_or those k []) []
+named_at names place [] k = grind (arith, nat_tests)
+named_at names place (one ∷ those) zero = grind (arith, nat_tests, ap (is_named names) (add-zero place))
+named_at names place (one ∷ those) (suc k) = grind (
+  arith,
+  nat_tests,
+  named_at names (place + 1) those k,
+  ap (is_named names) (one_on place k),
+  λ (is : is_named names (place + suc k) ≡ true). named_before names place (place + suc k) is (omega arith),
+)
 
 -- a file that has a byte has a name, and is one of n
-has_by : (names : Naming) (place : ℕ) (one : List ℕ) (rest : List (List ℕ)) (k offset : ℕ) (has : Bool) → is_named names place ≡ has → offset < length (get_or (cond has (one ∷ rest) []) (suc k) []) → offset < length (get_or rest k [])
-has_by names place one rest k offset true is less = less
-has_by names place one rest k offset false is less = absurd (omega (arith, less))
-
-first_has : (names : Naming) (place : ℕ) (one : List ℕ) (rest : List (List ℕ)) (offset : ℕ) (has : Bool) → is_named names place ≡ has → offset < length (get_or (cond has (one ∷ rest) []) 0 []) → is_named names place ≡ true
-first_has names place one rest offset true is less = is
-first_has names place one rest offset false is less = absurd (omega (arith, less))
-
-has_name_there : (names : Naming) (place : ℕ) (those : List (List ℕ)) (k offset : ℕ) → offset < length (get_or (named_bytes names place those) k []) → is_named names (place + k) ≡ true
-has_name_there names place [] k offset less = absurd (omega (arith, less))
-has_name_there names place (one ∷ those) zero offset less =
-    subst (λ m. is_named names m ≡ true) (let e : place ≡ place + 0 = omega arith in e) (first_has names place one (named_bytes names (place + 1) those) offset (is_named names place) refl less)
-has_name_there names place (one ∷ those) (suc k) offset less = subst (λ m. is_named names m ≡ true) (let e : place + 1 + k ≡ place + suc k = omega arith in e)
-    (has_name_there names (place + 1) those k offset (has_by names place one (named_bytes names (place + 1) those) k offset (is_named names place) refl less))
+there_by : (has : Bool) (these : List ℕ) {offset : ℕ} → offset < length (cond has these []) → (has ≡ true) × (offset < length these)
+there_by true these less = (refl, less)
+there_by false these less = absurd (omega (arith, less))
 
 within_n : (delim : ℕ) (elide : Bool) (n : ℕ) (x : List ℕ) (file offset : ℕ) → offset < length (get_or (dealt_files delim elide n x) file []) → file < n
 within_n delim elide n x file offset less = elim (cases_lt file n) [
@@ -157,13 +150,11 @@ pub record Goes (delim n : ℕ) (names : Naming) (x : List ℕ) (i : ℕ) (at : 
   pub named : is_named names (dealt_to delim n x i) ≡ true
   pub is : at ≡ spot (dealt_to delim n x i + 1) (had delim n (dealt_to delim n x i) x i)
 
-goes_by : {delim n : ℕ} {names : Naming} {x : List ℕ} {i : ℕ} {at : Spot} (less has : Bool) → nat_lt i (length x) ≡ less → is_named names (dealt_to delim n x i) ≡ has
-    → GoesTo at (cond (less && has) (spot (dealt_to delim n x i + 1) (had delim n (dealt_to delim n x i) x i) ∷ []) []) → Goes delim n names x i at
-goes_by {x} {i} true true less has goes = record { within = ltb-true i (length x) less; named = has; is = only_spot _ goes }
-goes_by less has within named goes = absurd goes
-
 dealt_goes : {delim n : ℕ} (names : Naming) {x : List ℕ} {i : ℕ} {at : Spot} → GoesTo at (dealt_spots delim n names x i) → Goes delim n names x i at
-dealt_goes {delim} {n} names {x} {i} goes = goes_by (nat_lt i (length x)) (is_named names (dealt_to delim n x i)) refl refl goes
+dealt_goes {delim} {n} names {x} {i} {at} goes =
+    cond_both (nat_lt i (length x) && is_named names (dealt_to delim n x i)) _ _ (λ those. GoesTo at those → Goes delim n names x i at)
+    (λ is goes. let both = and_parts _ _ is in record { within = ltb-true i (length x) both.0; named = both.1; is = only_spot _ goes })
+    (λ is goes. absurd goes) goes
 
 abbrev files_of : ℕ → ℕ → Bool → Naming → List ℕ → List (List ℕ)
 files_of delim n elide names x = file_bytes (whole_by (round_plan delim n elide names) x)
@@ -172,7 +163,8 @@ file_there : (delim n : ℕ) (elide : Bool) (names : Naming) (x : List ℕ) (fil
 file_there delim n elide names x file within named =
     ap (λ k. get_or ([] ∷ files_of delim n elide names x) k []) (let e : file + 1 ≡ suc file = omega arith in e)
     ∙ ap (λ files. get_or files file []) (dealt_whole delim n elide names x)
-    ∙ named_at names 0 (dealt_files delim elide n x) file (subst (λ m. is_named names m ≡ true) (let e : file ≡ 0 + file = omega arith in e) named)
+    ∙ named_at names 0 (dealt_files delim elide n x) file
+    ∙ ap (λ has. cond has (get_or (dealt_files delim elide n x) file []) []) (ap (is_named names) (zero-add file) ∙ named)
     ∙ file_is delim elide n x file within
 
 abbrev StandsThere : List (List ℕ) → Spot → ℕ → Type 0
@@ -187,25 +179,20 @@ dealt_stands delim n elide names some x i at goes =
 
 goes_there : (delim n : ℕ) (names : Naming) (x : List ℕ) (i : ℕ) {file offset : ℕ} → i < length x → dealt_to delim n x i ≡ file → had delim n file x i ≡ offset → is_named names file ≡ true → GoesTo (spot (suc file) offset) (dealt_spots delim n names x i)
 goes_there delim n names x i {file} {offset} less to at named =
-    let has : is_named names (dealt_to delim n x i) ≡ true = ap (is_named names) to ∙ named in
-    subst (GoesTo (spot (suc file) offset))
-    (sym (ap (λ within. cond (within && is_named names (dealt_to delim n x i)) (spot (dealt_to delim n x i + 1) (had delim n (dealt_to delim n x i) x i) ∷ []) []) (lt-ltb i (length x) less)
-    ∙ ap (λ is. cond is (spot (dealt_to delim n x i + 1) (had delim n (dealt_to delim n x i) x i) ∷ []) []) has))
-    (inl (ap (λ k. spot k offset) (let e : suc file ≡ dealt_to delim n x i + 1 = omega (arith, to) in e) ∙ ap (spot (dealt_to delim n x i + 1)) (sym at ∙ ap (λ k. had delim n k x i) (sym to))))
+    let next : suc file ≡ file + 1 = omega arith in
+    let is : spot (suc file) offset ∷ [] ≡ dealt_spots delim n names x i = cc (next, to, at, named, lt-ltb i (length x) less) in
+    subst (GoesTo (spot (suc file) offset)) is (inl refl)
 
 dealt_filled : (delim n : ℕ) (elide : Bool) (names : Naming) (x : List ℕ) (place offset : ℕ) → offset < length (get_or ([] ∷ files_of delim n elide names x) place []) → (i : ℕ) × (i < length x) × GoesTo (spot place offset) (dealt_spots delim n names x i)
 dealt_filled delim n elide names x zero offset less = absurd (omega (arith, less))
 dealt_filled delim n elide names x (suc file) offset less =
-    let in_files : offset < length (get_or (named_bytes names 0 (dealt_files delim elide n x)) file []) = subst (λ files. offset < length (get_or files file [])) (dealt_whole delim n elide names x) less in
-    let named_it = has_name_there names 0 (dealt_files delim elide n x) file offset in_files in
-    let in_dealt : offset < length (get_or (dealt_files delim elide n x) file []) = subst (λ those. offset < length those) (named_at names 0 (dealt_files delim elide n x) file named_it) in_files in
-    let within = within_n delim elide n x file offset in_dealt in
-    let found = find 0 x (subst (λ those. offset < length those) (file_is delim elide n x file within) in_dealt) in (
+    let there = there_by (is_named names (0 + file)) (get_or (dealt_files delim elide n x) file []) (subst (λ those. offset < length those) (ap (λ files. get_or files file []) (dealt_whole delim n elide names x) ∙ named_at names 0 (dealt_files delim elide n x) file) less) in
+    let within = within_n delim elide n x file offset there.1 in
+    let found = find 0 x (subst (λ those. offset < length those) (file_is delim elide n x file within) there.1) in (
       found.i,
       found.within,
       goes_there delim n names x found.i found.within
-          (ap (λ k. k % n) (let e : delimiters delim (take found.i x) ≡ 0 + delimiters delim (take found.i x) = omega arith in e) ∙ found.goes) found.at
-          (subst (λ m. is_named names m ≡ true) (let e : 0 + file ≡ file = omega arith in e) named_it),
+          (ap (λ k. k % n) (sym (zero-add (delimiters delim (take found.i x)))) ∙ found.goes) found.at (ap (is_named names) (sym (zero-add file)) ∙ there.0),
     )
 
 not_before : {delim n : ℕ} {names : Naming} {x : List ℕ} {i j : ℕ} {at : Spot} → Goes delim n names x i at → Goes delim n names x j at → i < j → ⊥
@@ -216,13 +203,7 @@ not_before {delim} {n} {x} {i} {j} one two less =
 dealt_apart : (delim n : ℕ) (names : Naming) (x : List ℕ) {i j : ℕ} (at : Spot) → GoesTo at (dealt_spots delim n names x i) → GoesTo at (dealt_spots delim n names x j) → i ≡ j
 dealt_apart delim n names x {i} {j} at goes also =
     let one = dealt_goes names goes in let two = dealt_goes names also in
-    elim (cases_lt i j) [
-      | inl less ↦ absurd (not_before one two less)
-      | inr past ↦ elim (cases_lt j i) [
-        | inl less ↦ absurd (not_before two one less)
-        | inr further ↦ (let e : i ≡ j = omega (arith, past, further) in e)
-      ]
-    ]
+    grind (arith, λ (less : i < j). not_before one two less, λ (less : j < i). not_before two one less)
 
 pub round_placed : (delim n : ℕ) (elide : Bool) (names : Naming) → 0 < n → ArePlaced (split_work (round_plan delim n elide names)) (dealt_spots delim n names)
 round_placed delim n elide names some = record {

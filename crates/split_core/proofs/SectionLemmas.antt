@@ -6,7 +6,7 @@ use Rattle.std.proofs.Math.Seq.{take-nil, drop-nil}
 use Rattle.std.specs.List.{All}
 use Rattle.std.proofs.lemmas.List.Elements.{All-nil, All-cons}
 use Rattle.std.proofs.lemmas.List.{append-nil, take_all, drop-drop, length-map, length-take-le, map-append}
-use Rattle.seg_core.specs.Line.{joined, lines_of, delimiters, first_lines, after_lines, line_count}
+use Rattle.seg_core.specs.Line.{joined, lines_of, delimiters, after_lines, line_count}
 use Rattle.seg_core.proofs.FirstLines.{joined-append, lines_of-first_lines, lines_of-after, lines_of-after_lines}
 use Rattle.seg_core.proofs.LineCounts.{line_count-some, line_count_near}
 use Rattle.seg_core.proofs.LinesOf.{joined-lines_of}
@@ -28,24 +28,22 @@ runs_bound : {X : Type 0} (low high n : ℕ) (xs : List X) → 0 < n → length 
 runs_bound zero (suc high) n (x ∷ xs) some few little = absurd (omega arith)
 runs_bound (suc low) zero n (x ∷ xs) some few little = absurd (omega arith)
 runs_bound (suc low) (suc high) n (x ∷ xs) some few little =
-    let left : length (drop n (x ∷ xs)) ≡ suc (length xs) - n = length-drop n (x ∷ xs) in
-    ap (λ runs. take n (x ∷ xs) ∷ runs) (runs_bound low high n (drop n (x ∷ xs)) some (omega arith) (omega arith))
+    ap (λ runs. take n (x ∷ xs) ∷ runs) (runs_bound low high n (drop n (x ∷ xs)) some (omega (arith, length-drop n (x ∷ xs)))
+    (omega (arith, length-drop n (x ∷ xs))))
 runs_bound low high n xs some few little = refl
 
 -- a run, and then the runs of what stands after it
 pub runs_next : {X : Type 0} (n : ℕ) (xs : List X) → 0 < n → 0 < length xs → runs_of n xs ≡ take n xs ∷ runs_of n (drop n xs)
 runs_next n [] some has = absurd (omega arith)
 runs_next n (x ∷ xs) some has =
-    let left : length (drop n (x ∷ xs)) ≡ suc (length xs) - n = length-drop n (x ∷ xs) in
-    ap (λ runs. take n (x ∷ xs) ∷ runs) (runs_bound (length xs) (length (drop n (x ∷ xs))) n (drop n (x ∷ xs)) some (omega arith) (omega arith))
+    ap (λ runs. take n (x ∷ xs) ∷ runs) (runs_bound (length xs) (length (drop n (x ∷ xs))) n (drop n (x ∷ xs)) some (omega (arith, length-drop n (x ∷ xs)))
+    (omega (arith, length-drop n (x ∷ xs))))
 
 -- n members or fewer are one run
 pub runs_last : {X : Type 0} (n : ℕ) (xs : List X) → 0 < length xs → length xs ≤ n → runs_of n xs ≡ xs ∷ []
 runs_last n [] has few = absurd (omega arith)
 runs_last n (x ∷ xs) has few =
-    let left : length (drop n (x ∷ xs)) ≡ suc (length xs) - n = length-drop n (x ∷ xs) in
-    ap (λ run. run ∷ runs_within (length xs) n (drop n (x ∷ xs))) (take_all n (x ∷ xs) few)
-    ∙ ap (λ runs. (x ∷ xs) ∷ runs) (no_runs (length xs) n (drop n (x ∷ xs)) (omega arith)) where
+    cc (take_all n (x ∷ xs) few, no_runs (length xs) n (drop n (x ∷ xs)) (omega (arith, length-drop n (x ∷ xs)))) where
       no_runs : {X : Type 0} (bound n : ℕ) (xs : List X) → length xs ≡ 0 → runs_within bound n xs ≡ []
       no_runs (suc bound) n (x ∷ xs) empty = absurd (omega arith)
       no_runs bound n xs empty = refl
@@ -56,9 +54,7 @@ run_within zero n i (x ∷ xs) some few = absurd (omega arith)
 run_within (suc bound) n i [] some few = sym (ap (take n) (drop-nil (i * n)) ∙ take-nil n)
 run_within (suc bound) n zero (x ∷ xs) some few = ap (λ place. take n (drop place (x ∷ xs))) (sym (zero-mul n))
 run_within (suc bound) n (suc i) (x ∷ xs) some few =
-    let left : length (drop n (x ∷ xs)) ≡ suc (length xs) - n = length-drop n (x ∷ xs) in
-    run_within bound n i (drop n (x ∷ xs)) some (omega arith) ∙ ap (take n) (drop-drop (i * n) n (x ∷ xs))
-    ∙ ap (λ place. take n (drop place (x ∷ xs))) (sym (next_place i n)) where
+    cc (run_within bound n i (drop n (x ∷ xs)) some (omega (arith, length-drop n (x ∷ xs))), drop-drop (i * n) n (x ∷ xs), next_place i n) where
       next_place : (i n : ℕ) → suc i * n ≡ n + i * n
       next_place i n = omega (arith, suc-mul i n)
 
@@ -70,21 +66,16 @@ run_at n i xs some = run_within (length xs) n i xs some (omega arith)
 abbrev AreFewest : ℕ → ℕ → ℕ → Type 0
 AreFewest runs n all = (all ≤ runs * n) × (runs * n < all + n)
 
-no_run : (n : ℕ) → 0 < n → AreFewest 0 n 0
-no_run n some = let none : 0 * n ≡ 0 = zero-mul n in (omega arith, omega arith)
-
 one_more : (runs n : ℕ) {left : ℕ} (all : ℕ) → left ≡ all - n → 0 < all → AreFewest runs n left → AreFewest (suc runs) n all
 one_more zero n all is some (low, high) = let none : 0 * n ≡ 0 = zero-mul n in let first : 1 * n ≡ 0 * n + n = suc-mul 0 n in (omega arith, omega arith)
 one_more (suc runs) n all is some (low, high) =
-    let here : suc runs * n ≡ runs * n + n = suc-mul runs n in
-    let next : suc (suc runs) * n ≡ suc runs * n + n = suc-mul (suc runs) n in (omega arith, omega arith)
+    let next : suc (suc runs) * n ≡ suc runs * n + n = suc-mul (suc runs) n in (omega (arith, suc-mul runs n), omega (arith, suc-mul runs n))
 
 count_within : {X : Type 0} (bound n : ℕ) (xs : List X) → 0 < n → length xs ≤ bound → AreFewest (length (runs_within bound n xs)) n (length xs)
 count_within zero n (x ∷ xs) some few = absurd (omega arith)
 count_within (suc bound) n (x ∷ xs) some few =
-    let left : length (drop n (x ∷ xs)) ≡ suc (length xs) - n = length-drop n (x ∷ xs) in
-    one_more (length (runs_within bound n (drop n (x ∷ xs)))) n (suc (length xs)) left (omega arith) (count_within bound n (drop n (x ∷ xs)) some (omega arith))
-count_within bound n xs some few = no_run n some
+    one_more (length (runs_within bound n (drop n (x ∷ xs)))) n (suc (length xs)) (length-drop n (x ∷ xs)) (omega arith) (count_within bound n (drop n (x ∷ xs)) some (omega (arith, length-drop n (x ∷ xs))))
+count_within bound n xs some few = let none : 0 * n ≡ 0 = zero-mul n in (omega arith, omega arith)
 
 -- there are as few runs as can hold all members
 pub runs_count : {X : Type 0} (n : ℕ) (xs : List X) → 0 < n → AreFewest (length (runs_of n xs)) n (length xs)
@@ -95,17 +86,16 @@ runs_count n xs some = count_within (length xs) n xs some (omega arith)
 last_lines : (delim n : ℕ) (x : List ℕ) → delimiters delim x < n → unless_empty x ≡ line_parts delim n x
 last_lines delim n [] short = refl
 last_lines delim n (byte ∷ x) short =
-    let few : line_count delim (byte ∷ x) ≤ delimiters delim (byte ∷ x) + 1 = (line_count_near delim (byte ∷ x)).1 in
-    sym (ap (map joined) (runs_last n (lines_of delim (byte ∷ x)) (line_count-some delim (byte ∷ x) (omega arith)) (omega arith))
-    ∙ ap (λ text. text ∷ []) (joined-lines_of delim (byte ∷ x)))
+    cc (
+      runs_last n (lines_of delim (byte ∷ x)) (line_count-some delim (byte ∷ x) (omega arith)) (omega (arith, (line_count_near delim (byte ∷ x)).1)),
+      joined-lines_of delim (byte ∷ x),
+    )
 
 lines_cut : (delim n : ℕ) {x : List ℕ} {full : List (List ℕ)} {rest : List ℕ} → 0 < n → Cuts (Lines n delim) x full rest → full ++ unless_empty rest ≡ line_parts delim n x
 lines_cut delim n {x} some (stops _ short) = last_lines delim n x (short_some (Lines n delim) x short some)
 lines_cut delim n {x} some (goes _ full _ is past) =
     let enough : n ≤ delimiters delim x = (full_some (Lines n delim) x is).1 in
-    ap (λ those. first_lines delim n x ∷ those) (lines_cut delim n some past)
-    ∙ ap (λ those. first_lines delim n x ∷ map joined (runs_of n those)) (lines_of-after delim n x enough)
-    ∙ sym (ap (map joined) (runs_next n (lines_of delim x) some (omega (arith, (line_count_near delim x).0))))
+    cc (lines_cut delim n some past, lines_of-after delim n x enough, runs_next n (lines_of delim x) some (omega (arith, (line_count_near delim x).0)))
 
 pub lines_are_runs : (delim n : ℕ) (x : List ℕ) → 0 < n → parts (Lines n delim) x ≡ line_parts delim n x
 lines_are_runs delim n x some = lines_cut delim n some (cuts_up)
@@ -118,17 +108,15 @@ bytes_cut : (n : ℕ) {x : List ℕ} {full : List (List ℕ)} {rest : List ℕ} 
 bytes_cut n {x} some (stops _ short) = last_bytes n x (short_some (Bytes n) x short some)
 bytes_cut n {x} some (goes _ full _ is past) =
     let enough : n ≤ length x = (full_some (Bytes n) x is).1 in
-    ap (λ those. take n x ∷ those) (bytes_cut n some past) ∙ ap (λ k. take n x ∷ runs_of n (drop k x)) (length-take-le n x enough)
-    ∙ sym (runs_next n x some (omega arith))
+    cc (bytes_cut n some past, length-take-le n x enough, runs_next n x some (omega arith))
 
 pub bytes_are_runs : (n : ℕ) (x : List ℕ) → 0 < n → parts (Bytes n) x ≡ byte_parts n x
 bytes_are_runs n x some = bytes_cut n some (cuts_up)
 
 -- the lines of the part at a place
 pub part_lines : (delim n i : ℕ) (x : List ℕ) → 0 < n → lines_of delim (get_or (parts (Lines n delim) x) i []) ≡ take n (drop (i * n) (lines_of delim x))
-part_lines delim n i x some = ap (λ those. lines_of delim (get_or those i [])) (lines_are_runs delim n x some)
-    ∙ ap (lines_of delim) (get_or-map joined (runs_of n (lines_of delim x)) i [] ∙ ap joined (run_at n i (lines_of delim x) some ∙ ap (take n) (sym (lines_of-after_lines delim (i * n) x))))
-    ∙ lines_of-first_lines delim n (after_lines delim (i * n) x) ∙ ap (take n) (lines_of-after_lines delim (i * n) x)
+part_lines delim n i x some =
+    cc (lines_are_runs delim n x some, get_or-map joined (runs_of n (lines_of delim x)) i [], run_at n i (lines_of delim x) some, lines_of-after_lines delim (i * n) x, lines_of-first_lines delim n (after_lines delim (i * n) x))
 
 pub part_bytes : (n i : ℕ) (x : List ℕ) → 0 < n → get_or (parts (Bytes n) x) i [] ≡ take n (drop (i * n) x)
 part_bytes n i x some = ap (λ those. get_or those i []) (bytes_are_runs n x some) ∙ run_at n i x some
@@ -169,9 +157,8 @@ line_bytes_once {delim} {n} some (more x these enough past) (more _ those _ othe
 
 line_bytes_first : (delim n : ℕ) (x : List ℕ) → 0 < n → n ≤ length x → (0 < length (whole_lines delim (take n x))) × (length (whole_lines delim (take n x)) ≤ n)
 line_bytes_first delim n x some enough =
-    let all : length (take n x) ≡ n = length-take-le n x enough in
     let both : length (whole_lines delim (take n x)) + length (open_line delim (take n x)) ≡ length (take n x) = sym (length-append (whole_lines delim (take n x)) (open_line delim (take n x))) ∙ ap length (whole_then_open delim) in
-    (whole_some delim (take n x) (omega arith), omega arith)
+    (whole_some delim (take n x) (omega (arith, length-take-le n x enough)), omega (arith, length-take-le n x enough))
 
 -- none is empty, and none has more than n bytes
 pub line_bytes_within : (delim n : ℕ) (x : List ℕ) (those : List (List ℕ)) → 0 < n → AreLineByteParts delim n x those → All (λ part. (0 < length part) × (length part ≤ n)) those
@@ -188,8 +175,7 @@ joined_one [] = refl
 joined_one (byte ∷ rest) = append-nil (byte ∷ rest)
 
 pub joined_parts : (limit : Limit) (x : List ℕ) → joined (parts limit x) ≡ x
-joined_parts limit x =
-    joined-append (cut_up limit x).full (unless_empty (cut_up limit x).rest) ∙ ap (λ rest. joined (cut_up limit x).full ++ rest) (joined_one (cut_up limit x).rest) ∙ cut_all limit
+joined_parts limit x = cc (joined-append (cut_up limit x).full (unless_empty (cut_up limit x).rest), joined_one (cut_up limit x).rest, cut_all limit {x = x})
 
 waits_few : (limit : Limit) (rest : List ℕ) → 0 < most limit → is_full limit rest ≡ false → length (waiting_rest limit rest) < most limit
 waits_few (LineBytes n delim) rest some short =
@@ -207,15 +193,18 @@ settled_list limit x = (cut_up limit x).full ++ unless_empty (settled_rest limit
 pub settled_bytes : (limit : Limit) (x : List ℕ) → map (λ (file : Share). file.bytes) (settled_parts limit x) ≡ settled_list limit x
 settled_bytes limit x =
     let full = (cut_up limit x).full in let rest = (cut_up limit x).rest in
-    map-append (λ (file : Share). file.bytes) (map (share Closed) full) (map (share Open) (unless_empty (settled_rest limit rest)))
-    ∙ ap (λ those. those ++ map (λ (file : Share). file.bytes) (map (share Open) (unless_empty (settled_rest limit rest)))) (bytes_of_shares Closed full)
-    ∙ ap (λ those. full ++ those) (bytes_of_shares Open (unless_empty (settled_rest limit rest)))
+    cc (map-append (λ (file : Share). file.bytes) (map (share Closed) full) (map (share Open) (unless_empty (settled_rest limit rest))), bytes_of_shares Closed full, bytes_of_shares Open (unless_empty (settled_rest limit rest)))
 
 pub list_all : (limit : Limit) (x : List ℕ) → joined (settled_list limit x) ++ waiting_rest limit (cut_up limit x).rest ≡ x
 list_all limit x =
     let full = (cut_up limit x).full in let rest = (cut_up limit x).rest in
-    ap (λ bytes. bytes ++ waiting_rest limit rest) (joined-append full (unless_empty (settled_rest limit rest)) ∙ ap (λ bytes. joined full ++ bytes) (joined_one (settled_rest limit rest)))
-    ∙ append_assoc (joined full) (settled_rest limit rest) (waiting_rest limit rest) ∙ ap (λ bytes. joined full ++ bytes) (settled_then_waiting limit rest) ∙ cut_all limit
+    cc (
+      joined-append full (unless_empty (settled_rest limit rest)),
+      joined_one (settled_rest limit rest),
+      append_assoc (joined full) (settled_rest limit rest) (waiting_rest limit rest),
+      settled_then_waiting limit rest,
+      cut_all limit {x = x},
+    )
 
 -- what is written and what waits are together what came in
 pub settled_all : (limit : Limit) (x : List ℕ) → joined (map (λ (file : Share). file.bytes) (settled_parts limit x)) ++ waiting_rest limit (cut_up limit x).rest ≡ x

@@ -49,8 +49,7 @@ begun_so {parts} {x} stands = record { drawn = stands.drawn; enough = stands.eno
 -- what is begun, what waits and more are together what is left and more
 all_of : {parts : PartsState} {x : List ℕ} (more : List ℕ) → Stands parts x → begun_of parts x ++ (parts.waiting ++ more) ≡ rest_of parts x ++ more
 all_of {parts} {x} more stands =
-    ap (λ waits. begun_of parts x ++ (waits ++ more)) stands.waits ∙ sym (append_assoc (begun_of parts x) (waiting_rest parts.limit (rest_of parts x)) more)
-    ∙ ap (λ those. those ++ more) (settled_then_waiting parts.limit (rest_of parts x))
+    cc (stands.waits, append_assoc (begun_of parts x) (waiting_rest parts.limit (rest_of parts x)) more, settled_then_waiting parts.limit (rest_of parts x))
 
 -- a text that goes on, by how what was left of it is cut then
 
@@ -83,8 +82,7 @@ grown limit x piece bytes = subst (λ all. SharesBegin (settled_parts limit (x +
 turned_is : (parts : PartsState) (x taken : List ℕ) {first past : List ℕ} → IsTurned parts.limit (rest_of parts x ++ taken) first past
     → settled_parts parts.limit (x ++ taken) ≡ written (full_of parts x ++ share file_state.Closed first ∷ []) past
 turned_is parts x taken {first} {past} leads =
-    settled_by parts x taken (first ∷ []) past (cut_two parts.limit past leads.full leads.first_is leads.both leads.begun.short)
-    ∙ ap (written (full_of parts x ++ share file_state.Closed first ∷ [])) leads.begun.settled
+    cc (settled_by parts x taken (first ∷ []) past (cut_two parts.limit past leads.full leads.first_is leads.both leads.begun.short), leads.begun.settled)
 
 turned_below : (parts : PartsState) (x piece : List ℕ) (bytes : ℕ) {first past : List ℕ} → IsTurned parts.limit (rest_of parts x ++ take bytes piece) first past
     → SharesBegin (written (full_of parts x ++ share file_state.Closed first ∷ []) past) (settled_parts parts.limit (x ++ piece))
@@ -117,7 +115,8 @@ turned_on {parts} piece bytes (Err f) leads turns = record {
 
 -- what waits begins the next part
 pub begins_on : {told : Bool} {parts next : PartsState} (piece : List ℕ) (bytes : ℕ) {old new : List Slot} (result : Result (Unit {0}) Fault)
-    → LeadsOn parts piece (Begins bytes) → Turns told parts (take bytes piece) old new next result → Takes told parts (taken bytes piece result) old new next result
+    → LeadsOn parts piece (Begins bytes) → Turns told parts (take bytes piece) old new next result
+    → Takes told parts (taken bytes piece result) old new next result
 begins_on {parts} piece bytes result leads turns = turned_on piece bytes result (λ x stands.
     let led = leads (rest_of parts x) stands.lacks in
     (led.0, subst (λ waits. IsTurned parts.limit (rest_of parts x ++ take bytes piece) (begun_of parts x) (waits ++ take bytes piece)) (sym stands.waits) led.1)) turns
@@ -128,15 +127,18 @@ extends_then : {told : Bool} {parts mid next : PartsState} (first more : List �
     → Extends told parts first old wet mid (Ok tt) → Turns told mid more wet new next result
     → TurnsTo told parts (λ begun. begun ++ (parts.waiting ++ first)) more old new next result
 extends_then {told} {parts} {mid} {next} first more {old} {wet} {new} result some extends turns =
-    then (subst (λ those. Extends told parts first old wet those (Ok tt)) extends.same extends) (subst (λ those. Turns told those more wet new next result) extends.same turns) where
+    then (subst (λ those. Extends told parts first old wet those (Ok tt)) extends.same extends)
+    (subst (λ those. Turns told those more wet new next result) extends.same turns) where
       those : PartsState
       those = record parts { names = mid.names; waiting = []; current = mid.current }
 
-      then : Extends told parts first old wet those (Ok tt) → Turns told those more wet new next result → TurnsTo told parts (λ begun. begun ++ (parts.waiting ++ first)) more old new next result
+      then : Extends told parts first old wet those (Ok tt) → Turns told those more wet new next result
+          → TurnsTo told parts (λ begun. begun ++ (parts.waiting ++ first)) more old new next result
       then extends turns = record {
         same = turns.same;
         keeps = keeps_then result extends.keeps turns.keeps;
-        begun = on_ok_weaker result (λ begins shares begun has some. begins shares (begun ++ (parts.waiting ++ first)) (extends.begun shares begun has) some) turns.begun;
+        begun = on_ok_weaker result (λ begins shares begun has some. begins shares (begun ++ (parts.waiting ++ first))
+            (extends.begun shares begun has) some) turns.begun;
         goes = λ shares begun has some. goes_then result extends.keeps.owned (extends.goes shares begun has)
             (subst (λ (names : Naming). run.Goes told names mid.current (written shares (begun ++ (parts.waiting ++ first)))
             (written (shares ++ share file_state.Closed (begun ++ (parts.waiting ++ first)) ∷ []) more) wet new result) extends.keeps.names
@@ -145,7 +147,8 @@ extends_then {told} {parts} {mid} {next} first more {old} {wet} {new} result som
 
 pub ends_on : {told : Bool} {parts mid next : PartsState} (piece : List ℕ) {past : List ℕ} (end bytes : ℕ) {old wet new : List Slot} (result : Result (Unit {0}) Fault)
     → 0 < end → end ≤ bytes → bytes ≤ length piece → LeadsOn parts piece (Ends end bytes) → past ≡ take (bytes - end) (drop end piece)
-    → Extends told parts (take end piece) old wet mid (Ok tt) → Turns told mid past wet new next result → Takes told parts (taken bytes piece result) old new next result
+    → Extends told parts (take end piece) old wet mid (Ok tt) → Turns told mid past wet new next result
+    → Takes told parts (taken bytes piece result) old new next result
 ends_on {parts} piece {past} end bytes result begun inside within leads is extends turns = turned_on piece bytes result (λ x stands. (
   ap is_some (all_of (take end piece) stands) ∙ some_bytes (rest_of parts x) (take end piece) some,
   rw (all_of (take end piece) stands, is, between) (leads (rest_of parts x) stands.lacks),
@@ -160,19 +163,20 @@ ends_on {parts} piece {past} end bytes result begun inside within leads is exten
 -- no part is full yet
 short_is : (parts : PartsState) (x taken : List ℕ) → is_full parts.limit (rest_of parts x ++ taken) ≡ false
     → settled_parts parts.limit (x ++ taken) ≡ written (full_of parts x) (settled_rest parts.limit (rest_of parts x ++ taken))
-short_is parts x taken short = settled_by parts x taken [] (rest_of parts x ++ taken) (cut_none parts.limit _ short)
-    ∙ ap (λ shares. written shares (settled_rest parts.limit (rest_of parts x ++ taken))) (append-nil (full_of parts x))
+short_is parts x taken short = cc (settled_by parts x taken [] (rest_of parts x ++ taken) (cut_none parts.limit _ short), append-nil (full_of parts x))
 
 -- all that is left goes to the part that was begun
 pub goes_on : {told : Bool} {parts fresh next : PartsState} (piece : List ℕ) (bytes left : ℕ) (has_line : Bool) {old new : List Slot} → LeadsOn parts piece (Goes bytes left has_line)
     → Extends told parts (take bytes piece) old new fresh (Ok tt) → next ≡ record fresh { left = left; has_line = has_line } → Takes told parts (take bytes piece) old new next (Ok tt)
 goes_on {told} {parts} {fresh} piece bytes left has_line {old} {new} leads extends is =
-    subst (λ those. Takes told parts (take bytes piece) old new those (Ok tt)) (sym (is ∙ ap (λ (one : PartsState). record one { left = left; has_line = has_line }) extends.same)) (record {
+    subst (λ those. Takes told parts (take bytes piece) old new those (Ok tt))
+    (sym (is ∙ ap (λ (one : PartsState). record one { left = left; has_line = has_line }) extends.same)) (record {
       keeps = keeps_as left has_line (subst (λ those. Keeps parts old new those (Ok tt)) extends.same extends.keeps);
       stands = λ x stands. let led = leads (rest_of parts x) stands.lacks in
           stands_by (record parts { names = fresh.names; left = left; has_line = has_line; waiting = []; current = fresh.current }) x (take bytes piece)
           [] (rest_of parts x ++ take bytes piece) (cut_none parts.limit _ led.short)
-          (rw (append-nil (full_of parts x), led.settled, ← all_of (take bytes piece) stands) (extends.begun (full_of parts x) (begun_of parts x) (begun_so stands)))
+          (rw (append-nil (full_of parts x), led.settled, ← all_of (take bytes piece) stands)
+          (extends.begun (full_of parts x) (begun_of parts x) (begun_so stands)))
           led.lacks (sym led.waits);
       goes = λ x stands. let led = leads (rest_of parts x) stands.lacks in
           rw (short_is parts x (take bytes piece) led.short, led.settled, ← all_of (take bytes piece) stands)
@@ -207,7 +211,8 @@ waits_on : (told : Bool) (parts : PartsState) (piece : List ℕ) {slots : List S
 waits_on told parts piece {slots} leads ready = record {
   keeps = record { limit = refl; names = refl; owned = λ first owns. owns; sound = keeps_same slots slots refl; ready = ready; breaks = tt };
   stands = λ x stands. let held = leads (rest_of parts x) stands.lacks in
-      stands_by (record parts { left = parts.left - length piece; waiting = parts.waiting ++ piece }) x piece [] (rest_of parts x ++ piece) (cut_none parts.limit _ held.short)
+      stands_by (record parts { left = parts.left - length piece; waiting = parts.waiting ++ piece }) x piece [] (rest_of parts x ++ piece)
+      (cut_none parts.limit _ held.short)
       (rw (append-nil (full_of parts x), held.settled) (begun_so stands)) held.lacks (ap (λ waits. waits ++ piece) stands.waits ∙ sym held.waits);
   goes = λ x stands. let held = leads (rest_of parts x) stands.lacks in
       goes_same (sym (short_is parts x piece held.short ∙ ap (written (full_of parts x)) held.settled)) refl;
@@ -228,7 +233,8 @@ no_room told parts piece {slots} = record {
   stands = tt;
   goes = λ x stands.
       let names = from_start parts.names in
-      let turn = turn_by names (full_of parts x) (begun_of parts x) (shut_map (cut_up parts.limit x).full) (are_named_same parts.names names _ refl ∙ stands.enough) in record {
+      let turn = turn_by names (full_of parts x) (begun_of parts x) (shut_map (cut_up parts.limit x).full)
+      (are_named_same parts.names names _ refl ∙ stands.enough) in record {
         grows = settled_grow parts.limit x piece;
         moves = λ last before at. record {
           part = run.part_of names (settled_parts parts.limit x);

@@ -100,10 +100,7 @@ left_next {limit} other {waiting} bytes {most_is} {size} is same counted holds =
 pub fits_next : {limit : Limit} (other : Limit) {waiting held : List ℕ} (bytes : List ℕ) {most_is size old_left : ℕ} {has_line : Bool} {window : ByteWindowState} → most_is ≡ most other → other ≡ limit → size ≡ length held → held ≡ waiting → length waiting + length bytes < most limit
     → window.held ≡ waiting → Fits other old_left has_line window → Fits other (most_is - (size + length bytes)) false window
 fits_next {limit} other {waiting} bytes {most_is} {size} {window} is same counted holds room now fits =
-    let full : most_is ≡ most limit = is ∙ ap most same in
-    let some : size ≡ length waiting = counted ∙ ap length holds in
-    let here : length window.held ≡ length waiting = ap length now in
-    let there : most other ≡ most limit = ap most same in
+    let full = is ∙ ap most same in let some = counted ∙ ap length holds in let here = ap length now in let there = ap most same in
     record {
       some = omega arith;
       room = fits.room;

@@ -1,10 +1,10 @@
 -- Which bytes continuations put into different files.
-use Rattle.std.proofs.Common.{◌≡◌, ◌≢◌, ◌⊎◌, ℕ, ◌+◌, ◌-◌, ◌%◌, ◌<◌, ◌≤◌, ◌&&◌, nat_lt, suc, List, [], ◌∷◌, ◌++◌, length, map, take, drop, Bool, true, false, not, cond, inl, inr, refl, sym, ◌∙◌, ap, arith, length-append}
+use Rattle.std.proofs.Common.{◌≡◌, ◌≢◌, ◌⊎◌, ℕ, ◌+◌, ◌-◌, ◌<◌, ◌≤◌, suc, List, [], ◌∷◌, ◌++◌, length, map, Bool, true, false, not, inl, inr, refl, sym, ◌∙◌, ap, arith, length-append}
 use Rattle.std.proofs.Math.Seq.{drop-append_seam}
 use Rattle.std.proofs.Math.Nat.{add-zero, sub-zero}
-use Rattle.std.proofs.lemmas.Bool.{cases_lt, false≢true, lt-ltb, not-false}
+use Rattle.std.proofs.lemmas.Bool.{cond_both, cases_lt, false≢true, lt-ltb, not-false}
 use Rattle.std.proofs.lemmas.List.{append-nil, length-map, drop_all, take-append-le}
-use Rattle.seg_core.specs.Line.{joined, delimiters, lines_of}
+use Rattle.seg_core.specs.Line.{joined, delimiters}
 use Rattle.seg_core.proofs.FirstLines.{joined-append}
 use Rattle.ports_core.specs.Name.{Naming}
 use Rattle.ports_core.specs.Part.{File, FilesBegin}
@@ -16,11 +16,11 @@ use Rattle.seg_core.specs.declared.cut.Cut.{Cut}
 use Rattle.seg_core.specs.declared.cut.Cut.TheVariants as cut
 use Rattle.split_core.specs.declared.limit.Limit.{Limit}
 use Rattle.split_core.specs.declared.limit.Limit.TheVariants.{Lines, Bytes, LineBytes}
-use Rattle.split_core.specs.Parts.{whole_lines, most, cut_up, unless_empty, parts, settled_rest, waiting_rest, dealt}
-use Rattle.split_core.specs.Split.{Plan, share, is_named, are_named, named, file_at, settled_by, is_short, split_work, dealt_files, bytes_in}
+use Rattle.split_core.specs.Parts.{whole_lines, most, cut_up, unless_empty, parts, settled_rest, waiting_rest}
+use Rattle.split_core.specs.Split.{Plan, share, is_named, are_named, named, settled_by, is_short, split_work, dealt_files, bytes_in}
 use Rattle.split_core.specs.Splitter.{IsPositive}
 use Rattle.split_core.specs.PartState.{parts_work}
-use Rattle.split_core.specs.Place.{dealt_to, dealt_spots, split_spots}
+use Rattle.split_core.specs.Place.{dealt_spots, split_spots}
 use Rattle.split_core.specs.Round.{round_plan}
 use Rattle.split_core.specs.laws.CutLaws.{whole_some}
 use Rattle.split_core.proofs.CutLaws.{open_of_none, cut_all}
@@ -47,18 +47,12 @@ abbrev OnlyLastOpen : List File → Type 0
 OnlyLastOpen [] = Unit {0}
 OnlyLastOpen (file ∷ files) = (file.state ≡ Open → files ≡ []) × OnlyLastOpen files
 
-open_step : (is : Bool) (file : File) → OnlyLastOpen (cond is (file ∷ []) [])
-open_step true file = (λ opened. refl, tt)
-open_step false file = tt
-
-shut_step : (is : Bool) (file : File) (files : List File) → file.state ≡ Closed → OnlyLastOpen files → OnlyLastOpen (cond is (file ∷ files) [])
-shut_step true file files shut rest = (λ opened. absurd (false≢true (ap is_open (sym shut ∙ opened))), rest)
-shut_step false file files shut rest = tt
-
 last_open : (names : Naming) (place : ℕ) (full : List (List ℕ)) (rest : List ℕ) → OnlyLastOpen (named names place (map (share Closed) full ++ map (share Open) (unless_empty rest)))
 last_open names place [] [] = tt
-last_open names place [] (byte ∷ rest) = open_step (is_named names place) (file_at names place (share Open (byte ∷ rest)))
-last_open names place (part ∷ full) rest = shut_step (is_named names place) (file_at names place (share Closed part)) _ refl (last_open names (place + 1) full rest)
+last_open names place [] (byte ∷ rest) = cond_both (is_named names place) _ _ OnlyLastOpen (λ is. (λ opened. refl, tt)) (λ is. tt)
+last_open names place (part ∷ full) rest =
+    cond_both (is_named names place) _ _ OnlyLastOpen (λ is. (λ opened. absurd (false≢true (ap is_open opened)), last_open names (place + 1) full rest))
+    (λ is. tt)
 
 -- bytes that files have stay where they are
 spots_stay : (place i : ℕ) (low high : List File) → FilesBegin low high → OnlyLastOpen low → i < length (joined (map (λ (file : File). file.bytes) low))
@@ -99,9 +93,6 @@ came_in : (limit : Limit) (names : Naming) {x : List ℕ} → are_named names (l
 came_in limit names {x} are = ap (λ bytes. bytes ++ waiting_rest limit (cut_up limit x).rest) (settled_bytes_in limit names x are) ∙ list_all limit x
 
 -- what stands after a beginning
-after_front : {x : List ℕ} (front rest : List ℕ) → front ++ rest ≡ x → x ≡ front ++ drop (length front) x
-after_front front rest is = sym is ∙ ap (λ those. front ++ those) (sym (ap (drop (length front)) (sym is) ∙ drop-append_seam front rest))
-
 none_wait : (limit : Limit) (names : Naming) (x : List ℕ) (i : ℕ) → are_named names (length (parts limit x)) ≡ true → waiting_rest limit (cut_up limit x).rest ≡ [] → length (settled_in limit names x) ≤ i → i < length x → ⊥
 none_wait limit names x i are none past within =
     omega (arith, ap length (sym (append-nil (settled_in limit names x)) ∙ ap (λ those. settled_in limit names x ++ those) (sym none) ∙ came_in limit names are), past, within)
@@ -122,10 +113,15 @@ lines_here : (delim n : ℕ) (names : Naming) (x : List ℕ) → are_named names
     → parts_spots (LineBytes n delim) names (x ++ []) i ≡ spot (1 + length (cut_up (LineBytes n delim) x).full) (i - length (joined (cut_up (LineBytes n delim) x).full)) ∷ []
 lines_here delim n names x are lines i past within =
     let full = (cut_up (LineBytes n delim) x).full in let rest = (cut_up (LineBytes n delim) x).rest in
-    ap (λ all. parts_spots (LineBytes n delim) names all i) (append-nil x)
-    ∙ ap (λ files. spots_from 1 files i) (whole_files (LineBytes n delim) names x ∙ each_named names (parts (LineBytes n delim) x) are ∙ ap (λ those. full ++ those) (one_of rest (delimiters_some delim rest lines)))
-    ∙ spots_after 1 i full (rest ∷ []) past ∙ spot_in (1 + length full) (i - length (joined full)) rest []
-    (omega (arith, ap length (sym (cut_all (LineBytes n delim))) ∙ length-append (joined full) rest, past, within))
+    cc (
+      append-nil x,
+      whole_files (LineBytes n delim) names x,
+      each_named names (parts (LineBytes n delim) x) are,
+      one_of rest (delimiters_some delim rest lines),
+      spots_after 1 i full (rest ∷ []) past,
+      spot_in (1 + length full) (i - length (joined full)) rest []
+          (omega (arith, ap length (sym (cut_all (LineBytes n delim))) ∙ length-append (joined full) rest, past, within)),
+    )
 
 lines_there : (limit : Limit) (names : Naming) (x y : List ℕ) (next : List (List ℕ)) → are_named names (length (parts limit x)) ≡ true → parts limit (x ++ y) ≡ settled_list limit x ++ next
     → (i : ℕ) → length (joined (settled_list limit x)) ≤ i → (more : List (List ℕ)) × (parts_spots limit names (x ++ y) i ≡ spots_from (1 + length (settled_list limit x)) more (i - length (joined (settled_list limit x))))
@@ -166,7 +162,7 @@ parts_differ (LineBytes n delim) names {x} some are {i} past within = elim (case
 parts_undecided : (limit : Limit) (names : Naming) {x : List ℕ} → 0 < most limit → are_named names (length (parts limit x)) ≡ true → IsUndecided (parts_spots limit names) x ((parts_work limit names).waiting x)
 parts_undecided limit names {x} some are = record {
   before = settled_in limit names x;
-  are_last = after_front (settled_in limit names x) (waiting_rest limit (cut_up limit x).rest) (came_in limit names are);
+  are_last = cc (came_in limit names are, drop-append_seam (settled_in limit names x) (waiting_rest limit (cut_up limit x).rest));
   differ = λ i past within. (let two = parts_differ limit names some are past within in (two.y, two.z, two.y_comes, two.z_comes, two.apart));
   decided = λ i less y z can also. parts_decided limit names x i less y ∙ sym (parts_decided limit names x i less z);
 }
@@ -178,9 +174,7 @@ dealt_bytes delim n elide x some = ap length (joined_files delim elide n x) ∙ 
 
 dealt_decided : (delim n : ℕ) (names : Naming) (x y : List ℕ) (i : ℕ) → i < length x → dealt_spots delim n names (x ++ y) i ≡ dealt_spots delim n names x i
 dealt_decided delim n names x y i less =
-    ap (λ within. cond (within && is_named names (dealt_to delim n (x ++ y) i)) (spot (dealt_to delim n (x ++ y) i + 1) (length (dealt n (dealt_to delim n (x ++ y) i) 0 (lines_of delim (take i (x ++ y))))) ∷ []) [])
-    (lt-ltb i (length (x ++ y)) (omega (arith, length-append x y, less)) ∙ sym (lt-ltb i (length x) less))
-    ∙ ap (λ front. cond (nat_lt i (length x) && is_named names (delimiters delim front % n)) (spot (delimiters delim front % n + 1) (length (dealt n (delimiters delim front % n) 0 (lines_of delim front))) ∷ []) []) (take-append-le i x y (omega (arith, less)))
+    cc (lt-ltb i (length (x ++ y)) (omega (arith, length-append x y, less)), lt-ltb i (length x) less, take-append-le i x y (omega (arith, less)))
 
 round_undecided : (delim n : ℕ) (elide : Bool) (names : Naming) {x : List ℕ} → 0 < n → are_named names (length (dealt_files delim elide n x)) ≡ true
     → IsUndecided (split_spots (round_plan delim n elide names)) x ((split_work (round_plan delim n elide names)).waiting x)

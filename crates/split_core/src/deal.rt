@@ -1,7 +1,7 @@
 ghost use Rattle.std.specs.Prelude.{◌≡◌, ◌+◌, ◌%◌, ◌<◌, ◌≤◌, [], ◌++◌, length, take, slice_index_or, ℕ, IfOk, OnOk};
 ghost use Rattle.seg_core.specs.Line.{delimiters};
 ghost use Rattle.ports_core.specs.Slot.{changed_at};
-ghost use Rattle.split_core.specs.inner.Dealt.{dealt_piece, reached_by};
+ghost use Rattle.split_core.specs.inner.Dealt.{Gathers};
 
 use crate::complete_lines::CompleteLines;
 use crate::gathered::Gathered;
@@ -63,9 +63,7 @@ impl Deal {
     pub(crate) fn gather(&mut self, piece: &[u8]) -> Result<usize, AllocError>
         ensures delim { self.new.delim ≡ self.old.delim }
         ensures count { length self.new.gathered ≡ length self.old.gathered }
-        ensures gathered { OnOk result (self.new.gathered ≡ dealt_piece self.old.delim (length self.old.gathered) self.old.next piece.now) }
-        ensures next { OnOk result (self.new.next ≡ (self.old.next + delimiters self.old.delim piece.now) % length self.old.gathered) }
-        ensures reached { IfOk result (λ reached. reached ≡ reached_by self.old.delim (length self.old.gathered) self.old.next piece.now) }
+        ensures gathers { IfOk result (λ reached. Gathers self.old.delim (length self.old.gathered) self.old.next piece.now self.new.gathered self.new.next reached) }
     {
         clear(&mut self.gathered);
         let count = self.gathered.len();

@@ -81,7 +81,8 @@ impl RoundSplitter {
         requires { Ready self.old (O.slots outs.old) }
         ensures { Deals O.told self.old piece.now (O.slots outs.old) (O.slots outs.new) self.new result }
     {
-        deal_out(&mut self.deal, &mut self.files, piece, outs)
+        let reached = self.deal.gather(piece)?;
+        self.files.write(self.deal.first(reached), outs)
     }
 
     /// Closes all files, in order.
@@ -102,22 +103,4 @@ fn opened_at_start(count: u64, elide: bool) -> usize
     ensures { result ≡ (if elide then 0 else count) }
 {
     if elide { 0 } else { count as usize }
-}
-
-/// Deals a piece, and writes to each file what it gets.
-fn deal_out<O: Outs>(
-    deal: &mut Deal,
-    files: &mut RoundFiles,
-    piece: &[u8],
-    outs: &mut O,
-) -> Result<(), Fault>
-    requires ready { AreReady files.old (O.slots outs.old) }
-    requires named { are_named files.old.names (length deal.old.gathered) ≡ true }
-    ensures delim { deal.new.delim ≡ deal.old.delim }
-    ensures count { length deal.new.gathered ≡ length deal.old.gathered }
-    ensures next { OnOk result (deal.new.next ≡ (deal.old.next + delimiters deal.old.delim piece.now) % length deal.old.gathered) }
-    ensures adds { Adds O.told files.old (dealt_first deal.old.delim (length deal.old.gathered) deal.old.next piece.now) 0 (length (dealt_first deal.old.delim (length deal.old.gathered) deal.old.next piece.now)) (O.slots outs.old) files.new (O.slots outs.new) result }
-{
-    let reached = deal.gather(piece)?;
-    files.write(deal.first(reached), outs)
 }

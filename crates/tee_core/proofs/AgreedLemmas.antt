@@ -1,6 +1,6 @@
 -- What all continuations agree on, of a copied input.
-use Rattle.std.proofs.Common.{◌≡◌, ℕ, ◌+◌, ◌<◌, ◌≤◌, nat_lt, zero, suc, List, [], ◌∷◌, ◌++◌, length, map, get_or, Bool, true, false, cond, inl, inr, refl, sym, ◌∙◌, ap, subst, arith, length-append}
-use Rattle.std.proofs.lemmas.Bool.{lt-ltb}
+use Rattle.std.proofs.Common.{◌≡◌, ℕ, ◌+◌, ◌<◌, ◌≤◌, nat_lt, zero, suc, List, [], ◌∷◌, ◌++◌, length, map, get_or, Bool, cond, inl, inr, refl, sym, ◌∙◌, ap, subst, arith, length-append}
+use Rattle.std.proofs.lemmas.Bool.{cond_both, lt-ltb}
 use Rattle.std.proofs.lemmas.List.{append-nil}
 use Rattle.ports_core.specs.Agreed.{IsAgreed, IsUndecided, Spot, spot, output_at, GoesTo, ArePlaced}
 use Rattle.ports_core.specs.Part.{File, FilesBegin, OutputsAt, file_of, told_file}
@@ -42,16 +42,10 @@ each_goes place [] at goes = absurd goes
 each_goes place (name ∷ names) at (inl is) = (ap (λ those. those.offset) is, (omega (arith, ap (λ those. those.place) is)), (omega (arith, ap (λ those. those.place) is)))
 each_goes place (name ∷ names) at (inr goes) = (let rest = each_goes (place + 1) names at goes in (rest.0, (omega (arith, rest.1)), (omega (arith, rest.2))))
 
-all_go : (names : List (List ℕ)) {i : ℕ} (at : Spot) → GoesTo at (spot 0 i ∷ spots_each 1 names i) → (at.offset ≡ i) × (at.place < 1 + length names)
-all_go names at (inl is) = (ap (λ those. those.offset) is, (omega (arith, ap (λ those. those.place) is)))
-all_go names at (inr goes) = (let rest = each_goes 1 names at goes in (rest.0, rest.2))
-
-tee_goes_by : (names : List (List ℕ)) (x : List ℕ) {i : ℕ} (at : Spot) (less : Bool) → nat_lt i (length x) ≡ less → GoesTo at (cond less (spot 0 i ∷ spots_each 1 names i) []) → (at.offset ≡ i) × (at.place < 1 + length names)
-tee_goes_by names x at true is goes = all_go names at goes
-tee_goes_by names x at false is goes = absurd goes
-
 tee_goes : (names : List (List ℕ)) (x : List ℕ) {i : ℕ} (at : Spot) → GoesTo at (tee_spots names x i) → (at.offset ≡ i) × (at.place < 1 + length names)
-tee_goes names x {i} at goes = tee_goes_by names x at (nat_lt i (length x)) refl goes
+tee_goes names x {i} at goes =
+    cond_both (nat_lt i (length x)) (spots_each 0 ([] ∷ names) i) [] (λ those. GoesTo at those → (at.offset ≡ i) × (at.place < 1 + length names))
+    (λ is goes. let each = each_goes 0 ([] ∷ names) at goes in (each.0, omega (arith, each.2))) (λ is goes. absurd goes) goes
 
 file_has : (mode : Mode) (names : List (List ℕ)) {x : List ℕ} (place : ℕ) → place < length names → get_or (map (λ (file : File). file.bytes) (map (copy_in mode Closed x) names)) place [] ≡ x
 file_has mode [] place less = absurd (omega (arith, less))

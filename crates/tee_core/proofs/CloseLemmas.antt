@@ -48,7 +48,8 @@ file_flag told file_unclosed = refl
 
 file_flags : (told : Bool) {mode : Mode} {pieces : List (List ℕ)} {names : List (List ℕ)} {broke : List (Option ℕ)} {files : List Slot} → EachFile (FileLeft told mode pieces) names broke files → flags files ≡ map (λ (when : Option ℕ). not (is_none when)) broke
 file_flags told no_more = refl
-file_flags told (one_more name names first broke file files one rest) = ap (λ (flag : Bool). flag ∷ flags files) (file_flag told one) ∙ ap (λ flags. not (is_none first) ∷ flags) (file_flags told rest)
+file_flags told (one_more name names first broke file files one rest) =
+    ap (λ (flag : Bool). flag ∷ flags files) (file_flag told one) ∙ ap (λ flags. not (is_none first) ∷ flags) (file_flags told rest)
 
 module _ (told : Bool) (mode : Mode) (names : List (List ℕ)) where
   -- a text more on standard error, while the files are open
@@ -75,8 +76,10 @@ module _ (told : Bool) (mode : Mode) (names : List (List ℕ)) where
 
   pub closed_next : {pieces messages : List (List ℕ)} {old mid : List Slot} {known : List Bool} {tee : TeeState} → IsTeeOf names tee → (copies : Copies told mode names pieces messages old known)
       → ChangesEach Closes (IsFile tee) old mid → After told mode names (OutputLeft told pieces) (FileLeft told mode pieces) (suc (length pieces)) copies mid
-  closed_next {pieces} is copies closes = called told mode names is copies (suc (length pieces)) closes.count (closes.others 1 (λ file. error_no_output is (inr file)))
-      (λ output here. rw (← here, closes.others 0 (λ file. let there = file_place 0 is file in omega (arith, there.1)), copies.are) (copies.first, copies.output_has, output_kept told copies.output_has))
+  closed_next {pieces} is copies closes =
+      called told mode names is copies (suc (length pieces)) closes.count (closes.others 1 (λ file. error_no_output is (inr file)))
+      (λ output here. rw (← here, closes.others 0 (λ file. let there = file_place 0 is file in omega (arith, there.1)), copies.are)
+      (copies.first, copies.output_has, output_kept told copies.output_has))
       closes.each (λ name first old new has ends. file_ends told has ends)
 
   pub closing_said : {pieces : List (List ℕ)} {fault : Option Fault} {old mid new : List Slot} {known now : List Bool} (copies : Copies told mode names pieces (said_of_input fault) old known)
@@ -92,8 +95,7 @@ module _ (told : Bool) (mode : Mode) (names : List (List ℕ)) where
     output_left = next.output_is;
     files_left = next.files_are;
     said = said_after told mode names copies next says;
-    known_are = flags_are ∙ ap broken_of next.are ∙ ap (λ (flag : Bool). flag ∷ flags next.files) (output_flag told next.output_is)
-        ∙ ap (λ flags. not (is_none next.first) ∷ flags) (file_flags told next.files_are);
+    known_are = cc (flags_are, next.are, output_flag told next.output_is, file_flags told next.files_are);
     some_left = none_sooner (length pieces) (omega arith) next.marked ∙ copies.some_left;
     vain_is = none_sooner (suc (length pieces)) (omega arith) next.marked ∙ copies.is_vain;
   }

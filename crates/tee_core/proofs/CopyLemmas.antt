@@ -1,12 +1,11 @@
 -- Lemmas on copying a piece: what the outputs have after it, and what is said of it.
-use Rattle.std.proofs.Common.{append_assoc, ◌≡◌, ℕ, ◌+◌, ◌<◌, ◌≤◌, zero, suc, List, [], ◌∷◌, ◌++◌, length, map, take, Bool, true, false, not, ◌&&◌, if◌then◌else◌, Option, Some, None, inl, inr, refl, sym, ◌∙◌, ap, subst, arith, length-append}
+use Rattle.std.proofs.Common.{append_assoc, ◌≡◌, ℕ, ◌+◌, ◌<◌, ◌≤◌, zero, suc, List, [], ◌∷◌, ◌++◌, length, map, take, Bool, true, false, not, ◌&&◌, Option, Some, None, inl, inr, refl, sym, ◌∙◌, ap, subst, arith, length-append}
 use Rattle.std.specs.List.{concat}
 use Rattle.std.proofs.lemmas.List.Folds.{concat-append}
 use Rattle.std.proofs.lemmas.List.{append-nil}
 use Rattle.std.proofs.lemmas.Bool.{false≢true, eq-eqb, ne_eqb, le-ltb, lt-ltb}
 use Rattle.ports_core.specs.Slot.{Slot, slot_at, changed_at, is_open, opened, adds, breaks, told_of}
 use Rattle.ports_core.specs.Message.{SaysAll}
-use Rattle.ports_core.specs.Text.{message_of}
 use Rattle.ports_core.specs.declared.slot.Mode.{Mode}
 use Rattle.ports_core.specs.declared.tool.Tool.TheVariants.{Tee}
 use Rattle.ports_core.proofs.MessageLemmas.{all_said_state, says_after}
@@ -54,38 +53,31 @@ pub data AllMark (call : ℕ) : List (Option ℕ) → List (Option ℕ) → List
 pub said_marked : {call : ℕ} (names : List (List ℕ)) {befores afters : List (Option ℕ)} {known broken : List Bool} → AllMark call befores afters known broken → said_in call names afters ≡ said_since (fault_in call) names known broken
 said_marked [] marked = refl
 said_marked (name ∷ names) none_marked = refl
-said_marked {call} (name ∷ names) (all_marked before after was now befores afters known broken one rest) =
-    ap (λ (flag : Bool). if flag then message_of Tee (fault_in call) name ∷ said_in call names afters else said_in call names afters) one.said
-    ∙ ap (λ texts. if not was && now then message_of Tee (fault_in call) name ∷ texts else texts) (said_marked names rest)
+said_marked {call} (name ∷ names) (all_marked before after was now befores afters known broken one rest) = cc (one.said, said_marked names rest)
 
 said_older : {call : ℕ} (other : ℕ) (names : List (List ℕ)) {befores afters : List (Option ℕ)} {known broken : List Bool} → other < call → AllMark call befores afters known broken → said_in other names afters ≡ said_in other names befores
 said_older other [] less marked = refl
 said_older other (name ∷ names) less none_marked = refl
 said_older other (name ∷ names) less (all_marked before after was now befores afters known broken one rest) =
-    ap (λ (flag : Bool). if flag then message_of Tee (fault_in other) name ∷ said_in other names afters else said_in other names afters) (one.older other less)
-    ∙ ap (λ texts. if broke_in other before then message_of Tee (fault_in other) name ∷ texts else texts) (said_older other names less rest)
+    cc (one.older other less, said_older other names less rest)
 
 pub all_older : {call : ℕ} (end : ℕ) (names : List (List ℕ)) {befores afters : List (Option ℕ)} {known broken : List Bool} → end ≤ call → AllMark call befores afters known broken → said_before end names afters ≡ said_before end names befores
 all_older zero names past marked = refl
-all_older (suc end) names {befores} {afters} past marked = ap (λ texts. texts ++ said_in end names afters) (all_older end names (omega arith) marked)
-    ∙ ap (λ texts. said_before end names befores ++ texts) (said_older end names (omega arith) marked)
+all_older (suc end) names {befores} {afters} past marked = cc (all_older end names (omega arith) marked, said_older end names (omega arith) marked)
 
 -- whether no output is left
 
 pub none_sooner : {call : ℕ} (other : ℕ) {befores afters : List (Option ℕ)} {known broken : List Bool} → other ≤ call → AllMark call befores afters known broken → none_left other afters ≡ none_left other befores
 none_sooner other within none_marked = refl
-none_sooner other within (all_marked before after was now befores afters known broken one rest) =
-    ap (λ (flag : Bool). flag && none_left other afters) (one.sooner other within) ∙ ap (λ (flag : Bool). broke_before other before && flag) (none_sooner other within rest)
+none_sooner other within (all_marked before after was now befores afters known broken one rest) = cc (one.sooner other within, none_sooner other within rest)
 
 none_then : {call : ℕ} {befores afters : List (Option ℕ)} {known broken : List Bool} → AllMark call befores afters known broken → none_left call afters ≡ all_of known
 none_then none_marked = refl
-none_then {call} (all_marked before after was now befores afters known broken one rest) =
-    ap (λ (flag : Bool). flag && none_left call afters) one.then_is ∙ ap (λ (flag : Bool). was && flag) (none_then rest)
+none_then {call} (all_marked before after was now befores afters known broken one rest) = cc (one.then_is, none_then rest)
 
 pub none_now : {call : ℕ} {befores afters : List (Option ℕ)} {known broken : List Bool} → AllMark call befores afters known broken → none_left (suc call) afters ≡ all_of broken
 none_now none_marked = refl
-none_now {call} (all_marked before after was now befores afters known broken one rest) =
-    ap (λ (flag : Bool). flag && none_left (suc call) afters) one.now_is ∙ ap (λ (flag : Bool). now && flag) (none_now rest)
+none_now {call} (all_marked before after was now befores afters known broken one rest) = cc (one.now_is, none_now rest)
 
 -- one output
 
@@ -142,7 +134,8 @@ flags files = map (λ (file : Slot). file.is_broken) files
 
 -- each is changed by the call
 pub files_go : {Is Then : List ℕ → Option ℕ → Slot → Type 0} {Change : Slot → Slot → Type 0} {call : ℕ} {names : List (List ℕ)} {broke : List (Option ℕ)} {olds : List Slot}
-    → ((name : List ℕ) (first : Option ℕ) (old new : Slot) → Is name first old → Change old new → Marked (Then name) call first old.is_broken new) → (news : List Slot)
+    → ((name : List ℕ) (first : Option ℕ) (old new : Slot) → Is name first old → Change old new → Marked (Then name) call first old.is_broken new)
+    → (news : List Slot)
     → length news ≡ length olds → ((n : ℕ) → n < length olds → Change (slot_at olds n) (slot_at news n)) → EachFile Is names broke olds
     → (after : List (Option ℕ)) × EachFile Then names after news × AllMark call broke after (flags olds) (flags news)
 files_go go [] many changes no_more = ([], no_more, none_marked)
@@ -197,7 +190,8 @@ module _ (told : Bool) (mode : Mode) (names : List (List ℕ)) where
         (files_usable told there.0 (omega (arith, there.2, length-files copies.files_have)) copies.files_have)
 
   -- the outputs after a call, before anything is said of it
-  pub record After (OutputIs : Option ℕ → Slot → Type 0) (FileIs : List ℕ → Option ℕ → Slot → Type 0) (call : ℕ) {pieces messages : List (List ℕ)} {old : List Slot} {known : List Bool}
+  pub record After (OutputIs : Option ℕ → Slot → Type 0) (FileIs : List ℕ → Option ℕ → Slot → Type 0)
+      (call : ℕ) {pieces messages : List (List ℕ)} {old : List Slot} {known : List Bool}
       (copies : Copies told mode names pieces messages old known) (mid : List Slot) : Type 0 where
     pub output : Slot
     pub files : List Slot
@@ -220,10 +214,11 @@ module _ (told : Bool) (mode : Mode) (names : List (List ℕ)) where
     by (output ∷ []) short = absurd (omega (arith, ap length short, count, ap length copies.are))
     by (output ∷ other ∷ files) are =
         let same : other ≡ copies.error = sym (ap (λ those. slot_at those 1) are) ∙ error ∙ ap (λ those. slot_at those 1) copies.are in
-        let here = one output (ap (λ those. slot_at those 0) are) in
-        let many : length copies.files ≡ length names = length-files copies.files_have in
-        let rest = files_go go files (omega (arith, ap length are, count, ap length copies.are)) (λ n within. subst (λ slot. Change (slot_at copies.files n) slot)
-        (ap (λ those. slot_at those (suc (suc n))) are) (subst (λ slot. Change slot (slot_at mid (suc (suc n)))) (ap (λ those. slot_at those (suc (suc n))) copies.are)
+        let here = one output (ap (λ those. slot_at those 0) are) in let many = length-files copies.files_have in
+        let rest = files_go go files (omega (arith, ap length are, count, ap length copies.are))
+        (λ n within. subst (λ slot. Change (slot_at copies.files n) slot)
+        (ap (λ those. slot_at those (suc (suc n))) are)
+        (subst (λ slot. Change slot (slot_at mid (suc (suc n)))) (ap (λ those. slot_at those (suc (suc n))) copies.are)
         (changes (suc (suc n)) (place_file n is (omega (arith, within, many)))))) copies.files_have in
         record {
           output = output;
@@ -243,7 +238,8 @@ module _ (told : Bool) (mode : Mode) (names : List (List ℕ)) where
       (copies : Copies told mode names pieces messages old known) → (next : After OutputIs FileIs (suc (length pieces)) copies mid)
       → (says : SaysTo told (said_since (fault_in (suc (length pieces))) (output_names names) known (broken_of mid)) mid new)
       → SaysAll told Tee ((said_before (suc (length pieces)) (output_names names) (next.first ∷ next.broke) ++ messages) ++ said_in (suc (length pieces)) (output_names names) (next.first ∷ next.broke)) standard_error says.0
-  said_after {pieces} {messages} {mid} {known} copies next says = rw (said_marked (output_names names) next.marked, all_older (suc (length pieces)) (output_names names) (omega arith) next.marked, ← copies.known_are)
+  said_after {pieces} {messages} {mid} {known} copies next says =
+      rw (said_marked (output_names names) next.marked, all_older (suc (length pieces)) (output_names names) (omega arith) next.marked, ← copies.known_are)
       (says_after told Tee (said_before (suc (length pieces)) (output_names names) (copies.first ∷ copies.broke) ++ messages) _ standard_error copies.error says.0 copies.said
       (subst (λ slot. SaysAll told Tee (said_since (fault_in (suc (length pieces))) (output_names names) known (broken_of mid)) slot says.0) (ap (λ those. slot_at those 1) next.are) says.1))
 
@@ -271,7 +267,8 @@ module _ (told : Bool) (mode : Mode) (names : List (List ℕ)) where
     output_has = next.output_is;
     files_have = next.files_are;
     said = subst (λ texts. SaysAll told Tee texts standard_error says.0) (ap (λ texts. texts ++ said_in (suc (length pieces)) (output_names names) (next.first ∷ next.broke)) (append-nil _)
-        ∙ sym (append-nil _) ∙ ap (λ call. said_before (suc call) (output_names names) (next.first ∷ next.broke) ++ []) one_more_call) (said_after copies next says);
+        ∙ sym (append-nil _) ∙ ap (λ call. said_before (suc call) (output_names names) (next.first ∷ next.broke) ++ []) one_more_call)
+        (said_after copies next says);
     known_are = flags_are ∙ ap broken_of next.are ∙ sym (ap broken_of new_is);
     some_left = ap (λ call. none_left call (next.first ∷ next.broke)) (sym one_more_call) ∙ none_then next.marked ∙ ap all_of (sym copies.known_are) ∙ some;
     is_vain = ap (λ call. none_left (suc call) (next.first ∷ next.broke)) (sym one_more_call) ∙ none_now next.marked ∙ ap all_of (sym flags_are);

@@ -28,9 +28,7 @@ one_fails : (sound whole : Bool) → ◌≡◌ {A = ℕ} (if not sound || not wh
 one_fails sound whole = grind (arith, nat_tests)
 
 status_is : (broke : List (Option ℕ)) (fault : Option Fault) (failed : Bool) {known : List Bool} → failed ≡ (not (is_none fault) || any_of known) → known ≡ map (λ (when : Option ℕ). not (is_none when)) broke → (if failed then 1 else 0) ≡ status_of broke fault
-status_is broke fault failed failing is =
-    ap (λ (flag : Bool). if flag then 1 else 0) (failing ∙ ap (λ flags. not (is_none fault) || any_of flags) is ∙ ap (λ (flag : Bool). not (is_none fault) || flag) (any_broken broke))
-    ∙ one_fails (is_none fault) (are_sound broke)
+status_is broke fault failed failing is = cc (failing, is, any_broken broke, one_fails (is_none fault) (are_sound broke))
 
 all_left : {told : Bool} {mode : Mode} {pieces names : List (List ℕ)} {broke : List (Option ℕ)} {files : List Slot} → EachFile (FileLeft told mode pieces) names broke files → FilesLeft told mode pieces names broke files
 all_left no_more = no_file
@@ -99,9 +97,8 @@ read_whole Leaves left sound (to_last_output x rest is leaves) = absurd (false�
 pub whole_if : {told_in : Bool} (told : Bool) {mode : Mode} {names : List (List ℕ)} {content : Content} {source : Source} {new : List Slot} {status : ℕ} → status ≡ 0 → EndsAs told_in told mode names content source new status → new ≡ all_copied told mode names content.bytes
 whole_if told zero_is (no_room error said left at one) = absurd (omega (arith, zero_is, one))
 whole_if told {mode} {names} zero_is (copied pieces fault first broke output error files read some output_left files_left said at is) =
-    let good = status_zero (is_none fault) (are_sound (first ∷ broke)) (sym is ∙ zero_is) in
-    let sounds = sound_first first (are_sound broke) good.0 in
-    let silent : messages_of names (first ∷ broke) (length pieces) fault ≡ [] = quiet fault (length pieces) (first ∷ broke) good.1 good.0 in
+    let good = status_zero (is_none fault) (are_sound (first ∷ broke)) (sym is ∙ zero_is) in let sounds = sound_first first (are_sound broke) good.0 in
+    let silent = quiet fault (length pieces) (first ∷ broke) good.1 good.0 in
     at ∙ ap (λ slot. slot ∷ error ∷ files) (whole_output told pieces first output sounds.0 output_left)
     ∙ ap (λ slot. adds (told_of told (concat pieces)) standard_output ∷ slot ∷ files) (subst (λ texts. SaysAll told Tee texts standard_error error) silent said)
     ∙ ap (λ those. adds (told_of told (concat pieces)) standard_output ∷ standard_error ∷ those) (whole_files told mode pieces names broke files sounds.1 files_left)
@@ -113,5 +110,4 @@ whole_if told {mode} {names} zero_is (copied pieces fault first broke output err
 
 pub whole_of : {told_in : Bool} (told : Bool) {mode : Mode} {names : List (List ℕ)} (there : Content) {source : Source} {new : List Slot} {status : ℕ} → told_in ≡ true → status ≡ 0
     → OfContent told_in there (λ content. EndsAs told_in told mode names content source new status × BreaksOnly told_in content source) → new ≡ all_copied told mode names there.bytes
-whole_of told {mode} {names} there tells zero_is (content, is, holds) =
-    whole_if told zero_is holds.0 ∙ ap (λ (those : Content). all_copied told mode names those.bytes) (is tells)
+whole_of told {mode} {names} there tells zero_is (content, is, holds) = cc (whole_if told zero_is holds.0, is tells)

@@ -4,13 +4,14 @@ use Rattle.std.proofs.Common.{◌≡◌, ℕ, ◌+◌, ◌<◌, ◌≤◌, List,
 use Rattle.std.proofs.Math.Seq.{take-append-add}
 use Rattle.std.proofs.lemmas.List.{take-append-le}
 use Rattle.std.proofs.lemmas.Bool.{false≢true}
+use Rattle.tee_core.specs.inner.Turns.{Turns}
 use Rattle.ports_core.specs.Slot.{Slot, slot_at, changed_at, adds, breaks, closes, told_of, with_written, with_broken}
 use Rattle.ports_core.specs.Write.{BrokeAfter}
 use Rattle.ports_core.proofs.SlotLemmas.{changed_at-again}
 use Rattle.ports_core.proofs.Runs.{adds_both}
-use Rattle.tee_core.specs.Outputs.{ChangesEach, Closes, Gets, gets_all, breaks_off, gets_none, is_closed, fails_to_close, was_broken, IsFile, IsOutput, IsUsable, newly_broken}
+use Rattle.tee_core.specs.Outputs.{ChangesEach, Closes, Gets, gets_all, breaks_off, gets_none, is_closed, fails_to_close, was_broken, IsFile, IsOutput, IsUsable}
 use Rattle.tee_core.specs.TeeState.{TeeState}
-use Rattle.tee_core.proofs.ChangeLemmas.{InTurn, Turns, is_between, next_in_turn, open_within, turned_both, turned_one, turned_same}
+use Rattle.tee_core.proofs.ChangeLemmas.{is_between, open_within, turned_both, turned_one, turned_same}
 
 -- one output
 
@@ -86,17 +87,9 @@ pub closed_short : {place : ℕ} {old new : List Slot} → IsUsable (slot_at old
 closed_short {place} {old} usable sound is =
     turned_one place (λ slot. breaks (closes slot)) (open_within old place (usable sound)) sound refl (fails_to_close sound) (is ∙ changed_at-again place closes breaks old)
 
--- all of them, one after another
-
-pub gets_next : (told : Bool) {piece : List ℕ} {first n : ℕ} (broke more : ℕ) {old now new : List Slot} → InTurn (Gets told piece) first n old now broke → ChangesEach (Gets told piece) (λ place. place ≡ first + n) now new → more ≡ newly_broken now new → more ≤ 1 → InTurn (Gets told piece) first (n + 1) old new (broke + more)
-gets_next told {first} {n} broke more {old} {now} {new} so_far gets are one = next_in_turn first n broke more old now new (still_broken told) so_far gets are one
-
-pub closes_next : (first n broke more : ℕ) (old now new : List Slot) → InTurn Closes first n old now broke → ChangesEach Closes (λ place. place ≡ first + n) now new → more ≡ newly_broken now new → more ≤ 1 → InTurn Closes first (n + 1) old new (broke + more)
-closes_next first n broke more old now new so_far closes are one = next_in_turn first n broke more old now new closed_broken so_far closes are one
-
 -- standard output, and then the files
-pub fed : (told : Bool) {piece : List ℕ} (tee : TeeState) (broke more : ℕ) {old mid new : List Slot} → (0 < tee.count → 2 ≤ tee.first) → ChangesEach (Gets told piece) (λ place. place ≡ 0) old mid → broke ≡ newly_broken old mid → ChangesEach (Gets told piece) (IsFile tee) mid new → more ≡ newly_broken mid new → Turns (Gets told piece) (IsOutput tee) old new (broke + more)
-fed told tee broke more streams first are second more_are =
+pub fed : (told : Bool) {piece : List ℕ} (tee : TeeState) (broke more : ℕ) {old mid new : List Slot} → (0 < tee.count → 2 ≤ tee.first) → Turns (Gets told piece) (λ place. place ≡ 0) old mid broke → Turns (Gets told piece) (IsFile tee) mid new more → Turns (Gets told piece) (IsOutput tee) old new (broke + more)
+fed told tee broke more streams first second =
     turned_both broke more (still_broken told) (λ place. cases_eq place 0) (is_between tee.first (tee.first + tee.count))
     (λ place is file. let past : 2 ≤ tee.first = streams (omega (arith, file.0, file.1)) in omega (arith, is, past, file.0))
-    (λ place is. is) (λ place is. is) (record { changes = first; broke_are = are }) (record { changes = second; broke_are = more_are })
+    (λ place is. is) (λ place is. is) first second

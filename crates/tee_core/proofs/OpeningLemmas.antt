@@ -83,8 +83,7 @@ ready_to_go {names} {old} {new} tee some standard opens count first place is = b
   by : IsOutput tee place → IsUsable (slot_at new place)
   by (inl here) = λ sound. ap (λ at. is_open (slot_at new at).state) here ∙ ap (λ those. is_open (slot_at those 0).state) opens.slots ∙ ap (λ (slot : Slot). is_open slot.state) (get_or_append_left old opens.since no_slot 0 some) ∙ standard
   by (inr file) =
-      let start : tee.first ≡ length old = first (omega (arith, file.0, file.1)) in
-      let many : length opens.since ≡ length names = length-since names opens.since opens.each in
+      let start = first (omega (arith, file.0, file.1)) in let many = length-since names opens.since opens.each in
       let there : place ≡ length old + (place - length old) = omega (arith, start, file.0) in
       subst IsUsable (sym (ap (λ at. slot_at new at) there ∙ ap (λ those. slot_at those (length old + (place - length old))) opens.slots ∙ get_or-append-add old opens.since (place - length old) no_slot))
       (since_usable names opens.since (place - length old) opens.each (omega (arith, start, file.0, file.1, many, count)))

@@ -44,20 +44,15 @@ ended_untold told {x} source tells = to_end x refl refl (untold told source [] t
 
 -- the piece passes the limit
 
-few_bytes : (buffer : List ℕ) (n : ℕ) → length buffer ≤ largest_piece → length (take n buffer) ≤ largest_piece
-few_bytes buffer n most = omega (arith, most, length-take n buffer)
-
-too_many : (x buffer : List ℕ) {fed : ℕ} (n : ℕ) → fed ≡ length x → n ≤ length buffer → 2 ^ 63 ≤ fed + n → 2 ^ 63 ≤ length (x ++ take n buffer)
-too_many x buffer n counted within many = omega (arith, counted, within, many, length-append x (take n buffer), length-take n buffer)
-
 pub long_read : (told : Bool) {content : Content} {x old_buffer buffer : List ℕ} (size : ℕ) {fed n : ℕ} {sources new : List Source} → HasRead content x 0 sources → IsTrue (is_readable sources 0) → Gave (source_at sources 0).left old_buffer buffer n → fed ≡ length x → n ≤ length buffer → length buffer ≤ largest_piece → 2 ^ 63 ≤ fed + n → new ≡ changed_at 0 (gives size n) sources
     → IsRead content (LeavesOf told (source_at new 0)) false x (Some TooLong)
 long_read told {content} {x} {old_buffer} {buffer} size {n} {sources} {new} read can gave counted within most many is =
     let more = read_more content x 0 sources new old_buffer buffer size n read can gave is in
-    to_limit x (take n buffer) (source_at new 0).left.bytes more.bytes (too_many x buffer n counted within many) (few_bytes buffer n most) (λ _. refl)
+    to_limit x (take n buffer) (source_at new 0).left.bytes more.bytes
+    (omega (arith, counted, within, many, length-append x (take n buffer), length-take n buffer)) (omega (arith, most, length-take n buffer)) (λ _. refl)
 
 pub long_untold : (told : Bool) {x : List ℕ} (buffer : List ℕ) {fed n : ℕ} (source : Source) → told ≡ false → fed ≡ length x → n ≤ length buffer → length buffer ≤ largest_piece → 2 ^ 63 ≤ fed + n → IsRead (record { bytes = x ++ take n buffer; breaks_off = false }) (LeavesOf told source) false x (Some TooLong)
-long_untold told {x} buffer {n} source tells counted within most many = to_limit x (take n buffer) [] (sym (append-nil (x ++ take n buffer))) (too_many x buffer n counted within many) (few_bytes buffer n most) (untold told source [] tells)
+long_untold told {x} buffer {n} source tells counted within most many = to_limit x (take n buffer) [] (sym (append-nil (x ++ take n buffer))) (omega (arith, counted, within, many, length-append x (take n buffer), length-take n buffer)) (omega (arith, most, length-take n buffer)) (untold told source [] tells)
 
 pub counted_more : (x buffer : List ℕ) {fed : ℕ} (n : ℕ) {sum : ℕ} → fed ≡ length x → n ≤ length buffer → sum ≡ fed + n → sum ≡ length (x ++ take n buffer)
 counted_more x buffer n counted within is = omega (arith, counted, within, is, length-append x (take n buffer), length-take n buffer)
@@ -81,7 +76,7 @@ none_sized k d low = absurd (omega (arith, low))
 
 pub more_sized : (pieces : List (List ℕ)) (buffer : List ℕ) {n : ℕ} → AreSized pieces → (n ≡ 0 → ⊥) → n ≤ length buffer → length buffer ≤ largest_piece → AreSized (pieces ++ take n buffer ∷ [])
 more_sized pieces buffer {n} sized some within most =
-    let one : (0 < length (take n buffer)) × (length (take n buffer) ≤ largest_piece) = (omega (arith, some, within, length-take n buffer), few_bytes buffer n most) in
+    let one : (0 < length (take n buffer)) × (length (take n buffer) ≤ largest_piece) = (omega (arith, some, within, length-take n buffer), omega (arith, most, length-take n buffer)) in
     All-push (λ (piece : List ℕ). (0 < length piece) × (length piece ≤ largest_piece)) pieces (take n buffer) sized one
 
 pub reads_copied : {told_in : Bool} (told : Bool) {mode : Mode} {names : List (List ℕ)} {content : Content} {source : Source} {slots : List Slot} {known : List Bool} {fault : Option Fault} {came : List ℕ} {pieces : List (List ℕ)} {is_vain : Bool} → came ≡ concat pieces → all_of known ≡ is_vain → AreSized pieces → length came < 2 ^ 63

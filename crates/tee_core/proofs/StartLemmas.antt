@@ -40,9 +40,6 @@ opened_streams {names} opens = record {
   files_are = length-since names opens.since opens.each;
 }
 
-none_known : (names : List (List ℕ)) → replicate (length names + 1) false ≡ false ∷ replicate (length names) false
-none_known names = ap (λ n. replicate n false) (let e : length names + 1 ≡ suc (length names) = omega arith in e)
-
 pub starts : (told : Bool) {mode : Mode} {names : List (List ℕ)} {old new : List Slot} {known now : List Bool} → Opens mode names streams old → known ≡ replicate (length names + 1) false → SaysTo told (said_since (fault_in 0) (output_names names) known (broken_of old)) old new → now ≡ broken_of old → Copies told mode names [] [] new now
 starts told {names} {old} {new} {known} opens unknown says flags =
     let files = files_start told opens.each in
@@ -58,7 +55,7 @@ starts told {names} {old} {new} {known} opens unknown says flags =
       output_has = subst (OutputLeft told [] None) (adds-nil told standard_output) output_whole;
       files_have = files.1;
       said = subst (λ texts. SaysAll told Tee texts standard_error says.0)
-          (ap (λ flags. said_since (fault_in 0) (output_names names) flags (broken_of old)) (unknown ∙ none_known names) ∙ ap (λ those. said_since (fault_in 0) (output_names names) (false ∷ replicate (length names) false) (broken_of those)) opens.slots
+          (ap (λ flags. said_since (fault_in 0) (output_names names) flags (broken_of old)) (unknown ∙ ap (λ n. replicate n false) (let e : length names + 1 ≡ suc (length names) = omega arith in e)) ∙ ap (λ those. said_since (fault_in 0) (output_names names) (false ∷ replicate (length names) false) (broken_of those)) opens.slots
           ∙ sym (said_marked (output_names names) marked) ∙ sym (append-nil _))
           (subst (λ slot. SaysAll told Tee (said_since (fault_in 0) (output_names names) known (broken_of old)) slot says.0) (ap (λ those. slot_at those 1) opens.slots) says.1);
       known_are = flags ∙ ap broken_of opens.slots ∙ sym (ap broken_of new_is);

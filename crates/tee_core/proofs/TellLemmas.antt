@@ -1,7 +1,9 @@
 -- Lemmas on the messages for outputs that broke.
+use Rattle.std.proofs.lemmas.Bool.Decides.{nat_tests}
+use Rattle.std.proofs.lemmas.Bool.{cond_both}
 use Rattle.std.proofs.Common.{◌≡◌, ℕ, ◌+◌, ◌<◌, zero, suc, List, [], ◌∷◌, ◌++◌, length, map, take, drop, get_or, set, Bor, Bool, true, false, not, ◌&&◌, if◌then◌else◌, refl, sym, ◌∙◌, ap, subst, arith, append_assoc}
 use Rattle.std.proofs.Math.ListN.{get_or-map}
-use Rattle.std.proofs.lemmas.List.{length-map}
+use Rattle.std.proofs.lemmas.List.{append-nil, length-map}
 use Rattle.ports_core.specs.Slot.{Slot, no_slot, slot_at, is_open}
 use Rattle.ports_core.specs.Text.{message_of}
 use Rattle.ports_core.specs.Message.{SaysOn}
@@ -16,31 +18,23 @@ use Rattle.tee_core.specs.inner.Steps.{HasStreams, SaysTo, broken_of, output_slo
 abbrev said_one : Fault → List ℕ → Bool → Bool → List (List ℕ)
 said_one fault name was now = if not was && now then message_of Tee fault name ∷ [] else []
 
-one_before : (flag : Bool) (text : List ℕ) (texts : List (List ℕ)) → (if flag then text ∷ texts else texts) ≡ (if flag then text ∷ [] else []) ++ texts
-one_before true text texts = refl
-one_before false text texts = refl
-
 said_next : (fault : Fault) (names : List (List ℕ)) (known broken : List Bool) (n : ℕ) → n < length names → length known ≡ length names → length broken ≡ length names
     → said_since fault (drop n names) (drop n known) (drop n broken) ≡ said_one fault (get_or names n []) (get_or known n false) (get_or broken n false) ++ said_since fault (drop (suc n) names) (drop (suc n) known) (drop (suc n) broken)
-said_next fault [] known broken n within known_many many = absurd (omega arith)
-said_next fault (name ∷ names) [] broken n within known_many many = absurd (omega (arith, known_many))
-said_next fault (name ∷ names) (was ∷ known) [] n within known_many many = absurd (omega (arith, many))
-said_next fault (name ∷ names) (was ∷ known) (now ∷ broken) zero within known_many many = one_before (not was && now) (message_of Tee fault name) (said_since fault names known broken)
+said_next fault (name ∷ names) (was ∷ known) (now ∷ broken) zero within known_many many = grind (arith, nat_tests)
 said_next fault (name ∷ names) (was ∷ known) (now ∷ broken) (suc n) within known_many many = said_next fault names known broken n (omega arith) (omega (arith, known_many)) (omega (arith, many))
+said_next fault names known broken n within known_many many = absurd (omega (arith, known_many, many))
 
 -- flags that are brought up to date one after another
 
 set_next : (n : ℕ) (known broken : List Bool) → n < length known → length broken ≡ length known → set (take n broken ++ drop n known) n (get_or broken n false) ≡ take (suc n) broken ++ drop (suc n) known
-set_next n [] broken within many = absurd (omega arith)
-set_next n (was ∷ known) [] within many = absurd (omega (arith, many))
 set_next zero (was ∷ known) (now ∷ broken) within many = refl
 set_next (suc n) (was ∷ known) (now ∷ broken) within many = ap (λ rest. now ∷ rest) (set_next n known broken (omega arith) (omega (arith, many)))
+set_next n known broken within many = absurd (omega (arith, many))
 
 get_next : (n : ℕ) (known broken : List Bool) (other : Bool) → n < length known → length broken ≡ length known → get_or (take n broken ++ drop n known) n other ≡ get_or known n false
-get_next n [] broken other within many = absurd (omega arith)
-get_next n (was ∷ known) [] other within many = absurd (omega (arith, many))
 get_next zero (was ∷ known) (now ∷ broken) other within many = refl
 get_next (suc n) (was ∷ known) (now ∷ broken) other within many = get_next n known broken other (omega arith) (omega (arith, many))
+get_next n known broken other within many = absurd (omega (arith, many))
 
 -- where outputs stand
 
@@ -53,13 +47,11 @@ count_broken {count} has = ap (λ those. length (broken_of those)) has.are ∙ (
 
 -- standard error alone is written
 
-says_after : (told : Bool) (texts : List (List ℕ)) (text : List ℕ) (output error : Slot) (files now new : List Slot) → SaysTo told texts (output ∷ error ∷ files) now → SaysOn told Tee text now new → SaysTo told (texts ++ text ∷ []) (output ∷ error ∷ files) new
-says_after told texts text output error files now new so_far says =
-    let said = says output so_far.0 files so_far.2 in (said.0, says_more told Tee texts text error so_far.0 said.0 so_far.1 said.1, said.2)
-
 pub says_too : (told : Bool) (texts : List (List ℕ)) (text : List ℕ) {count : ℕ} {old : List Slot} (now new : List Slot) → HasStreams old count → SaysTo told texts old now → SaysOn told Tee text now new → SaysTo told (texts ++ text ∷ []) old new
-says_too told texts text now new has so_far says = subst (λ those. SaysTo told (texts ++ text ∷ []) those new) (sym has.are)
-    (says_after told texts text has.output has.error has.files now new (subst (λ those. SaysTo told texts those now) has.are so_far) says)
+says_too told texts text now new has so_far says =
+    let first = subst (λ those. SaysTo told texts those now) has.are so_far in let said = says has.output first.0 has.files first.2 in
+    subst (λ those. SaysTo told (texts ++ text ∷ []) those new) (sym has.are)
+    (said.0, says_more told Tee texts text has.error first.0 said.0 first.1 said.1, said.2)
 
 broken_still : (told : Bool) (texts : List (List ℕ)) (output error : Slot) (files now : List Slot) (n : ℕ) → SaysTo told texts (output ∷ error ∷ files) now → (slot_at now (output_slot n)).is_broken ≡ get_or (broken_of (output ∷ error ∷ files)) n false
 broken_still told texts output error files now n said = ap (λ those. (slot_at those (output_slot n)).is_broken) said.2 ∙ broken_at output said.0 files n
@@ -80,7 +72,17 @@ pub tells_next : (told : Bool) {fault : Fault} {names : List (List ℕ)} {before
     → name ≡ get_or names n [] → broken ≡ (slot_at now (output_slot n)).is_broken → ((not (get_or known n other) && broken) ≡ true → SaysOn told Tee (message_of Tee fault name) now new) → ((not (get_or known n other) && broken) ≡ false → new ≡ now)
     → Telling told fault names before (n + 1) old new (set known n broken)
 tells_next told {fault} {names} {before} {known} other {n} {count} {old} {now} {new} {name} {broken} has names_many many within so_far named tells says quiet =
-    subst (λ k. Telling told fault names before k old new (set known n broken)) (let e : suc n ≡ n + 1 = omega arith in e) (by (not (get_or known n other) && broken) refl) where
+    subst (λ k. Telling told fault names before k old new (set known n broken)) (let e : suc n ≡ n + 1 = omega arith in e) (record {
+      so_far = so_far.so_far ++ here_said;
+      said = cond_both (not (get_or known n other) && broken) (message_of Tee fault name ∷ []) [] (λ texts. SaysTo told (so_far.so_far ++ texts) old new)
+          (λ is. says_too told so_far.so_far (message_of Tee fault name) now new has so_far.said (says is))
+          (λ is. rw (append-nil so_far.so_far, quiet is) so_far.said);
+      rest = append_assoc so_far.so_far here_said _ ∙ ap (λ texts. so_far.so_far ++ texts) (sym step) ∙ so_far.rest;
+      known_are = flags;
+    }) where
+      here_said : List (List ℕ)
+      here_said = if not (get_or known n other) && broken then message_of Tee fault name ∷ [] else []
+
       broken_are : length (broken_of old) ≡ count + 1
       broken_are = count_broken has
 
@@ -93,25 +95,8 @@ tells_next told {fault} {names} {before} {known} other {n} {count} {old} {now} {
       flags : set known n broken ≡ take (suc n) (broken_of old) ++ drop (suc n) before
       flags = ap (λ those. set those n broken) so_far.known_are ∙ ap (set (take n (broken_of old) ++ drop n before) n) here ∙ set_next n before (broken_of old) within (broken_are ∙ sym many)
 
-      step : said_since fault (drop n names) (drop n before) (drop n (broken_of old)) ≡ (if not (get_or known n other) && broken then message_of Tee fault name ∷ [] else []) ++ said_since fault (drop (suc n) names) (drop (suc n) before) (drop (suc n) (broken_of old))
-      step = said_next fault names before (broken_of old) n (omega (arith, names_many, within, many)) (many ∙ sym names_many) (broken_are ∙ sym names_many)
-          ∙ ap (λ (those : List ℕ). (if not (get_or before n false) && get_or (broken_of old) n false then message_of Tee fault those ∷ [] else []) ++ said_since fault (drop (suc n) names) (drop (suc n) before) (drop (suc n) (broken_of old))) (sym named)
-          ∙ ap (λ (flag : Bool). (if not flag && get_or (broken_of old) n false then message_of Tee fault name ∷ [] else []) ++ said_since fault (drop (suc n) names) (drop (suc n) before) (drop (suc n) (broken_of old))) (sym was)
-          ∙ ap (λ (flag : Bool). (if not (get_or known n other) && flag then message_of Tee fault name ∷ [] else []) ++ said_since fault (drop (suc n) names) (drop (suc n) before) (drop (suc n) (broken_of old))) (sym here)
-
-      by : (flag : Bool) → (not (get_or known n other) && broken) ≡ flag → Telling told fault names before (suc n) old new (set known n broken)
-      by true is = record {
-        so_far = so_far.so_far ++ message_of Tee fault name ∷ [];
-        said = says_too told so_far.so_far (message_of Tee fault name) now new has so_far.said (says is);
-        rest = append_assoc so_far.so_far (message_of Tee fault name ∷ []) _ ∙ ap (λ texts. so_far.so_far ++ texts) (sym (step ∙ ap (λ (flag : Bool). (if flag then message_of Tee fault name ∷ [] else []) ++ said_since fault (drop (suc n) names) (drop (suc n) before) (drop (suc n) (broken_of old))) is)) ∙ so_far.rest;
-        known_are = flags;
-      }
-      by false is = record {
-        so_far = so_far.so_far;
-        said = subst (λ those. SaysTo told so_far.so_far old those) (sym (quiet is)) so_far.said;
-        rest = ap (λ texts. so_far.so_far ++ texts) (sym (step ∙ ap (λ (flag : Bool). (if flag then message_of Tee fault name ∷ [] else []) ++ said_since fault (drop (suc n) names) (drop (suc n) before) (drop (suc n) (broken_of old))) is)) ∙ so_far.rest;
-        known_are = flags;
-      }
+      step : said_since fault (drop n names) (drop n before) (drop n (broken_of old)) ≡ here_said ++ said_since fault (drop (suc n) names) (drop (suc n) before) (drop (suc n) (broken_of old))
+      step = cc (said_next fault names before (broken_of old) n (omega (arith, names_many, within, many)) (many ∙ sym names_many) (broken_are ∙ sym names_many), named, was, here)
 
 pub count_names : (names : List (Bor (List ℕ))) → length (output_names (map (λ name. name.now) names)) ≡ length names + 1
 count_names names = let many : length (map (λ (name : Bor (List ℕ)). name.now) names) ≡ length names = length-map names _ in let e : suc (length (map (λ (name : Bor (List ℕ)). name.now) names)) ≡ length names + 1 = omega arith in e

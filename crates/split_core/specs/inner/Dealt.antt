@@ -1,7 +1,7 @@
 -- The lines of a piece, dealt to files.
-use Rattle.std.specs.Prelude.{ℕ, ◌+◌, List, map, min}
+use Rattle.std.specs.Prelude.{ℕ, ◌≡◌, ◌+◌, ◌%◌, List, map, min}
 use Rattle.std.specs.List.{range_with_len}
-use Rattle.seg_core.specs.Line.{lines_of, line_count}
+use Rattle.seg_core.specs.Line.{lines_of, line_count, delimiters}
 use Rattle.split_core.specs.Parts.{dealt}
 
 -- what each of n files gets of a piece, whose first byte goes to the file at this place
@@ -16,3 +16,9 @@ reached_by delim n place piece = min n (place + line_count delim piece)
 abbrev pub dealt_first : ℕ → ℕ → ℕ → List ℕ → List (List ℕ)
 dealt_first delim n place piece = map (λ file. dealt n file place (lines_of delim piece))
     (range_with_len 0 (reached_by delim n place piece))
+
+-- a piece was gathered: what the files get of it, where the next one begins, and how many of them got any
+pub record Gathers (delim n start : ℕ) (piece : List ℕ) (gathered : List (List ℕ)) (next reached : ℕ) : Type 0 where
+  pub gathered_is : gathered ≡ dealt_piece delim n start piece
+  pub next_is : next ≡ (start + delimiters delim piece) % n
+  pub reached_is : reached ≡ reached_by delim n start piece

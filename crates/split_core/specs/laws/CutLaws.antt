@@ -1,9 +1,9 @@
 -- Laws that traits cite: laws of parts that follow one another: what a text that goes on is cut into.
-use Rattle.std.proofs.Common.{◌≡◌, ℕ, ◌+◌, ◌-◌, ◌<◌, ◌≤◌, zero, suc, List, [], ◌∷◌, ◌++◌, length, take, drop, Bool, true, false, cond, ◌&&◌, nat_lt, nat_le, refl, sym, ◌∙◌, ap, subst, arith, length-append, length-drop}
+use Rattle.std.proofs.Common.{◌≡◌, ℕ, ◌+◌, ◌<◌, ◌≤◌, zero, suc, List, [], ◌∷◌, ◌++◌, length, take, Bool, true, false, cond, nat_lt, refl, sym, ◌∙◌, ap, subst, arith, length-append, length-drop}
 use Rattle.std.proofs.lemmas.Bool.{false≢true, ltb-true}
 use Rattle.std.proofs.lemmas.Bool.Decides.{nat_tests}
 use Rattle.std.proofs.lemmas.List.{append-nil, take-append-le, drop-append-le, length-take, length-take-le}
-use Rattle.seg_core.specs.Line.{delimiters, first_lines, after_lines}
+use Rattle.seg_core.specs.Line.{delimiters, first_lines}
 use Rattle.seg_core.proofs.Delimiters.{delimiters-append, delimiters-le-length}
 use Rattle.seg_core.proofs.FirstLines.{first_lines-full, first_lines_then_rest, length-first_lines-le, delimiters-first_lines}
 use Rattle.split_core.specs.declared.limit.Limit.{Limit}
@@ -13,23 +13,14 @@ use Rattle.split_core.specs.inner.CutLaws.{Cuts, stops, goes, cut_so}
 
 -- when a part is full
 
-full_test : (most measure : ℕ) → (nat_lt 0 most && nat_le most measure) ≡ true → (0 < most) × (most ≤ measure)
-full_test most measure is = (grind (arith, nat_tests, is), grind (arith, nat_tests, is))
-
 pub full_some : (limit : Limit) (x : List ℕ) → is_full limit x ≡ true → (0 < most limit) × (most limit ≤ measure limit x)
-full_some limit x full = full_test (most limit) (measure limit x) full
-
-full_from_test : (most measure : ℕ) → 0 < most → most ≤ measure → (nat_lt 0 most && nat_le most measure) ≡ true
-full_from_test most measure some enough = grind (arith, nat_tests, some, enough)
+full_some limit x full = (grind (arith, nat_tests, full), grind (arith, nat_tests, full))
 
 pub full_from : (limit : Limit) (x : List ℕ) → 0 < most limit → most limit ≤ measure limit x → is_full limit x ≡ true
-full_from limit x some enough = full_from_test (most limit) (measure limit x) some enough
-
-short_test : (most measure : ℕ) → (nat_lt 0 most && nat_le most measure) ≡ false → 0 < most → measure < most
-short_test most measure is some = grind (arith, nat_tests, is, some)
+full_from limit x some enough = grind (arith, nat_tests, some, enough)
 
 pub short_some : (limit : Limit) (x : List ℕ) → is_full limit x ≡ false → 0 < most limit → measure limit x < most limit
-short_some limit x short some = short_test (most limit) (measure limit x) short some
+short_some limit x short some = grind (arith, nat_tests, short, some)
 
 pub measure-append : (limit : Limit) (x y : List ℕ) → measure limit (x ++ y) ≡ measure limit x + measure limit y
 measure-append (Lines n delim) x y = delimiters-append delim x y
@@ -44,11 +35,8 @@ full-append limit x y full =
     let is = full_some limit x full in
     full_from limit (x ++ y) is.0 (omega (arith, measure-append limit x y, is.1))
 
-nothing_test : (most : ℕ) {measure : ℕ} → measure ≡ 0 → (nat_lt 0 most && nat_le most measure) ≡ false
-nothing_test most none = grind (arith, nat_tests, none)
-
 pub nothing_short : (limit : Limit) (x : List ℕ) → length x ≡ 0 → is_full limit x ≡ false
-nothing_short limit x none = nothing_test (most limit) (omega (arith, none, measure-le-length limit x))
+nothing_short limit x none = grind (arith, nat_tests, none, measure-le-length limit x)
 
 pub has_lines : (n : ℕ) → 0 < n → nat_lt 0 n ≡ true
 has_lines n some = grind (arith, nat_tests, some)
@@ -63,16 +51,10 @@ pub whole_of_none : (delim : ℕ) (x : List ℕ) → delimiters delim x ≡ 0 �
 whole_of_none delim x none = ap (λ has. cond has (first_lines delim (delimiters delim x) x) x) (without_lines none)
 
 pub whole_then_open : (delim : ℕ) {x : List ℕ} → whole_lines delim x ++ open_line delim x ≡ x
-whole_then_open delim {x} = by (nat_lt 0 (delimiters delim x)) where
-  by : (has : Bool) → cond has (first_lines delim (delimiters delim x) x) x ++ cond has (after_lines delim (delimiters delim x) x) [] ≡ x
-  by true = first_lines_then_rest delim (delimiters delim x) x
-  by false = append-nil x
+whole_then_open delim {x} = grind (arith, nat_tests, first_lines_then_rest delim (delimiters delim x) x, append-nil x)
 
 pub whole_within : (delim : ℕ) (x : List ℕ) → length (whole_lines delim x) ≤ length x
-whole_within delim x = by (nat_lt 0 (delimiters delim x)) where
-  by : (has : Bool) → length (cond has (first_lines delim (delimiters delim x) x) x) ≤ length x
-  by true = length-first_lines-le delim (delimiters delim x) x
-  by false = omega arith
+whole_within delim x = grind (arith, nat_tests, length-first_lines-le delim (delimiters delim x) x)
 
 pub whole_some : (delim : ℕ) (x : List ℕ) → 0 < length x → 0 < length (whole_lines delim x)
 whole_some delim x some = by (nat_lt 0 (delimiters delim x)) refl where
@@ -96,9 +78,6 @@ first_some_by (Lines n delim) x some enough = omega (arith, delimiters-first_lin
 first_some_by (Bytes n) x some enough = omega (arith, length-take-le n x enough)
 first_some_by (LineBytes n delim) x some enough = whole_some delim (take n x) (omega (arith, length-take-le n x enough))
 
-pub first_some : (limit : Limit) (x : List ℕ) → is_full limit x ≡ true → 0 < length (first_part limit x)
-first_some limit x full = let is = full_some limit x full in first_some_by limit x is.0 is.1
-
 first-append_by : (limit : Limit) (x y : List ℕ) → most limit ≤ measure limit x → first_part limit (x ++ y) ≡ first_part limit x
 first-append_by (Lines n delim) x y enough = first_lines-full delim n x y enough
 first-append_by (Bytes n) x y enough = take-append-le n x y enough
@@ -108,11 +87,11 @@ pub first-append : (limit : Limit) (x y : List ℕ) → is_full limit x ≡ true
 first-append limit x y full = first-append_by limit x y (full_some limit x full).1
 
 pub after-append : (limit : Limit) (x y : List ℕ) → is_full limit x ≡ true → after_first limit (x ++ y) ≡ after_first limit x ++ y
-after-append limit x y full = ap (λ (first : List ℕ). drop (length first) (x ++ y)) (first-append limit x y full)
-    ∙ drop-append-le (length (first_part limit x)) x y (first_within limit x)
+after-append limit x y full = cc (first-append limit x y full, drop-append-le (length (first_part limit x)) x y (first_within limit x))
 
 after_less : (limit : Limit) (x : List ℕ) (bound : ℕ) → is_full limit x ≡ true → length x ≤ suc bound → length (after_first limit x) ≤ bound
-after_less limit x bound full within = omega (arith, first_some limit x full, length-drop (length (first_part limit x)) x)
+after_less limit x bound full within =
+    omega (arith, first_some_by limit x (full_some limit x full).0 (full_some limit x full).1, length-drop (length (first_part limit x)) x)
 
 cuts_within : {limit : Limit} (bound : ℕ) {x : List ℕ} → length x ≤ bound → Cuts limit x (cut_within bound limit x).full (cut_within bound limit x).rest
 cuts_within {limit} zero {x} within = stops x (nothing_short limit x (omega arith))
@@ -135,9 +114,7 @@ once_within zero within (stops _ short) = refl
 once_within {limit} zero {x} within (goes _ parts rest full more) = absurd (false≢true (sym (nothing_short limit x (omega arith)) ∙ full))
 once_within {limit} (suc bound) {x} within (stops _ short) =
     ap (λ full. cond full (part_before (first_part limit x) (cut_within bound limit (after_first limit x))) (uncut x)) short
-once_within {limit} (suc bound) {x} within (goes _ parts rest full more) =
-    ap (λ is. cond is (part_before (first_part limit x) (cut_within bound limit (after_first limit x))) (uncut x)) full ∙ ap (part_before (first_part limit x))
-    (once_within bound (after_less limit x bound full within) more)
+once_within {limit} (suc bound) {x} within (goes _ parts rest full more) = cc (full, once_within bound (after_less limit x bound full within) more)
 
 -- a text is cut in one way
 pub cut_once : (limit : Limit) {x : List ℕ} {parts : List (List ℕ)} {rest : List ℕ} → Cuts limit x parts rest → cut_up limit x ≡ cut_so parts rest

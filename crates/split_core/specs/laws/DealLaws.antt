@@ -1,4 +1,5 @@
 -- Laws that traits cite: how the lines of a text that goes on are dealt, and which files have a line.
+use Rattle.std.proofs.lemmas.Bool.Decides.{nat_tests}
 use Rattle.std.proofs.Common.{◌≡◌, ℕ, ◌+◌, ◌-◌, ◌%◌, ◌<◌, ◌≤◌, zero, suc, min, Bool, true, false, cond, eqb, List, [], ◌∷◌, ◌++◌, length, map, inl, inr, refl, sym, ◌∙◌, ap, arith, length-append}
 use Rattle.std.proofs.Math.Nat.{mod-eq_of_lt}
 use Rattle.std.specs.List.{filter, range_with_len, onto_first}
@@ -10,16 +11,11 @@ use Rattle.split_core.specs.Split.{is_some, dealt_files}
 use Rattle.split_core.specs.Round.{opened_by}
 use Rattle.split_core.specs.inner.DealLaws.{EachSome, share_of}
 
-onto_step : (gets : Bool) (byte : ℕ) (line rest : List ℕ) → cond gets (byte ∷ (line ++ rest)) rest
-    ≡ cond gets (byte ∷ cond gets (line ++ rest) rest) (cond gets (line ++ rest) rest)
-onto_step true byte line rest = refl
-onto_step false byte line rest = refl
-
 -- a byte before the first line goes where that line goes
 dealt_onto : (n file place byte : ℕ) (lines : List (List ℕ)) → dealt n file place (onto_first byte lines)
     ≡ cond (eqb (place % n) file) (byte ∷ dealt n file place lines) (dealt n file place lines)
 dealt_onto n file place byte [] = refl
-dealt_onto n file place byte (line ∷ lines) = onto_step (eqb (place % n) file) byte line (dealt n file (place + 1) lines)
+dealt_onto n file place byte (line ∷ lines) = grind (arith, nat_tests)
 
 pub dealt_first : (ends : Bool) (n file place byte : ℕ) (lines : List (List ℕ)) → dealt n file place (cond ends ((byte ∷ []) ∷ lines) (onto_first byte lines))
     ≡ cond (eqb (place % n) file) (byte ∷ dealt n file (cond ends (place + 1) place) lines) (dealt n file (cond ends (place + 1) place) lines)
@@ -31,8 +27,7 @@ goes_on true byte these more = refl
 goes_on false byte these more = refl
 
 pub next_place : (ends : Bool) (place count : ℕ) → cond ends (place + 1) place + count ≡ place + cond ends (count + 1) count
-next_place true place count = omega arith
-next_place false place count = refl
+next_place ends place count = grind (arith, nat_tests)
 
 -- an open last line goes on where it began
 pub dealt_append : (delim n file place : ℕ) (x y : List ℕ) → dealt n file place (lines_of delim (x ++ y)) ≡ dealt n file place (lines_of delim x)
@@ -54,12 +49,7 @@ differs n file place before within = ne_eqb (place % n) file (λ same. let here 
 
 pub dealt_none : (n file place : ℕ) (lines : List (List ℕ)) → place + length lines ≤ file → file < n → dealt n file place lines ≡ []
 dealt_none n file place [] short within = refl
-dealt_none n file place (line ∷ lines) short within =
-    ap (λ gets. cond gets (line ++ dealt n file (place + 1) lines) (dealt n file (place + 1) lines)) (differs n file place (omega arith) within)
-    ∙ dealt_none n file (place + 1) lines (omega arith) within
-
-some_line : (line rest : List ℕ) → 0 < length line → 0 < length (line ++ rest)
-some_line line rest some = omega (arith, length-append line rest)
+dealt_none n file place (line ∷ lines) short within = cc (differs n file place (omega arith) within, dealt_none n file (place + 1) lines (omega arith) within)
 
 some_either : (gets : Bool) (line rest : List ℕ) → 0 < length rest → 0 < length (cond gets (line ++ rest) rest)
 some_either true line rest some = omega (arith, length-append line rest)
@@ -76,7 +66,7 @@ dealt_some n file place (line ∷ lines) each from before within = elim (cases_e
   found : place ≡ file → 0 < length (dealt n file place (line ∷ lines))
   found here =
       let same : eqb (place % n) file ≡ true = eq-eqb (place % n) file (mod-eq_of_lt (omega arith) ∙ here) in
-      rw same (some_line line (dealt n file (place + 1) lines) each.0)
+      rw same (omega (arith, each.0, length-append line (dealt n file (place + 1) lines)))
 
 onto_each : (byte : ℕ) (lines : List (List ℕ)) → EachSome lines → EachSome (onto_first byte lines)
 onto_each byte [] each = (omega arith, tt)

@@ -213,7 +213,8 @@ parts_few limit x = by (cut_up limit x).full (cut_up limit x).rest where
 
 place_nameless : (names : Naming) (limit : Limit) (x : List ℕ) → are_named names (length (parts limit x)) ≡ false
     → is_named names (0 + length (map (share Closed) (cut_up limit x).full)) ≡ false
-place_nameless names limit x short = are_named_by names (length (parts limit x)) _ short (omega (arith, length-map (cut_up limit x).full (share Closed), parts_few limit x))
+place_nameless names limit x short =
+    are_named_by names (length (parts limit x)) _ short (omega (arith, length-map (cut_up limit x).full (share Closed), parts_few limit x))
 
 -- the files are those of the full parts alone
 pub files_settled : (names : Naming) (limit : Limit) (x y : List ℕ) → are_named names (length (parts limit x)) ≡ false

@@ -1,4 +1,4 @@
-use Rattle.std.proofs.Common.{◌++◌, drop, length, take, ap, arith, ◌∙◌, ◌≡◌}
+use Rattle.std.proofs.Common.{length, take, arith, ◌≡◌}
 use Rattle.std.proofs.lemmas.List.{drop-drop, length-take-le}
 use Rattle.std.proofs.lemmas.Simd.{put_chunk_is}
 use Rattle.split_core.specs.declared.gathered.TheConstants.{CHUNK}
@@ -7,6 +7,8 @@ use Rattle.split_core.proofs.gathered.copy_chunk.Goals as goal
 pub returns-clause-copied : goal.returns-clause-copied
 returns-clause-copied c =
     let long : length (take CHUNK c.args.text.now) ≡ CHUNK = length-take-le CHUNK c.args.text.now c.requires.enough in
-    put_chunk_is c.args.at c.args.room.now (take CHUNK c.args.text.now) (omega (arith, long, c.requires.within))
-    ∙ ap (λ n. take c.args.at c.args.room.now ++ (take CHUNK c.args.text.now ++ drop n (drop c.args.at c.args.room.now))) long
-    ∙ ap (λ rest. take c.args.at c.args.room.now ++ (take CHUNK c.args.text.now ++ rest)) (drop-drop CHUNK c.args.at c.args.room.now)
+    cc (
+      put_chunk_is c.args.at c.args.room.now (take CHUNK c.args.text.now) (omega (arith, long, c.requires.within)),
+      long,
+      drop-drop CHUNK c.args.at c.args.room.now,
+    )

@@ -1,9 +1,10 @@
-use Rattle.std.proofs.Common.{List, ℕ, ◌++◌, length, max, sym, ap, ◌∙◌, ◌≡◌, subst, arith}
+use Rattle.std.proofs.Common.{List, ℕ, ◌++◌, length, sym, ap, ◌∙◌, ◌≡◌, subst, arith}
 use Rattle.std.proofs.lemmas.List.{take_all}
 use Rattle.ports_core.specs.Slot.{changed_at}
 use Rattle.seg_core.specs.Line.{LinesLeft, delimiters}
 use Rattle.split_core.specs.inner.DealState.{DealState}
-use Rattle.split_core.proofs.DealLemmas.{by_delimiter, line_goes_on, line_goes_round, first_taken, ends_here, ends_open, no_longer, Gathers}
+use Rattle.split_core.specs.inner.Dealt.{Gathers}
+use Rattle.split_core.proofs.DealLemmas.{by_delimiter, line_goes_on, line_goes_round, first_taken, ends_here, ends_open, no_longer}
 use Rattle.split_core.proofs.deal.Deal.gather.Goals as goal
 
 pub append_to-requires-clause-enough : goal.append_to-requires-clause-enough
@@ -13,7 +14,7 @@ pub lines-preserved-then-next-count : goal.lines-preserved-then-next-count
 lines-preserved-then-next-count c = (
   line_goes_on c.lines.reached _ c.lines.invariant.0 (by_delimiter _ _ _ c.lines.invariant.2 c.in-Some.ensures.some)
       (c.in_ok-append_to.ensures.ok ∙ ap (λ (line : List ℕ). changed_at c.lines.next (λ had. had ++ line) c.lines.self-inside.gathered.items) (first_taken _ (by_delimiter _ _ _ c.lines.invariant.2 c.in-Some.ensures.some) c.lines.invariant.1))
-      (let view : length c.self.inside.gathered.items ≡ length c.args.self.now.gathered = ap (λ (deal : DealState). length deal.gathered) c.self.view_is in omega (arith, view, c.len-count.ensures, c.clear.ensures.count)) c.if-next-count.true,
+      (omega (arith, ap (λ (deal : DealState). length deal.gathered) c.self.view_is, c.len-count.ensures, c.clear.ensures.count)) c.if-next-count.true,
   c.rest-left.ensures,
   c.next.ensures.same ∙ c.lines.invariant.2,
   c.lines.invariant.3,
@@ -24,31 +25,19 @@ pub lines-preserved : goal.lines-preserved
 lines-preserved c = (
   line_goes_round c.lines.reached _ c.lines.invariant.0 (by_delimiter _ _ _ c.lines.invariant.2 c.in-Some.ensures.some)
       (c.in_ok-append_to.ensures.ok ∙ ap (λ (line : List ℕ). changed_at c.lines.next (λ had. had ++ line) c.lines.self-inside.gathered.items) (first_taken _ (by_delimiter _ _ _ c.lines.invariant.2 c.in-Some.ensures.some) c.lines.invariant.1))
-      (let view : length c.self.inside.gathered.items ≡ length c.args.self.now.gathered = ap (λ (deal : DealState). length deal.gathered) c.self.view_is in omega (arith, view, c.len-count.ensures, c.clear.ensures.count)) (omega (arith, c.if-next-count.false)),
+      (omega (arith, ap (λ (deal : DealState). length deal.gathered) c.self.view_is, c.len-count.ensures, c.clear.ensures.count)) (omega (arith, c.if-next-count.false)),
   c.rest-left.ensures,
   c.next.ensures.same ∙ c.lines.invariant.2,
   c.lines.invariant.3,
   c.lines.invariant.4,
 )
 
-at_end : (c : goal.After-max) → Gathers c.args.self.now.delim (length c.args.self.now.gathered) c.args.self.now.next c.args.piece.now c.lines.self-inside.gathered.items c.lines.next (max c.lines.reached c.lines.next)
-at_end c = ends_here _ c.lines.invariant.0 (c.rest-open.ensures ∙ ap (λ (left : LinesLeft). left.text) c.in_default.ensures.stays) (sym c.if-is_empty.ensures)
+pub returns-then-is_empty-clause-gathers : goal.returns-then-is_empty-clause-gathers
+returns-then-is_empty-clause-gathers c = subst
+    (Gathers c.args.self.now.delim (length c.args.self.now.gathered) c.args.self.now.next c.args.piece.now c.lines.self-inside.gathered.items c.lines.next)
+    (sym c.max.ensures)
+    (ends_here _ c.lines.invariant.0 (c.rest-open.ensures ∙ ap (λ (left : LinesLeft). left.text) c.in_default.ensures.stays) (sym c.if-is_empty.ensures))
 
-at_open : (c : goal.After-max-2) → Gathers c.args.self.now.delim (length c.args.self.now.gathered) c.args.self.now.next c.args.piece.now c.append_to-2.new.gathered.items c.lines.next c.max-2.result
-at_open c = ends_open _ c.lines.invariant.0 (c.rest-open.ensures ∙ ap (λ (left : LinesLeft). left.text) c.in_default.ensures.stays) (subst (λ d. delimiters d c.lines.lines.text ≡ 0) c.lines.invariant.2 c.in_default.ensures.none) (sym c.if-is_empty.ensures)
+pub returns-clause-gathers : goal.returns-clause-gathers
+returns-clause-gathers c = ends_open _ c.lines.invariant.0 (c.rest-open.ensures ∙ ap (λ (left : LinesLeft). left.text) c.in_default.ensures.stays) (subst (λ d. delimiters d c.lines.lines.text ≡ 0) c.lines.invariant.2 c.in_default.ensures.none) (sym c.if-is_empty.ensures)
     (c.in_ok-append_to-2.ensures.ok ∙ ap (λ (line : List ℕ). changed_at c.lines.next (λ had. had ++ line) c.lines.self-inside.gathered.items) (take_all (length c.rest-open.result.now) c.rest-open.result.now (omega arith))) (omega (arith, c.max-2.ensures))
-
-pub returns-then-is_empty-clause-gathered : goal.returns-then-is_empty-clause-gathered
-returns-then-is_empty-clause-gathered c = (at_end c).gathered_is
-
-pub returns-then-is_empty-clause-reached : goal.returns-then-is_empty-clause-reached
-returns-then-is_empty-clause-reached c = c.max.ensures ∙ (at_end c).reached_is
-
-pub returns-clause-gathered : goal.returns-clause-gathered
-returns-clause-gathered c = (at_open c).gathered_is
-
-pub returns-clause-next : goal.returns-clause-next
-returns-clause-next c = (at_open c).next_is
-
-pub returns-clause-reached : goal.returns-clause-reached
-returns-clause-reached c = (at_open c).reached_is

@@ -1,4 +1,4 @@
-use Rattle.std.proofs.Common.{◌≡◌, ap, length, arith}
+use Rattle.std.proofs.Common.{ap, length, arith}
 use Rattle.std.proofs.lemmas.Result.{IfErr-weaker}
 use Rattle.split_core.specs.FilesState.{FilesState}
 use Rattle.split_core.proofs.FileSteps.{fails_caused, reached, reached_before}

@@ -1,4 +1,4 @@
-use Rattle.std.proofs.Common.{◌≡◌, ap, length, arith}
+use Rattle.std.proofs.Common.{ap, length, arith}
 use Rattle.ports_core.proofs.HandedOn.{result_is}
 use Rattle.split_core.specs.FilesState.{FilesState}
 use Rattle.split_core.specs.inner.Sharing.{Adds}
@@ -14,10 +14,12 @@ index-requires g c = omega (arith, sent_within c.in_ok-reach.ensures.adds, ap (�
 pub write_bytes-requires : goal.write_bytes-requires
 write_bytes-requires g c = record {
   writable = sent_writable c.args.place c.in_ok-reach.ensures.adds
-      (output_is c.reach.new.self c.args.place (ap (λ (files : FilesState). files.outputs) c.self.view_is) (sent_within c.in_ok-reach.ensures.adds) c.index.ensures);
+      (output_is c.reach.new.self c.args.place (ap (λ (files : FilesState). files.outputs) c.self.view_is)
+      (sent_within c.in_ok-reach.ensures.adds) c.index.ensures);
 }
 
 pub returns : goal.returns
 returns g c = sent c.args.bytes.now c.write_bytes.result c.in_ok-reach.ensures.adds
-    (output_is c.reach.new.self c.args.place (ap (λ (files : FilesState). files.outputs) c.self.view_is) (sent_within c.in_ok-reach.ensures.adds) c.index.ensures)
+    (output_is c.reach.new.self c.args.place (ap (λ (files : FilesState). files.outputs) c.self.view_is)
+    (sent_within c.in_ok-reach.ensures.adds) c.index.ensures)
     c.write_bytes.ensures.ok c.write_bytes.ensures.err

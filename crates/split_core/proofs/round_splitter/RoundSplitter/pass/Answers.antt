@@ -1,17 +1,29 @@
-use Rattle.std.proofs.Common.{◌≡◌, ◌+◌, ◌%◌, OnOk, length, ◌∙◌, ap, subst}
-use Rattle.seg_core.specs.Line.{delimiters}
-use Rattle.split_core.specs.inner.Dealt.{dealt_first}
-use Rattle.split_core.specs.RoundState.{RoundState}
+use Rattle.std.proofs.Common.{◌∙◌, length, refl, subst}
+use Rattle.ports_core.proofs.HandedOn.{result_is}
 use Rattle.split_core.specs.inner.Sharing.{Adds}
+use Rattle.split_core.specs.inner.Ways.{Deals}
+use Rattle.split_core.proofs.FileSteps.{no_room}
+use Rattle.split_core.proofs.MoveLemmas.{on_ok}
+use Rattle.split_core.proofs.RoundLemmas.{first_gathered}
 use Rattle.split_core.proofs.round_splitter.RoundSplitter.pass.Goals as goal
 
+pub returns-in_err-reached : goal.returns-in_err-reached
+returns-in_err-reached g c = result_is (Deals _ _ _ _ _ _) _ _ c.from_residual.ensures.1 (rw (← c.self.view_is) (record {
+  delim = c.gather.ensures.delim;
+  count = c.gather.ensures.count;
+  elide = refl;
+  next = tt;
+  adds = no_room g.O.Outs.told c.self.inside.files _;
+}))
+
 pub returns : goal.returns
-returns g c =
-    let piece = c.args.piece.now in record {
-      delim = c.deal_out.ensures.delim ∙ ap (λ (round : RoundState). round.delim) c.self.view_is;
-      count = c.deal_out.ensures.count ∙ ap (λ (round : RoundState). round.count) c.self.view_is;
-      elide = ap (λ (round : RoundState). round.elide) c.self.view_is;
-      next = subst (λ (round : RoundState). OnOk c.deal_out.result (c.deal_out.new.deal.next ≡ (round.next + delimiters round.delim piece) % round.count)) c.self.view_is c.deal_out.ensures.next;
-      adds = subst (λ (round : RoundState). Adds g.O.Outs.told round.files (dealt_first round.delim round.count round.next piece) 0 (length (dealt_first round.delim round.count round.next piece))
-          (g.O.Outs.slots c.args.outs.now) c.deal_out.new.files (g.O.Outs.slots c.deal_out.new.outs) c.deal_out.result) c.self.view_is c.deal_out.ensures.adds;
-    }
+returns g c = rw (← c.self.view_is) (record {
+  delim = c.gather.ensures.delim;
+  count = c.gather.ensures.count;
+  elide = refl;
+  next = on_ok c.write.result c.in_ok-reached.ensures.gathers.next_is;
+  adds = subst (λ more. Adds g.O.Outs.told c.self.inside.files more 0 (length more) (g.O.Outs.slots c.args.outs.now) c.write.new.self
+      (g.O.Outs.slots c.write.new.outs) c.write.result)
+      (c.first.ensures ∙ first_gathered c.self.inside.deal.delim (length c.self.inside.deal.gathered) c.self.inside.deal.next c.args.piece.now c.in_ok-reached.ensures.gathers.gathered_is c.in_ok-reached.ensures.gathers.reached_is)
+      c.write.ensures;
+})

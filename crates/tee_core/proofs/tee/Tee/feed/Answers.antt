@@ -11,9 +11,7 @@ returns-then-self-clause-broke g c = sym (newly_none _)
 pub returns : goal.returns
 returns g c =
     let streams = subst (λ (tee : TeeState). 0 < tee.count → 2 ≤ tee.first) c.self.view_is c.self.invariant.1 in
-    let first = c.write_piece-broke.ensures in
-    let files = c.write_files.ensures in
-    let turned = fed _ c.args.self.now _ _ streams first.gets first.broke files.gets files.broke in
+    let turned = fed _ c.args.self.now _ _ streams c.write_piece-broke.ensures.turned c.write_files.ensures.turned in
     record {
       same = search rules;
       gets = λ live. turned.changes;
