@@ -63,7 +63,11 @@ pub fn run_inputs<A: Adapter, I: Inputs, O: Outs>(
     ensures asked { AsksAtMost largest_piece (I.sources inputs.new) }
 {
     let job = Job { alloc, adapter };
-    match take_inputs(&job, names, inputs, outs) {
+    let Ok(mut buffer) = vec![in alloc; 0u8; PIECE] else {
+        tell(alloc, adapter.tool(), &Fault::Memory, outs);
+        return 1;
+    };
+    match take_names(&job, names, &mut buffer, inputs, outs) {
         Ok(failed) => u8::from(failed),
         Err(fault) => {
             tell(alloc, adapter.tool(), &fault, outs);
@@ -72,31 +76,8 @@ pub fn run_inputs<A: Adapter, I: Inputs, O: Outs>(
     }
 }
 
-/// Does the tool's work on the inputs of these names, in order, and returns whether a fault was told.
-///
-/// # Errors
-///
-/// What stopped the run among them.
-fn take_inputs<A: Adapter, I: Inputs, O: Outs>(
-    job: &Job<'_, A>,
-    names: &[&str],
-    inputs: &mut I,
-    outs: &mut O,
-) -> Result<bool, Fault>
-    requires fresh { IsFresh (I.sources inputs.old) }
-    requires outputs { O.slots outs.old ≡ streams }
-    requires alone { (A.task job.now.adapter.now).work.clears ≡ true → length (map (λ name. name.now) names.now) ≤ 1 }
-    ensures took { RunsOver I.told (world_of (I.laid inputs.old) (I.sources inputs.old)) (map (λ name. name.now) names.now)
-        (λ found. TookAll I.told O.told (A.task job.now.adapter.now) found (I.sources inputs.new) (O.slots outs.new) result) }
-    ensures opened { length (I.sources inputs.new) ≤ count_after 1 (map (λ name. name.now) names.now) }
-    ensures asked { AsksAtMost largest_piece (I.sources inputs.new) }
-    ensures untouched { has_dash (map (λ name. name.now) names.now) ≡ false → source_at (I.sources inputs.new) 0 ≡ source_at (I.sources inputs.old) 0 }
-{
-    let mut buffer = vec![in job.alloc; 0u8; PIECE]?;
-    take_names(job, names, &mut buffer, inputs, outs)
-}
-
-/// The same, by pieces of at most the buffer's length.
+/// Does the tool's work on the inputs of these names, in order, by pieces of the buffer's length, and returns whether a
+/// fault was told.
 ///
 /// # Errors
 ///

@@ -1,13 +1,29 @@
-use Rattle.std.proofs.Common.{◌∙◌}
-use Rattle.run_core.proofs.InputLemmas.{over_too, from_over, stop_open, ran_through, ran_into_as}
+use Rattle.std.proofs.Common.{◌∙◌, ap, map, refl}
+use Rattle.ports_core.proofs.InputsLemmas.{fresh_asks}
 use Rattle.ports_core.proofs.Runs.{as_status}
+use Rattle.ports_core.specs.Slot.{is_open, slot_at}
+use Rattle.run_core.proofs.InputLemmas.{fresh_counts, from_over, no_memory_first, over_too, ran_into_as, ran_through, stop_open}
 use Rattle.run_core.proofs.inputs.run_inputs.Goals as goal
 
 pub tell-requires : goal.tell-requires
-tell-requires g c = from_over _ _ (λ found took. stop_open _ took) c.in-Err.ensures.took
+tell-requires g c = ap (λ slots. is_open (slot_at slots 1).state) c.requires.outputs
 
-pub returns-in-Ok-clause-ends : goal.returns-in-Ok-clause-ends
-returns-in-Ok-clause-ends g c = over_too _ _ (λ found took. ran_through _ c.in-Ok.failed (c.from.ensures ∙ as_status c.in-Ok.failed) took) c.in-Ok.ensures.took
+pub returns-in_default : goal.returns-in_default
+returns-in_default g c = record {
+  untouched = λ none. refl;
+  ends = over_too _ _ (λ found took. ran_into_as _ c.tool.ensures took c.tell.ensures) (no_memory_first _ c.requires.fresh c.requires.outputs);
+  opened = fresh_counts _ (map (λ name. name.now) c.args.names.now) c.requires.fresh;
+  asked = fresh_asks _ _ c.requires.fresh;
+}
 
-pub returns-in-Err-clause-ends : goal.returns-in-Err-clause-ends
-returns-in-Err-clause-ends g c = over_too _ _ (λ found took. ran_into_as _ c.tool.ensures took c.tell.ensures) c.in-Err.ensures.took
+pub take_names-requires-clause-room : goal.take_names-requires-clause-room
+take_names-requires-clause-room g c = c.deref_mut.ensures.len ∙ c.in-Ok.ensures.len
+
+pub tell-requires-in-Err : goal.tell-requires-in-Err
+tell-requires-in-Err g c = from_over _ _ (λ found took. stop_open _ took) c.in-Err.ensures.took
+
+pub returns-in-Ok-take_names-clause-ends : goal.returns-in-Ok-take_names-clause-ends
+returns-in-Ok-take_names-clause-ends g c = over_too _ _ (λ found took. ran_through _ c.in-Ok-take_names.failed (c.from.ensures ∙ as_status c.in-Ok-take_names.failed) took) c.in-Ok-take_names.ensures.took
+
+pub returns-clause-ends : goal.returns-clause-ends
+returns-clause-ends g c = over_too _ _ (λ found took. ran_into_as _ c.tool-in-Err.ensures took c.tell-in-Err.ensures) c.in-Err.ensures.took
