@@ -20,8 +20,7 @@ use Rattle.seg_core.specs.declared.cut.Cut.{Cut}
 use Rattle.seg_core.specs.declared.cut.Cut.TheVariants.{Lines, Bytes, LineBytes, Round}
 use Rattle.split_core.specs.declared.limit.Limit.TheVariants as limit
 use Rattle.split_core.specs.Split.{share, are_named, dealt_files, split_work, whole_by}
-use Rattle.split_core.specs.PartState.{parts_work}
-use Rattle.split_core.specs.Round.{opened_by, round_plan, round_work}
+use Rattle.split_core.specs.Round.{opened_by, round_plan}
 use Rattle.split_core.specs.inner.DealLaws.{share_of}
 use Rattle.split_core.specs.laws.DealLaws.{dealt_files_are, opened_by-grows}
 use Rattle.split_core.specs.laws.PartStateLaws as part_law
@@ -128,7 +127,7 @@ step_begins : {task : Task} (name : List ℕ) {bytes : List ℕ} {slot : Option 
     → RunStep true task largest_piece nothing (header_text task.with_header true name) slot sources (Some (ending bytes)) step → Begins step.high (part_of task name bytes)
 step_begins name grows (heading content headed leaves) = record { out = begins_more _ _; files = tt }
 step_begins {task} name {bytes} grows (calling content call is leaves) =
-    begins_after (only_out (header_text task.with_header true name)) call.high (task.work.whole bytes) (call_begins grows is)
+    begins_after (only_out (header_text task.with_header true name)) (call_begins grows is)
 step_begins name grows at = nothing_begins_part _
 
 -- A run over one input

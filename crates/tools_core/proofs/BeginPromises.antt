@@ -25,7 +25,7 @@ use Rattle.words_core.specs.CsplitAsked.{CsplitAsked}
 use Rattle.words_core.specs.Words.{CanRun}
 use Rattle.words_core.specs.declared.settings.Settings.{Settings}
 use Rattle.words_core.specs.declared.settings.Settings.TheVariants.{Head, Tail, Split, Csplit, Tee}
-use Rattle.tools_core.specs.Tasks.{csplit_task, head_task, naming_of, split_task, tail_task}
+use Rattle.tools_core.specs.Tasks.{csplit_task, naming_of}
 use Rattle.tools_core.proofs.RunLemmas.{can_run}
 use Rattle.tools_core.proofs.PromiseLemmas.{ending, has_one, made_one, part_of, ran_over, slots_of}
 use Rattle.csplit_core.specs.laws.InputLaws as csplit_law

@@ -25,7 +25,7 @@ use Rattle.operand_core.specs.Style.{Style}
 use Rattle.csplit_core.specs.Csplit.{verdict_of}
 use Rattle.csplit_core.specs.Input.{all_lines, marked, newline}
 use Rattle.csplit_core.specs.Output.{Contents, contents_of as contents_in, is_empty, makes_file, file_at, files_of as files_by}
-use Rattle.csplit_core.specs.Plan.{State, start, line_after, state_after, operands_after, step_of, Step, Ending, below, Runs, is_used_up, misses, is_above, is_below, cuts}
+use Rattle.csplit_core.specs.Plan.{State, start, line_after, operands_after, step_of, Step, Ending, below, Runs, is_used_up, misses, is_above, is_below, cuts}
 use Rattle.csplit_core.specs.Planned.{plan}
 use Rattle.csplit_core.specs.Section.{Section, section_of, bytes_of, is_final, is_last_kept, lines_between, lines_in, whole_sections}
 use Rattle.csplit_core.specs.laws.PlanLaws.{plan_runs}
@@ -34,7 +34,6 @@ use Rattle.csplit_core.proofs.WholeLemmas.{ends_after_all, none_lost_at_end}
 use Rattle.words_core.specs.CsplitAsked.{CsplitAsked}
 use Rattle.words_core.specs.declared.settings.Settings.TheVariants.{Csplit}
 use Rattle.tools_core.specs.Outcome.{CsplitEndsAs}
-use Rattle.tools_core.specs.Tasks.{csplit_task}
 use Rattle.tools_core.proofs.NumberLemmas.{numbered_in_order}
 use Rattle.tools_core.proofs.PromiseLemmas.{DidOne, did_one, one_done, slot_of}
 use Rattle.tools_core.proofs.SplitPromises.{bytes_written}

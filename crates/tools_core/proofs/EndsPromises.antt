@@ -8,10 +8,10 @@ use Rattle.seg_core.specs.declared.unit.Unit.TheVariants.{Lines, Bytes}
 use Rattle.ends_core.specs.Ends.{head_of, tail_of, after_of, first_of}
 use Rattle.ends_core.specs.laws.EndsLaws.{first_then_after, ends_together}
 use Rattle.run_core.specs.Task.{header_text}
-use Rattle.words_core.specs.declared.settings.Settings.TheVariants.{Head, Tail, Tee}
+use Rattle.words_core.specs.declared.settings.Settings.TheVariants.{Tee}
 use Rattle.words_core.specs.EndsAsked.{EndsAsked}
-use Rattle.tools_core.specs.Tasks.{head_task, tail_task, is_minus, is_plus}
-use Rattle.tools_core.specs.Promises.{Run, HasInput, IsHead, IsTail, IsBare, CountAlike, counted, output_of, Does, AreCopies, IsSound, files_of}
+use Rattle.tools_core.specs.Tasks.{is_minus, is_plus}
+use Rattle.tools_core.specs.Promises.{Run, HasInput, IsHead, IsTail, IsBare, CountAlike, output_of, Does, AreCopies, IsSound, files_of}
 use Rattle.tools_core.proofs.PromiseLemmas.{did_one, one_done}
 use Rattle.std.specs.List.{All}
 use Rattle.std.proofs.lemmas.List.Elements.{All-nil, All-cons}

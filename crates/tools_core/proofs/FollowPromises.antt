@@ -99,7 +99,7 @@ gains_are shows {name} {file} {count} start (suc n) {came} within grows is =
     let there : (shows (start + suc n)).holds file ≡ (shows (suc start + n)).holds file = ap (λ k. (shows k).holds file) (let e : start + suc n ≡ suc start + n = omega arith in e) in
     let both : (shows start).holds file ++ came ≡ (shows start).holds file ++ (piece ++ rest) =
     sym is ∙ there ∙ later ∙ ap (λ front. front ++ rest) next ∙ append_assoc ((shows start).holds file) piece rest in
-    ap (λ gained. gained ++ gains_later (version_in (shows (suc start)) file) (versions shows file (suc (suc start)) n)) (grown file ((shows start).holds file) piece ((shows (suc start)).holds file) next)
+    ap (λ gained. gained ++ gains_later (version_in (shows (suc start)) file) (versions shows file (suc (suc start)) n)) (grown file ((shows start).holds file) next)
     ∙ ap (λ more. piece ++ more) (gains_are shows (suc start) n below grows later)
     ∙ sym (sym (drop_front ((shows start).holds file) came) ∙ ap (drop (length ((shows start).holds file))) both ∙ drop_front ((shows start).holds file) (piece ++ rest))
 

@@ -107,7 +107,7 @@ abbrev pub part_of : Task → List ℕ → List ℕ → Part
 part_of task name bytes = after_part (only_out (header_text task.with_header true name)) (task.work.whole bytes)
 
 pub made_one : (task : Task) (input : Input) {bytes : List ℕ} → input.content ≡ Some (ending bytes) → (made_by task (input ∷ [])).part ≡ part_of task input.name bytes
-made_one task input {bytes} is = ap (λ content. after_part (of_content task true input.name content).part nothing) is ∙ nothing_after (part_of task input.name bytes)
+made_one task input {bytes} is = ap (λ content. after_part (of_content task true input.name content).part nothing) is ∙ nothing_after
 
 pub record IsMade (task : Task) (name bytes : List ℕ) (new : List Slot) : Type 0 where
   pub unjudged : task.work.verdict bytes ≡ None

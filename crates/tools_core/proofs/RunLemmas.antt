@@ -3,7 +3,7 @@ use Rattle.std.proofs.Common.{◌≡◌, ℕ, List, [], ◌∷◌, Option, Some,
 use Rattle.ports_core.specs.declared.fault.Fault.{Fault}
 use Rattle.ports_core.specs.declared.tool.Tool.{Tool}
 use Rattle.words_core.specs.declared.settings.Settings.{Settings}
-use Rattle.words_core.specs.declared.settings.Settings.TheVariants.{Tail, Split, Csplit, Head, Tee}
+use Rattle.words_core.specs.declared.settings.Settings.TheVariants.{Tail, Split, Csplit, Tee}
 use Rattle.words_core.specs.CsplitWords.{csplit_asked, HasBadOperand}
 use Rattle.words_core.specs.Given.{Given}
 use Rattle.words_core.specs.Spelling.{given_by, IsRefused}
@@ -13,7 +13,7 @@ use Rattle.words_core.specs.TailWords.{tail_asked}
 use Rattle.words_core.specs.Table.{ToolRow, row_named, tools}
 use Rattle.words_core.specs.Words.{settings_for, settings_of, tool_settings, CanRun, HasBadOperands, follows, looks}
 use Rattle.tools_core.specs.Outcome.{speaker, or_cutters, CsplitEndsAs, DoesAsked, RefusesFor, RunEnds, RunEndsAt, TeeEndsAs, names_at, names_read}
-use Rattle.tools_core.specs.Tasks.{tool_of, csplit_task, head_task, tail_task, split_task, names_of, has_headers}
+use Rattle.tools_core.specs.Tasks.{tool_of, csplit_task, names_of, has_headers}
 use Rattle.words_core.proofs.LimitLemmas.{read-can}
 use Rattle.std.proofs.lemmas.Bool.{false≢true}
 use Rattle.ports_core.specs.Slot.{Slot, changed_at, slot_at, streams}
@@ -167,7 +167,7 @@ unread_task : {told_in told : Bool} {laid : ℕ → List ℕ → Option Content}
     → Says told task.tool (message_of task.tool Memory []) standard_error error → new ≡ streams_with error
     → RunsOver told_in (world_of laid sources) names (λ found. EndsAs told_in told task found sources new 1)
 unread_task {told_in} {laid} {sources} {names} {error} fresh says slots =
-    let untouched = none_touched told_in laid sources names fresh in (untouched.0, untouched.1, no_room error (error, says, refl) slots untouched.2 (ap length fresh.only) refl)
+    let untouched = none_touched {told_in = told_in} {laid = laid} {names = names} fresh in (untouched.0, untouched.1, no_room error (error, says, refl) slots untouched.2 (ap length fresh.only) refl)
 
 unread_tee : {told_in told : Bool} {laid : ℕ → List ℕ → Option Content} {sources : List Source} {asked : TeeAsked} {new : List Slot} {error : Slot} → IsFresh sources
     → Says told tool.Tee (message_of tool.Tee Memory []) standard_error error → new ≡ streams_with error
@@ -186,12 +186,10 @@ lacks_memory asked = (record { kind = kind.Memory; index = 0 }, no_memory 0, ref
 unread_settings : {told_in told : Bool} {laid : ℕ → List ℕ → Option Content} {sources : List Source} (words : List (List ℕ)) (settings : Settings) {new : List Slot} {error : Slot} → IsFresh sources → RefusesFor told words Memory new 1
     → Says told (tool_of settings) (message_of (tool_of settings) Memory []) standard_error error → new ≡ streams_with error
     → RunsOver told_in (world_of laid sources) (names_of settings) (λ found. RunEndsAt told_in told words found sources sources new 1 (Ok settings))
-unread_settings words (Head asked) {new} {error} fresh refuses says slots = let (found, finds, does) = unread_task fresh says slots in (found, finds, inl does)
-unread_settings words (Tail asked) {new} {error} fresh refuses says slots = let (found, finds, does) = unread_task fresh says slots in (found, finds, inl does)
-unread_settings words (Split asked) {new} {error} fresh refuses says slots = let (found, finds, does) = unread_task fresh says slots in (found, finds, inl does)
 unread_settings {told_in} {laid} {sources} words (Csplit asked) fresh refuses says slots =
-    let untouched = none_touched told_in laid sources (asked.input ∷ []) fresh in (untouched.0, untouched.1, inr (refl, (Memory, lacks_memory asked, refuses)))
-unread_settings words (Tee asked) {new} {error} fresh refuses says slots = let (found, finds, does) = unread_tee fresh says slots in (found, finds, inl does)
+    let untouched = none_touched {told_in = told_in} {laid = laid} {names = asked.input ∷ []} fresh in (untouched.0, untouched.1, inr (refl, (Memory, lacks_memory asked, refuses)))
+unread_settings words (Tee asked) fresh refuses says slots = let (found, finds, does) = unread_tee fresh says slots in (found, finds, inl does)
+unread_settings words asked fresh refuses says slots = let (found, finds, does) = unread_task fresh says slots in (found, finds, inl does)
 
 -- words that are refused, or weren't read for want of memory
 
@@ -219,7 +217,7 @@ unread_for words (Err fault) {new} {error} fresh is says slots = (
 operands_refused : {told_in told : Bool} {laid : ℕ → List ℕ → Option Content} {sources : List Source} (words : List (List ℕ)) (settings : Settings) (fault : Fault) {new : List Slot} {status : ℕ} → IsFresh sources → HasBadOperands settings fault
     → RefusesFor told words fault new status → RunsOver told_in (world_of laid sources) (names_of settings) (λ found. RunEndsAt told_in told words found sources sources new status (Ok settings))
 operands_refused {told_in} {laid} {sources} words settings fault fresh bad refuses =
-    let untouched = none_touched told_in laid sources (names_of settings) fresh in (untouched.0, untouched.1, inr (refl, (fault, bad, refuses)))
+    let untouched = none_touched {told_in = told_in} {laid = laid} {names = names_of settings} fresh in (untouched.0, untouched.1, inr (refl, (fault, bad, refuses)))
 
 pub refused_or_memory : {told_in told : Bool} {laid : ℕ → List ℕ → Option Content} {sources : List Source} (words : List (List ℕ)) {fault : Fault} {new : List Slot} {status : ℕ} → IsFresh sources → IsRefused HasBadOperands (settings_of words) fault
     → RefusesFor told words fault new status → RunsOver told_in (world_of laid sources) (names_read words) (λ found. RunEnds told_in told words found sources sources new status)

@@ -22,10 +22,10 @@ use Rattle.tee_core.specs.Run.{IsRead, all_copied, are_sound, broke_before, mess
 use Rattle.tee_core.proofs.EndLemmas.{nothing_before, nothing_in, sound_first, whole_files, whole_output}
 use Rattle.words_core.specs.CsplitAsked.{CsplitAsked}
 use Rattle.words_core.specs.declared.settings.Settings.{Settings}
-use Rattle.words_core.specs.declared.settings.Settings.TheVariants.{Head, Tail, Split, Csplit, Tee}
+use Rattle.words_core.specs.declared.settings.Settings.TheVariants.{Csplit, Tee}
 use Rattle.words_core.specs.Words.{settings_of}
 use Rattle.tools_core.specs.Outcome.{CsplitEndsAs, DoesAsked, names_at}
-use Rattle.tools_core.specs.Tasks.{csplit_task, head_task, split_task, tail_task, names_of, tool_of}
+use Rattle.tools_core.specs.Tasks.{csplit_task, names_of, tool_of}
 use Rattle.tools_core.specs.Promises.{Completes, Does, FindAlike, IsAlike, IsCopied, IsUnstopped, LeaveAlike, Run, SaysLines, Unstopped}
 use Rattle.tools_core.proofs.BeginLemmas.{slots_at}
 use Rattle.tools_core.proofs.PromiseLemmas.{did, well_done}
@@ -44,13 +44,11 @@ csplit_same {asked} {inputs} {those} {other} one two =
     (subst (λ read. EndsAs true true (csplit_task asked read) inputs those other 0) (asks_once asked.operands two.operands one.operands two.asks one.asks) two.ends)
 
 does_same : (asked : Settings) (inputs : List Input) (these those : List Source) {new other : List Slot} → DoesAsked true true asked inputs these new 0 → DoesAsked true true asked inputs those other 0 → new ≡ other
-does_same (Head asked) inputs these those {new} {other} one two = ends_same one two
-does_same (Tail asked) inputs these those {new} {other} one two = ends_same one two
-does_same (Split asked) inputs these those {new} {other} one two = ends_same one two
-does_same (Csplit asked) inputs these those {new} {other} one two = csplit_same one two
+does_same (Csplit asked) inputs these those one two = csplit_same one two
 does_same (Tee asked) inputs these those one two =
     let same : one.content.bytes ≡ two.content.bytes = sym (ap bytes_at one.input) ∙ ap bytes_at two.input in
     one.whole refl refl ∙ ap (all_copied true asked.mode asked.names) same ∙ sym (two.whole refl refl)
+does_same asked inputs these those one two = ends_same one two
 
 pub found_same : (one other : Run) {asked : Settings} → settings_of one.words ≡ Ok asked → settings_of other.words ≡ Ok asked → FindAlike one other → inputs_at one.world (names_of asked) ≡ inputs_at other.world (names_of asked)
 found_same one other read read_too same =
@@ -121,8 +119,8 @@ ends_alike {task} {inputs} {new} {other} {status} (as_defined error reached says
       outputs = λ place differs. swept_alike made.sweeps reached reached_too new other place
           (ap (λ slots. slot_at slots place) at ∙ beside_error (adds made.part.out standard_output) error error_too _ place differs ∙ sym (ap (λ slots. slot_at slots place) at_too)) swept swept_too;
       lines = made.messages;
-      says = record { are = inputs_are task true inputs; said = subst (SaysAll true task.tool made.messages standard_error) (sym (swept_error made.sweeps 2 reached new (omega arith) swept ∙ ap (λ slots. slot_at slots 1) at)) says };
-      says_too = record { are = inputs_are task true inputs; said = subst (SaysAll true task.tool made.messages standard_error) (sym (swept_error made.sweeps 2 reached_too other (omega arith) swept_too ∙ ap (λ slots. slot_at slots 1) at_too)) says_too };
+      says = record { are = inputs_are task true inputs; said = subst (SaysAll true task.tool made.messages standard_error) (sym (swept_error made.sweeps reached new (omega arith) swept ∙ ap (λ slots. slot_at slots 1) at)) says };
+      says_too = record { are = inputs_are task true inputs; said = subst (SaysAll true task.tool made.messages standard_error) (sym (swept_error made.sweeps reached_too other (omega arith) swept_too ∙ ap (λ slots. slot_at slots 1) at_too)) says_too };
     }
 ends_alike (as_defined error reached says outputs swept done is) ends_too one two = absurd two
 ends_alike ends ends_too one two = absurd one
@@ -197,15 +195,13 @@ tee_alike {mode} {names} {other} {status_too} same one two all all_too =
 does_alike : (asked : Settings) (inputs : List Input) (these those : List Source) {new other : List Slot} {status status_too : ℕ} (one : DoesAsked true true asked inputs these new status) (two : DoesAsked true true asked inputs those other status_too)
     → Unstopped asked inputs these new status one → Unstopped asked inputs those other status_too two → AreAlike (tool_of asked) new other status status_too
 unfolding content_at content_in
-does_alike (Head asked) inputs these those {new} {other} {status} {status_too} one two unstopped unstopped_too = ends_alike one two unstopped unstopped_too
-does_alike (Tail asked) inputs these those {new} {other} {status} {status_too} one two unstopped unstopped_too = ends_alike one two unstopped unstopped_too
-does_alike (Split asked) inputs these those {new} {other} {status} {status_too} one two unstopped unstopped_too = ends_alike one two unstopped unstopped_too
-does_alike (Csplit asked) inputs these those {new} {other} {status} {status_too} one two unstopped unstopped_too =
+does_alike (Csplit asked) inputs these those {other} {status_too} one two unstopped unstopped_too =
     let (ends, unstopped_here) = subst (λ read. (ends : EndsAs true true (csplit_task asked read) inputs those other status_too) × IsUnstopped ends) (asks_once asked.operands two.operands one.operands two.asks one.asks) (two.ends, unstopped_too) in
     ends_alike one.ends ends unstopped unstopped_here
-does_alike (Tee asked) inputs these those {new} {other} {status} {status_too} one two unstopped unstopped_too =
+does_alike (Tee asked) inputs these those one two unstopped unstopped_too =
     let same : two.content ≡ one.content = ap (content_at one.content) (sym two.input ∙ one.input) in
     tee_alike same one.ends two.ends unstopped unstopped_too
+does_alike asked inputs these those one two unstopped unstopped_too = ends_alike one two unstopped unstopped_too
 
 alike_runs : {asked : Settings} {one other : Run} → AreAlike (tool_of asked) one.outputs other.outputs one.status other.status → LeaveAlike asked one other
 alike_runs alike = record { status = alike.status; count = alike.count; outputs = alike.outputs; said = (alike.lines, alike.says, alike.says_too) }

@@ -39,7 +39,7 @@ use Rattle.split_core.proofs.SectionLemmas.{joined_parts, part_lines, part_bytes
 use Rattle.words_core.specs.declared.settings.Settings.TheVariants.{Split}
 use Rattle.words_core.specs.SplitAsked.{SplitAsked}
 use Rattle.words_core.specs.SplitWords.{CanSplit, IsInLimits}
-use Rattle.tools_core.specs.Tasks.{naming_of, split_task}
+use Rattle.tools_core.specs.Tasks.{naming_of}
 use Rattle.tools_core.specs.Promises.{Run, Does, HasInput, AreInOrder, AreListed, ArePieces, AreLinePieces, AreUncut, AreDealt, EndsLine, IsFilled, IsSound, contents_of, files_of, text_at}
 use Rattle.tools_core.proofs.RunLemmas.{can_run}
 use Rattle.tools_core.proofs.PromiseLemmas.{did_one, one_done, slot_of}

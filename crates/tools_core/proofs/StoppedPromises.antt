@@ -26,8 +26,8 @@ use Rattle.words_core.specs.CsplitWords.{fault_in}
 use Rattle.words_core.specs.Words.{HasBadOperands}
 use Rattle.words_core.specs.declared.settings.Settings.{Settings}
 use Rattle.words_core.specs.declared.settings.Settings.TheVariants.{Head, Tail, Split, Csplit, Tee}
-use Rattle.tools_core.specs.Outcome.{DoesAsked, RefusesOperands, speaker, word_of}
-use Rattle.tools_core.specs.Tasks.{csplit_task, head_task, names_of, split_task, tail_task, tool_of, is_minus, is_plus, plan_of}
+use Rattle.tools_core.specs.Outcome.{DoesAsked, RefusesOperands, word_of}
+use Rattle.tools_core.specs.Tasks.{names_of, tool_of, is_plus, plan_of}
 use Rattle.tools_core.specs.Promises.{BrokeAt, Completes, HasLong, IsCalled, IsCopied, IsStopped, IsUnstopped, Ran, Run, StopsRun, Unstopped, failing, WhyBroken, IsGone, SaysLines, removes_files, told, unremoved}
 use Rattle.tools_core.proofs.BeginLemmas.{slots_at}
 use Rattle.tools_core.proofs.PromiseLemmas.{ran_over}
@@ -177,11 +177,9 @@ tee_or only (tee.no_room error says unread slots is) = inr (record {
 -- All tools
 
 does_or : {run : Run} (asked : Settings) (does : DoesAsked true true asked (inputs_at run.world (names_of asked)) run.inputs run.outputs run.status) → Unstopped asked (inputs_at run.world (names_of asked)) run.inputs run.outputs run.status does ⊎ IsStop (tool_of asked) run asked
-does_or (Head asked) does = ends_or does
-does_or (Tail asked) does = ends_or does
-does_or (Split asked) does = ends_or does
 does_or (Csplit asked) does = ends_or does.ends
 does_or (Tee asked) does = tee_or does.input does.ends
+does_or asked does = ends_or does
 
 -- operands that are wrong
 
@@ -209,17 +207,14 @@ refused_stop {run} {asked} ran (fault, bad, refuses) = record {
 stopped_so : {run : Run} {asked : Settings} → IsStop (tool_of asked) run asked → IsStopped run asked
 stopped_so stop = record { failed = stop.failed; why = stop.why; name = stop.name; stops = stop.stops; told = stop.line }
 
-by_unstopped : {run : Run} {asked : Settings} → Ran run asked → (does : DoesAsked true true asked (inputs_at run.world (names_of asked)) run.inputs run.outputs run.status)
-    → Unstopped asked (inputs_at run.world (names_of asked)) run.inputs run.outputs run.status does ⊎ IsStop (tool_of asked) run asked → Completes run asked ⊎ IsStopped run asked
-by_unstopped ran does (inl unstopped) = inl (record { read = ran.read; does = does; unstopped = unstopped })
-by_unstopped ran does (inr stop) = inr (stopped_so stop)
-
-stopped_by_either : {run : Run} {asked : Settings} → Ran run asked → DoesAsked true true asked (inputs_at run.world (names_of asked)) run.inputs run.outputs run.status ⊎ RefusesOperands true run.words asked run.outputs run.status → Completes run asked ⊎ IsStopped run asked
-stopped_by_either {asked} ran (inl does) = by_unstopped ran does (does_or asked does)
-stopped_by_either ran (inr refuses) = inr (stopped_so (refused_stop ran refuses))
-
 pub completes_or : (run : Run) (asked : Settings) → Ran run asked → Completes run asked ⊎ IsStopped run asked
-completes_or run asked ran = stopped_by_either ran (ran_over ran)
+completes_or run asked ran = elim (ran_over ran) [
+  | inl does ↦ elim (does_or asked does) [
+    | inl unstopped ↦ inl (record { read = ran.read; does = does; unstopped = unstopped })
+    | inr stop ↦ inr (stopped_so stop)
+  ]
+  | inr refuses ↦ inr (stopped_so (refused_stop ran refuses))
+]
 
 -- An output that is broken was told by its name, unless it is a file that was to be removed.
 
@@ -427,15 +422,14 @@ does_due (Split asked) inputs sources new {status} {place} differs broken does =
 does_due (Csplit asked) inputs sources new {status} {place} differs broken does = ends_due (csplit_living asked.style does.operands) differs broken does.ends
 does_due (Tee asked) inputs sources new {status} {place} differs broken does = tee_due differs broken does.ends
 
-by_either : (run : Run) (asked : Settings) (found : List Input) {place : ℕ} → (place ≡ 1 → ⊥) → (slot_at run.outputs place).is_broken ≡ true → DoesAsked true true asked found run.inputs run.outputs run.status ⊎ RefusesOperands true run.words asked run.outputs run.status
-    → IsDueTo (tool_of asked) (removes_files asked) run.outputs run.status place
-by_either run asked found {place} differs broken (inl does) = does_due asked found run.inputs run.outputs differs broken does
-by_either run asked found {place} differs broken (inr (fault, bad, refuses)) =
-    still_sound place refuses.slots (streams_sound place refuses.error differs) broken
-
-why_broken : {run : Run} {asked : Settings} {place : ℕ} → IsToldOf (tool_of asked) run.outputs place ⊎ IsStuck (removes_files asked) run.outputs place → WhyBroken run asked place
-why_broken (inl (name, called, line)) = told name called line
-why_broken (inr (removes, closed, gone)) = unremoved removes closed gone
-
 pub is_broken : (run : Run) (asked : Settings) (place : ℕ) → Ran run asked → (place ≡ 1 → ⊥) → (slot_at run.outputs place).is_broken ≡ true → (run.status ≡ 1) × WhyBroken run asked place
-is_broken run asked place ran differs broken = let due = by_either run asked _ differs broken (ran_over ran) in (due.0, why_broken due.1)
+is_broken run asked place ran differs broken = elim (ran_over ran) [
+  | inl does ↦ let due = does_due asked _ run.inputs run.outputs differs broken does in (
+    due.0,
+    elim due.1 [
+      | inl (name, called, line) ↦ told name called line
+      | inr (removes, closed, gone) ↦ unremoved removes closed gone
+    ],
+  )
+  | inr (fault, bad, refuses) ↦ still_sound place refuses.slots (streams_sound place refuses.error differs) broken
+]

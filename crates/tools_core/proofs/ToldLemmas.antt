@@ -24,10 +24,10 @@ use Rattle.run_core.proofs.StopLemmas.{swept_error}
 use Rattle.tee_core.specs.Run as tee
 use Rattle.tee_core.specs.Run.{FilesLeft, OutputLeft, are_sound, fault_in, messages_of, output_names, said_before, said_in, said_of_input}
 use Rattle.words_core.specs.declared.settings.Settings.{Settings}
-use Rattle.words_core.specs.declared.settings.Settings.TheVariants.{Head, Tail, Split, Csplit, Tee}
+use Rattle.words_core.specs.declared.settings.Settings.TheVariants.{Csplit, Tee}
 use Rattle.tools_core.specs.Outcome.{DoesAsked, RefusesOperands}
 use Rattle.tools_core.specs.Outcome as outcome
-use Rattle.tools_core.specs.Tasks.{csplit_task, head_task, split_task, tail_task, tool_of}
+use Rattle.tools_core.specs.Tasks.{tool_of}
 use Rattle.tools_core.specs.Promises.{IsCalled, IsTold, Ran, Run, SaysLines, failing}
 use Rattle.tools_core.proofs.PromiseLemmas.{ran_over}
 use Rattle.tools_core.proofs.RunLemmas.{runs_as_named}
@@ -171,7 +171,7 @@ marked_error IsDue fault place count output since after from marks = ap (λ slot
 -- that of a run which was stopped
 pub stopped_error : (clears : Bool) {error : Slot} {low high : Part} {fault : Fault} {reached : List Slot} (new : List Slot) → StoppedBetween true (streams_with error) low high fault reached → Swept clears 2 reached new → slot_at new 1 ≡ error
 stopped_error clears {error} {high} {fault} {reached} new between swept =
-    swept_error clears 2 reached new (omega arith) swept
+    swept_error clears reached new (omega arith) swept
     ∙ marked_error (IsNext between.part high) fault between.place (length between.part.files) _ between.outputs.since reached between.from
     (subst (λ slots. Marks (IsNext between.part high) fault slots reached) between.outputs.slots between.marks)
 
@@ -183,7 +183,7 @@ has_failed false is one = absurd (omega (arith, is, one))
 
 ends_told : {task : Task} {inputs : List Input} {sources : List Source} {new : List Slot} {status : ℕ} → status ≡ 1 → EndsAs true true task inputs sources new status → TellsFault task.tool (slot_at new 1)
 ends_told {task} {inputs} {new} one (as_defined error reached says outputs swept done is) =
-    subst (TellsFault task.tool) (sym (swept_error _ 2 reached new (omega arith) swept ∙ ap (λ slots. slot_at slots 1) outputs.slots))
+    subst (TellsFault task.tool) (sym (swept_error _ reached new (omega arith) swept ∙ ap (λ slots. slot_at slots 1) outputs.slots))
     (tells_fault (inputs_fault task true inputs (has_failed _ is one)) (record { are = inputs_are task true inputs; said = says }))
 ends_told {task} {new} one (stopped fault before input after error step reached are done untouched at stops between swept says is) =
     subst (TellsFault task.tool) (sym (stopped_error task.work.clears new between swept))
@@ -309,18 +309,14 @@ tee_says {pieces} {names} {first} {broke} {error} fault {place} left rest says d
 -- All tools
 
 does_told : (asked : Settings) (inputs : List Input) (sources : List Source) (new : List Slot) {status : ℕ} → status ≡ 1 → DoesAsked true true asked inputs sources new status → TellsFault (tool_of asked) (slot_at new 1)
-does_told (Head asked) inputs sources new {status} one does = ends_told one does
-does_told (Tail asked) inputs sources new {status} one does = ends_told one does
-does_told (Split asked) inputs sources new {status} one does = ends_told one does
-does_told (Csplit asked) inputs sources new {status} one does = ends_told one does.ends
-does_told (Tee asked) inputs sources new {status} one does = tee_told one does.ends
-
-by_either : {run : Run} {asked : Settings} (found : List Input) → Ran run asked → run.status ≡ 1 → DoesAsked true true asked found run.inputs run.outputs run.status ⊎ RefusesOperands true run.words asked run.outputs run.status → IsTold run asked
-by_either {run} {asked} found ran one (inl does) = does_told asked found run.inputs run.outputs one does
-by_either {run} {asked} found ran one (inr (fault, bad, refuses)) =
-    subst (λ those. TellsFault (tool_of asked) (slot_at those 1)) (sym refuses.slots)
-    (subst (λ which. TellsFault which refuses.error) (runs_as_named run.words ran.read)
-    (tells_fault (only_fault fault (outcome.word_of run.words fault)) (says_one fault (outcome.word_of run.words fault) (refuses.error, refuses.says, refl))))
+does_told (Csplit asked) inputs sources new one does = ends_told one does.ends
+does_told (Tee asked) inputs sources new one does = tee_told one does.ends
+does_told asked inputs sources new one does = ends_told one does
 
 pub is_told : (run : Run) (asked : Settings) → Ran run asked → run.status ≡ 1 → IsTold run asked
-is_told run asked ran one = by_either _ ran one (ran_over ran)
+is_told run asked ran one = elim (ran_over ran) [
+  | inl does ↦ does_told asked _ run.inputs run.outputs one does
+  | inr (fault, bad, refuses) ↦ subst (λ those. TellsFault (tool_of asked) (slot_at those 1)) (sym refuses.slots)
+      (subst (λ which. TellsFault which refuses.error) (runs_as_named run.words ran.read)
+      (tells_fault (only_fault fault (outcome.word_of run.words fault)) (says_one fault (outcome.word_of run.words fault) (refuses.error, refuses.says, refl))))
+]

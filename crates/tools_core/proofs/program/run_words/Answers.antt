@@ -17,7 +17,7 @@ returns-then-follows-clause-ends g c =
     (subst (λ n. FollowingEndsAt g.W.Watch.told g.O.Outs.told (map (λ word. word.now) c.args.words.now) n (g.W.Watch.shows c.args.watch.now) (g.W.Watch.seen c.follow_asked.new.watch) (g.W.Watch.watched c.follow_asked.new.watch) (g.O.Outs.slots c.follow_asked.new.outs) c.follow_asked.result (Ok c.in-Ok.settings)) c.looks.ensures c.follow_asked.ensures)
 
 pub returns-then-follows-clause-opened : goal.returns-then-follows-clause-opened
-returns-then-follows-clause-opened g c = fresh_counts _ (names_read (map (λ word. word.now) c.args.words.now)) c.requires.inputs
+returns-then-follows-clause-opened g c = fresh_counts (names_read (map (λ word. word.now) c.args.words.now)) c.requires.inputs
 
 -- a tool runs over its inputs
 
@@ -39,4 +39,4 @@ returns-clause-ends g c =
     c.requires.inputs c.requires.unseen c.requires.unwatched c.in-Err.ensures.err c.refuse_words.ensures
 
 pub returns-clause-opened : goal.returns-clause-opened
-returns-clause-opened g c = fresh_counts _ (names_read (map (λ word. word.now) c.args.words.now)) c.requires.inputs
+returns-clause-opened g c = fresh_counts (names_read (map (λ word. word.now) c.args.words.now)) c.requires.inputs

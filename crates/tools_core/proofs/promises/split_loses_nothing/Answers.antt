@@ -1,6 +1,5 @@
 use Rattle.std.proofs.Common.{length}
 use Rattle.seg_core.specs.Line.{line_count}
-use Rattle.seg_core.specs.declared.cut.Cut.TheVariants.{Lines, Bytes, LineBytes, Round}
 use Rattle.tools_core.specs.Promises.{AreDealt, AreLinePieces, ArePieces, AreUncut}
 use Rattle.tools_core.proofs.SplitPromises.{by_cut, byte_pieces, dealt_lines, is_split, line_byte_pieces, line_ends, line_pieces}
 use Rattle.tools_core.proofs.promises.split_loses_nothing.Goals as goal

@@ -3,7 +3,6 @@ use Rattle.run_core.specs.Input.{has_dash}
 use Rattle.words_core.specs.CsplitAsked.{CsplitAsked}
 use Rattle.words_core.specs.SplitAsked.{SplitAsked}
 use Rattle.words_core.specs.declared.settings.Settings.{Settings}
-use Rattle.words_core.specs.declared.settings.Settings.TheVariants.{Head, Tail, Split, Csplit, Tee}
 use Rattle.tools_core.specs.Tasks.{names_of}
 use Rattle.tools_core.proofs.RunLemmas.{ends_names, for_settings, runs_names, counts_for, csplit_runs, tee_counts, tee_runs}
 use Rattle.tools_core.proofs.run.run_tool.Goals as goal
