@@ -229,9 +229,6 @@ contents_led {snapshot} {old} {new} {place} seen can reopens is t =
     ∙ ap (open_contents snapshot) (opened_there old place can) ∙ contents_open snapshot (record (watched_at old place) { opened = reopens.file })
     ∙ ap (held_at snapshot) (reopens.leads t ∙ ap snapshot.leads is)
 
-past_zero : {contents : List ℕ} → bytes_past 0 contents ≡ contents
-past_zero = grind (arith, nat_tests)
-
 pub readable_there : {told : Bool} {snapshot : Snapshot} {old new : List Watched} {place : ℕ} {is_there : Bool} → Reopens told snapshot old new place is_there → is_there ≡ true → IsTrue (is_watchable old place) → IsTrue (is_readable new place)
 readable_there {old} {place} reopens there can =
     ap (λ those. is_readable those place) reopens.names ∙ ap (λ (those : Watched). is_some those.opened && is_none those.failed) (opened_there old place can)
@@ -487,7 +484,7 @@ module _ {told_in told : Bool} {snapshot : Snapshot} {place : ℕ} {name : List 
       → Leads told_in told snapshot place name position watched printer slots watched_new after slots_new result
   leads_there {now} {watched_mid} {watched_new} {result} changed line seen can reopens named catches = record {
     ends = ends_said snapshot (watched_at watched place).opened (snapshot.leads name) changed (λ t. (refl, refl)) line
-        (due_as (λ t. (past_zero ∙ whole_of t, no_line name (omega arith))) (catches.ends (λ t none. refl)));
+        (due_as (λ t. ((grind (arith, nat_tests)) ∙ whole_of t, no_line name (omega arith))) (catches.ends (λ t none. refl)));
     len = IfOk-weaker result (λ n. told_in ≡ true → ((watched_at watched_mid place).opened ≡ None → ◌≡◌ {A = ℕ} 0 0) → n ≡ length (held_at now (watched_at watched_mid place).opened)) _
         (λ n long t before. long t (λ none. refl) ∙ ap length (whole_of t)) catches.len;
     follows = follows_there true watched_new result reopens named catches.keeps;

@@ -87,9 +87,6 @@ last_append printer name (byte ∷ first) more =
     let mid : PrinterState = printer_under printer name (byte ∷ first) in
     ap (λ due. record mid { last = if due then Some name else mid.last }) (sym (same_last printer name (byte ∷ first) more refl))
 
-pub under_nil : (printer : PrinterState) (name : List ℕ) → text_under printer name [] ≡ []
-under_nil printer name = rw (not_due printer name) refl
-
 pub last_nil : {printer : PrinterState} (name : List ℕ) → printer_under printer name [] ≡ printer
 last_nil {printer} name = rw (not_due printer name) refl
 
