@@ -132,9 +132,6 @@ step_begins name grows at = nothing_begins_part _
 
 -- A run over one input
 
-only_one : {input first : Input} (before after : List Input) (other : Input) → input ∷ [] ≡ first ∷ before ++ other ∷ after → ⊥
-only_one before after other is = let size : 1 ≡ suc (length (before ++ other ∷ after)) = ap length is in let more = length-append before (other ∷ after) in omega (arith, size, more)
-
 abbrev first_or : Input → List Input → Input
 first_or default [] = default
 first_or default (one ∷ more) = one
@@ -171,7 +168,8 @@ begins_whole {task} {input} {sources} {new} is grows differs (stopped fault [] o
     let at_input = subst (λ (which : Input). RunStep true task largest_piece nothing (header_text task.with_header true which.name) which.slot sources which.content step) same at in
     let at_bytes = subst (λ content. RunStep true task largest_piece nothing (header_text task.with_header true input.name) input.slot sources content step) is at_input in
     stopped_begins task.work.clears new (step_begins input.name grows at_bytes) differs between swept
-begins_whole is grows differs (stopped fault (first ∷ before) other after error step reached are done untouched at stops between swept says status_is) = absurd (only_one before after other are)
+begins_whole is grows differs (stopped fault (first ∷ before) other after error step reached are done untouched at stops between swept says status_is) = absurd
+    (let size : 1 ≡ suc (length (before ++ other ∷ after)) = ap length are in let more = length-append before (other ∷ after) in omega (arith, size, more))
 begins_whole {place} is grows differs (no_room error says slots untouched count status_is) = still_begins place slots (bare_begins error place differs)
 
 -- Works grow.
@@ -217,16 +215,13 @@ dealt_grows delim n elide names {bytes} all = record {
 
 -- files that lines are dealt to have names
 
-named_place : {last n count : ℕ} → suc last ≤ n → n ≤ count → nat_lt last count ≡ true
-named_place few all = grind (arith, nat_tests)
-
 either_named : (auto : Bool) {has : Bool} → has ≡ true → (auto || has) ≡ true
 either_named true is = refl
 either_named false is = is
 
 named_up_to : (names : Naming) (count : ℕ) {n : ℕ} → count ≤ n → n ≤ name_count names.alphabet names.width → are_named names count ≡ true
 named_up_to names zero few all = refl
-named_up_to names (suc last) {n} few all = either_named names.auto (named_place few all)
+named_up_to names (suc last) {n} few all = either_named names.auto (grind (arith, nat_tests))
 
 dealt_named : (delim : ℕ) {n : ℕ} (elide : Bool) (names : Naming) (bytes : List ℕ) → n ≤ name_count names.alphabet names.width → are_named names (length (map (share Closed) (dealt_files delim elide n bytes))) ≡ true
 dealt_named delim {n} elide names bytes all = ap (are_named names) (dealt_count delim elide n bytes) ∙ named_up_to names (opened_by delim elide n bytes) (opened_by-most delim elide n bytes) all

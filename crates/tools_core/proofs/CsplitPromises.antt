@@ -137,9 +137,6 @@ read_keep [] [] keep are = tt
 read_keep (spelled ∷ more) (operand ∷ operands) keep are = (target_keeps spelled.aim operand.target keep.0 are.0.target, read_keep more operands keep.1 are.1)
 read_keep spelled operands keep are = absurd are
 
-pub targets_keep : {words : List (List ℕ)} {operands : List Operand} → SkipNothing words → Asks words operands → KeepTargets operands
-targets_keep {words} {operands} none asks = read_keep (words_of words).operands operands (all_keep words none) asks.read
-
 -- What `csplit` leaves of its input.
 
 -- All sections are kept, where all operands keep theirs.
@@ -290,7 +287,7 @@ pub none_is_lost : (run : Run) (asked : CsplitAsked) (input : List ℕ) → Does
 none_is_lost run asked input does has whole none =
     let split = is_csplit does has in
     let lines = all_lines input in
-    let keep = targets_keep none split.asks in
+    let keep = (read_keep (words_of _).operands _ (all_keep _ none) split.asks.read) in
     ap (λ files. joined (map (λ (file : Slot). file.written) files)) split.files
     ∙ files_joined asked.style 0 (whole_sections lines (plan asked.style.suppress split.operands lines)) (sections_kept asked.style.suppress split.operands lines keep)
     ∙ ap (λ suppress. bytes_of (lines_in (whole_sections lines (plan suppress split.operands lines)))) whole

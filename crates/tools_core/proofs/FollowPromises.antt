@@ -179,14 +179,11 @@ opens by_name shows [] grows saw some = absurd (omega (arith, some))
 opens by_name {name} shows {file} (look ∷ looks) grows saw some =
     ap (open_after by_name name) (saw ∙ seen_are shows (suc (length looks))) ∙ stays_open by_name shows (length looks) (omega arith) grows
 
-never_over : (ways : Ways) {name : List ℕ} (shows : ℕ → Snapshot) {file : ℕ} (looks : List Look) → OnlyGrows (length looks) shows name file → snapshots looks ≡ seen_first shows (length looks) → 0 < length looks → is_dropped ways.first looks ≡ false → is_alive ways (name ∷ []) looks ≡ false → ⊥
-never_over ways {name} shows {file} looks grows saw some kept over =
-    false≢true (sym over ∙ alive_by (is_dropped ways.first looks) ways.by_name kept (opens ways.by_name shows looks grows saw some))
-
 all_made : (ways : Ways) {name : List ℕ} (shows : ℕ → Snapshot) {file count : ℕ} (looks : List Look) → OnlyGrows (length looks) shows name file → snapshots looks ≡ seen_first shows (length looks) → is_dropped ways.first looks ≡ false → length looks ≤ count
     → (length looks < count → (0 < length looks) × (◌≡◌ {A = Bool} true true → is_alive ways (name ∷ []) looks ≡ false)) → length looks ≡ count
 all_made ways {name} shows {file} {count} looks grows saw kept few full = elim (cases_lt (length looks) count) [
-  | inl less ↦ let why = full less in absurd (never_over ways shows looks grows saw why.0 kept (why.1 refl))
+  | inl less ↦ let why = full less in absurd
+      (false≢true (sym (why.1 refl) ∙ alive_by (is_dropped ways.first looks) ways.by_name kept (opens ways.by_name shows looks grows saw why.0)))
   | inr enough ↦ omega (arith, few, enough)
 ]
 

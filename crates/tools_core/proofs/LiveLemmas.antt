@@ -61,9 +61,6 @@ pub record IsLiving (work : Work) : Type 0 where
   pub settled : (x : List ℕ) → AreLive (work.settled x).files
   pub whole : (x : List ℕ) → AreLive (work.whole x).files
 
-pub head_living : (delim : ℕ) (unit : Counted) {but_last : Bool} (n : ℕ) → IsLiving (head_work delim unit but_last n)
-head_living delim unit n = record { settled = λ x. tt; whole = λ x. tt }
-
 no_files : (from_nth : Bool) (bytes : List ℕ) → AreLive (cond from_nth (only_out bytes) nothing).files
 no_files true bytes = tt
 no_files false bytes = tt

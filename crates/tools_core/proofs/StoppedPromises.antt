@@ -34,7 +34,7 @@ use Rattle.tools_core.proofs.PromiseLemmas.{ran_over}
 use Rattle.tools_core.proofs.SamePromises.{some_left}
 use Rattle.tools_core.proofs.RunLemmas.{runs_as_named}
 use Rattle.tools_core.proofs.ToldLemmas.{SaysLine, has_after, has_before, says_line, says_one, stop_says, stopped_error, tee_lines, tee_says, unsound_broke}
-use Rattle.tools_core.proofs.LiveLemmas.{AreLive, IsLiving, csplit_living, head_living, inputs_live, live_begin, outputs_have, outputs_sound, split_living, step_live, tail_living}
+use Rattle.tools_core.proofs.LiveLemmas.{AreLive, IsLiving, csplit_living, inputs_live, live_begin, outputs_have, outputs_sound, split_living, step_live, tail_living}
 use Rattle.ports_core.specs.Swept as swept_so
 use Rattle.ports_core.specs.declared.slot.State.TheVariants as state
 use Rattle.ports_core.specs.declared.tool.Tool.TheVariants as tool
@@ -336,16 +336,12 @@ IsDueTo tool clears new status place = (status ≡ 1) × (IsToldOf tool new plac
 part_sound : {part : Part} {error : Slot} {now : List Slot} {place : ℕ} → AreLive part.files → OutputsAt true (streams_with error) part now → (place ≡ 1 → ⊥) → (slot_at now place).is_broken ≡ false
 part_sound {part} {error} {place} live at differs = subst (λ slots. (slot_at slots place).is_broken ≡ false) (sym (slots_at at)) (outputs_sound part error place live differs)
 
-part_has : {part : Part} {error : Slot} {now : List Slot} {place : ℕ} → AreLive part.files → OutputsAt true (streams_with error) part now → (place ≡ 1 → ⊥) → place < length now → has_file (slot_at now place).state ≡ true
-part_has {part} {error} {place} live at differs =
-    subst (λ slots. place < length slots → has_file (slot_at slots place).state ≡ true) (sym (slots_at at)) (outputs_have part error place live differs)
-
 stopped_there : {low high : Part} {error : Slot} {fault : Fault} {reached : List Slot} {place : ℕ} → AreLive high.files → StoppedBetween true (streams_with error) low high fault reached → (place ≡ 1 → ⊥) → (slot_at reached place).is_broken ≡ true
     → IsBlamed fault (slot_at reached place) place
 stopped_there {high} {fault} {reached} live between differs broken =
     let part_live = live_begin between.part.files high.files between.below.files live in
     marked_there (IsNext between.part high) fault between.reached reached between.marks (part_sound part_live between.outputs differs)
-    (part_has part_live between.outputs differs) broken
+    (subst (λ slots. _ < length slots → has_file (slot_at slots _).state ≡ true) (sym (slots_at between.outputs)) (outputs_have _ _ _ part_live differs)) broken
 
 defined_due : (task : Task) (inputs : List Input) (new : List Slot) {status : ℕ} (place : ℕ) → status ≡ cond (made_by task inputs).failed 1 0 → IsStuck (made_by task inputs).sweeps new place → IsDueTo task.tool task.work.clears new status place
 defined_due task inputs new place is (sweeps, closed, gone) = let why = inputs_sweep task true inputs sweeps in (is ∙ ap (λ failed. cond failed 1 0) why.1, inr (why.0, closed, gone))
@@ -415,7 +411,7 @@ tee_due {place} differs broken (tee.copied pieces fault first broke output error
 -- All tools
 
 does_due : (asked : Settings) (inputs : List Input) (sources : List Source) (new : List Slot) {status place : ℕ} → (place ≡ 1 → ⊥) → (slot_at new place).is_broken ≡ true → DoesAsked true true asked inputs sources new status → IsDueTo (tool_of asked) (removes_files asked) new status place
-does_due (Head asked) inputs sources new {status} {place} differs broken does = ends_due (head_living asked.delim asked.unit asked.count.amount) differs broken does
+does_due (Head asked) inputs sources new {status} {place} differs broken does = ends_due (record { settled = λ x. tt; whole = λ x. tt }) differs broken does
 does_due (Tail asked) inputs sources new {status} {place} differs broken does =
     ends_due (tail_living asked.ends.delim asked.ends.unit (is_plus asked.ends.count.sign) asked.ends.count.amount) differs broken does
 does_due (Split asked) inputs sources new {status} {place} differs broken does = ends_due (split_living (plan_of asked)) differs broken does
