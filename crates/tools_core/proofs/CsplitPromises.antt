@@ -1,5 +1,5 @@
 -- What `csplit` leaves of its input.
-use Rattle.std.proofs.Common.{◌≡◌, ℕ, ◌+◌, suc, take, drop, Bool, true, false, cond, eqb, nat_lt, List, [], ◌∷◌, Option, Some, None, refl, ◌∙◌, ◌-◌, ◌<◌, ◌≤◌, zero, not, ◌&&◌, ◌++◌, length, length-drop, map, inl, inr, ◌⊎◌, sym, ap, subst, arith}
+use Rattle.std.proofs.Common.{◌≡◌, ℕ, ◌+◌, suc, take, drop, Bool, true, false, cond, eqb, nat_lt, List, [], ◌∷◌, Option, Some, None, refl, ◌∙◌, ◌-◌, ◌<◌, ◌≤◌, not, ◌&&◌, ◌++◌, length, length-drop, map, inl, inr, ◌⊎◌, sym, ap, subst, arith}
 use Rattle.operand_core.specs.declared.operand.Offset.{Offset}
 use Rattle.operand_core.specs.declared.operand.Operand.{Operand}
 use Rattle.operand_core.specs.declared.operand.Target.{Target}
@@ -12,7 +12,7 @@ use Rattle.csplit_core.specs.Operand.{is_kept, Line, has_more}
 use Rattle.tools_core.specs.Promises.{SkipNothing, skips, Run, Does, HasInput, AreNumbered, AreSections, IsSound, contents_of, files_of, in_turn, last_section, left_out, text_at}
 use Rattle.std.specs.List.{All}
 use Rattle.std.proofs.lemmas.List.{length-map, map-append, drop-drop, take-append-drop, take_all}
-use Rattle.std.proofs.lemmas.List.Elements.{All-nil, All-cons}
+use Rattle.std.proofs.lemmas.List.Elements.{All-nil}
 use Rattle.seg_core.specs.Line.{joined, lines_of}
 use Rattle.seg_core.proofs.FirstLines.{joined-append}
 use Rattle.seg_core.proofs.LinesOf.{joined-lines_of}
@@ -36,7 +36,7 @@ use Rattle.words_core.specs.declared.settings.Settings.TheVariants.{Csplit}
 use Rattle.tools_core.specs.Outcome.{CsplitEndsAs}
 use Rattle.tools_core.proofs.NumberLemmas.{numbered_in_order}
 use Rattle.tools_core.proofs.PromiseLemmas.{DidOne, did_one, one_done, slot_of}
-use Rattle.tools_core.proofs.SplitPromises.{bytes_written}
+use Rattle.tools_core.proofs.SplitPromises.{AreNamed, bytes_written, named_step, sound_step}
 use Rattle.operand_core.specs.declared.operand_fault.OperandFaultKind.TheVariants as kind
 
 -- Where no word of `csplit`'s operands skips a section, each operand keeps its section.
@@ -204,23 +204,11 @@ files_joined style place (section ∷ sections) kept = elim (made_or_empty style
 
 -- Their names
 
-abbrev names_in : List File → List (List ℕ)
-names_in files = map (λ (file : Slot). file.name) (map slot_of files)
-
--- the files are numbered from this place on
-abbrev AreFrom : Style → ℕ → List File → Type 0
-AreFrom style start files = (k : ℕ) → k < length (map slot_of files) → text_at (names_in files) k ≡ numbered_name style.prefix style.digits (start + k)
-
-from_step : (style : Style) (start : ℕ) (has : Bool) (contents : Contents) (made others : List File) → AreFrom style (start + 1) made → AreFrom style start others → AreFrom style start (cond has (file_at style start contents ∷ made) others)
-from_step style start true contents made others are without zero within = ap (numbered_name style.prefix style.digits) (omega arith)
-from_step style start true contents made others are without (suc k) within =
-    are k (omega (arith, within)) ∙ ap (numbered_name style.prefix style.digits) (omega arith)
-from_step style start false contents made others are without k within = without k within
-
-numbered_from : (style : Style) (start : ℕ) (all : List Contents) → AreFrom style start (files_by style start all)
+numbered_from : (style : Style) (start : ℕ) (all : List Contents) → AreNamed (numbered_name style.prefix style.digits) start (files_by style start all)
 numbered_from style start [] k within = absurd (omega (arith, within))
 numbered_from style start (contents ∷ all) k within =
-    from_step style start (makes_file style contents) contents (files_by style (start + 1) all) (files_by style start all) (numbered_from style (start + 1) all) (numbered_from style start all) k within
+    named_step (numbered_name style.prefix style.digits) start (file_at style start contents) (files_by style (start + 1) all) (files_by style start all)
+    (makes_file style contents) refl (numbered_from style (start + 1) all) (numbered_from style start all) k within
 
 -- They were closed.
 
@@ -232,16 +220,12 @@ closed_steps : (lines : List Line) (steps : List Step) (last : Section) → last
 closed_steps lines [] last is = (is, tt)
 closed_steps lines (step ∷ steps) last is = (refl, closed_steps lines steps last is)
 
-sound_step : (style : Style) (place : ℕ) (has : Bool) (contents : Contents) (made others : List File) → contents.is_closed ≡ true → All (IsSound Fresh) (map slot_of made) → All (IsSound Fresh) (map slot_of others)
-    → All (IsSound Fresh) (map slot_of (cond has (file_at style place contents ∷ made) others))
-sound_step style place true contents made others is are without = All-cons (IsSound Fresh) _ _ (refl, ap (λ closed. cond closed Closed Open) is, refl) are
-sound_step style place false contents made others is are without = without
-
 all_sound : (style : Style) (place : ℕ) (sections : List Section) → AllClosed sections → All (IsSound Fresh) (map slot_of (files_by style place (map contents_in sections)))
 all_sound style place [] closed = All-nil (IsSound Fresh)
 all_sound style place (section ∷ sections) closed =
-    sound_step style place (makes_file style (contents_in section)) (contents_in section) (files_by style (place + 1) (map contents_in sections)) (files_by style place (map contents_in sections)) closed.0
-    (all_sound style (place + 1) sections closed.1) (all_sound style place sections closed.1)
+    sound_step (file_at style place (contents_in section)) (files_by style (place + 1) (map contents_in sections)) (files_by style place (map contents_in sections))
+    (makes_file style (contents_in section)) (refl, ap (λ closed. cond closed Closed Open) closed.0, refl) (all_sound style (place + 1) sections closed.1)
+    (all_sound style place sections closed.1)
 
 -- What a run leaves
 
@@ -287,7 +271,7 @@ pub none_is_lost : (run : Run) (asked : CsplitAsked) (input : List ℕ) → Does
 none_is_lost run asked input does has whole none =
     let split = is_csplit does has in
     let lines = all_lines input in
-    let keep = (read_keep (words_of _).operands _ (all_keep _ none) split.asks.read) in
+    let keep = read_keep (words_of asked.operands).operands split.operands (all_keep asked.operands none) split.asks.read in
     ap (λ files. joined (map (λ (file : Slot). file.written) files)) split.files
     ∙ files_joined asked.style 0 (whole_sections lines (plan asked.style.suppress split.operands lines)) (sections_kept asked.style.suppress split.operands lines keep)
     ∙ ap (λ suppress. bytes_of (lines_in (whole_sections lines (plan suppress split.operands lines)))) whole

@@ -93,27 +93,30 @@ names_in_order names place (one ∷ two ∷ shares) wide =
     (λ has. in_order names.prefix names.alphabet names.width names.auto names.ending place (place + 1) wide (omega arith) has)
     (names_in_order names (place + 1) (two ∷ shares) wide)
 
--- the files have the names from this place on
-abbrev HaveNames : Naming → ℕ → List File → Type 0
-HaveNames names start files = (k : ℕ) → k < length (map slot_of files) → text_at (map (λ (file : Slot). file.name) (map slot_of files)) k ≡ name_of names (start + k)
+-- the files have these names from this place on
+abbrev pub AreNamed : (ℕ → List ℕ) → ℕ → List File → Type 0
+AreNamed name start files = (k : ℕ) → k < length (map slot_of files) → text_at (map (λ (file : Slot). file.name) (map slot_of files)) k ≡ name (start + k)
 
-have_step : (names : Naming) (start : ℕ) (share : Share) (files : List File) (has : Bool) → HaveNames names (start + 1) files → HaveNames names start (cond has (file_at names start share ∷ files) [])
-have_step names start share files false have k within = absurd (omega (arith, within))
-have_step names start share files true have zero within = ap (name_of names) (omega arith)
-have_step names start share files true have (suc k) within = have k (omega (arith, within)) ∙ ap (name_of names) (omega arith)
+pub named_step : (name : ℕ → List ℕ) (start : ℕ) (file : File) (made others : List File) (has : Bool) → file.name ≡ name start → AreNamed name (start + 1) made
+    → AreNamed name start others → AreNamed name start (cond has (file ∷ made) others)
+named_step name start file made others true is are without zero within = is ∙ ap name (omega arith)
+named_step name start file made others true is are without (suc k) within = are k (omega (arith, within)) ∙ ap name (omega arith)
+named_step name start file made others false is are without k within = without k within
 
-have_names : (names : Naming) (start : ℕ) (shares : List Share) → HaveNames names start (named names start shares)
+have_names : (names : Naming) (start : ℕ) (shares : List Share) → AreNamed (name_of names) start (named names start shares)
 have_names names start [] k within = absurd (omega (arith, within))
-have_names names start (share ∷ shares) k within =
-    have_step names start share (named names (start + 1) shares) (is_named names start) (have_names names (start + 1) shares) k within
+have_names names start (share ∷ shares) k within = named_step (name_of names) start (file_at names start share) (named names (start + 1) shares) []
+    (is_named names start) refl (have_names names (start + 1) shares) (λ k within. absurd (omega (arith, within))) k within
 
-sound_step : (names : Naming) (place : ℕ) (bytes : List ℕ) (files : List File) (has : Bool) → All (IsSound Fresh) (map slot_of files) → All (IsSound Fresh) (map slot_of (cond has (file_at names place (share Closed bytes) ∷ files) []))
-sound_step names place bytes files true are = All-cons (IsSound Fresh) _ _ (refl, refl, refl) are
-sound_step names place bytes files false are = All-nil (IsSound Fresh)
+pub sound_step : (file : File) (made others : List File) (has : Bool) → IsSound Fresh (slot_of file) → All (IsSound Fresh) (map slot_of made)
+    → All (IsSound Fresh) (map slot_of others) → All (IsSound Fresh) (map slot_of (cond has (file ∷ made) others))
+sound_step file made others true sound are without = All-cons (IsSound Fresh) _ _ sound are
+sound_step file made others false sound are without = without
 
 all_sound : (names : Naming) (place : ℕ) (pieces : List (List ℕ)) → All (IsSound Fresh) (map slot_of (named names place (map (share Closed) pieces)))
 all_sound names place [] = All-nil (IsSound Fresh)
-all_sound names place (bytes ∷ pieces) = sound_step names place bytes (named names (place + 1) (map (share Closed) pieces)) (is_named names place) (all_sound names (place + 1) pieces)
+all_sound names place (bytes ∷ pieces) = sound_step (file_at names place (share Closed bytes)) (named names (place + 1) (map (share Closed) pieces)) []
+    (is_named names place) (refl, refl, refl) (all_sound names (place + 1) pieces) (All-nil (IsSound Fresh))
 
 -- What a run leaves
 

@@ -338,10 +338,10 @@ part_sound {part} {error} {place} live at differs = subst (λ slots. (slot_at sl
 
 stopped_there : {low high : Part} {error : Slot} {fault : Fault} {reached : List Slot} {place : ℕ} → AreLive high.files → StoppedBetween true (streams_with error) low high fault reached → (place ≡ 1 → ⊥) → (slot_at reached place).is_broken ≡ true
     → IsBlamed fault (slot_at reached place) place
-stopped_there {high} {fault} {reached} live between differs broken =
+stopped_there {high} {error} {fault} {reached} {place} live between differs broken =
     let part_live = live_begin between.part.files high.files between.below.files live in
     marked_there (IsNext between.part high) fault between.reached reached between.marks (part_sound part_live between.outputs differs)
-    (subst (λ slots. _ < length slots → has_file (slot_at slots _).state ≡ true) (sym (slots_at between.outputs)) (outputs_have _ _ _ part_live differs)) broken
+    (subst (λ slots. place < length slots → has_file (slot_at slots place).state ≡ true) (sym (slots_at between.outputs)) (outputs_have between.part error place part_live differs)) broken
 
 defined_due : (task : Task) (inputs : List Input) (new : List Slot) {status : ℕ} (place : ℕ) → status ≡ cond (made_by task inputs).failed 1 0 → IsStuck (made_by task inputs).sweeps new place → IsDueTo task.tool task.work.clears new status place
 defined_due task inputs new place is (sweeps, closed, gone) = let why = inputs_sweep task true inputs sweeps in (is ∙ ap (λ failed. cond failed 1 0) why.1, inr (why.0, closed, gone))
