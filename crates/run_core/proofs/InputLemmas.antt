@@ -80,14 +80,6 @@ made_well : (task : Task) (is_first : Bool) (name : List ℕ) (content : Content
     → of_content task is_first name (Some content) ≡ record { part = after_part (only_out (header_text task.with_header is_first name)) (task.work.whole content.bytes); messages = []; failed = false; sweeps = false }
 made_well task is_first name content enough well = simp (enough, well, and-false)
 
-made_judged : (task : Task) (is_first : Bool) (name : List ℕ) (content : Content) {fault : Fault} → is_enough task.work content ≡ true → task.work.verdict content.bytes ≡ Some fault
-    → of_content task is_first name (Some content) ≡ record { part = after_part (only_out (header_text task.with_header is_first name)) (task.work.whole content.bytes); messages = message_of task.tool fault (task.subject fault) ∷ []; failed = true; sweeps = task.work.clears }
-made_judged task is_first name content enough judges = simp (enough, judges, and-true)
-
-made_short : (task : Task) (is_first : Bool) (name : List ℕ) (content : Content) → is_enough task.work content ≡ false
-    → of_content task is_first name (Some content) ≡ record { part = after_part (only_out (header_text task.with_header is_first name)) (task.work.settled content.bytes); messages = message_of task.tool (Read 0) name ∷ []; failed = true; sweeps = task.work.clears }
-made_short task is_first name content short = simp (short, and-true)
-
 -- the header could not be written
 
 pub stopped_in_header : {told_in told : Bool} {task : Task} {most : ℕ} (is_first : Bool) (name : List ℕ) {source : Option ℕ} {content : Content} {outcome : Outcome} {progress : Progress} {was_read : Bool} {so_far : Part} {error : Slot} {sources : List Source} {old new : List Slot} {fault : Fault} → task.with_header ≡ true → Leaves told_in content source sources []
@@ -137,12 +129,14 @@ module _ (told_in told : Bool) (task : Task) (most : ℕ) (is_first : Bool) (nam
   took_well done good (broke_off breaks going reached there swept) = absurd (elim good [ inl is ↦ cc | inr is ↦ cc ])
 
   pub took_broken : {content : Content} {old new : List Slot} {fed : Fed} → IsDone told_in task.work most source (Some content) sources → fed ≡ Broken → FedAs told mid task.work task.opening most content (Leaves told_in content source sources) old (Ok fed) → SaysOn told task.tool (message_of task.tool (Read 0) name) old new → TookSo content new (Ok (record progress { is_first = false; failed = true }))
-  took_broken {content} {old} {new} done is (broke_off breaks going reached there swept) says = went_badly content _ _ reached old new done (made_short task is_first name content
-      (ap (λ (b : Bool). not b || task.work.is_complete content.bytes) breaks ∙ going)) there swept says
+  took_broken {content} {old} {new} done is (broke_off breaks going reached there swept) says =
+      went_badly content (task.work.settled content.bytes) (message_of task.tool (Read 0) name) reached old new done
+      (let short : is_enough task.work content ≡ false = ap (λ (b : Bool). not b || task.work.is_complete content.bytes) breaks ∙ going in simp (short, and-true)) there swept says
   took_broken done is ends says = absurd (cc)
 
   pub took_verdict : {content : Content} {old new : List Slot} {fault : Fault} → IsDone told_in task.work most source (Some content) sources → is_verdict fault ≡ true → FedAs told mid task.work task.opening most content (Leaves told_in content source sources) old (Err fault) → SaysOn told task.tool (message_of task.tool fault (task.subject fault)) old new → TookSo content new (Ok (record progress { is_first = false; failed = true }))
-  took_verdict {content} {old} {new} done judging (judged _ is enough judges reached there swept) says = went_badly content _ _ reached old new done (made_judged task is_first name content enough judges) there swept says
+  took_verdict {content} {old} {new} {fault} done judging (judged _ is enough judges reached there swept) says =
+      went_badly content (task.work.whole content.bytes) (message_of task.tool fault (task.subject fault)) reached old new done (simp (enough, judges, and-true)) there swept says
   took_verdict done judging (stopped _ unjudged call is_call read reached why stop swept) says = absurd (false≢true (sym unjudged ∙ judging))
 
   pub took_stopped : {content : Content} {new : List Slot} {fault : Fault} → is_verdict fault ≡ false → FedAs told mid task.work task.opening most content (Leaves told_in content source sources) new (Err fault) → TookSo content new (Err fault)
