@@ -91,8 +91,6 @@ tee_begins {asked} {input} {new} one two whole place differs =
     (ap (λ bytes. slot_at (all_copied true asked.mode asked.names bytes) place) same ∙ beside_error (adds two.content.bytes standard_output) standard_error left.error _ place differs ∙ sym (ap (λ slots. slot_at slots place) left.slots))
     (copies_begin differs one.ends)
 
--- What any run leaves is a beginning of what one leaves that no fault stopped.
-
 -- the outputs, place by place
 abbrev pub BeginAt : List Slot → List Slot → Type 0
 BeginAt new other = (place : ℕ) → (place ≡ 1 → ⊥) → BeginsAs (slot_at new place) (slot_at other place)

@@ -137,8 +137,6 @@ read_keep [] [] keep are = tt
 read_keep (spelled ∷ more) (operand ∷ operands) keep are = (target_keeps spelled.aim operand.target keep.0 are.0.target, read_keep more operands keep.1 are.1)
 read_keep spelled operands keep are = absurd are
 
--- What `csplit` leaves of its input.
-
 -- All sections are kept, where all operands keep theirs.
 
 abbrev AllKept : List Section → Type 0

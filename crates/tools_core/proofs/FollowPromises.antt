@@ -166,8 +166,6 @@ pub record IsText (ways : Ways) (name : List ℕ) (looks : List Look) (text : Li
 pub is_text : (ways : Ways) (name : List ℕ) (looks : List Look) → any_failed (shares_from ways (name ∷ []) [] looks) ≡ false → AreKept (entries_in ways name looks) → IsText ways name looks (text_from false None (shares_from ways (name ∷ []) [] looks))
 is_text ways name looks well all = let wrote = wrote_all ways name [] looks None refl well in record { is = wrote.is ∙ looks_give_text ways name looks all; kept = wrote.kept }
 
--- What `tail` writes of one file that only grows, where it follows it and meets no fault.
-
 -- a file that is open could always have more, so no look is the last that can give something
 alive_by : (dropped by_name : Bool) {opened : Option ℕ} {file : ℕ} → dropped ≡ false → opened ≡ Some file → ((not dropped && (by_name || is_some opened)) || false) ≡ true
 alive_by true by_name kept is = absurd (false≢true (sym kept))
