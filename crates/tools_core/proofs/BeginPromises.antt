@@ -120,9 +120,6 @@ ends_begin {task} {input} {other} is grows one (as_defined error reached says ou
     begins_alike (left_alike task input _ other is differs outputs swept) (begins_whole is grows differs one)
 ends_begin is grows one two unstopped place differs = absurd unstopped
 
-refused_begin : {new : List Slot} (other : List Slot) {error : Slot} → new ≡ streams_with error → BeginAt new other
-refused_begin other {error} slots place differs = still_begins place slots (bare_begins error place differs)
-
 csplit_begin : {asked : CsplitAsked} {input : Input} {bytes : List ℕ} {these those : List Source} {new other : List Slot} {status status_too : ℕ} → input.content ≡ Some (ending bytes)
     → CsplitEndsAs true true asked (input ∷ []) these new status → (two : CsplitEndsAs true true asked (input ∷ []) those other status_too) → IsUnstopped two.ends → BeginAt new other
 csplit_begin {asked} {input} {those} {other} {status_too} is one two unstopped =
@@ -131,24 +128,23 @@ csplit_begin {asked} {input} {those} {other} {status_too} is one two unstopped =
 
 begin_at : (asked : Settings) (input : Input) {bytes : List ℕ} (these those : List Source) (new other : List Slot) (status status_too : ℕ) → CanRun asked → input.content ≡ Some (ending bytes)
     → DoesAsked true true asked (input ∷ []) these new status → (two : DoesAsked true true asked (input ∷ []) those other status_too) → Unstopped asked (input ∷ []) those other status_too two → BeginAt new other
-begin_at (Head asked) input {bytes} these those new other status status_too can is one two unstopped =
+begin_at (Head asked) input these those new other status status_too can is one two unstopped =
     ends_begin is (lawful_grows (head_lawful _ _ _ _)) one two unstopped
-begin_at (Tail asked) input {bytes} these those new other status status_too can is one two unstopped =
+begin_at (Tail asked) input these those new other status status_too can is one two unstopped =
     ends_begin is (lawful_grows (tail_lawful _ _ _ _)) one two unstopped
-begin_at (Split asked) input {bytes} these those new other status status_too can is one two unstopped =
+begin_at (Split asked) input these those new other status status_too can is one two unstopped =
     ends_begin is (split_grows asked.delim asked.cut asked.elide (naming_of asked) can.named) one two unstopped
-begin_at (Csplit asked) input {bytes} these those new other status status_too can is one two unstopped = csplit_begin is one two unstopped
+begin_at (Csplit asked) input these those new other status status_too can is one two unstopped = csplit_begin is one two unstopped
 begin_at (Tee asked) input these those new other status status_too can is one two unstopped = tee_begins one two unstopped
-
-by_either : (run well : Run) (asked : Settings) (input : Input) {bytes : List ℕ} → CanRun asked → input.content ≡ Some (ending bytes) → DoesAsked true true asked (input ∷ []) run.inputs run.outputs run.status ⊎ RefusesOperands true run.words asked run.outputs run.status
-    → (two : DoesAsked true true asked (input ∷ []) well.inputs well.outputs well.status) → Unstopped asked (input ∷ []) well.inputs well.outputs well.status two → BeginsEach run well
-by_either run well asked input {bytes} can is (inl one) two unstopped = begin_at asked input run.inputs well.inputs run.outputs well.outputs run.status well.status can is one two unstopped
-by_either run well asked input can is (inr (fault, bad, refuses)) two unstopped = refused_begin well.outputs refuses.slots
 
 pub begins_each : (run well : Run) (asked : Settings) (input : List ℕ) → Ran run asked → Completes well asked → FindAlike run well → HasInput run input → BeginsEach run well
 begins_each run well asked input ran whole same has =
     let one = has_one ran has in
     let (does, unstopped) = subst (λ found. (does : DoesAsked true true asked found well.inputs well.outputs well.status) × Unstopped asked found well.inputs well.outputs well.status does) (sym (found_same run well ran.read whole.read same) ∙ one.only)
     (whole.does, whole.unstopped) in
-    by_either run well asked one.input (can_run run.words ran.read) one.content
-    (subst (λ found. DoesAsked true true asked found run.inputs run.outputs run.status ⊎ RefusesOperands true run.words asked run.outputs run.status) one.only (ran_over ran)) does unstopped
+    elim (subst (λ found. DoesAsked true true asked found run.inputs run.outputs run.status
+    ⊎ RefusesOperands true run.words asked run.outputs run.status) one.only (ran_over ran)) [
+      | inl first ↦ begin_at asked one.input run.inputs well.inputs run.outputs well.outputs run.status well.status
+          (can_run run.words ran.read) one.content first does unstopped
+      | inr (fault, bad, refuses) ↦ λ place differs. still_begins place refuses.slots (bare_begins refuses.error place differs)
+    ]

@@ -203,12 +203,9 @@ does_alike (Tee asked) inputs these those one two unstopped unstopped_too =
     tee_alike same one.ends two.ends unstopped unstopped_too
 does_alike asked inputs these those one two unstopped unstopped_too = ends_alike one two unstopped unstopped_too
 
-alike_runs : {asked : Settings} {one other : Run} → AreAlike (tool_of asked) one.outputs other.outputs one.status other.status → LeaveAlike asked one other
-alike_runs alike = record { status = alike.status; count = alike.count; outputs = alike.outputs; said = (alike.lines, alike.says, alike.says_too) }
-
 pub leave_alike : (one other : Run) (asked : Settings) → Completes one asked → Completes other asked → FindAlike one other → LeaveAlike asked one other
 leave_alike one other asked whole whole_too same =
     let (does, unstopped) = subst (λ inputs. (does : DoesAsked true true asked inputs one.inputs one.outputs one.status) × Unstopped asked inputs one.inputs one.outputs one.status does) (found_same one other whole.read whole_too.read same)
     (whole.does, whole.unstopped) in
-    alike_runs
-    (does_alike asked (inputs_at other.world (names_of asked)) one.inputs other.inputs does whole_too.does unstopped whole_too.unstopped)
+    let alike = does_alike asked (inputs_at other.world (names_of asked)) one.inputs other.inputs does whole_too.does unstopped whole_too.unstopped in
+    record { status = alike.status; count = alike.count; outputs = alike.outputs; said = (alike.lines, alike.says, alike.says_too) }
