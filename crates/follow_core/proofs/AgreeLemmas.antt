@@ -21,50 +21,50 @@ use Rattle.watch_core.proofs.WorldLemmas.{append_leads, append_grows}
 -- a look more with_file no text
 
 -- what an appended file adds
-pub grown : (file : ℕ) (front rest whole : List ℕ) → whole ≡ front ++ rest → gain_between (version (record { file = file; contents = front })) (version (record { file = file; contents = whole })) ≡ rest
-grown file front rest whole is = rw is (
+pub grown : (file : ℕ) (front : List ℕ) {rest whole : List ℕ} → whole ≡ front ++ rest → gain_between (version (record { file = file; contents = front })) (version (record { file = file; contents = whole })) ≡ rest
+grown file front {rest} is = rw is (
     ap (λ test. if test && nat_le (length front) (length (front ++ rest)) then drop (length front) (front ++ rest) else front ++ rest) (eq-eqb file file refl)
     ∙ ap (λ test. if test then drop (length front) (front ++ rest) else front ++ rest) (le-leb (length front) (length (front ++ rest)) (let a : length (front ++ rest) ≡ length front + length rest = length-append front rest in omega arith))
     ∙ drop_front front rest)
 
 -- A version that stands inside a run adds nothing of its own.
-pub inside : (file : ℕ) (first middle last : List ℕ) → IsBeginning first middle → IsBeginning middle last
+pub inside : (file : ℕ) (first : List ℕ) {middle last : List ℕ} → IsBeginning first middle → IsBeginning middle last
     → gain_between (version (record { file = file; contents = first })) (version (record { file = file; contents = middle })) ++ gain_between (version (record { file = file; contents = middle })) (version (record { file = file; contents = last }))
     ≡ gain_between (version (record { file = file; contents = first })) (version (record { file = file; contents = last }))
-inside file first middle last (some, is) (more, is_more) =
-    ap (λ x. x ++ gain_between (version (record { file = file; contents = middle })) (version (record { file = file; contents = last }))) (grown file first some middle is)
-    ∙ ap (λ x. some ++ x) (grown file middle more last is_more)
-    ∙ sym (grown file first (some ++ more) last (is_more ∙ ap (λ x. x ++ more) is ∙ append_assoc first some more))
+inside file first {middle} {last} (some, is) (more, is_more) =
+    ap (λ x. x ++ gain_between (version (record { file = file; contents = middle })) (version (record { file = file; contents = last }))) (grown file first is)
+    ∙ ap (λ x. some ++ x) (grown file middle is_more)
+    ∙ sym (grown file first (is_more ∙ ap (λ x. x ++ more) is ∙ append_assoc first some more))
 
 pub led_same : (snapshot : Snapshot) (file : ℕ) → entries_led snapshot (Some file) (Some file) ≡ []
 led_same snapshot file = ap (λ test. if test then [] else version_in snapshot file ∷ []) (eq-eqb file file refl)
 
 -- a look after no edit gives nothing
-still : (v : Version) (snapshot : Snapshot) (entries : List Entry) → snapshot.holds v.file ≡ v.contents → gains_later (version v) (version_in snapshot v.file ∷ entries) ≡ gains_later (version v) entries
-still v snapshot entries same =
+still : {v : Version} (snapshot : Snapshot) (entries : List Entry) → snapshot.holds v.file ≡ v.contents → gains_later (version v) (version_in snapshot v.file ∷ entries) ≡ gains_later (version v) entries
+still {v} snapshot entries same =
     ap (λ contents. gains_later (version v) (version (record { file = v.file; contents = contents }) ∷ entries)) same
-    ∙ ap (λ x. x ++ gains_later (version v) entries) (grown v.file v.contents [] v.contents (sym (append-nil v.contents)))
+    ∙ ap (λ x. x ++ gains_later (version v) entries) (grown v.file v.contents (sym (append-nil v.contents)))
 
-through : (v : Version) (extra next : Snapshot) (entries : List Entry) → (extra.holds v.file ≡ v.contents) ⊎ (IsBeginning v.contents (extra.holds v.file) × IsBeginning (extra.holds v.file) (next.holds v.file))
+through : {v : Version} (extra next : Snapshot) (entries : List Entry) → (extra.holds v.file ≡ v.contents) ⊎ (IsBeginning v.contents (extra.holds v.file) × IsBeginning (extra.holds v.file) (next.holds v.file))
     → gains_later (version v) (version_in extra v.file ∷ version_in next v.file ∷ entries) ≡ gains_later (version v) (version_in next v.file ∷ entries)
-through v extra next entries (inl same) = still v extra (version_in next v.file ∷ entries) same
-through v extra next entries (inr (first, more)) =
+through {v} extra next entries (inl same) = still extra (version_in next v.file ∷ entries) same
+through {v} extra next entries (inr (first, more)) =
     sym (append_assoc (gain_between (version v) (version_in extra v.file)) (gain_between (version_in extra v.file) (version_in next v.file)) (gains_later (version_in next v.file) entries))
-    ∙ ap (λ x. x ++ gains_later (version_in next v.file) entries) (inside v.file v.contents (extra.holds v.file) (next.holds v.file) first more)
+    ∙ ap (λ x. x ++ gains_later (version_in next v.file) entries) (inside v.file v.contents first more)
 
 -- A look more gives the same text: where the open file is as it was at the look before, or was only appended to since and is only
 -- appended to until the next, and a name that is followed leads where it led.
-pub one_look_more : (by_name : Bool) (name : List ℕ) (last : Entry) (extra next : Snapshot) (later : List Snapshot)
+pub one_look_more : (by_name : Bool) {name : List ℕ} (last : Entry) (extra next : Snapshot) (later : List Snapshot)
     → (by_name ≡ true → extra.leads name ≡ file_of last)
     → ((v : Version) → last ≡ version v → (extra.holds v.file ≡ v.contents) ⊎ (IsBeginning v.contents (extra.holds v.file) × IsBeginning (extra.holds v.file) (next.holds v.file)))
     → gains_later last (entries_later by_name name (file_of last) (extra ∷ next ∷ later)) ≡ gains_later last (entries_later by_name name (file_of last) (next ∷ later))
-one_look_more true name gap extra next later leads grows = rw (leads refl) refl
-one_look_more false name gap extra next later leads grows = refl
-one_look_more true name (version v) extra next later leads grows =
+one_look_more true gap extra next later leads grows = rw (leads refl) refl
+one_look_more false gap extra next later leads grows = refl
+one_look_more true {name} (version v) extra next later leads grows =
     ap (λ led. gains_later (version v) ((version_in extra v.file ∷ entries_led extra (Some v.file) led) ++ entries_later true name led (next ∷ later))) (leads refl)
     ∙ ap (λ entries. gains_later (version v) ((version_in extra v.file ∷ entries) ++ entries_later true name (Some v.file) (next ∷ later))) (led_same extra v.file)
-    ∙ through v extra next (entries_led next (Some v.file) (next.leads name) ++ entries_later true name (next.leads name) later) (grows v refl)
-one_look_more false name (version v) extra next later leads grows = through v extra next (entries_later false name (Some v.file) later) (grows v refl)
+    ∙ through extra next (entries_led next (Some v.file) (next.leads name) ++ entries_later true name (next.leads name) later) (grows v refl)
+one_look_more false {name} (version v) extra next later leads grows = through extra next (entries_later false name (Some v.file) later) (grows v refl)
 
 -- two placings of looks agree
 
@@ -80,8 +80,8 @@ sound_changes {world} (Some file) change sound = record {
   one = sound.one;
 }
 
-sound_replace : {world : World} (name bytes : List ℕ) → Sound world → Sound (edited (replace name bytes) world)
-sound_replace {world} name bytes sound = record { known = λ a file is. knows a file (bytes_eq name a) is; one = λ a b file is also. ones a b file (bytes_eq name a) (bytes_eq name b) refl refl is also } where
+sound_replace : {world : World} {name : List ℕ} (bytes : List ℕ) → Sound world → Sound (edited (replace name bytes) world)
+sound_replace {world} {name} bytes sound = record { known = λ a file is. knows a file (bytes_eq name a) is; one = λ a b file is also. ones a b file (bytes_eq name a) (bytes_eq name b) refl refl is also } where
   knows : (a : List ℕ) (file : ℕ) (test : Bool) → (if test then Some (length world.files) else led_to world.links a) ≡ Some file → file < length (world.files ++ bytes ∷ [])
   knows a file true is = let n = length-append world.files (bytes ∷ []) in let e : length world.files ≡ file = cc in omega (arith, n, e)
   knows a file false is = let n = length-append world.files (bytes ∷ []) in let k : file < length world.files = sound.known a file is in omega (arith, n, k)
@@ -92,8 +92,8 @@ sound_replace {world} name bytes sound = record { known = λ a file is. knows a 
   ones a b file false true same also is one = absurd (let e : length world.files ≡ file = cc in let k : file < length world.files = sound.known a file is in omega (arith, e, k))
   ones a b file false false same also is one = sound.one a b file is one
 
-sound_remove : {world : World} (name : List ℕ) → Sound world → Sound (edited (remove name) world)
-sound_remove {world} name sound = record { known = λ a file is. knows a file (bytes_eq name a) is; one = λ a b file is also. ones a b file (bytes_eq name a) (bytes_eq name b) is also } where
+sound_remove : {world : World} {name : List ℕ} → Sound world → Sound (edited (remove name) world)
+sound_remove {world} {name} sound = record { known = λ a file is. knows a file (bytes_eq name a) is; one = λ a b file is also. ones a b file (bytes_eq name a) (bytes_eq name b) is also } where
   knows : (a : List ℕ) (file : ℕ) (test : Bool) → (if test then None else led_to world.links a) ≡ Some file → file < length world.files
   knows a file true is = absurd (cc)
   knows a file false is = sound.known a file is
@@ -106,8 +106,8 @@ sound_remove {world} name sound = record { known = λ a file is. knows a file (b
 sound_edited : {world : World} (edit : Edit) → Sound world → Sound (edited edit world)
 sound_edited {world} (append name bytes) sound = sound_changes (led_to world.links name) (λ held. held ++ bytes) sound
 sound_edited {world} (truncate name n) sound = sound_changes (led_to world.links name) (λ held. take n held) sound
-sound_edited (replace name bytes) sound = sound_replace name bytes sound
-sound_edited (remove name) sound = sound_remove name sound
+sound_edited (replace name bytes) sound = sound_replace bytes sound
+sound_edited (remove name) sound = sound_remove sound
 
 sound_all : (world : World) (edits : List Edit) → Sound world → Sound (edited_by edits world)
 sound_all world [] sound = sound
@@ -191,11 +191,11 @@ same_first by_name name last snapshot looks others same =
 idle_look : (by_name : Bool) {name : List ℕ} (last : Entry) {world : World} (looks : List Snapshot) → Stays by_name name world last → gained by_name name last (seen_in world ∷ looks) ≡ gained by_name name last looks
 idle_look false gap looks stays = refl
 idle_look true {name} gap {world} looks stays = ap (λ led. gains_later gap (entries_led (seen_in world) None led ++ entries_later true name led looks)) (stays.leads refl)
-idle_look false {name} (version v) {world} looks stays = still v (seen_in world) (entries_later false name (Some v.file) looks) stays.matches
+idle_look false {name} (version v) {world} looks stays = still (seen_in world) (entries_later false name (Some v.file) looks) stays.matches
 idle_look true {name} (version v) {world} looks stays =
     ap (λ led. gains_later (version v) ((version_in (seen_in world) v.file ∷ entries_led (seen_in world) (Some v.file) led) ++ entries_later true name led looks)) (stays.leads refl)
     ∙ ap (λ entries. gains_later (version v) ((version_in (seen_in world) v.file ∷ entries) ++ entries_later true name (Some v.file) looks)) (led_same (seen_in world) v.file)
-    ∙ still v (seen_in world) (entries_later true name (Some v.file) looks) stays.matches
+    ∙ still (seen_in world) (entries_later true name (Some v.file) looks) stays.matches
 
 -- a look after each edit
 abbrev singles : List Edit → List (List Edit)
@@ -205,33 +205,33 @@ singles (edit ∷ edits) = (edit ∷ []) ∷ singles edits
 abbrev Refines : Bool → List ℕ → List (List Edit) → Type 0
 Refines by_name name groups = (world : World) (last : Entry) → Stays by_name name world last → gained by_name name last (snapshots_from world groups) ≡ gained by_name name last (snapshots_from world (singles (all_edits groups)))
 
-one_group : (by_name : Bool) (name : List ℕ) (group : List Edit) (groups : List (List Edit)) → AreSeen group → Refines by_name name groups → Refines by_name name (group ∷ groups)
-one_group by_name name [] groups seen rest world last stays = idle_look by_name last _ stays ∙ rest world last stays
-one_group by_name name (edit ∷ []) groups seen rest world last stays =
+one_group : {by_name : Bool} {name : List ℕ} (group : List Edit) (groups : List (List Edit)) → AreSeen group → Refines by_name name groups → Refines by_name name (group ∷ groups)
+one_group {by_name} [] groups seen rest world last stays = idle_look by_name last _ stays ∙ rest world last stays
+one_group {by_name} {name} (edit ∷ []) groups seen rest world last stays =
     same_first by_name name last (seen_in (edited edit world)) _ _ (rest (edited edit world) _ (stays_now last (sound_edited edit stays.sound)))
-one_group by_name name (append other bytes ∷ next ∷ edits) groups seen rest world last stays =
-    sym (one_look_more by_name name last (seen_in (edited (append other bytes) world)) (seen_in (edited_by (next ∷ edits) (edited (append other bytes) world))) (snapshots_from (edited_by (next ∷ edits) (edited (append other bytes) world)) groups) (λ is. append_leads world other bytes name ∙ stays.leads is) grows)
-    ∙ same_first by_name name last (seen_in (edited (append other bytes) world)) (snapshots_from (edited (append other bytes) world) ((next ∷ edits) ∷ groups)) (snapshots_from (edited (append other bytes) world) (singles (all_edits ((next ∷ edits) ∷ groups)))) (one_group by_name name (next ∷ edits) groups seen.1 rest (edited (append other bytes) world) _ (stays_now last (sound_edited (append other bytes) stays.sound))) where
+one_group {by_name} {name} (append other bytes ∷ next ∷ edits) groups seen rest world last stays =
+    sym (one_look_more by_name last (seen_in (edited (append other bytes) world)) (seen_in (edited_by (next ∷ edits) (edited (append other bytes) world))) (snapshots_from (edited_by (next ∷ edits) (edited (append other bytes) world)) groups) (λ is. append_leads world other bytes name ∙ stays.leads is) grows)
+    ∙ same_first by_name name last (seen_in (edited (append other bytes) world)) (snapshots_from (edited (append other bytes) world) ((next ∷ edits) ∷ groups)) (snapshots_from (edited (append other bytes) world) (singles (all_edits ((next ∷ edits) ∷ groups)))) (one_group (next ∷ edits) groups seen.1 rest (edited (append other bytes) world) _ (stays_now last (sound_edited (append other bytes) stays.sound))) where
       grows : (v : Version) → last ≡ version v → ((seen_in (edited (append other bytes) world)).holds v.file ≡ v.contents) ⊎ (IsBeginning v.contents ((seen_in (edited (append other bytes) world)).holds v.file) × IsBeginning ((seen_in (edited (append other bytes) world)).holds v.file) ((seen_in (edited_by (next ∷ edits) (edited (append other bytes) world))).holds v.file))
       grows v is = let was : (seen_in world).holds v.file ≡ v.contents = subst (Matches (seen_in world)) is stays.matches in elim (append_grows world other bytes v.file) [
         | inl same ↦ inl (same ∙ was)
         | inr both ↦ inr ((bytes, both.1 ∙ ap (λ held. held ++ bytes) was), uncut (edited (append other bytes) world) other v.file (next ∷ edits) (sound_edited (append other bytes) stays.sound) (append_leads world other bytes other ∙ both.0) seen.0 seen.1)
       ]
-one_group by_name name (truncate other n ∷ next ∷ edits) groups seen rest world last stays = elim seen [ ]
-one_group by_name name (replace other bytes ∷ next ∷ edits) groups seen rest world last stays = elim seen [ ]
-one_group by_name name (remove other ∷ next ∷ edits) groups seen rest world last stays = elim seen [ ]
+one_group (truncate other n ∷ next ∷ edits) groups seen rest world last stays = elim seen [ ]
+one_group (replace other bytes ∷ next ∷ edits) groups seen rest world last stays = elim seen [ ]
+one_group (remove other ∷ next ∷ edits) groups seen rest world last stays = elim seen [ ]
 
-refines : (by_name : Bool) (name : List ℕ) (groups : List (List Edit)) → AllSeen groups → Refines by_name name groups
-refines by_name name [] seen world last stays = refl
-refines by_name name (group ∷ groups) seen world last stays = one_group by_name name group groups seen.0 (refines by_name name groups seen.1) world last stays
+refines : {by_name : Bool} {name : List ℕ} (groups : List (List Edit)) → AllSeen groups → Refines by_name name groups
+refines [] seen world last stays = refl
+refines (group ∷ groups) seen world last stays = one_group group groups seen.0 (refines groups seen.1) world last stays
 
 -- after the first look
 from_first : (start : List ℕ → List ℕ) (by_name : Bool) (name : List ℕ) {world : World} (groups : List (List Edit)) → Sound world → AllSeen groups → (led : Option ℕ) → led_to world.links name ≡ led
     → gains_after start [] (entries_led (seen_in world) None led ++ entries_later by_name name led (snapshots_from world groups))
     ≡ gains_after start [] (entries_led (seen_in world) None led ++ entries_later by_name name led (snapshots_from world (singles (all_edits groups))))
-from_first start by_name name {world} groups sound seen None is = refines by_name name groups seen world gap (record { sound = sound; leads = λ _. is; matches = tt })
+from_first start by_name name {world} groups sound seen None is = refines groups seen world gap (record { sound = sound; leads = λ _. is; matches = tt })
 from_first start by_name name {world} groups sound seen (Some file) is =
-    ap (λ x. start ((seen_in world).holds file) ++ x) (refines by_name name groups seen world (version_in (seen_in world) file) (record { sound = sound; leads = λ _. is; matches = refl }))
+    ap (λ x. start ((seen_in world).holds file) ++ x) (refines groups seen world (version_in (seen_in world) file) (record { sound = sound; leads = λ _. is; matches = refl }))
 
 no_world : Sound empty_world
 no_world = record { known = λ name file is. absurd (cc); one = λ name other file is also. absurd (cc) }

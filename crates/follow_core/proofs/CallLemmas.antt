@@ -52,8 +52,7 @@ short_error (short_broke n part) can = subst (HasStopped (fault.Write 0)) (sym p
 short_error (no_room n within is) can = subst (HasStopped fault.Memory) (sym is) (inl refl, can)
 
 -- both streams can be used on, whatever was said or written
-pub said_can : {told : Bool} {tool : Tool} {text : List ℕ} (old : List Slot) {new : List Slot} → SaysOn told tool text old new
-    → CanPrint old → CanPrint new
+pub said_can : {told : Bool} {tool : Tool} {text : List ℕ} (old : List Slot) {new : List Slot} → SaysOn told tool text old new → CanPrint old → CanPrint new
 said_can [] says can = absurd (false≢true can.0)
 said_can (output ∷ []) says can = absurd (false≢true can.1)
 said_can {told} {tool} {text} (output ∷ error ∷ others) says can =
@@ -122,26 +121,26 @@ nothing_due {value} = whole value [] [] (λ is. (refl, refl)) gives_nothing
 -- the first call failed
 pub broke_first : {T : Type 0} {told_in told : Bool} {printer : PrinterState} {name due : List ℕ} {lines : List (List ℕ)} {slots : List Slot}
     {why : Fault} → Ends {T = T} told_in told false printer name due lines slots printer slots (Err (Broke why))
-broke_first {due} {lines} {why} = broke why [] [] (λ is. (front_nil due, front_nil lines)) gives_nothing
+broke_first {why} = broke why [] [] (λ is. (front_nil, front_nil)) gives_nothing
 
 -- there was no memory for a line
 pub untold : {T : Type 0} {told_in told : Bool} {printer : PrinterState} {name due : List ℕ} {lines : List (List ℕ)} {slots : List Slot}
     {why : Fault} → why ≡ fault.Memory → Ends {T = T} told_in told false printer name due lines slots printer slots (Err (Over why))
-untold {told} {due} {lines} is = rw is (over fault.Memory [] [] (λ is. (front_nil due, front_nil lines)) (halts_short (no_memory told)))
+untold is = rw is (over fault.Memory [] [] (λ is. (front_nil, front_nil)) (halts_short no_memory))
 
 -- a line was told
 pub tells : {told_in told : Bool} {printer : PrinterState} {name line text : List ℕ} {old new : List Slot} → text ≡ line → PrintsOn told text old new
     → Ends {T = Unit {0}} told_in told false printer name [] (line ∷ []) old printer new (Ok tt)
 tells {line} is prints = whole tt [] (line ∷ []) (λ _. (refl, refl)) (gives_line is prints)
 
-pub no_line : (name : List ℕ) (position len : ℕ) → position ≤ len → lines_past name position len ≡ []
-no_line name position len few = ap (λ t. if t then notice_of Truncated name ∷ [] else []) (le-ltb len position few)
+pub no_line : (name : List ℕ) {position len : ℕ} → position ≤ len → lines_past name position len ≡ []
+no_line name {position} {len} few = ap (λ t. if t then notice_of Truncated name ∷ [] else []) (le-ltb len position few)
 
-pub goes_on_here : {told_in : Bool} (told : Bool) {printer : PrinterState} {name : List ℕ} {slots : List Slot} {position : ℕ} (len : ℕ) → position ≤ len → Ends {T = ℕ} told_in told false printer name [] (lines_past name position len) slots printer slots (Ok position)
-goes_on_here {told_in} told {printer} {name} {slots} {position} len few = subst (λ lines. Ends {T = ℕ} told_in told false printer name [] lines slots printer slots (Ok position)) (sym (no_line name position len few)) (nothing_due)
+pub goes_on_here : {told_in told : Bool} {printer : PrinterState} {name : List ℕ} {slots : List Slot} {position len : ℕ} → position ≤ len → Ends {T = ℕ} told_in told false printer name [] (lines_past name position len) slots printer slots (Ok position)
+goes_on_here {told_in} {told} {printer} {name} {slots} {position} few = subst (λ lines. Ends {T = ℕ} told_in told false printer name [] lines slots printer slots (Ok position)) (sym (no_line name few)) (nothing_due)
 
-pub line_due : (name : List ℕ) (position len : ℕ) → len < position → notice_of Truncated name ∷ [] ≡ lines_past name position len
-line_due name position len less = ap (λ t. if t then notice_of Truncated name ∷ [] else []) (sym (lt-ltb len position less))
+pub line_due : (name : List ℕ) {position len : ℕ} → len < position → notice_of Truncated name ∷ [] ≡ lines_past name position len
+line_due name {position} {len} less = ap (λ t. if t then notice_of Truncated name ∷ [] else []) (sym (lt-ltb len position less))
 
 -- a line where the file is shorter, and then the bytes: from the front there, else from the position on
 pub caught_bytes : (position : ℕ) {len from : ℕ} (contents : List ℕ) → len ≡ length contents → from ≡ (if nat_lt len position then 0 else position) → drop from contents ≡ bytes_past position contents
@@ -190,16 +189,16 @@ keeps_others {place} change {old} is = record {
   others = λ other differs. ap (λ those. watched_at those other) is ∙ changed_elsewhere no_name place other change old differs;
 }
 
-pub reopens_as : (told : Bool) {seen seen_old : List Snapshot} {now old new : List Watched} {place : ℕ} {is_there : Bool} → seen ≡ seen_old → now ≡ old → Reopens told (latest seen) now new place is_there → Reopens told (latest seen_old) old new place is_there
-reopens_as told {seen} {old} {new} {place} {is_there} s w reopens = subst (λ those. Reopens told (latest those) old new place is_there) s (subst (λ those. Reopens told (latest seen) those new place is_there) w reopens)
+pub reopens_as : {told : Bool} {seen seen_old : List Snapshot} {now old new : List Watched} {place : ℕ} {is_there : Bool} → seen ≡ seen_old → now ≡ old → Reopens told (latest seen) now new place is_there → Reopens told (latest seen_old) old new place is_there
+reopens_as {told} {seen} {old} {new} {place} {is_there} s w reopens = subst (λ those. Reopens told (latest those) old new place is_there) s (subst (λ those. Reopens told (latest seen) those new place is_there) w reopens)
 
 -- it was told, and then something else ended so
-pub ends_said : {told_in told : Bool} {printer after : PrinterState} {name due : List ℕ} (more : List (List ℕ)) (snapshot : Snapshot) (opened led : Option ℕ) {change : Notice} {old mid new : List Slot} {value : Unit {0}} {result : Result ℕ Stop} → (told_in ≡ true → change_between opened led ≡ Some change)
+pub ends_said : {told_in told : Bool} {printer after : PrinterState} {name due : List ℕ} {more : List (List ℕ)} (snapshot : Snapshot) (opened led : Option ℕ) {change : Notice} {old mid new : List Slot} {value : Unit {0}} {result : Result ℕ Stop} → (told_in ≡ true → change_between opened led ≡ Some change)
     → (told_in ≡ true → (due ≡ held_at snapshot led) × (more ≡ []))
     → Ends {T = Unit {0}} told_in told false printer name [] (notice_of change name ∷ []) old printer mid (Ok value)
     → Ends {T = ℕ} told_in told false printer name due more mid after new result
     → Ends {T = ℕ} told_in told false printer name (bytes_led snapshot opened led) (lines_led name snapshot opened led) old after new result
-ends_said {name} more snapshot opened led {change} is dues line ends =
+ends_said {name} snapshot opened led {change} is dues line ends =
     due_as
     (λ t. ((dues t).0 ∙ sym (change_led name snapshot opened led (is t)).0, ap (λ lines. notice_of change name ∷ lines) (dues t).1 ∙ sym (change_led name snapshot opened led (is t)).1))
     (goes_after line ends)
@@ -213,8 +212,8 @@ none_of None is = refl
 none_of (Some x) is = absurd (false≢true (sym is))
 
 -- the name leads nowhere
-pub held_nowhere : (told : Bool) {snapshot : Snapshot} {old new : List Watched} {place : ℕ} {name : List ℕ} {is_there : Bool} → Reopens told snapshot old new place is_there → is_there ≡ false → (watched_at old place).name ≡ name → told ≡ true → [] ≡ held_at snapshot (snapshot.leads name)
-held_nowhere told {snapshot} reopens gone is t = sym (ap (held_at snapshot) (sym (ap snapshot.leads is) ∙ sym (reopens.leads t) ∙ none_of reopens.file (reopens.found ∙ gone)))
+pub held_nowhere : {told : Bool} {snapshot : Snapshot} {old new : List Watched} {place : ℕ} {name : List ℕ} {is_there : Bool} → Reopens told snapshot old new place is_there → is_there ≡ false → (watched_at old place).name ≡ name → told ≡ true → [] ≡ held_at snapshot (snapshot.leads name)
+held_nowhere {snapshot} reopens gone is t = sym (ap (held_at snapshot) (sym (ap snapshot.leads is) ∙ sym (reopens.leads t) ∙ none_of reopens.file (reopens.found ∙ gone)))
 
 pub contents_open : (snapshot : Snapshot) (watched : Watched) → open_contents snapshot watched ≡ held_at snapshot watched.opened
 contents_open snapshot watched = by watched.opened where
@@ -223,38 +222,35 @@ contents_open snapshot watched = by watched.opened where
   by (Some file) = refl
 
 -- the file that was opened is written whole
-pub contents_led : (told : Bool) {snapshot now : Snapshot} {old new : List Watched} {place : ℕ} {name : List ℕ} {is_there : Bool} → now ≡ snapshot → IsTrue (is_watchable old place) → Reopens told snapshot old new place is_there → (watched_at old place).name ≡ name → told ≡ true
+pub contents_led : {told : Bool} {snapshot now : Snapshot} {old new : List Watched} {place : ℕ} {name : List ℕ} {is_there : Bool} → now ≡ snapshot → IsTrue (is_watchable old place) → Reopens told snapshot old new place is_there → (watched_at old place).name ≡ name → told ≡ true
     → open_contents now (watched_at new place) ≡ held_at snapshot (snapshot.leads name)
-contents_led told {snapshot} {old} {new} {place} seen can reopens is t =
+contents_led {snapshot} {old} {new} {place} seen can reopens is t =
     ap (λ those. open_contents those (watched_at new place)) seen ∙ ap (λ those. open_contents snapshot (watched_at those place)) reopens.names
     ∙ ap (open_contents snapshot) (opened_there old place can) ∙ contents_open snapshot (record (watched_at old place) { opened = reopens.file })
     ∙ ap (held_at snapshot) (reopens.leads t ∙ ap snapshot.leads is)
 
-past_zero : {contents : List ℕ} → bytes_past 0 contents ≡ contents
-past_zero = grind (arith, nat_tests)
-
-pub readable_there : (told : Bool) {snapshot : Snapshot} {old new : List Watched} {place : ℕ} {is_there : Bool} → Reopens told snapshot old new place is_there → is_there ≡ true → IsTrue (is_watchable old place) → IsTrue (is_readable new place)
-readable_there told {old} {place} reopens there can =
+pub readable_there : {told : Bool} {snapshot : Snapshot} {old new : List Watched} {place : ℕ} {is_there : Bool} → Reopens told snapshot old new place is_there → is_there ≡ true → IsTrue (is_watchable old place) → IsTrue (is_readable new place)
+readable_there {old} {place} reopens there can =
     ap (λ those. is_readable those place) reopens.names ∙ ap (λ (those : Watched). is_some those.opened && is_none those.failed) (opened_there old place can)
     ∙ ap (λ test. test && is_watchable old place) (reopens.found ∙ there) ∙ can
 
-pub watchable_there : (told : Bool) {snapshot : Snapshot} {old new : List Watched} {place : ℕ} {is_there : Bool} → Reopens told snapshot old new place is_there → IsTrue (is_watchable old place) → IsTrue (is_watchable new place)
-watchable_there told {old} {place} reopens can =
+pub watchable_there : {told : Bool} {snapshot : Snapshot} {old new : List Watched} {place : ℕ} {is_there : Bool} → Reopens told snapshot old new place is_there → IsTrue (is_watchable old place) → IsTrue (is_watchable new place)
+watchable_there {old} {place} reopens can =
     ap (λ those. is_watchable those place) reopens.names ∙ ap (λ (those : Watched). is_none those.failed) (opened_there old place can) ∙ can
 
-pub follows_there : (told by_name : Bool) {snapshot : Snapshot} {old mid : List Watched} (new : List Watched) {place : ℕ} {name : List ℕ} {is_there : Bool} (result : Result ℕ Stop) → Reopens told snapshot old mid place is_there → (watched_at old place).name ≡ name → Keeps {T = ℕ} place mid new result → Follows {T = ℕ} told by_name (snapshot.leads name) place old new result
-follows_there told by_name {snapshot} new (Ok value) reopens is keeps = (reopens.file, keeps ∙ reopens.names, λ t. reopens.leads t ∙ ap snapshot.leads is)
-follows_there told by_name new {place} (Err (Broke why)) reopens is keeps = (reopens.file, keeps.1 ∙ ap (changed_at place (breaks why)) reopens.names, inr keeps.0)
-follows_there told by_name new (Err (Over why)) reopens is keeps = (reopens.file, keeps ∙ reopens.names)
+pub follows_there : {told : Bool} (by_name : Bool) {snapshot : Snapshot} {old mid : List Watched} (new : List Watched) {place : ℕ} {name : List ℕ} {is_there : Bool} (result : Result ℕ Stop) → Reopens told snapshot old mid place is_there → (watched_at old place).name ≡ name → Keeps {T = ℕ} place mid new result → Follows {T = ℕ} told by_name (snapshot.leads name) place old new result
+follows_there by_name {snapshot} new (Ok value) reopens is keeps = (reopens.file, keeps ∙ reopens.names, λ t. reopens.leads t ∙ ap snapshot.leads is)
+follows_there by_name new {place} (Err (Broke why)) reopens is keeps = (reopens.file, keeps.1 ∙ ap (changed_at place (breaks why)) reopens.names, inr keeps.0)
+follows_there by_name new (Err (Over why)) reopens is keeps = (reopens.file, keeps ∙ reopens.names)
 
 -- a call that looks or opens failed, and the open file is as it was
 pub follows_broken : (told : Bool) (led : Option ℕ) {place : ℕ} {old now new : List Watched} {why : Fault} → now ≡ old → why ≡ fault.Open place → new ≡ changed_at place (breaks why) now → Follows {T = ℕ} told true led place old new (Err (Broke why))
 follows_broken told led {place} {old} {why} same is broken = ((watched_at old place).opened, broken ∙ ap (changed_at place (breaks why)) (same ∙ sym (opens_same old place)), inl (is, refl))
 
 -- what was found to have changed is what changed
-pub change_seen : (told : Bool) (snapshot : Snapshot) (old now : List Watched) (place : ℕ) (name : List ℕ) (found : Option Seen) (id : Option ℕ) (result : Option Notice) → result ≡ change_between id (option_map (λ (file : Seen). file.id) found) → id ≡ (watched_at now place).opened → now ≡ old
+pub change_seen : {told : Bool} (snapshot : Snapshot) {old now : List Watched} (place : ℕ) {name : List ℕ} {found : Option Seen} {id : Option ℕ} {result : Option Notice} → result ≡ change_between id (option_map (λ (file : Seen). file.id) found) → id ≡ (watched_at now place).opened → now ≡ old
     → (watched_at old place).name ≡ name → (told ≡ true → Finds snapshot (watched_at old place).name found) → told ≡ true → change_between (watched_at old place).opened (snapshot.leads name) ≡ result
-change_seen told snapshot old now place name found id result is opened same named finds t =
+change_seen snapshot {old} place {name} {found} {id} is opened same named finds t =
     sym (is ∙ ap (λ those. change_between those (option_map (λ (file : Seen). file.id) found)) (opened ∙ ap (λ those. (watched_at those place).opened) same)
     ∙ ap (change_between (watched_at old place).opened) (found_led snapshot {name = (watched_at old place).name} {found = found} (finds t) ∙ ap snapshot.leads named))
 
@@ -463,7 +459,7 @@ module _ {told_in told : Bool} {snapshot : Snapshot} {place : ℕ} {name : List 
       → watched_mid ≡ watched → why ≡ fault.Open place → watched_new ≡ changed_at place (breaks why) watched_mid
       → Leads told_in told snapshot place name position watched printer slots watched_new printer mid (Err (Broke why))
   leads_unopened changed line same is broken = record {
-    ends = ends_said [] snapshot (watched_at watched place).opened (snapshot.leads name) changed (λ t. (refl, refl)) line broke_first;
+    ends = ends_said snapshot (watched_at watched place).opened (snapshot.leads name) changed (λ t. (refl, refl)) line broke_first;
     len = tt;
     follows = follows_broken told_in (snapshot.leads name) same is broken;
   }
@@ -474,9 +470,8 @@ module _ {told_in told : Bool} {snapshot : Snapshot} {place : ℕ} {name : List 
       → Reopens told_in snapshot watched watched_new place is_there → is_there ≡ false → (watched_at watched place).name ≡ name
       → Leads told_in told snapshot place name position watched printer slots watched_new printer mid (Ok 0)
   leads_gone changed line reopens gone named = record {
-    ends = ends_said [] snapshot (watched_at watched place).opened (snapshot.leads name) changed
-        (λ t. (held_nowhere told_in reopens gone named t, refl)) line nothing_due;
-    len = λ t seen. ap length (held_nowhere told_in reopens gone named t);
+    ends = ends_said snapshot (watched_at watched place).opened (snapshot.leads name) changed (λ t. (held_nowhere reopens gone named t, refl)) line nothing_due;
+    len = λ t seen. ap length (held_nowhere reopens gone named t);
     follows = (reopens.file, reopens.names, λ t. reopens.leads t ∙ ap snapshot.leads named);
   }
 
@@ -488,11 +483,11 @@ module _ {told_in told : Bool} {snapshot : Snapshot} {place : ℕ} {name : List 
       → Catches told_in told now place name 0 watched_mid printer mid watched_new after slots_new result
       → Leads told_in told snapshot place name position watched printer slots watched_new after slots_new result
   leads_there {now} {watched_mid} {watched_new} {result} changed line seen can reopens named catches = record {
-    ends = ends_said [] snapshot (watched_at watched place).opened (snapshot.leads name) changed (λ t. (refl, refl)) line
-        (due_as (λ t. (past_zero ∙ whole_of t, no_line name 0 (length (held_at now (watched_at watched_mid place).opened)) (omega arith))) (catches.ends (λ t none. refl)));
+    ends = ends_said snapshot (watched_at watched place).opened (snapshot.leads name) changed (λ t. (refl, refl)) line
+        (due_as (λ t. ((grind (arith, nat_tests)) ∙ whole_of t, no_line name (omega arith))) (catches.ends (λ t none. refl)));
     len = IfOk-weaker result (λ n. told_in ≡ true → ((watched_at watched_mid place).opened ≡ None → ◌≡◌ {A = ℕ} 0 0) → n ≡ length (held_at now (watched_at watched_mid place).opened)) _
         (λ n long t before. long t (λ none. refl) ∙ ap length (whole_of t)) catches.len;
-    follows = follows_there told_in true watched_new result reopens named catches.keeps;
+    follows = follows_there true watched_new result reopens named catches.keeps;
   } where
     whole_of : told_in ≡ true → held_at now (watched_at watched_mid place).opened ≡ held_at snapshot (snapshot.leads name)
-    whole_of t = sym (contents_open now (watched_at watched_mid place)) ∙ contents_led told_in seen can reopens named t
+    whole_of t = sym (contents_open now (watched_at watched_mid place)) ∙ contents_led seen can reopens named t

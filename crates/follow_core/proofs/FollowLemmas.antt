@@ -47,8 +47,8 @@ pub record VisitedUpTo (told_in told : Bool) (ways : Ways) (looks : List Look) (
   pub rest : (other : ℕ) → place ≤ other → other < length names_now
       → Stands told_in ways looks (ways.first + other) (state_at names_now other).text (watched_at watched (ways.first + other)) (state_at names_now other).standing
 
-pub nothing_shared : (told : Bool) (printer : PrinterState) {slots : List Slot} → AllShared told printer [] slots printer slots
-nothing_shared told printer {slots} = record { printer_is = refl; slots = wrote_none told slots }
+pub nothing_shared : {told : Bool} {printer : PrinterState} {slots : List Slot} → AllShared told printer [] slots printer slots
+nothing_shared {told} {slots} = record { printer_is = refl; slots = wrote_none told }
 
 -- further shares
 
@@ -69,7 +69,7 @@ all_both {printer} {shares} {more} all rest = record {
 
 pub shared_more : {told : Bool} {printer mid after : PrinterState} {shares : List Share} {share : Share} {old now new : List Slot}
     → AllShared told printer shares old mid now → Shared told mid share now after new → AllShared told printer (shares ++ share ∷ []) old after new
-shared_more {told} {share} {now} {new} all one = all_both all (record {
+shared_more {told} {now} {new} all one = all_both all (record {
   printer_is = one.printer_is;
   slots = subst₂ (λ text lines. Wrote told text lines now new) (sym (append-nil _)) (sym (append-nil _)) one.slots;
 })
@@ -77,22 +77,22 @@ shared_more {told} {share} {now} {new} all one = all_both all (record {
 pub shared_short : {told : Bool} {printer mid : PrinterState} {shares : List Share} {share : Share} {old now new : List Slot} {why : Fault}
     → AllShared told printer shares old mid now → SharedShort told mid share now new why → AllShort told printer (shares ++ share ∷ []) old new why
 shared_short {printer} {mid} {shares} {share} all one = record {
-  slots = wrote_short _ _ _ _ _ (ap (λ rest. text_from printer.headers printer.last shares ++ rest) (sym (append-nil (share_text mid.headers mid.last share)))
+  slots = wrote_short _ _ _ (ap (λ rest. text_from printer.headers printer.last shares ++ rest) (sym (append-nil (share_text mid.headers mid.last share)))
       ∙ text_all printer shares (share ∷ []) all.printer_is)
       (ap (λ rest. messages_of shares ++ rest) (sym (append-nil share.messages)) ∙ sym (messages-append shares (share ∷ []))) all.slots one.slots;
 }
 
 -- names that were not looked at yet
 
-pub visited_none : {told_in : Bool} (told : Bool) {ways : Ways} {looks : List Look} {snapshot : Snapshot} {names : List NameState} {printer : PrinterState} {slots : List Slot} {watched : List Watched} → AllStand told_in ways looks names watched
+pub visited_none : {told_in told : Bool} {ways : Ways} {looks : List Look} {snapshot : Snapshot} {names : List NameState} {printer : PrinterState} {slots : List Slot} {watched : List Watched} → AllStand told_in ways looks names watched
     → VisitedUpTo told_in told ways looks snapshot 0 names printer slots printer slots watched names false
-visited_none told {ways} {printer} stand = record {
+visited_none {ways} stand = record {
   fates = replicate ways.first sound;
   shares = [];
   count = length-replicate ways.first sound ∙ omega arith;
   are = λ t later. refl;
   is_failed = refl;
-  shared = nothing_shared told printer;
+  shared = nothing_shared;
   same = refl;
   done = λ later other below. absurd (omega arith);
   rest = λ other above within. stand other within;
@@ -109,15 +109,15 @@ shares_one ways looks look from (first ∷ names) name =
 fate_there : (snapshot : Snapshot) (fates : List Fate) {fate : Fate} (later : List Fate) {place : ℕ} → length fates ≡ place → fate_at place (record { snapshot = snapshot; fates = fates ++ fate ∷ later }) ≡ fate
 fate_there snapshot fates {fate} later count = ap (λ n. slice_index_or (fates ++ fate ∷ later) n sound) (sym count) ∙ get_or-append_seam fates fate later sound
 
-text_there : (names now : List NameState) (place : ℕ) → texts now ≡ texts names → place < length now → get_or (texts names) place [] ≡ (state_at now place).text
-text_there names now place same within = ap (λ those. get_or those place []) (sym same) ∙ get_or-map (λ (n : NameState). n.text) now place no_state [] within
+text_there : (names now : List NameState) {place : ℕ} → texts now ≡ texts names → place < length now → get_or (texts names) place [] ≡ (state_at now place).text
+text_there names now {place} same within = ap (λ those. get_or those place []) (sym same) ∙ get_or-map (λ (n : NameState). n.text) now place no_state [] within
 
-stands_same : (told : Bool) (ways : Ways) (looks : List Look) (place : ℕ) {name : NameState} (other : NameState) {watched those : Watched} → name ≡ other → watched ≡ those → Stands told ways looks place name.text watched name.standing → Stands told ways looks place other.text those other.standing
-stands_same told ways looks place {name} other {those} is same stands =
+stands_same : (told : Bool) (ways : Ways) (looks : List Look) (place : ℕ) {name other : NameState} {watched those : Watched} → name ≡ other → watched ≡ those → Stands told ways looks place name.text watched name.standing → Stands told ways looks place other.text those other.standing
+stands_same told ways looks place {name} {those} is same stands =
     subst (λ (n : NameState). Stands told ways looks place n.text those n.standing) is (subst (λ w. Stands told ways looks place name.text w name.standing) same stands)
 
-pub texts_set : (names : List NameState) (place : ℕ) (default one : NameState) → place < length names → one.text ≡ (get_or names place default).text → texts (set names place one) ≡ texts names
-texts_set names place default one within same = map-set_same (λ (n : NameState). n.text) names place one default same
+pub texts_set : (names : List NameState) {place : ℕ} (default one : NameState) → place < length names → one.text ≡ (get_or names place default).text → texts (set names place one) ≡ texts names
+texts_set names {place} default one within same = map-set_same (λ (n : NameState). n.text) names place one default same
 
 pub length_texts : (names now : List NameState) → texts now ≡ texts names → length (texts names) ≡ length now
 length_texts names now same = ap length (sym same) ∙ length-map now (λ (n : NameState). n.text)
@@ -126,34 +126,34 @@ pub same_length : (names now : List NameState) → texts now ≡ texts names →
 same_length names now same = sym (length-map names (λ (n : NameState). n.text)) ∙ length_texts names now same
 
 -- the shares of the names before a place, and of the one at it
-shares_next : (ways : Ways) (looks : List Look) (look : Look) (names now : List NameState) (place : ℕ) → texts now ≡ texts names → place < length now
+shares_next : (ways : Ways) (looks : List Look) (look : Look) (names now : List NameState) {place : ℕ} → texts now ≡ texts names → place < length now
     → shares_at_look_from ways looks look ways.first (take place (texts names)) ++ share_of ways looks look (ways.first + place) (state_at now place).text ∷ [] ≡ shares_at_look_from ways looks look ways.first (take (suc place) (texts names))
-shares_next ways looks look names now place same within =
+shares_next ways looks look names now {place} same within =
     let count : length (take place (texts names)) ≡ place = length-take-le place (texts names) (subst (λ n. place ≤ n) (sym (length_texts names now same)) (omega arith)) in
     let below : place < length (texts names) = subst (λ n. place < n) (sym (length_texts names now same)) within in
-    ap (λ name. shares_at_look_from ways looks look ways.first (take place (texts names)) ++ share_of ways looks look (ways.first + place) name ∷ []) (sym (text_there names now place same within))
+    ap (λ name. shares_at_look_from ways looks look ways.first (take place (texts names)) ++ share_of ways looks look (ways.first + place) name ∷ []) (sym (text_there names now same within))
     ∙ ap (λ n. shares_at_look_from ways looks look ways.first (take place (texts names)) ++ share_of ways looks look (ways.first + n) (get_or (texts names) place []) ∷ []) (sym count)
     ∙ sym (shares_one ways looks look ways.first (take place (texts names)) (get_or (texts names) place []))
     ∙ ap (shares_at_look_from ways looks look ways.first) (sym (take-suc (texts names) place [] below))
 
-failed_one : (shares : List Share) (share : Share) {before : Bool} (failed : Bool) → any_failed shares ≡ before → share.has_failed ≡ failed → any_failed (shares ++ share ∷ []) ≡ (before || failed)
-failed_one shares share {before} failed is one = failed-append shares (share ∷ []) ∙ ap (λ first. first || (share.has_failed || false)) is ∙ ap (λ last. before || (last || false)) one ∙ ap (λ last. before || last) (or-false failed)
+failed_one : (shares : List Share) (share : Share) {before failed : Bool} → any_failed shares ≡ before → share.has_failed ≡ failed → any_failed (shares ++ share ∷ []) ≡ (before || failed)
+failed_one shares share {before} {failed} is one = failed-append shares (share ∷ []) ∙ ap (λ first. first || (share.has_failed || false)) is ∙ ap (λ last. before || (last || false)) one ∙ ap (λ last. before || last) (or-false failed)
 
-pub visited_more : {told_in : Bool} (told : Bool) {ways : Ways} {looks : List Look} {snapshot snapshot_now : Snapshot} {names now : List NameState} (default one : NameState) {place : ℕ} {printer mid after : PrinterState} {old slots new : List Slot} {watched watched_new : List Watched} {before : Bool} (failed : Bool)
+pub visited_more : {told_in told : Bool} {ways : Ways} {looks : List Look} {snapshot snapshot_now : Snapshot} {names now : List NameState} (default : NameState) {one : NameState} {place : ℕ} {printer mid after : PrinterState} {old slots new : List Slot} {watched watched_new : List Watched} {before failed : Bool}
     → place < length now → one.text ≡ (get_or now place default).text → KeepsOthers (ways.first + place) watched watched_new → snapshot_now ≡ snapshot
     → VisitedUpTo told_in told ways looks snapshot place names printer old mid slots watched now before
     → (Stands told_in ways looks (ways.first + place) (get_or now place default).text (watched_at watched (ways.first + place)) (get_or now place default).standing → Visited told_in told ways looks snapshot_now (ways.first + place) (get_or now place default).text mid slots after new (watched_at watched_new (ways.first + place)) one.standing failed)
     → {next : ℕ} → suc place ≡ next → VisitedUpTo told_in told ways looks snapshot next names printer old after new watched_new (set now place one) (before || failed)
-visited_more {told_in} told {ways} {looks} {snapshot} {names} {now} default one {place} {printer} {mid} {after} {old} {slots} {new} {watched} {watched_new} {before} failed within same keeps seen sofar visit is = subst (λ n. VisitedUpTo told_in told ways looks snapshot n names printer old after new watched_new (set now place one) (before || failed)) is (record {
+visited_more {told_in} {told} {ways} {looks} {snapshot} {names} {now} default {one} {place} {printer} {mid} {after} {old} {slots} {new} {watched} {watched_new} {before} {failed} within same keeps seen sofar visit is = subst (λ n. VisitedUpTo told_in told ways looks snapshot n names printer old after new watched_new (set now place one) (before || failed)) is (record {
   fates = sofar.fates ++ visited.fate ∷ [];
   shares = sofar.shares ++ visited.share ∷ [];
   count = length-append sofar.fates (visited.fate ∷ []) ∙ ap (λ n. n + 1) sofar.count ∙ omega arith;
   are = λ t later. subst (λ those. sofar.shares ++ visited.share ∷ [] ≡ shares_at_look_from ways looks (record { snapshot = snapshot; fates = those }) ways.first (take (suc place) (texts names))) (sym (append_assoc sofar.fates (visited.fate ∷ []) later)) (both t later);
-  is_failed = failed_one sofar.shares visited.share failed sofar.is_failed visited.is_failed;
+  is_failed = failed_one sofar.shares visited.share sofar.is_failed visited.is_failed;
   shared = shared_more sofar.shared visited.shared;
-  same = texts_set now place default one within same ∙ sofar.same;
+  same = texts_set now default one within same ∙ sofar.same;
   done = λ later other below. subst (λ those. Stands told_in ways (looks ++ record { snapshot = snapshot; fates = those } ∷ []) (ways.first + other) (state_at (set now place one) other).text (watched_at watched_new (ways.first + other)) (state_at (set now place one) other).standing) (sym (append_assoc sofar.fates (visited.fate ∷ []) later)) (there later other below (cases_eq other place));
-  rest = λ other above inside. stands_same told_in ways looks (ways.first + other) (state_at (set now place one) other) (sym (get_or-set_other now place other one no_state (differs other above))) (sym (kept other (differs other above)))
+  rest = λ other above inside. stands_same told_in ways looks (ways.first + other) (sym (get_or-set_other now place other one no_state (differs other above))) (sym (kept other (differs other above)))
       (sofar.rest other (omega arith) (subst (λ n. other < n) (length-set now place one) inside));
 }) where
   item : NameState
@@ -178,13 +178,13 @@ visited_more {told_in} told {ways} {looks} {snapshot} {names} {now} default one 
       ap (λ front. front ++ visited.share ∷ []) (sofar.are t (visited.fate ∷ later))
       ∙ ap (λ share. shares_at_look_from ways looks look ways.first (take place (texts names)) ++ share ∷ []) (visited.is_share t (sofar.fates ++ visited.fate ∷ later) (fate_there snapshot sofar.fates later sofar.count))
       ∙ ap (λ (n : NameState). shares_at_look_from ways looks look ways.first (take place (texts names)) ++ share_of ways looks look number n.text ∷ []) found
-      ∙ shares_next ways looks look names now place sofar.same within
+      ∙ shares_next ways looks look names now sofar.same within
 
   differs : (other : ℕ) → suc place ≤ other → other ≡ place → ⊥
   differs other above at = omega arith
 
   there : (later : List Fate) (other : ℕ) → other < suc place → (other ≡ place) ⊎ (other ≡ place → ⊥) → Stands told_in ways (looks ++ record { snapshot = snapshot; fates = sofar.fates ++ visited.fate ∷ later } ∷ []) (ways.first + other) (state_at (set now place one) other).text (watched_at watched_new (ways.first + other)) (state_at (set now place one) other).standing
-  there later other below (inr elsewhere) = stands_same told_in ways (looks ++ record { snapshot = snapshot; fates = sofar.fates ++ visited.fate ∷ later } ∷ []) (ways.first + other) (state_at (set now place one) other) (sym (get_or-set_other now place other one no_state elsewhere)) (sym (kept other elsewhere))
+  there later other below (inr elsewhere) = stands_same told_in ways (looks ++ record { snapshot = snapshot; fates = sofar.fates ++ visited.fate ∷ later } ∷ []) (ways.first + other) (sym (get_or-set_other now place other one no_state elsewhere)) (sym (kept other elsewhere))
       (sofar.done (visited.fate ∷ later) other (omega arith))
   there later other below (inl at) = subst (λ n. Stands told_in ways (looks ++ record { snapshot = snapshot; fates = sofar.fates ++ visited.fate ∷ later } ∷ []) (ways.first + n) (state_at (set now place one) n).text (watched_at watched_new (ways.first + n)) (state_at (set now place one) n).standing) (sym at)
       (subst (λ (n : NameState). Stands told_in ways (looks ++ record { snapshot = snapshot; fates = sofar.fates ++ visited.fate ∷ later } ∷ []) number n.text (watched_at watched_new number) n.standing) (sym (get_or-set_same now place one no_state within))
@@ -193,9 +193,9 @@ visited_more {told_in} told {ways} {looks} {snapshot} {names} {now} default one 
 
 -- all names
 
-pub visited_all : {told_in : Bool} (told : Bool) {ways : Ways} {looks : List Look} {snapshot : Snapshot} {names now : List NameState} {place : ℕ} {printer after : PrinterState} {old new : List Slot} {watched : List Watched} (failed : Bool) → place ≡ length now
+pub visited_all : {told_in told : Bool} {ways : Ways} {looks : List Look} {snapshot : Snapshot} {names now : List NameState} {place : ℕ} {printer after : PrinterState} {old new : List Slot} {watched : List Watched} {failed : Bool} → place ≡ length now
     → VisitedUpTo told_in told ways looks snapshot place names printer old after new watched now failed → VisitedAll told_in told ways looks snapshot names printer old after new watched now failed
-visited_all {told_in} told {ways} {looks} {snapshot} {names} {now} {place} {watched} failed end sofar = record {
+visited_all {told_in} {ways} {looks} {snapshot} {names} {now} {place} {watched} end sofar = record {
   fates = sofar.fates;
   shares = sofar.shares;
   are = λ t. sofar.are t [] ∙ ap (λ those. shares_at_look_from ways looks (record { snapshot = snapshot; fates = those }) ways.first (take place (texts names))) (append-nil sofar.fates)
@@ -208,11 +208,11 @@ visited_all {told_in} told {ways} {looks} {snapshot} {names} {now} {place} {watc
 
 -- by what a name broke, as it stands
 pub broken_there : (told : Bool) {ways : Ways} {looks : List Look} {place : ℕ} (name : List ℕ) (watched : Watched) (standing : Standing) → Stands told ways looks place name watched standing → BrokeIn ways looks place watched.failed
-broken_there told {place} name watched New stands = unbroken_in watched.failed (ap (λ (w : Watched). w.failed) stands.1) (ap (is_dropped place) stands.0)
-broken_there told name watched (Followed position) stands = unbroken_in watched.failed stands.unbroken stands.kept
+broken_there told {place} name watched New stands = unbroken_in (ap (λ (w : Watched). w.failed) stands.1) (ap (is_dropped place) stands.0)
+broken_there told name watched (Followed position) stands = unbroken_in stands.unbroken stands.kept
 broken_there told name watched Left stands = elim stands.why [
   | inl dropped ↦ dropped.1
-  | inr missed ↦ unbroken_in watched.failed missed.unbroken missed.kept
+  | inr missed ↦ unbroken_in missed.unbroken missed.kept
 ]
 
 -- opening a file breaks no name
@@ -224,12 +224,12 @@ opens_failed (name ∷ names) (suc place) zero file = refl
 opens_failed (name ∷ names) (suc place) (suc other) file = opens_failed names place other file
 
 -- a look that was stopped at a name
-pub visited_short : {told_in : Bool} (told : Bool) {ways : Ways} {looks : List Look} {snapshot snapshot_now : Snapshot} {names now : List NameState} (default : NameState) {place : ℕ} {printer mid : PrinterState} {old slots new : List Slot} {watched watched_new : List Watched} {before : Bool} {why : Fault}
+pub visited_short : {told_in told : Bool} {ways : Ways} {looks : List Look} {snapshot snapshot_now : Snapshot} {names now : List NameState} (default : NameState) {place : ℕ} {printer mid : PrinterState} {old slots new : List Slot} {watched watched_new : List Watched} {before : Bool} {why : Fault}
     → place < length now → snapshot_now ≡ snapshot → Opened (ways.first + place) watched watched_new
     → VisitedUpTo told_in told ways looks snapshot place names printer old mid slots watched now before
     → (Stands told_in ways looks (ways.first + place) (get_or now place default).text (watched_at watched (ways.first + place)) (get_or now place default).standing → (is_dropped (ways.first + place) looks ≡ false) × Stopped told_in told ways looks snapshot_now (get_or now place default).text mid slots new why)
     → StoppedAt told_in told ways looks snapshot (texts names) printer old watched_new new why
-visited_short {told_in} told {ways} {looks} {snapshot} {names} {now} default {place} {mid} {slots} {new} {watched} {watched_new} {why} within seen opened sofar stop = record {
+visited_short {told_in} {told} {ways} {looks} {snapshot} {names} {now} default {place} {mid} {slots} {new} {watched} {watched_new} {why} within seen opened sofar stop = record {
   fates = sofar.fates;
   place = place;
   count = sofar.count;
@@ -262,7 +262,7 @@ visited_short {told_in} told {ways} {looks} {snapshot} {names} {now} default {pl
       let count = sofar.count in
       ap (share_by ways item.text looks look) (sym (get_or_past sofar.fates number sound (omega (arith, count))))
       ∙ ap (λ test. if test then no_share item.text else share_by ways item.text looks look (fate_at number look)) (sym stopped.0)
-      ∙ ap (share_of ways looks look number) (ap (λ (n : NameState). n.text) found ∙ sym (text_there names now place sofar.same within))
+      ∙ ap (share_of ways looks look number) (ap (λ (n : NameState). n.text) found ∙ sym (text_there names now sofar.same within))
 
   same : (other : ℕ) → (watched_at watched_new other).failed ≡ (watched_at watched other).failed
   same other = ap (λ (those : List Watched). (watched_at those other).failed) opened.1 ∙ opens_failed watched number other opened.0
@@ -272,11 +272,11 @@ visited_short {told_in} told {ways} {looks} {snapshot} {names} {now} default {pl
       (subst (λ those. Stands told_in ways (looks ++ record { snapshot = snapshot; fates = those } ∷ []) (ways.first + other) (state_at now other).text (watched_at watched (ways.first + other)) (state_at now other).standing) (append-nil sofar.fates) (sofar.done [] other less))
   there other inside (inr more) =
       let count = sofar.count in
-      broken_sound looks look (watched_at watched (ways.first + other)).failed (get_or_past sofar.fates (ways.first + other) sound (omega (arith, count, more)))
+      broken_sound looks look (get_or_past sofar.fates (ways.first + other) sound (omega (arith, count, more)))
       (broken_there told_in (state_at now other).text (watched_at watched (ways.first + other)) (state_at now other).standing (sofar.rest other more inside))
 
-pub next_ready : (first : ℕ) (names : List NameState) (one : NameState) (place : ℕ) {watched watched_new : List Watched} → place < length names → AllReady names first watched → KeepsOthers (first + place) watched watched_new → CanVisit one (watched_at watched_new (first + place)) → AllReady (set names place one) first watched_new
-next_ready first names one place {watched_new} within ready keeps can other inside = by (cases_eq other place) where
+pub next_ready : (first : ℕ) (names : List NameState) (one : NameState) {place : ℕ} {watched watched_new : List Watched} → place < length names → AllReady names first watched → KeepsOthers (first + place) watched watched_new → CanVisit one (watched_at watched_new (first + place)) → AllReady (set names place one) first watched_new
+next_ready first names one {place} {watched_new} within ready keeps can other inside = by (cases_eq other place) where
   by : (other ≡ place) ⊎ (other ≡ place → ⊥) → CanVisit (state_at (set names place one) other) (watched_at watched_new (first + other))
   by (inl at) = subst (λ n. CanVisit (state_at (set names place one) n) (watched_at watched_new (first + n))) (sym at) (subst (λ (n : NameState). CanVisit n (watched_at watched_new (first + place))) (sym (get_or-set_same names place one no_state within)) can)
   by (inr elsewhere) = subst (λ (n : NameState). CanVisit n (watched_at watched_new (first + other))) (sym (get_or-set_other names place other one no_state elsewhere)) (subst (CanVisit (state_at names other)) (sym (keeps.others (first + other) (λ at. elsewhere (omega (arith, at))))) (ready other (subst (λ n. other < n) (length-set names place one) inside)))
@@ -285,15 +285,13 @@ next_ready first names one place {watched_new} within ready keeps can other insi
 
 -- memory was wanting after all of them
 none_stop : {told : Bool} {printer : PrinterState} {slots : List Slot} → AllShort told printer [] slots slots fault.Memory
-none_stop {told} {slots} = record {
-  slots = λ output error others is. (error, refl, subst (λ those. Short told [] those slots fault.Memory) is (no_memory told));
-}
+none_stop {told} {slots} = record { slots = λ output error others is. (error, refl, subst (λ those. Short told [] those slots fault.Memory) is no_memory) }
 
 -- names that are looked at
 
-stand_in : {told_in : Bool} (told : Bool) {ways : Ways} {headers : Bool} {names : List (List ℕ)} {looks : List Look} {first : List Slot} {follow : FollowState} {watched : List Watched} {slots : List Slot} → follow.stage ≡ Looking → Holds told_in told ways headers names looks first follow watched slots
+stand_in : {told_in told : Bool} {ways : Ways} {headers : Bool} {names : List (List ℕ)} {looks : List Look} {first : List Slot} {follow : FollowState} {watched : List Watched} {slots : List Slot} → follow.stage ≡ Looking → Holds told_in told ways headers names looks first follow watched slots
     → AllStand told_in (ways_of ways.first follow.by_name follow.start) looks follow.names watched
-stand_in {told_in} told {ways} {looks} {follow} {watched} looking holds =
+stand_in {told_in} {ways} {looks} {follow} {watched} looking holds =
     subst (λ way. AllStand told_in way looks follow.names watched) holds.asked (subst (StandsIn told_in ways looks follow.names watched) looking holds.stand).0
 
 -- as many names
@@ -301,15 +299,14 @@ length_names : (follow : FollowState) {names : List (List ℕ)} → texts follow
 length_names follow same = sym (length-map follow.names (λ (n : NameState). n.text)) ∙ ap length same
 
 -- the number of the first
-first_there : {told_in : Bool} (told : Bool) {ways : Ways} {headers : Bool} {names : List (List ℕ)} {looks : List Look} {first : List Slot} {follow : FollowState} {watched : List Watched} {slots : List Slot} → follow.stage ≡ Looking → Holds told_in told ways headers names looks first follow watched slots
+first_there : {told_in told : Bool} {ways : Ways} {headers : Bool} {names : List (List ℕ)} {looks : List Look} {first : List Slot} {follow : FollowState} {watched : List Watched} {slots : List Slot} → follow.stage ≡ Looking → Holds told_in told ways headers names looks first follow watched slots
     → 0 < length follow.names → follow.first ≡ ways.first
-first_there told {follow} looking holds some = holds.numbered looking (subst (λ n. 0 < n) (length_names follow holds.same) some)
+first_there {follow} looking holds some = holds.numbered looking (subst (λ n. 0 < n) (length_names follow holds.same) some)
 
-look_made : {told_in told : Bool} {snapshot : Snapshot} {old : FollowState} {names : List NameState} {watched watched_new : List Watched}
-    {printer : PrinterState} {slots slots_new : List Slot} (failed : Bool) → old.stage ≡ Looking
+look_made : {told_in told : Bool} {snapshot : Snapshot} {old : FollowState} {names : List NameState} {watched watched_new : List Watched} {printer : PrinterState} {slots slots_new : List Slot} {failed : Bool} → old.stage ≡ Looking
     → VisitsAll told_in told snapshot old.by_name old.start old.first old.names watched old.printer slots names watched_new printer slots_new (Ok failed)
     → LooksOn told_in told snapshot old watched slots (record old { names = names; printer = printer; has_failed = old.has_failed || failed }) watched_new slots_new
-look_made {told_in} {told} {snapshot} {old} {names} {watched} {watched_new} {printer} {slots} {slots_new} failed looking visits ways headers asked looks first holds = (
+look_made {told_in} {told} {snapshot} {old} {names} {watched} {watched_new} {printer} {slots} {slots_new} {failed} looking visits ways headers asked looks first holds = (
   visited.fates,
   record {
     asked = holds.asked;
@@ -330,7 +327,7 @@ look_made {told_in} {told} {snapshot} {old} {names} {watched} {watched_new} {pri
 ) where
   visited : VisitedAll told_in told ways looks snapshot old.names old.printer slots printer slots_new watched_new names failed
   visited = subst (λ way. VisitedAll told_in told way looks snapshot old.names old.printer slots printer slots_new watched_new names failed) (sym holds.asked)
-      (visits.visited ways.first looks (first_there told looking holds) (stand_in told looking holds))
+      (visits.visited ways.first looks (first_there looking holds) (stand_in looking holds))
 
   look : Look
   look = record { snapshot = snapshot; fates = visited.fates }
@@ -352,7 +349,7 @@ look_stopped {told_in} {told} {snapshot} {old} {watched} {watched_new} {slots} {
 } where
   stopped : StoppedAt told_in told ways looks snapshot names old.printer slots watched_new slots_new why
   stopped = subst₂ (λ way those. StoppedAt told_in told way looks snapshot those old.printer slots watched_new slots_new why) (sym holds.asked) holds.same
-      (visits.stopped ways.first looks (first_there told looking holds) (stand_in told looking holds))
+      (visits.stopped ways.first looks (first_there looking holds) (stand_in looking holds))
 
   all : length watched_new ≡ ways.first + length names
   all = visits.count ∙ (subst (StandsIn told_in ways looks old.names watched) looking holds.stand).1 ∙ ap (λ n. ways.first + n) (length_names old holds.same)
@@ -364,14 +361,14 @@ Unbroken told_in told old watched slots watched_new = (ways : Ways) (headers : B
 
 -- names that were added
 
-added_at : (before : List Watched) (names : List (List ℕ)) (place : ℕ) → place < length names → watched_at (before ++ map added names) (length before + place) ≡ added (slice_index_or names place [])
-added_at before names place within = get_or-append-add before (map added names) place no_name ∙ get_or-map added names place [] no_name within
+added_at : (before : List Watched) (names : List (List ℕ)) {place : ℕ} → place < length names → watched_at (before ++ map added names) (length before + place) ≡ added (slice_index_or names place [])
+added_at before names {place} within = get_or-append-add before (map added names) place no_name ∙ get_or-map added names place [] no_name within
 
 added_stand : (told : Bool) (ways : Ways) (before : List Watched) (names : List (List ℕ)) → ways.first ≡ length before → AllStand told ways [] (map new_state names) (before ++ map added names)
 added_stand told ways before names first_is place within =
     let inside : place < length names = subst (λ n. place < n) (length-map names new_state) within in
     subst (λ (n : NameState). Stands told ways [] (ways.first + place) n.text (watched_at (before ++ map added names) (ways.first + place)) n.standing) (sym (get_or-map new_state names place [] no_state inside))
-    (subst (λ w. Stands told ways [] (ways.first + place) (slice_index_or names place []) w New) (sym (ap (λ n. watched_at (before ++ map added names) (n + place)) first_is ∙ added_at before names place inside)) (refl, refl))
+    (subst (λ w. Stands told ways [] (ways.first + place) (slice_index_or names place []) w New) (sym (ap (λ n. watched_at (before ++ map added names) (n + place)) first_is ∙ added_at before names inside)) (refl, refl))
 
 can_at : (text : List ℕ) (standing : Standing) → CanVisit (record { text = text; standing = standing }) (added text)
 can_at text New = (refl, refl)
@@ -382,7 +379,7 @@ added_ready : (names : List NameState) {first : ℕ} (before : List Watched) →
 added_ready names {first} before first_is place within = subst (CanVisit (state_at names place)) (sym there) (can_at (state_at names place).text (state_at names place).standing) where
   there : watched_at (before ++ map added (texts names)) (first + place) ≡ added (state_at names place).text
   there = ap (λ n. watched_at (before ++ map added (texts names)) (n + place)) (first_is (omega (arith, within)))
-      ∙ added_at before (texts names) place (subst (λ n. place < n) (sym (length-map names (λ (n : NameState). n.text))) within)
+      ∙ added_at before (texts names) (subst (λ n. place < n) (sym (length-map names (λ (n : NameState). n.text))) within)
       ∙ ap added (get_or-map (λ (n : NameState). n.text) names place no_state [] within)
 
 -- following stands as before, but that its names are watched, after those that were
@@ -392,9 +389,9 @@ pub record IsAdded (old mid : FollowState) (watched watched_mid : List Watched) 
   pub watched_is : watched_mid ≡ watched ++ map added (texts old.names)
   pub first_is : 0 < length old.names → mid.first ≡ length watched
 
-held_added : {told_in : Bool} (told : Bool) {ways : Ways} {headers : Bool} {names : List (List ℕ)} {looks : List Look} {first : List Slot} {old mid : FollowState} {watched watched_mid : List Watched} {slots : List Slot} → IsAdded old mid watched watched_mid
+held_added : {told_in told : Bool} {ways : Ways} {headers : Bool} {names : List (List ℕ)} {looks : List Look} {first : List Slot} {old mid : FollowState} {watched watched_mid : List Watched} {slots : List Slot} → IsAdded old mid watched watched_mid
     → Holds told_in told ways headers names looks first old watched slots → Holds told_in told ways headers names looks first mid watched_mid slots
-held_added {told_in} told {ways} {headers} {names} {looks} {first} {old} {watched} {watched_mid} {slots} is holds =
+held_added {told_in} {told} {ways} {headers} {names} {looks} {first} {old} {watched} {watched_mid} {slots} is holds =
     subst (λ (f : FollowState). Holds told_in told ways headers names looks first f watched_mid slots) (sym is.mid_is) (record {
       asked = holds.asked;
       same = holds.same;
@@ -427,7 +424,7 @@ added_begins {old} {mid} {watched} {watched_mid} is = record {
   stage = ap (λ (f : FollowState). f.stage) is.mid_is;
   ready = subst (λ (f : FollowState). AllReady f.names f.first watched_mid) (sym is.mid_is) (subst (AllReady old.names mid.first) (sym is.watched_is) (added_ready old.names watched is.first_is));
   others = other_added is;
-  holds = λ told ways headers names looks first slots holds. held_added told is holds;
+  holds = λ told ways headers names looks first slots holds. held_added is holds;
 }
 
 -- names of others, in the look after that
@@ -459,8 +456,8 @@ alive_from ways looks from (name ∷ names) all =
     ap (λ rest. goes_on_as ways.by_name name.standing || rest) (alive_from ways looks (1 + from) names (λ place within. all (suc place) (omega arith) ∙ ap (λ at. goes_on_at ways looks at (state_at names place).text) (omega arith)))
     ∙ ap (λ one. one || is_alive_from ways looks (1 + from) (texts names)) (all 0 (omega arith) ∙ ap (λ at. goes_on_at ways looks at name.text) (omega arith))
 
-new_there : {names : List NameState} (place : ℕ) → place < length names → names ≡ map new_state (texts names) → (state_at names place).standing ≡ New
-new_there {names} place within new =
+new_there : {names : List NameState} {place : ℕ} → place < length names → names ≡ map new_state (texts names) → (state_at names place).standing ≡ New
+new_there {names} {place} within new =
     let inside : place < length (texts names) = subst (λ n. place < n) (sym (length-map names (λ (n : NameState). n.text))) within in
     ap (λ (those : List NameState). (state_at those place).standing) new
     ∙ ap (λ (n : NameState). n.standing) (get_or-map new_state (texts names) place [] no_state inside)
@@ -468,10 +465,10 @@ new_there {names} place within new =
 fresh_alive : (ways : Ways) {looks : List Look} {names : List NameState} → looks ≡ [] → names ≡ map new_state (texts names) → (place : ℕ) → place < length names → goes_on_as ways.by_name (state_at names place).standing ≡ goes_on_at ways looks (ways.first + place) (state_at names place).text
 fresh_alive ways {names} none new place within =
     subst (λ (those : List Look). goes_on_as ways.by_name (state_at names place).standing ≡ goes_on_at ways those (ways.first + place) (state_at names place).text) (sym none)
-    (ap (goes_on_as ways.by_name) (new_there place within new) ∙ sym (or_none ways.by_name))
+    (ap (goes_on_as ways.by_name) (new_there within new) ∙ sym (or_none ways.by_name))
 
-pub alive_is : (told : Bool) {ways : Ways} {headers : Bool} {names : List (List ℕ)} {looks : List Look} {first slots : List Slot} {follow : FollowState} {watched : List Watched} → Holds true told ways headers names looks first follow watched slots → any_goes_on follow.by_name follow.names ≡ is_alive ways names looks
-alive_is told {ways} {looks} {follow} {watched} holds =
+pub alive_is : {told : Bool} {ways : Ways} {headers : Bool} {names : List (List ℕ)} {looks : List Look} {first slots : List Slot} {follow : FollowState} {watched : List Watched} → Holds true told ways headers names looks first follow watched slots → any_goes_on follow.by_name follow.names ≡ is_alive ways names looks
+alive_is {ways} {looks} {follow} {watched} holds =
     ap (λ (way : Ways). any_goes_on way.by_name follow.names) (sym holds.asked) ∙ alive_from ways looks ways.first follow.names (stage follow.stage holds.stand)
     ∙ ap (λ those. is_alive ways those looks) holds.same where
       stage : (stage : Stage) → StandsIn true ways looks follow.names watched stage → (place : ℕ) → place < length follow.names → goes_on_as ways.by_name (state_at follow.names place).standing ≡ goes_on_at ways looks (ways.first + place) (state_at follow.names place).text
@@ -496,28 +493,28 @@ cause_is {old} {slots} {slots_new} watched live can (inr (is, broken), error) = 
 -- by what the names broke
 
 -- a name that was only added broke by nothing
-none_failed : (before : List Watched) (names : List (List ℕ)) (watched rest : List Watched) (place : ℕ) → before ++ map added names ≡ watched ++ rest → length before + place < length watched → place < length names → (watched_at watched (length before + place)).failed ≡ None
-none_failed before names watched rest place are within inside = ap (λ (w : Watched). w.failed)
-    (sym (get_or_append_left watched rest no_name (length before + place) within) ∙ ap (λ those. watched_at those (length before + place)) (sym are) ∙ added_at before names place inside)
+none_failed : (before : List Watched) (names : List (List ℕ)) (watched rest : List Watched) {place : ℕ} → before ++ map added names ≡ watched ++ rest → length before + place < length watched → place < length names → (watched_at watched (length before + place)).failed ≡ None
+none_failed before names watched rest {place} are within inside = ap (λ (w : Watched). w.failed)
+    (sym (get_or_append_left watched rest no_name (length before + place) within) ∙ ap (λ those. watched_at those (length before + place)) (sym are) ∙ added_at before names inside)
 
 -- before the first look none did, of those that were added
-none_broken : (ways : Ways) {looks : List Look} (names : List (List ℕ)) (before watched : List Watched) → looks ≡ [] → length before ≡ ways.first → IsFront watched (before ++ map added names) → AreBroken ways looks names watched
-none_broken ways names before watched none first_is (rest, are) = subst (λ (those : List Look). AreBroken ways those names watched) (sym none) (
+none_broken : {ways : Ways} {looks : List Look} (names : List (List ℕ)) (before watched : List Watched) → looks ≡ [] → length before ≡ ways.first → IsFront watched (before ++ map added names) → AreBroken ways looks names watched
+none_broken {ways} names before watched none first_is (rest, are) = subst (λ (those : List Look). AreBroken ways those names watched) (sym none) (
   (let size = sizes in omega (arith, size, first_is)),
   (λ above. absurd (omega (arith, above))),
   subst (λ n. (place : ℕ) → n + place < length watched → BrokeIn ways [] (n + place) (watched_at watched (n + place)).failed) first_is
-      (λ place within. unbroken_in (watched_at watched (length before + place)).failed (none_failed before names watched rest place are within (let size = sizes in omega (arith, size, within))) refl),
+      (λ place within. unbroken_in (none_failed before names watched rest are within (let size = sizes in omega (arith, size, within))) refl),
 ) where
   sizes : length before + length names ≡ length watched + length rest
   sizes = ap (λ n. length before + n) (sym (length-map names added)) ∙ sym (length-append before (map added names)) ∙ ap length are ∙ length-append watched rest
 
-pub broken_are : {told_in : Bool} (told : Bool) {ways : Ways} {headers : Bool} {names : List (List ℕ)} {looks : List Look} {first slots : List Slot} {follow : FollowState} {watched : List Watched} → Holds told_in told ways headers names looks first follow watched slots → AreBroken ways looks names watched
-broken_are {told_in} told {ways} {names} {looks} {follow} {watched} holds = stage follow.stage holds.stand where
+pub broken_are : {told_in told : Bool} {ways : Ways} {headers : Bool} {names : List (List ℕ)} {looks : List Look} {first slots : List Slot} {follow : FollowState} {watched : List Watched} → Holds told_in told ways headers names looks first follow watched slots → AreBroken ways looks names watched
+broken_are {told_in} {ways} {names} {looks} {follow} {watched} holds = stage follow.stage holds.stand where
   count : length follow.names ≡ length names
   count = length_names follow holds.same
 
   stage : (stage : Stage) → StandsIn told_in ways looks follow.names watched stage → AreBroken ways looks names watched
-  stage Fresh stand = none_broken ways names watched watched stand.0 stand.2 (map added names, refl)
+  stage Fresh stand = none_broken names watched watched stand.0 stand.2 (map added names, refl)
   stage Looking stand = (
     (let as_many = stand.1 ∙ ap (λ n. ways.first + n) count in omega (arith, as_many)),
     (λ above. stand.1 ∙ ap (λ n. ways.first + n) count),
@@ -533,7 +530,7 @@ pub makes_none : {told_in told : Bool} {snapshot : Snapshot} {seen seen_new : Li
     → ((number : ℕ) → IsOther old watched number → watched_at watched_new number ≡ watched_at watched number)
     → (old.stage ≡ Over → ⊥) → CanLook old watched slots → why ≡ fault.Memory → seen_new ≡ seen
     → MakesLook told_in told snapshot seen old watched slots seen_new new watched_new slots (Err why)
-makes_none {told_in} {told} {snapshot} {old} {watched} {watched_new} {slots} unbroken others live can is same = record {
+makes_none {old} {watched} {slots} unbroken others live can is same = record {
   looked = tt;
   stopped = λ ways headers names looks first holds. record {
     shares = holds.shares;
@@ -562,7 +559,7 @@ pub makes_few : {told_in told : Bool} {snapshot : Snapshot} {seen seen_new : Lis
 makes_few {told_in} {old} {watched} {watched_new} fresh adds = makes_none
     (λ ways headers names looks first holds.
     let stand = subst (StandsIn told_in ways looks old.names watched) fresh holds.stand in
-    none_broken ways names watched watched_new stand.0 stand.2 (subst (λ those. IsFront watched_new (watched ++ map added those)) holds.same adds.front))
+    none_broken names watched watched_new stand.0 stand.2 (subst (λ those. IsFront watched_new (watched ++ map added those)) holds.same adds.front))
     (λ number other. ap (λ those. watched_at those number) adds.kept.1
     ∙ get_or_append_left watched adds.kept.0 no_name number (subst (λ stage. IsOther (record old { stage = stage }) watched number) fresh other))
 
@@ -571,7 +568,7 @@ pub makes_all : {told_in told : Bool} {snapshot : Snapshot} {seen seen_new : Lis
     → (old.stage ≡ Over → ⊥) → CanLook old watched slots → why ≡ fault.Memory → seen_new ≡ seen
     → MakesLook told_in told snapshot seen old watched slots seen_new new watched_new slots (Err why)
 makes_all {told} {slots} begins same = makes_none
-    (λ ways headers names looks first holds. subst (AreBroken ways looks names) (sym same) (broken_are told (begins.holds told ways headers names looks first slots holds)))
+    (λ ways headers names looks first holds. subst (AreBroken ways looks names) (sym same) (broken_are (begins.holds told ways headers names looks first slots holds)))
     (λ number other. ap (λ those. watched_at those number) same ∙ (begins.others number other).1)
 
 abbrev pub as_made : Result Bool Fault → Result (Unit {0}) Fault
@@ -583,16 +580,14 @@ or_failed before (Ok failed) = before || failed
 or_failed before (Err why) = before
 
 -- the names were looked at, once they were watched and the watch saw what the files hold
-pub makes_look : {told_in told : Bool} {shows shows_mid : ℕ → Snapshot} {seen seen_mid seen_turned seen_new : List Snapshot} {old inside mid : FollowState}
-    {names names_new names_now : List NameState} {watched watched_mid watched_turned watched_new : List Watched} {printer : PrinterState}
-    {slots slots_new : List Slot} (result : Result Bool Fault) → (old.stage ≡ Over → ⊥) → CanLook old watched slots → inside ≡ mid
+pub makes_look : {told_in told : Bool} {shows shows_mid : ℕ → Snapshot} {seen seen_mid seen_turned seen_new : List Snapshot} {old inside mid : FollowState} {names names_new names_now : List NameState} {watched watched_mid watched_turned watched_new : List Watched} {printer : PrinterState} {slots slots_new : List Slot} {result : Result Bool Fault} → (old.stage ≡ Over → ⊥) → CanLook old watched slots → inside ≡ mid
     → Begins told_in old watched mid watched_mid → shows_mid ≡ shows → seen_mid ≡ seen → seen_turned ≡ seen_mid ++ shows_mid (length seen_mid) ∷ []
     → watched_turned ≡ watched_mid → names ≡ inside.names → names_now ≡ names_new → seen_new ≡ seen_turned
     → VisitsAll told_in told (latest seen_turned) inside.by_name inside.start inside.first names watched_turned inside.printer slots names_now watched_new printer
     slots_new result
     → MakesLook told_in told (shows (length seen)) seen old watched slots seen_new
     (record inside { names = names_new; printer = printer; has_failed = or_failed inside.has_failed result }) watched_new slots_new (as_made result)
-makes_look {told_in} {told} {shows} {shows_mid} {seen} {seen_mid} {seen_turned} {seen_new} {old} {inside} {names_new} {watched} {watched_mid} {watched_turned} {watched_new} {printer} {slots} {slots_new} result live can view begin shows_same seen_same turned watched_same names_are names_now seen_is visits =
+makes_look {told_in} {told} {shows} {shows_mid} {seen} {seen_mid} {seen_turned} {seen_new} {old} {inside} {names_new} {watched} {watched_mid} {watched_turned} {watched_new} {printer} {slots} {slots_new} {result} live can view begin shows_same seen_same turned watched_same names_are names_now seen_is visits =
     by result made where
       begins : Begins told_in old watched inside watched_mid
       begins = subst (λ (f : FollowState). Begins told_in old watched f watched_mid) (sym view) begin
@@ -621,7 +616,7 @@ makes_look {told_in} {told} {shows} {shows_mid} {seen} {seen_mid} {seen_turned} 
       by : (result : Result Bool Fault) → Made result → MakesLook told_in told snapshot seen old watched slots seen_new
           (record inside { names = names_new; printer = printer; has_failed = or_failed inside.has_failed result }) watched_new slots_new (as_made result)
       by (Ok failed) visits = record {
-        looked = λ ways headers names looks first holds. look_made failed begins.stage visits ways headers names looks first (begins.holds told ways headers names looks first slots holds);
+        looked = λ ways headers names looks first holds. look_made begins.stage visits ways headers names looks first (begins.holds told ways headers names looks first slots holds);
         stopped = tt;
         seen_is = saw;
         saw = tt;

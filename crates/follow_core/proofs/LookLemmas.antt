@@ -58,15 +58,15 @@ entries_more ways name before looks look =
     ∙ entries-append ways.by_name name before.snapshot (snapshots looks) look.snapshot
 
 -- what a look adds to the entries
-pub new_are : (ways : Ways) (name : List ℕ) (looks : List Look) (look : Look) (more : List Entry) → entries_in ways name (looks ++ look ∷ []) ≡ entries_in ways name looks ++ more → new_entries ways name looks look ≡ more
-new_are ways name looks look more is = ap (drop (length (entries_in ways name looks))) is ∙ drop_front (entries_in ways name looks) more
+pub new_are : (ways : Ways) (name : List ℕ) (looks : List Look) (look : Look) {more : List Entry} → entries_in ways name (looks ++ look ∷ []) ≡ entries_in ways name looks ++ more → new_entries ways name looks look ≡ more
+new_are ways name looks look {more} is = ap (drop (length (entries_in ways name looks))) is ∙ drop_front (entries_in ways name looks) more
 
 -- a look only adds entries
 pub entries_go_on : (ways : Ways) (name : List ℕ) (looks : List Look) (look : Look) → entries_in ways name (looks ++ look ∷ []) ≡ entries_in ways name looks ++ new_entries ways name looks look
 entries_go_on ways name [] look = refl
 entries_go_on ways name (before ∷ looks) look =
     let more = entries_more ways name before looks look in
-    more ∙ ap (λ those. entries_in ways name (before ∷ looks) ++ those) (sym (new_are ways name (before ∷ looks) look _ more))
+    more ∙ ap (λ those. entries_in ways name (before ∷ looks) ++ those) (sym (new_are ways name (before ∷ looks) look more))
 
 -- so the text goes on by what a look gives, where a file that is appended to keeps its bytes
 pub look_goes_on : (ways : Ways) (name : List ℕ) (looks : List Look) (look : Look) → AreKept (entries_in ways name (looks ++ look ∷ [])) → name_text ways.start (entries_in ways name (looks ++ look ∷ [])) ≡ name_text ways.start (entries_in ways name looks) ++ gain ways name looks look
@@ -90,7 +90,7 @@ looks_give_text ways name looks kept = gains_are ways name [] looks ∙ sym (tex
 pub gain_more : (ways : Ways) (name : List ℕ) (before : Look) (looks : List Look) (look : Look)
     → gain ways name (before ∷ looks) look ≡ gains_later (last_of (entries_in ways name (before ∷ looks))) (entries_at_look ways.by_name name (open_after ways.by_name name (snapshots (before ∷ looks))) look.snapshot)
 gain_more ways name before looks look =
-    ap (gains_after ways.start (entries_in ways name (before ∷ looks))) (new_are ways name (before ∷ looks) look _ (entries_more ways name before looks look))
+    ap (gains_after ways.start (entries_in ways name (before ∷ looks))) (new_are ways name (before ∷ looks) look (entries_more ways name before looks look))
     ∙ rw (some_at ways.by_name name before.snapshot (snapshots looks)).are refl
 
 pub more_said : (ways : Ways) (name : List ℕ) (before : Look) (looks : List Look) (look : Look)
@@ -100,11 +100,11 @@ more_said ways name before looks look =
     ap (map (λ notice. notice_of notice name)) (ap (λ those. drop (length (notices_of entries)) (notices_of those)) (entries_more ways name before looks look)
     ∙ later_said _ (some_at ways.by_name name before.snapshot (snapshots looks)))
 
-pub later_share : (ways : Ways) (name : List ℕ) (before : Look) (looks : List Look) (look : Look) (place : ℕ)
+pub later_share : (ways : Ways) {name : List ℕ} (before : Look) (looks : List Look) (look : Look) (place : ℕ)
     → is_dropped place (before ∷ looks) ≡ false → fate_at place look ≡ sound → share_of ways (before ∷ looks) look place name ≡ given_share false name
     (gains_later (last_of (entries_in ways name (before ∷ looks))) (entries_at_look ways.by_name name (open_after ways.by_name name (snapshots (before ∷ looks))) look.snapshot))
     (map (λ notice. notice_of notice name) (notices_later (last_of (entries_in ways name (before ∷ looks))) (entries_at_look ways.by_name name (open_after ways.by_name name (snapshots (before ∷ looks))) look.snapshot)))
-later_share ways name before looks look place kept fine = rw (kept, fine)
+later_share ways {name} before looks look place kept fine = rw (kept, fine)
     (ap (λ bytes. given_share false name bytes (said_at_look ways name (before ∷ looks) look)) (gain_more ways name before looks look)
     ∙ ap (given_share false name _) (more_said ways name before looks look))
 
@@ -136,9 +136,9 @@ look_leaves false name None snapshot last = record { file = refl; seen = refl }
 look_leaves false name (Some file) snapshot last = record { file = refl; seen = refl }
 
 -- the first look
-pub first_last : (ways : Ways) (name : List ℕ) (look : Look)
+pub first_last : (ways : Ways) {name : List ℕ} (look : Look)
     → StandsAt (last_of (entries_in ways name (look ∷ []))) (look.snapshot.leads name) (length (held_at look.snapshot (look.snapshot.leads name)))
-first_last ways name look = by (look.snapshot.leads name) where
+first_last ways {name} look = by (look.snapshot.leads name) where
   by : (led : Option ℕ) → StandsAt (last_of (entries_led look.snapshot None led ++ [])) led (length (held_at look.snapshot led))
   by None = record { file = refl; seen = refl }
   by (Some file) = record { file = refl; seen = refl }
@@ -191,15 +191,15 @@ failed_first place [] kept = refl
 failed_first place (look ∷ looks) kept = ap (λ those. failed_by place those None) (came_through place (fate_at place look) (failed_in place looks) kept)
 
 -- a name that is not dropped is not broken
-pub unbroken_in : {ways : Ways} {looks : List Look} {place : ℕ} (failed : Option Fault) → failed ≡ None → is_dropped place looks ≡ false → BrokeIn ways looks place failed
-unbroken_in {looks} {place} failed unbroken kept =
+pub unbroken_in : {ways : Ways} {looks : List Look} {place : ℕ} {failed : Option Fault} → failed ≡ None → is_dropped place looks ≡ false → BrokeIn ways looks place failed
+unbroken_in {looks} {place} unbroken kept =
     let none = none_of (failed_in place looks) kept in
     record { fault = unbroken ∙ sym none; opened = λ way. inl (failed_first place looks none ∙ sym none) }
 
 -- one look more, through which it comes
-pub broken_sound : {ways : Ways} (looks : List Look) (look : Look) {place : ℕ} (failed : Option Fault) → fate_at place look ≡ sound → BrokeIn ways looks place failed → BrokeIn ways (looks ++ look ∷ []) place failed
-broken_sound [] look {place} failed fine so_far = record { fault = so_far.fault ∙ sym (failed_sound place [] look fine); opened = λ way. inl refl }
-broken_sound (first ∷ looks) look {place} failed fine so_far = record {
+pub broken_sound : {ways : Ways} (looks : List Look) (look : Look) {place : ℕ} {failed : Option Fault} → fate_at place look ≡ sound → BrokeIn ways looks place failed → BrokeIn ways (looks ++ look ∷ []) place failed
+broken_sound [] look {place} fine so_far = record { fault = so_far.fault ∙ sym (failed_sound place [] look fine); opened = λ way. inl refl }
+broken_sound (first ∷ looks) look {place} fine so_far = record {
   fault = so_far.fault ∙ sym same;
   opened = λ way. subst (λ those. (failed_in place (first ∷ []) ≡ those) ⊎ (those ≡ Some (Read place))) (sym same) (so_far.opened way);
 } where
@@ -249,18 +249,17 @@ pub record Looked (told_in told : Bool) (ways : Ways) (before : List Look) (snap
 said_after : {told : Bool} {printer after : PrinterState} {share : Share} {line : List ℕ} {old mid new : List Slot} → Shared told printer share old after mid
     → IsFailure line → SaysOn told Tail line mid new
     → Shared told printer (record share { messages = share.messages ++ line ∷ []; has_failed = true }) old after new
-said_after {told} {printer} {share} {line} shared failure says = record {
+said_after {printer} {share} shared failure says = record {
   printer_is = shared.printer_is;
   slots = wrote_both _ _ _ _ _ (append-nil (share_text printer.headers printer.last share)) refl shared.slots
-      (wrote_line told line (λ output error others are. let said = says output error others are in (said.0, failure_said told line failure said.1, said.2)));
+      (wrote_line (λ output error others are. let said = says output error others are in (said.0, failure_said failure said.1, said.2)));
 }
 
 -- the share of a name that came through
 due_share : {told_in : Bool} {ways : Ways} {before : List Look} {snapshot : Snapshot} {name bytes : List ℕ} {lines : List (List ℕ)}
     → IsDue told_in ways before snapshot name bytes lines → told_in ≡ true → (fates : List Fate)
     → given_share (is_first before) name bytes lines ≡ share_by ways name before (seeing snapshot fates) sound
-due_share {before} {name} dues is fates =
-    let due = dues.is is fates in rw due.0 (λ i. given_share (is_first before) name (due.1 i) (due.2 i))
+due_share {before} {name} dues is fates = let due = dues.is is fates in rw due.0 (λ i. given_share (is_first before) name (due.1 i) (due.2 i))
 
 -- all that is due was given
 pub looked_whole : {told_in told : Bool} {ways : Ways} {before : List Look} {snapshot : Snapshot} {place : ℕ} {name due : List ℕ} {lines_due : List (List ℕ)}
@@ -324,9 +323,9 @@ looked_over {before} {name} dues (over why bytes lines are short) = record {
 -- the first look
 
 -- the entries of a name after it
-entries_first : (ways : Ways) (name : List ℕ) (look : Look) {led : Option ℕ} → look.snapshot.leads name ≡ led
+entries_first : (ways : Ways) {name : List ℕ} (look : Look) {led : Option ℕ} → look.snapshot.leads name ≡ led
     → entries_in ways name (look ∷ []) ≡ entries_led look.snapshot None led
-entries_first ways name look is = append-nil _ ∙ ap (entries_led look.snapshot None) is
+entries_first ways look is = append-nil _ ∙ ap (entries_led look.snapshot None) is
 
 -- it finds nothing where the name leads, or a call that opens fails
 pub meets_nothing : {told_in told : Bool} {ways : Ways} {snapshot : Snapshot} {place : ℕ} {name : List ℕ} {printer : PrinterState} {old new : List Slot}
@@ -335,7 +334,7 @@ pub meets_nothing : {told_in told : Bool} {ways : Ways} {snapshot : Snapshot} {p
 meets_nothing {ways} {snapshot} {name} leads says = record {
   fate = sound;
   share = missing_share name;
-  is_share = λ is fates. sym (rw (ap is_missing (entries_first ways name (seeing snapshot fates) (leads is))) refl);
+  is_share = λ is fates. sym (rw (ap is_missing (entries_first ways (seeing snapshot fates) (leads is))) refl);
   fault = refl;
   failed = refl;
   shared = said_after gives_nothing (name, inl refl) says;
@@ -354,13 +353,13 @@ meets_unopened {name} says = record {
 }
 
 -- what is due of a file that it finds
-pub first_due : {told_in : Bool} (ways : Ways) {snapshot : Snapshot} {name contents : List ℕ} → (told_in ≡ true → (id : ℕ) × (snapshot.leads name ≡ Some id))
+pub first_due : {told_in : Bool} {ways : Ways} {snapshot : Snapshot} {name contents : List ℕ} → (told_in ≡ true → (id : ℕ) × (snapshot.leads name ≡ Some id))
     → (told_in ≡ true → contents ≡ held_at snapshot (snapshot.leads name)) → IsDue told_in ways [] snapshot name (ways.start contents) []
-first_due ways {snapshot} {name} found same = record {
+first_due {ways} {snapshot} {name} found same = record {
   is = λ is fates.
       let look = seeing snapshot fates in
       let (id, leads) = found is in
-      let entries = entries_first ways name look leads in (
+      let entries = entries_first ways look leads in (
         ap is_missing entries,
         ap ways.start (same is ∙ ap (held_at snapshot) leads) ∙ sym (ap (gains_after ways.start []) entries ∙ append-nil _),
         sym (ap (λ those. map (λ notice. notice_of notice name) (notices_of those)) entries),
@@ -400,7 +399,7 @@ ends_opened {told_in} {told} {printer} {after} {name} {due} {lines_due} {old} {m
           → Shared told printer (given_share true name bytes lines) old after new
       gives {bytes} {lines} shared = record {
         printer_is = shared.printer_is ∙ rw (opened_not_due printer name bytes) (opened_share printer name bytes lines).0;
-        slots = wrote_both told (opening_under printer name) (text_under (opened_under printer name) name bytes) [] lines (opened_bytes printer name bytes lines) refl (wrote_text told (opening_under printer name) old first) shared.slots;
+        slots = wrote_both told (opening_under printer name) (text_under (opened_under printer name) name bytes) [] lines (opened_bytes printer name bytes lines) refl (wrote_text told (opening_under printer name) first) shared.slots;
       }
 
       by : {due : List ℕ} {lines_due : List (List ℕ)} {told_in : Bool} {result : Result ℕ Stop}
@@ -409,17 +408,16 @@ ends_opened {told_in} {told} {printer} {after} {name} {due} {lines_due} {old} {m
       by (whole value bytes lines are shared) = whole value bytes lines are (gives shared)
       by (broke why bytes lines are shared) = broke why bytes lines are (gives shared)
       by (over why bytes lines are halts) = over why bytes lines are
-          (record { slots = wrote_short told (opening_under printer name) _ [] lines (opened_bytes printer name bytes lines) refl (wrote_text told (opening_under printer name) old first) halts.slots })
+          (record { slots = wrote_short (opening_under printer name) [] lines (opened_bytes printer name bytes lines) refl (wrote_text told (opening_under printer name) first) halts.slots })
 
 -- the header could not be written
 pub ends_unopened : {told_in told : Bool} {printer after : PrinterState} {name due : List ℕ} {old new : List Slot} {why : Fault}
     → Short told (opening_under printer name) old new why → Ends {T = ℕ} told_in told true printer name due [] old after new (Err (Over why))
-ends_unopened {told} {printer} {name} {due} {new} {why} short = over why [] [] (λ is. (front_nil due, front_nil [])) (record {
+ends_unopened {told} {printer} {name} {new} {why} short = over why [] [] (λ is. (front_nil, front_nil)) (record {
   slots = λ output error others is. (
     error,
     refl,
-    subst₂ (λ text those. Short told text those new why)
-        (sym (append-nil _) ∙ (opened_share printer name [] []).1) is short,
+    subst₂ (λ text those. Short told text those new why) (sym (append-nil _) ∙ (opened_share printer name [] []).1) is short,
   );
 })
 
@@ -429,11 +427,11 @@ abbrev pub last_in : Ways → List ℕ → Look → List Look → Entry
 last_in ways name before looks = last_of (entries_in ways name (before ∷ looks))
 
 -- what is due then
-pub later_due : {told_in : Bool} (ways : Ways) {name : List ℕ} {before : Look} {looks : List Look} (snapshot : Snapshot) {opened : Option ℕ} {position : ℕ}
+pub later_due : {told_in : Bool} {ways : Ways} {name : List ℕ} {before : Look} {looks : List Look} {snapshot : Snapshot} {opened : Option ℕ} {position : ℕ}
     → (told_in ≡ true → StandsAt (last_in ways name before looks) opened position)
     → IsDue told_in ways (before ∷ looks) snapshot name (bytes_again ways.by_name name (last_in ways name before looks) snapshot opened)
     (lines_again ways.by_name name (last_in ways name before looks) snapshot opened)
-later_due ways {name} {before} {looks} snapshot {opened} stands = record {
+later_due {ways} {name} {before} {looks} {snapshot} {opened} stands = record {
   is = λ is fates.
       let same : opened ≡ open_after ways.by_name name (snapshots (before ∷ looks)) = (stands is).file ∙ sym (last_file ways name before looks) in
       let last = last_in ways name before looks in (

@@ -31,18 +31,18 @@ pub record Filling (told_in : Bool) (contents : List ℕ) (from filled : ℕ) (o
   pub watched_same : watched_now ≡ watched_old
 
 -- the front of a block of which a part was overwritten
-front_of : (a n : ℕ) (xs ys : List ℕ) → a ≤ length xs → length ys ≡ length xs - a → n ≤ length ys → take (a + n) (put_mid a (length xs - a) xs ys) ≡ take a xs ++ take n ys
-front_of a n xs ys fits long few =
+front_of : {a n : ℕ} (xs ys : List ℕ) → a ≤ length xs → length ys ≡ length xs - a → n ≤ length ys → take (a + n) (put_mid a (length xs - a) xs ys) ≡ take a xs ++ take n ys
+front_of {a} {n} xs ys fits long few =
     let full : take (a + length ys) (put_mid a (length xs - a) xs ys) ≡ take a xs ++ ys = take-put_mid a (length xs - a) xs ys (a + length ys) refl fits in
     let size : length (take a xs) ≡ a = omega (arith, length-take a xs, fits) in
     let count : length (take a xs) + n ≡ a + n = omega (arith, size) in
     sym (take-take (a + n) (a + length ys) _ (omega (arith, few))) ∙ ap (take (a + n)) full ∙ ap (λ k. take k (take a xs ++ ys)) (sym count)
     ∙ take-append-add (take a xs) ys n
 
-more_bytes : (contents read_old read_new now : List ℕ) (from filled n : ℕ) → filled ≤ length now → length read_new ≡ length now - filled → n ≤ length read_new → GaveFrom contents (from + filled) read_old read_new n
+more_bytes : (contents : List ℕ) {read_old read_new : List ℕ} (now : List ℕ) (from : ℕ) {filled n : ℕ} → filled ≤ length now → length read_new ≡ length now - filled → n ≤ length read_new → GaveFrom contents (from + filled) read_old read_new n
     → take filled now ≡ take filled (drop from contents) → take (filled + n) (put_mid filled (length now - filled) now read_new) ≡ take (filled + n) (drop from contents)
-more_bytes contents read_old read_new now from filled n within long few gave are =
-    front_of filled n now read_new within long few ∙ ap (λ front. front ++ take n read_new) are
+more_bytes contents {read_new} now from {filled} {n} within long few gave are =
+    front_of now read_new within long few ∙ ap (λ front. front ++ take n read_new) are
     ∙ ap (λ piece. take filled (drop from contents) ++ piece) (gave.front ∙ ap (take n) (sym (drop-drop filled from contents)))
     ∙ sym (take-add filled n (drop from contents))
 
@@ -51,38 +51,38 @@ room_of : (filled : ℕ) (now : List ℕ) → length (take (length now - filled)
 room_of filled now = let size : length (take (length now - filled) (drop filled now)) ≡ min (length now - filled) (length (drop filled now)) = length-take (length now - filled) (drop filled now) in
     let rest = length-drop filled now in omega (arith, size, rest)
 
-pub fill_more : {told_in : Bool} {contents now_contents : List ℕ} {from filled : ℕ} (n : ℕ) {old now : List ℕ} (read_new : List ℕ) {seen_old seen_now seen_new : List Snapshot} {watched_old watched_now watched_new : List Watched}
+pub fill_more : {told_in : Bool} {contents now_contents : List ℕ} {from filled n : ℕ} {old now read_new : List ℕ} {seen_old seen_now seen_new : List Snapshot} {watched_old watched_now watched_new : List Watched}
     → Filling told_in contents from filled old now seen_old seen_now watched_old watched_now
     → now_contents ≡ contents → filled < length now → length now ≡ length old → length read_new ≡ length (take (length now - filled) (drop filled now)) → n ≤ length (take (length now - filled) (drop filled now))
     → (told_in ≡ true → GaveFrom now_contents (from + filled) (take (length now - filled) (drop filled now)) read_new n) → seen_new ≡ seen_now → watched_new ≡ watched_now
     → Filling told_in contents from (filled + n) old (put_mid filled (length now - filled) now read_new) seen_old seen_new watched_old watched_new
-fill_more {contents} {from} {filled} n {now} read_new f same less long wide few gave seen watched =
+fill_more {contents} {from} {filled} {n} {now} {read_new} f same less long wide few gave seen watched =
     let room = room_of filled now in record {
-      are = λ is. more_bytes contents (take (length now - filled) (drop filled now)) read_new now from filled n (omega (arith, less)) (wide ∙ room) (omega (arith, few, wide)) (subst (λ those. GaveFrom those (from + filled) (take (length now - filled) (drop filled now)) read_new n) same (gave is)) (f.are is);
+      are = λ is. more_bytes contents now from (omega (arith, less)) (wide ∙ room) (omega (arith, few, wide)) (subst (λ those. GaveFrom those (from + filled) (take (length now - filled) (drop filled now)) read_new n) same (gave is)) (f.are is);
       within = omega (arith, less, long, few, room);
       seen_same = seen ∙ f.seen_same;
       watched_same = watched ∙ f.watched_same;
     }
 
 -- nothing stands after the first bytes, so that more are the same
-no_more : (filled size : ℕ) (x : List ℕ) → drop filled x ≡ [] → filled ≤ size → take filled x ≡ take size x
-no_more filled size x none few =
+no_more : {filled size : ℕ} (x : List ℕ) → drop filled x ≡ [] → filled ≤ size → take filled x ≡ take size x
+no_more {filled} {size} x none few =
     let all : take filled x ≡ x = sym (append-nil (take filled x)) ∙ ap (λ rest. take filled x ++ rest) (sym none) ∙ take-append-drop filled x in
     let size_of : length (take filled x) ≡ min filled (length x) = length-take filled x in
     let same : length (take filled x) ≡ length x = ap length all in
     all ∙ sym (take_all size x (omega (arith, size_of, same, few)))
 
 -- a read that gives none stands at the file's end
-pub fill_ends : {told_in : Bool} {contents now_contents : List ℕ} {from filled : ℕ} {old now : List ℕ} (read_new : List ℕ) {seen_old seen_now : List Snapshot} {watched_old watched_now : List Watched}
+pub fill_ends : {told_in : Bool} {contents now_contents : List ℕ} {from filled : ℕ} {old now read_new : List ℕ} {seen_old seen_now : List Snapshot} {watched_old watched_now : List Watched}
     → Filling told_in contents from filled old now seen_old seen_now watched_old watched_now
     → now_contents ≡ contents → filled < length now → (told_in ≡ true → GaveFrom now_contents (from + filled) (take (length now - filled) (drop filled now)) read_new 0)
     → told_in ≡ true → take filled (put_mid filled (length now - filled) now read_new) ≡ take (length old) (drop from contents)
-fill_ends {contents} {now_contents} {from} {filled} {old} {now} read_new f same less gave is =
+fill_ends {contents} {now_contents} {from} {filled} {now} {read_new} f same less gave is =
     let room = room_of filled now in
     let ended : drop (from + filled) now_contents ≡ [] = ((gave is).ended refl (omega (arith, room, less))).0 in
     let none : drop filled (drop from contents) ≡ [] = drop-drop filled from contents ∙ ap (drop (from + filled)) (sym same) ∙ ended in
     take-put_mid_below filled (length now - filled) now read_new filled (omega arith) (omega (arith, less))
-    ∙ f.are is ∙ no_more filled (length old) (drop from contents) none f.within
+    ∙ f.are is ∙ no_more (drop from contents) none f.within
 
 -- where the last lines of a text begin, and those after the first n
 
@@ -137,9 +137,9 @@ begins_last {delim} {n} {at} x some begins =
     last_are delim (take at x) (ap (ends_with delim) (sym front) ∙ begins.after) count ∙ ap (last_lines delim n) (take-append-drop at x)
 
 -- a text without as many lines is all of them
-pub few_last : (delim n : ℕ) (x : List ℕ) → delimiters delim (but_one x) < n → x ≡ last_lines delim n x
-few_last delim n [] few = sym (let none : 0 - n ≡ 0 = omega arith in ap (λ k. joined (drop k [])) none)
-few_last delim n (byte ∷ x) few =
+pub few_last : (delim : ℕ) {n : ℕ} (x : List ℕ) → delimiters delim (but_one x) < n → x ≡ last_lines delim n x
+few_last delim {n} [] few = sym (let none : 0 - n ≡ 0 = omega arith in ap (λ k. joined (drop k [])) none)
+few_last delim {n} (byte ∷ x) few =
     let count = all_lines delim (byte ∷ x) (omega arith) in
     let none : line_count delim (byte ∷ x) - n ≡ 0 = omega (arith, count, few) in
     sym (ap (λ k. after_lines delim k (byte ∷ x)) none ∙ joined-lines_of delim (byte ∷ x))
@@ -159,9 +159,9 @@ abbrev pub IsWanted : ℕ → ℕ → ℕ → ℕ → List ℕ → Type 0
 IsWanted delim count wanted end x = count ≡ wanted + delimiters delim (drop end (but_one x))
 
 -- so many in the block, so many fewer before it
-pub wanted_before : {delim : ℕ} (count : ℕ) {wanted : ℕ} (end from size : ℕ) {found : ℕ} (x : List ℕ) {block : List ℕ} → IsWanted delim count wanted end x → from + size ≡ end → end ≤ length x - 1 → block ≡ take size (drop from x) → FallsShort delim wanted block found
+pub wanted_before : {delim count wanted end : ℕ} (from size : ℕ) {found : ℕ} (x : List ℕ) {block : List ℕ} → IsWanted delim count wanted end x → from + size ≡ end → end ≤ length x - 1 → block ≡ take size (drop from x) → FallsShort delim wanted block found
     → IsWanted delim count (wanted - found) from x
-wanted_before {delim} count end from size x {block} is place within are short =
+wanted_before {delim} {end} from size x {block} is place within are short =
     let here : block ≡ take size (drop from (but_one x)) = are ∙ block_of x from size (omega (arith, place, within)) in
     let all : delimiters delim (drop from (but_one x)) ≡ delimiters delim block + delimiters delim (drop end (but_one x)) =
     ap (delimiters delim) (block_then (but_one x) from size) ∙ delimiters-append delim (take size (drop from (but_one x))) (drop (from + size) (but_one x))
@@ -169,8 +169,8 @@ wanted_before {delim} count end from size x {block} is place within are short =
     let counted = short.counted in let fewer = short.fewer in omega (arith, is, all, counted, fewer)
 
 -- the wanted one stands in the block
-pub begins_in : {delim count wanted : ℕ} (end from size : ℕ) {at : ℕ} (x : List ℕ) {block : List ℕ} → IsWanted delim count wanted end x → from + size ≡ end → end ≤ length x - 1 → block ≡ take size (drop from x) → BeginsAt delim wanted block at → BeginsAt delim count (but_one x) (from + at)
-begins_in {delim} end from size {at} x {block} is place within are begins =
+pub begins_in : {delim count wanted end : ℕ} (from size : ℕ) {at : ℕ} (x : List ℕ) {block : List ℕ} → IsWanted delim count wanted end x → from + size ≡ end → end ≤ length x - 1 → block ≡ take size (drop from x) → BeginsAt delim wanted block at → BeginsAt delim count (but_one x) (from + at)
+begins_in {delim} {end} from size {at} x {block} is place within are begins =
     let here : block ≡ take size (drop from (but_one x)) = are ∙ block_of x from size (omega (arith, place, within)) in
     let all : drop from (but_one x) ≡ block ++ drop end (but_one x) = block_then (but_one x) from size ∙ ap (λ those. those ++ drop (from + size) (but_one x)) (sym here) ∙ ap (λ k. block ++ drop k (but_one x)) place in
     let inner : at ≤ length block = begins.within in
@@ -192,14 +192,14 @@ begins_in {delim} end from size {at} x {block} is place within are begins =
       take_of (suc at) (byte ∷ block) rest few = ap (λ those. byte ∷ those) (take_of at block rest (omega (arith, few)))
 
 -- the walk came to the front
-pub all_wanted : (delim count wanted end : ℕ) {x : List ℕ} → IsWanted delim count wanted end x → end ≡ 0 → 0 < wanted → x ≡ last_lines delim count x
-all_wanted delim count wanted end {x} is front some =
+pub all_wanted : (delim : ℕ) {count wanted : ℕ} (end : ℕ) {x : List ℕ} → IsWanted delim count wanted end x → end ≡ 0 → 0 < wanted → x ≡ last_lines delim count x
+all_wanted delim {count} end {x} is front some =
     let all : delimiters delim (drop end (but_one x)) ≡ delimiters delim (but_one x) = ap (λ k. delimiters delim (drop k (but_one x))) front in
-    few_last delim count x (omega (arith, all, is, some))
+    few_last delim x (omega (arith, all, is, some))
 
 -- after the first lines of a block
-pub passed_in : {delim left : ℕ} (at size end : ℕ) (x : List ℕ) {block rest : List ℕ} → block ≡ take size (drop at x) → EndsAt delim left block end → rest ≡ after_lines delim left (drop at x) → drop (at + end) x ≡ rest
-passed_in {delim} {left} at size end x {block} are ends is =
+pub passed_in : {delim left : ℕ} (at size : ℕ) {end : ℕ} (x : List ℕ) {block rest : List ℕ} → block ≡ take size (drop at x) → EndsAt delim left block end → rest ≡ after_lines delim left (drop at x) → drop (at + end) x ≡ rest
+passed_in {delim} {left} at size {end} x {block} are ends is =
     let all : drop at x ≡ block ++ drop (at + size) x = block_then x at size ∙ ap (λ those. those ++ drop (at + size) x) (sym are) in
     sym (drop-drop end at x) ∙ ap (drop end) all ∙ drop-append-le end block (drop (at + size) x) ends.within
     ∙ ap (λ those. those ++ drop (at + size) x) (sym (joined-lines_of delim (drop end block)) ∙ ap joined (EndsAt-rest delim left block end ends))
@@ -215,15 +215,15 @@ passed_by {delim} {left} at size x {block} are short is =
     ∙ ap (λ n. after_lines delim (left - n) (drop (at + size) x)) (sym counted)
 
 -- a block that was read into the front of the buffer
-pub block_read : {contents now_contents : List ℕ} (buffer new : List ℕ) (from : ℕ) {size : ℕ} (n most : ℕ) → size ≡ min most (length buffer) → n ≤ length (take size buffer) → length new ≡ length (take size buffer) → now_contents ≡ contents
+pub block_read : {contents now_contents : List ℕ} (buffer new : List ℕ) (from : ℕ) {size n : ℕ} (most : ℕ) → size ≡ min most (length buffer) → n ≤ length (take size buffer) → length new ≡ length (take size buffer) → now_contents ≡ contents
     → take n new ≡ take (length (take size buffer)) (drop from now_contents) → take n (new ++ drop size buffer) ≡ take size (drop from contents)
-block_read {now_contents} buffer new from {size} n most is few long same are =
+block_read {now_contents} buffer new from {size} {n} most is few long same are =
     let room : length (take size buffer) ≡ min size (length buffer) = length-take size buffer in
     let all : length (take size buffer) ≡ size = omega (arith, room, is) in
     take-append-le n new (drop size buffer) (omega (arith, few, long)) ∙ are ∙ ap (λ k. take k (drop from now_contents)) all ∙ ap (λ those. take size (drop from those)) same
 
 -- the buffer keeps its room
-pub room_kept : (buffer new : List ℕ) {size : ℕ} (most : ℕ) → size ≡ min most (length buffer) → 0 < most → length new ≡ length (take size buffer) → 0 < length buffer → 0 < length (new ++ drop size buffer)
-room_kept buffer new {size} most is other long some =
+pub room_kept : (buffer new : List ℕ) {size most : ℕ} → size ≡ min most (length buffer) → 0 < most → length new ≡ length (take size buffer) → 0 < length buffer → 0 < length (new ++ drop size buffer)
+room_kept buffer new {size} is other long some =
     let room : length (take size buffer) ≡ min size (length buffer) = length-take size buffer in
     let all : length (new ++ drop size buffer) ≡ length new + length (drop size buffer) = length-append new (drop size buffer) in omega (arith, room, is, other, all, long, some)

@@ -207,7 +207,7 @@ first_missing {told_in} {told} {ways} {snapshot} {place} {name} {printer} {slots
   stands fates at true way = through_stands [] (seeing snapshot fates) old named can refl reopens.names at looked.fault (λ t. reopens.leads t ∙ ap snapshot.leads named) (λ t. (
     λ other. absurd (false≢true (sym other ∙ way)),
     subst (λ len. StandsAt (last_of (entries_in ways name (seeing snapshot fates ∷ []))) (snapshot.leads name) len)
-        (ap (λ led. length (held_at snapshot led)) (nowhere t)) (first_last ways name (seeing snapshot fates)),
+        (ap (λ led. length (held_at snapshot led)) (nowhere t)) (first_last ways (seeing snapshot fates)),
   ))
   stands fates at false way = record { begun = refl; why = inr (record { way = way; unbroken = unbroken; kept = kept_more place [] (seeing snapshot fates) refl at looked.fault; unopened = nowhere }) }
 
@@ -242,17 +242,17 @@ pub first_gave : {told_in told : Bool} {ways : Ways} {snapshot : Snapshot} {plac
     → Ends {T = ℕ} told_in told true inside name (ways.start contents) [] slots after slots_new result
     → (looks : List Look) → Stands told_in ways looks place name (watched_at old place) New
     → Gave told_in told ways looks snapshot place name (snapshot.leads name) printer slots after slots_new result
-first_gave {told_in} {told} {ways} {snapshot} {place} {name} {contents} {printer} {after} {slots} {slots_new} {mid} new {result} viewed reopens there named same keeps long ends looks fresh =
+first_gave {told_in} {told} {ways} {snapshot} {place} {name} {contents} {after} {slots} {slots_new} {mid} new {result} viewed reopens there named same keeps long ends looks fresh =
     subst₂ (λ (p : PrinterState) those. Gave told_in told ways those snapshot place name (snapshot.leads name) p slots after slots_new result) viewed (sym fresh.0) (record {
       kept = refl;
       due = ways.start contents;
       lines = [];
-      is_due = first_due ways found same;
+      is_due = first_due found same;
       ends = ends;
       last = IfOk-weaker result (λ len. told_in ≡ true → len ≡ length contents) _ (λ len is t. (
         λ way. ap is_some (found t).1,
         λ fates. subst (λ n. StandsAt (last_of (entries_in ways name (seeing snapshot fates ∷ []))) (snapshot.leads name) n)
-            (sym (is t ∙ ap length (same t))) (first_last ways name (seeing snapshot fates)),
+            (sym (is t ∙ ap length (same t))) (first_last ways (seeing snapshot fates)),
       )) long;
       fails = fails result keeps;
     }) where
@@ -275,7 +275,7 @@ later_gave {told_in} {ways} {snapshot} {place} {name} {position} {old} {new} {re
   kept = followed.kept;
   due = bytes_again ways.by_name name (last_in ways name before looks) snapshot opened;
   lines = lines_again ways.by_name name (last_in ways name before looks) snapshot opened;
-  is_due = later_due ways snapshot followed.stands;
+  is_due = later_due followed.stands;
   ends = again.ends (last_in ways name before looks) followed.stands;
   last = IfOk-weaker result (λ n. told_in ≡ true → (last : Entry) → StandsAt last opened position → n ≡ length (held_at snapshot led)) _ (λ n is t. (
     λ way. ap (λ by_name. is_some (open_after_look by_name name opened snapshot)) way ∙ followed.there t way,
@@ -328,31 +328,31 @@ no_last (version v) is = absurd (cc)
 abbrev share_from : List ℕ → Entry → List Entry → Share
 share_from name entry entries = given_share false name (gains_later entry entries) (map (λ notice. notice_of notice name) (notices_later entry entries))
 
-missed_share : (told : Bool) {ways : Ways} {before : Look} {looks : List Look} (look : Look) {place : ℕ} {name : List ℕ} {watched : Watched} → told ≡ true → IsMissed told ways (before ∷ looks) place name watched → fate_at place look ≡ sound
+missed_share : {told : Bool} {ways : Ways} {before : Look} {looks : List Look} (look : Look) {place : ℕ} {name : List ℕ} {watched : Watched} → told ≡ true → IsMissed told ways (before ∷ looks) place name watched → fate_at place look ≡ sound
     → (dropped : Bool) → is_dropped place (before ∷ looks) ≡ dropped → no_share name ≡ share_of ways (before ∷ looks) look place name
-missed_share told {ways} {before} {looks} look {place} {name} t missed fine true dropped =
+missed_share {ways} {before} {looks} look {place} {name} t missed fine true dropped =
     sym (ap (λ test. if test then no_share name else share_by ways name (before ∷ looks) look (fate_at place look)) dropped)
-missed_share told {ways} {before} {looks} look {place} {name} t missed fine false dropped =
+missed_share {ways} {before} {looks} look {place} {name} t missed fine false dropped =
     let last = last_of (entries_in ways name (before ∷ looks)) in
     let opened = open_after ways.by_name name (snapshots (before ∷ looks)) in
     let none : last ≡ gap = no_last last (sym (missed.unopened t) ∙ last_file ways name before looks) in
     let entries : entries_at_look ways.by_name name opened look.snapshot ≡ gap ∷ [] = ap (λ by_name. entries_at_look by_name name opened look.snapshot) missed.way ∙ ap (λ file. entries_at_look false name file look.snapshot) (missed.unopened t) in
-    sym (later_share ways name before looks look place dropped fine
+    sym (later_share ways before looks look place dropped fine
     ∙ ap (λ those. share_from name those (entries_at_look ways.by_name name opened look.snapshot)) none ∙ ap (share_from name gap) entries)
 
-left_share : (told : Bool) {ways : Ways} (looks : List Look) (look : Look) {place : ℕ} {name : List ℕ} → {watched : Watched} → told ≡ true → IsLeft told ways looks place name watched → fate_at place look ≡ sound → no_share name ≡ share_of ways looks look place name
-left_share told [] look t left fine = absurd (false≢true (sym left.begun))
-left_share told {ways} (before ∷ looks) look {place} {name} t left fine = elim left.why [
+left_share : {told : Bool} {ways : Ways} (looks : List Look) (look : Look) {place : ℕ} {name : List ℕ} {watched : Watched} → told ≡ true → IsLeft told ways looks place name watched → fate_at place look ≡ sound → no_share name ≡ share_of ways looks look place name
+left_share [] look t left fine = absurd (false≢true (sym left.begun))
+left_share {ways} (before ∷ looks) look {place} {name} t left fine = elim left.why [
   | inl dropped ↦ sym (ap (λ test. if test then no_share name else share_by ways name (before ∷ looks) look (fate_at place look)) dropped.0)
-  | inr missed ↦ missed_share told look t missed fine (is_dropped place (before ∷ looks)) refl
+  | inr missed ↦ missed_share look t missed fine (is_dropped place (before ∷ looks)) refl
 ]
 
-still_left : (told : Bool) {ways : Ways} (looks : List Look) (look : Look) {place : ℕ} {name : List ℕ} {watched : Watched} → fate_at place look ≡ sound → IsLeft told ways looks place name watched → IsLeft told ways (looks ++ look ∷ []) place name watched
-still_left told [] look fine left = absurd (false≢true (sym left.begun))
-still_left told {ways} (before ∷ looks) look {place} {name} {watched} fine left = record {
+still_left : {told : Bool} {ways : Ways} (looks : List Look) (look : Look) {place : ℕ} {name : List ℕ} {watched : Watched} → fate_at place look ≡ sound → IsLeft told ways looks place name watched → IsLeft told ways (looks ++ look ∷ []) place name watched
+still_left [] look fine left = absurd (false≢true (sym left.begun))
+still_left {ways} (before ∷ looks) look {place} {name} {watched} fine left = record {
   begun = refl;
   why = elim left.why [
-    | inl dropped ↦ inl (ap is_some (failed_sound place (before ∷ looks) look fine) ∙ dropped.0, broken_sound (before ∷ looks) look watched.failed fine dropped.1)
+    | inl dropped ↦ inl (ap is_some (failed_sound place (before ∷ looks) look fine) ∙ dropped.0, broken_sound (before ∷ looks) look fine dropped.1)
     | inr missed ↦ inr (record {
       way = missed.way;
       unbroken = missed.unbroken;
@@ -364,23 +364,23 @@ still_left told {ways} (before ∷ looks) look {place} {name} {watched} fine lef
   ];
 }
 
-left_visited : {told_in : Bool} (told : Bool) {ways : Ways} {snapshot : Snapshot} {place : ℕ} {name : List ℕ} {printer : PrinterState} {slots : List Slot} {watched : Watched} {standing : Standing} {looks : List Look} → standing ≡ Left → Stands told_in ways looks place name watched standing
+left_visited : {told_in told : Bool} {ways : Ways} {snapshot : Snapshot} {place : ℕ} {name : List ℕ} {printer : PrinterState} {slots : List Slot} {watched : Watched} {standing : Standing} {looks : List Look} → standing ≡ Left → Stands told_in ways looks place name watched standing
     → Visited told_in told ways looks snapshot place name printer slots printer slots watched standing false
-left_visited {told_in} told {ways} {snapshot} {place} {name} {watched} {looks} is stands =
+left_visited {told_in} {ways} {snapshot} {place} {name} {watched} {looks} is stands =
     let left : IsLeft told_in ways looks place name watched = subst (Stands told_in ways looks place name watched) is stands in
     record {
       fate = sound;
       share = no_share name;
-      is_share = λ t fates at. left_share told_in looks (record { snapshot = snapshot; fates = fates }) t left at;
+      is_share = λ t fates at. left_share looks (record { snapshot = snapshot; fates = fates }) t left at;
       is_failed = refl;
       shared = gives_nothing;
-      stands = λ fates at. subst (λ those. Stands told_in ways (looks ++ record { snapshot = snapshot; fates = fates } ∷ []) place name watched those) (sym is) (still_left told_in looks (record { snapshot = snapshot; fates = fates }) at left);
+      stands = λ fates at. subst (λ those. Stands told_in ways (looks ++ record { snapshot = snapshot; fates = fates } ∷ []) place name watched those) (sym is) (still_left looks (record { snapshot = snapshot; fates = fates }) at left);
     }
 
 pub visit_left : {told_in told : Bool} {ways : Ways} {snapshot : Snapshot} {place : ℕ} {name : NameState} {watched : List Watched} {printer : PrinterState} {slots : List Slot} → name.standing ≡ Left → CanVisit name (watched_at watched place)
     → Visits told_in told ways snapshot place name watched printer slots name watched printer slots (Ok false)
-visit_left {told} left can = record {
-  visited = λ looks stands. left_visited told left stands;
+visit_left left can = record {
+  visited = λ looks stands. left_visited left stands;
   stopped = tt;
   same = refl;
   ready = can;

@@ -26,11 +26,11 @@ use Rattle.ports_core.specs.Engine as engine
 -- a change of one input
 
 -- why an engine that is live is stopped
-stops : (work : Work) (read : List ℕ) (low high : Part) (needs : Needs) (Lacks : Type 0) (Ends : Fault → Type 0) {fault : Fault} (taken : ℕ) {size : ℕ} {old new : List Slot} → is_verdict fault ≡ false → (2 ^ 63 ≤ taken + size → 2 ^ 63 ≤ length read)
+stops : (work : Work) (read : List ℕ) (low high : Part) {needs : Needs} (Lacks : Type 0) (Ends : Fault → Type 0) {fault : Fault} {taken size : ℕ} {old new : List Slot} → is_verdict fault ≡ false → (2 ^ 63 ≤ taken + size → 2 ^ 63 ≤ length read)
     → IsCaused (IsMet work.means needs Lacks Ends old new) false taken size old new fault → Stops (call_of work needs read low high) new fault
-stops work read low high needs Lacks Ends taken is long (engine.over is_over kept) = absurd (false≢true is_over)
-stops work read low high needs Lacks Ends taken is long (engine.long live many kept) = long many
-stops work read low high needs Lacks Ends {fault} taken {old} {new} is long (engine.met _ live why) = by_why fault is why where
+stops work read low high Lacks Ends is long (engine.over is_over kept) = absurd (false≢true is_over)
+stops work read low high Lacks Ends is long (engine.long live many kept) = long many
+stops work read low high {needs} Lacks Ends {fault} {old} {new} is long (engine.met _ live why) = by_why fault is why where
   by_why : (fault : Fault) → is_verdict fault ≡ false → IsMet work.means needs Lacks Ends old new fault → Stops (call_of work needs read low high) new fault
   by_why Memory is why = why.0
   by_why (Write slot) is why = (why.0, why.1, why.2.1)
@@ -41,10 +41,10 @@ stops work read low high needs Lacks Ends {fault} taken {old} {new} is long (eng
   by_why fault is why = absurd why
 
 -- a verdict comes only where the work ends so
-pub judges : (means : Means) (needs : Needs) (Lacks : Type 0) (Ends : Fault → Type 0) {fault : Fault} (over : Bool) (taken : ℕ) {size : ℕ} {old new : List Slot} → is_verdict fault ≡ true → IsCaused (IsMet means needs Lacks Ends old new) over taken size old new fault → Ends fault
-judges means needs Lacks Ends over taken is (engine.over is_over kept) = absurd (false≢true is)
-judges means needs Lacks Ends over taken is (engine.long live many kept) = absurd (false≢true is)
-judges means needs Lacks Ends {fault} over taken {old} {new} is (engine.met _ live why) = by_why fault is why where
+pub judges : (means : Means) {needs : Needs} (Lacks : Type 0) (Ends : Fault → Type 0) {fault : Fault} {over : Bool} {taken size : ℕ} {old new : List Slot} → is_verdict fault ≡ true → IsCaused (IsMet means needs Lacks Ends old new) over taken size old new fault → Ends fault
+judges means Lacks Ends is (engine.over is_over kept) = absurd (false≢true is)
+judges means Lacks Ends is (engine.long live many kept) = absurd (false≢true is)
+judges means {needs} Lacks Ends {fault} {old} {new} is (engine.met _ live why) = by_why fault is why where
   by_why : (fault : Fault) → is_verdict fault ≡ true → IsMet means needs Lacks Ends old new fault → Ends fault
   by_why Suffixes is why = why
   by_why (NoMatch operand repetition) is why = why
@@ -56,13 +56,13 @@ pub judging_of : {given fault : Fault} → given ≡ fault → not (is_verdict g
 judging_of {given} is ends = ap is_verdict (sym is) ∙ not-false (is_verdict given) ends
 
 -- what a fault left within an input, and what was made of its files then
-short_of_piece : (told : Bool) {opening : Needs} {most : ℕ} {work : Work} {content : Content} (WasRead : List ℕ → Type 0) (x piece rest : List ℕ) {reached new before : List Slot} {fault : Fault} → IsLawful work → content.bytes ≡ (x ++ piece) ++ rest → length piece ≤ most → work.is_complete x ≡ false → WasRead (x ++ piece)
+short_of_piece : {told : Bool} {opening : Needs} {most : ℕ} {work : Work} {content : Content} (WasRead : List ℕ → Type 0) {x : List ℕ} (piece rest : List ℕ) {reached new before : List Slot} {fault : Fault} → IsLawful work → content.bytes ≡ (x ++ piece) ++ rest → length piece ≤ most → work.is_complete x ≡ false → WasRead (x ++ piece)
     → Ended told before (work.settled x) (work.settled (x ++ piece)) work.clears fault reached
     → (is_verdict fault ≡ false → Stops (call_of work work.means.feeding (x ++ piece) (work.settled x) (work.settled (x ++ piece))) reached fault) → (is_verdict fault ≡ true → IsSettled work (x ++ piece) fault)
     → (is_verdict fault ≡ true → new ≡ reached) → (is_verdict fault ≡ false → Swept work.clears (length before) reached new) → FedAs told before work opening most content WasRead new (Err fault)
-short_of_piece told WasRead x piece rest {reached} {fault} lawful is within going read (engine.cut unjudged stop) why settles kept swept =
+short_of_piece WasRead {x} piece rest {reached} {fault} lawful is within going read (engine.cut unjudged stop) why settles kept swept =
     stopped fault unjudged _ (feeds x piece rest is within going) read reached (why unjudged) stop (swept unjudged)
-short_of_piece told {work} WasRead x piece rest {before} {fault} lawful is within going read (engine.judged judging first at cleared) why settles kept swept =
+short_of_piece {told} {work} WasRead {x} piece rest {before} {fault} lawful is within going read (engine.judged judging first at cleared) why settles kept swept =
     let stays : IsComplete work (x ++ piece) rest = lawful.stays (x ++ piece) rest (settles judging).0 in
     judged fault judging (or_right _ _ (ap work.is_complete is ∙ stays.still)) (ap work.verdict is ∙ stays.verdict_stays ∙ (settles judging).1) first
     (subst (λ part. OutputsAt told before part first) (sym stays.whole_stays ∙ ap work.whole (sym is)) at)
@@ -85,23 +85,23 @@ whole_at {work} {x} rest lawful done =
     let there : IsComplete work x rest = lawful.stays x rest done in
     there.whole_stays ∙ sym here.whole_stays ∙ ap work.whole (append-nil x)
 
-fed_all : (told : Bool) {opening : Needs} {most : ℕ} {work : Work} {content : Content} (WasRead : List ℕ → Type 0) {x : List ℕ} {new before : List Slot} (fed : Fed) → IsLawful work → HasGot work content x fed → work.verdict x ≡ None → OutputsAt told before (work.whole x) new → FedAs told before work opening most content WasRead new (Ok fed)
-fed_all told {work} WasRead {new} {before} Whole lawful got well at =
+fed_all : {told : Bool} {opening : Needs} {most : ℕ} {work : Work} {content : Content} (WasRead : List ℕ → Type 0) {x : List ℕ} {new before : List Slot} (fed : Fed) → IsLawful work → HasGot work content x fed → work.verdict x ≡ None → OutputsAt told before (work.whole x) new → FedAs told before work opening most content WasRead new (Ok fed)
+fed_all {told} {work} WasRead {new} {before} Whole lawful got well at =
     whole got.0 (ap work.is_complete got.2 ∙ got.1) (ap work.verdict got.2 ∙ well) (subst (λ bytes. OutputsAt told before (work.whole bytes) new) (sym got.2) at)
-fed_all told {work} WasRead {x} {new} {before} Enough lawful got well at =
+fed_all {told} {work} WasRead {x} {new} {before} Enough lawful got well at =
     let stays : IsComplete work x got.1.0 = lawful.stays x got.1.0 got.0 in
     had_enough (ap work.is_complete got.1.1 ∙ stays.still) (ap work.verdict got.1.1 ∙ stays.verdict_stays ∙ well)
     (subst (λ part. OutputsAt told before part new) (sym (ap work.whole got.1.1 ∙ whole_at got.1.0 lawful got.0)) at)
-fed_all told WasRead Broken lawful got well at = absurd got
+fed_all WasRead Broken lawful got well at = absurd got
 
-judged_all : (told : Bool) {opening : Needs} {most : ℕ} {work : Work} {content : Content} (WasRead : List ℕ → Type 0) {x : List ℕ} {reached new before : List Slot} (fed : Fed) {fault : Fault} → is_verdict fault ≡ true → IsLawful work → HasGot work content x fed → Judges work x fault → OutputsAt told before (work.whole x) reached → Swept work.clears (length before) reached new → FedAs told before work opening most content WasRead new (Err fault)
-judged_all told {work} WasRead {reached} {before} Whole {fault} judging lawful got verdict at swept =
+judged_all : {told : Bool} {opening : Needs} {most : ℕ} {work : Work} {content : Content} (WasRead : List ℕ → Type 0) {x : List ℕ} {reached new before : List Slot} (fed : Fed) {fault : Fault} → is_verdict fault ≡ true → IsLawful work → HasGot work content x fed → Judges work x fault → OutputsAt told before (work.whole x) reached → Swept work.clears (length before) reached new → FedAs told before work opening most content WasRead new (Err fault)
+judged_all {told} {work} WasRead {reached} {before} Whole {fault} judging lawful got verdict at swept =
     judged fault judging (or_left _ _ (ap not got.0)) (ap work.verdict got.2 ∙ verdict) reached (subst (λ bytes. OutputsAt told before (work.whole bytes) reached) (sym got.2) at) swept
-judged_all told {work} WasRead {x} {reached} {before} Enough {fault} judging lawful got verdict at swept =
+judged_all {told} {work} WasRead {x} {reached} {before} Enough {fault} judging lawful got verdict at swept =
     let stays : IsComplete work x got.1.0 = lawful.stays x got.1.0 got.0 in
     judged fault judging (or_right _ _ (ap work.is_complete got.1.1 ∙ stays.still)) (ap work.verdict got.1.1 ∙ stays.verdict_stays ∙ verdict) reached
     (subst (λ part. OutputsAt told before part reached) (sym (ap work.whole got.1.1 ∙ whole_at got.1.0 lawful got.0)) at) swept
-judged_all told WasRead Broken judging lawful got verdict at swept = absurd got
+judged_all WasRead Broken judging lawful got verdict at swept = absurd got
 
 -- the engine makes of x what it makes of z
 pub record MadeAlike (work : Work) (x z : List ℕ) : Type 0 where
@@ -122,16 +122,16 @@ alike_used {work} spare lawful done =
     }
 
 -- What a fault left at the end, and what was made of its files then. The engine was fed x, of which z was used.
-short_of_end : (told : Bool) {opening : Needs} {most : ℕ} {work : Work} {content : Content} (WasRead : List ℕ → Type 0) {x z : List ℕ} {reached new before : List Slot} (fed : Fed) {fault : Fault} → IsLawful work → HasGot work content x fed → HasAll work content z → MadeAlike work x z → IsNeeded work.is_complete most z → WasRead z
+short_of_end : {told : Bool} {opening : Needs} {most : ℕ} {work : Work} {content : Content} (WasRead : List ℕ → Type 0) {x z : List ℕ} {reached new before : List Slot} (fed : Fed) {fault : Fault} → IsLawful work → HasGot work content x fed → HasAll work content z → MadeAlike work x z → IsNeeded work.is_complete most z → WasRead z
     → Ended told before (work.settled x) (work.whole x) work.clears fault reached
     → (is_verdict fault ≡ false → Stops (call_of work work.means.closing z (work.settled z) (work.whole z)) reached fault) → (is_verdict fault ≡ true → Judges work x fault)
     → (is_verdict fault ≡ true → new ≡ reached) → (is_verdict fault ≡ false → Swept work.clears (length before) reached new) → FedAs told before work opening most content WasRead new (Err fault)
-short_of_end told {work} WasRead {x} {z} {reached} {before} fed {fault} lawful got all alike needed read (engine.cut unjudged stop) why verdict kept swept =
+short_of_end {told} {work} WasRead {x} {z} {reached} {before} fed {fault} lawful got all alike needed read (engine.cut unjudged stop) why verdict kept swept =
     stopped fault unjudged _ (closes z all needed) read reached (why unjudged)
     (subst (λ low. StoppedBetween told before low (work.whole z) fault reached) alike.settled (subst (λ high. StoppedBetween told before (work.settled x) high fault reached) alike.whole stop))
     (swept unjudged)
-short_of_end told {work} WasRead {before} fed lawful got all alike needed read (engine.judged judging first at cleared) why verdict kept swept =
-    judged_all told WasRead fed judging lawful got (verdict judging) at (subst (λ those. Swept work.clears (length before) first those) (sym (kept judging)) cleared)
+short_of_end {work} WasRead {before} fed lawful got all alike needed read (engine.judged judging first at cleared) why verdict kept swept =
+    judged_all WasRead fed judging lawful got (verdict judging) at (subst (λ those. Swept work.clears (length before) first those) (sym (kept judging)) cleared)
 
 module _ {S : Type 0} (Holds : S → List ℕ → Type 0) (Owns : S → ℕ → List Slot → Type 0) (work : S → Work) where
   -- the loop has fed the engine x
@@ -168,9 +168,9 @@ module _ {S : Type 0} (Holds : S → List ℕ → Type 0) (Owns : S → ℕ → 
       let why = subst (λ n. IsCaused (IsMet (work now.stage).means (work now.stage).means.feeding lack (EndsWith Holds work now.stage piece) mid reached) false n (length piece) mid reached fault) so_far.holds.count
       (subst (λ over. IsCaused (IsMet (work now.stage).means (work now.stage).means.feeding lack (EndsWith Holds work now.stage piece) mid reached) over now.fed (length piece) mid reached fault) so_far.holds.live caused) in
       subst (λ (those : Work). FedAs told before those opening most content WasRead new (Err fault)) so_far.same
-      (short_of_piece told WasRead x piece rest (laws now.stage) is within going read (cuts before x (stands told so_far own at))
-      (λ unjudged. stops (work now.stage) (x ++ piece) ((work now.stage).settled x) ((work now.stage).settled (x ++ piece)) (work now.stage).means.feeding lack (EndsWith Holds work now.stage piece) (length x) unjudged (λ long. let size : length (x ++ piece) ≡ length x + length piece = length-append x piece in omega (arith, long)) why)
-      (λ judging. judges (work now.stage).means (work now.stage).means.feeding lack (EndsWith Holds work now.stage piece) _ _ judging caused x so_far.holds.within)
+      (short_of_piece WasRead piece rest (laws now.stage) is within going read (cuts before x (stands told so_far own at))
+      (λ unjudged. stops (work now.stage) (x ++ piece) ((work now.stage).settled x) ((work now.stage).settled (x ++ piece)) lack (EndsWith Holds work now.stage piece) unjudged (λ long. let size : length (x ++ piece) ≡ length x + length piece = length-append x piece in omega (arith, long)) why)
+      (λ judging. judges (work now.stage).means lack (EndsWith Holds work now.stage piece) judging caused x so_far.holds.within)
       kept
       (λ unjudged. subst (λ (those : Work). Swept those.clears (length before) reached new) same (cleared unjudged (length before) (owned unjudged (length before) (so_far.owns (length before) own)))))
 
@@ -179,13 +179,13 @@ module _ {S : Type 0} (Holds : S → List ℕ → Type 0) (Owns : S → ℕ → 
       → EndsSo Holds Owns work told now fed mid new result → FedAs told before (work start.stage) opening most content WasRead new result
   ended laws told {opening} {most} {now} {content} WasRead {x} {new} {before} {fed} so_far own at got all alike needed read (finished finishes) =
       let done = finishes before x (stands told so_far own at) in
-      subst (λ (those : Work). FedAs told before those opening most content WasRead new (Ok fed)) so_far.same (fed_all told WasRead fed (laws now.stage) got done.0 done.1)
+      subst (λ (those : Work). FedAs told before those opening most content WasRead new (Ok fed)) so_far.same (fed_all WasRead fed (laws now.stage) got done.0 done.1)
   ended laws told {opening} {most} {now} {content} WasRead {x} {z} {mid} {new} {before} {fed} so_far own at got all alike needed read (fell_short fault reached short caused kept cleared) =
       let why = subst (λ over. IsCaused (IsMet (work now.stage).means (work now.stage).means.closing (Unit {0}) (EndsThere Holds work now.stage) mid reached) over now.fed 0 mid reached fault) so_far.holds.live caused in
       subst (λ (those : Work). FedAs told before those opening most content WasRead new (Err fault)) so_far.same
-      (short_of_end told WasRead fed (laws now.stage) got all alike needed read (short before x (stands told so_far own at))
-      (λ unjudged. stops (work now.stage) z ((work now.stage).settled z) ((work now.stage).whole z) (work now.stage).means.closing (Unit {0}) (EndsThere Holds work now.stage) now.fed unjudged (λ long. absurd (let bound : now.fed < 2 ^ 63 = so_far.bound in omega (arith, bound, long))) why)
-      (λ judging. judges (work now.stage).means (work now.stage).means.closing (Unit {0}) (EndsThere Holds work now.stage) _ _ judging caused x so_far.holds.within)
+      (short_of_end WasRead fed (laws now.stage) got all alike needed read (short before x (stands told so_far own at))
+      (λ unjudged. stops (work now.stage) z ((work now.stage).settled z) ((work now.stage).whole z) (Unit {0}) (EndsThere Holds work now.stage) unjudged (λ long. absurd (let bound : now.fed < 2 ^ 63 = so_far.bound in omega (arith, bound, long))) why)
+      (λ judging. judges (work now.stage).means (Unit {0}) (EndsThere Holds work now.stage) judging caused x so_far.holds.within)
       kept (λ unjudged. cleared unjudged (length before) (so_far.owns (length before) own)))
 
   -- the loop ended where the input broke off
@@ -218,21 +218,21 @@ module _ {S : Type 0} (Holds : S → List ℕ → Type 0) (Owns : S → ℕ → 
 
 -- what was read was needed
 
-pub piece_within : (n most : ℕ) (buffer : List ℕ) → n ≤ most → length (take n buffer) ≤ most
-piece_within n most buffer within = omega (arith, length-take n buffer)
+pub piece_within : {n most : ℕ} (buffer : List ℕ) → n ≤ most → length (take n buffer) ≤ most
+piece_within {n} buffer within = omega (arith, length-take n buffer)
 
-pub needed_more : {is_complete : List ℕ → Bool} {most : ℕ} (n : ℕ) (x buffer : List ℕ) → is_complete x ≡ false → n ≤ most → IsNeeded is_complete most (x ++ take n buffer)
-needed_more {most} n x buffer going within = inr (x, take n buffer, refl, piece_within n most buffer within, going)
+pub needed_more : {is_complete : List ℕ → Bool} {most n : ℕ} (x buffer : List ℕ) → is_complete x ≡ false → n ≤ most → IsNeeded is_complete most (x ++ take n buffer)
+needed_more {n} x buffer going within = inr (x, take n buffer, refl, piece_within buffer within, going)
 
 -- the same of the fault that is handed on
-pub given_so : (told : Bool) {before new : List Slot} {work : Work} {opening : Needs} {most : ℕ} {content : Content} (WasRead : List ℕ → Type 0) {given fault : Fault} → given ≡ fault → FedAs told before work opening most content WasRead new (Err fault) → FedAs told before work opening most content WasRead new (Err given)
-given_so told {before} {new} {work} {opening} {most} {content} WasRead is fed = subst (λ those. FedAs told before work opening most content WasRead new (Err those)) (sym is) fed
+pub given_so : {told : Bool} {before new : List Slot} {work : Work} {opening : Needs} {most : ℕ} {content : Content} (WasRead : List ℕ → Type 0) {given fault : Fault} → given ≡ fault → FedAs told before work opening most content WasRead new (Err fault) → FedAs told before work opening most content WasRead new (Err given)
+given_so {told} {before} {new} {work} {opening} {most} {content} WasRead is fed = subst (λ those. FedAs told before work opening most content WasRead new (Err those)) (sym is) fed
 
 -- Lemmas on an engine that took in a front of its input without a read: the loop that feeds it goes on from there.
 
-needed_front : (is_complete : List ℕ → Bool) (most : ℕ) {x : List ℕ} → (x ≡ []) ⊎ (is_complete x ≡ false) → IsNeeded is_complete most x
-needed_front is_complete most (inl none) = inl none
-needed_front is_complete most {x} (inr going) = inr (x, [], sym (append-nil x), omega arith, going)
+needed_front : {is_complete : List ℕ → Bool} {most : ℕ} {x : List ℕ} → (x ≡ []) ⊎ (is_complete x ≡ false) → IsNeeded is_complete most x
+needed_front (inl none) = inl none
+needed_front {x} (inr going) = inr (x, [], sym (append-nil x), omega arith, going)
 
 module _ {S : Type 0} (Holds : S → List ℕ → Type 0) (Ready : S → List Slot → Type 0) (Owns : S → ℕ → List Slot → Type 0) (work : S → Work) (told : Bool) (slot count : ℕ) (start now : GuardState S) (old new : List Source) (loads : Loads Holds Ready Owns work told slot count start.stage now.stage old new) where
   pub loaded_feeds : {told_out : Bool} {slots : List Slot} → work now.stage ≡ work start.stage → now.fed ≡ count → now.is_over ≡ false → count < 2 ^ 63 → Feeds Holds Owns work told_out start now loads.front slots slots
@@ -257,7 +257,7 @@ module _ {S : Type 0} (Holds : S → List ℕ → Type 0) (Ready : S → List Sl
   }
 
   pub loaded_needed : {most : ℕ} → IsNeeded (work start.stage).is_complete most loads.front
-  loaded_needed {most} = needed_front (work start.stage).is_complete most loads.going
+  loaded_needed = needed_front loads.going
 
   pub loaded_asked : {most : ℕ} → IsTrue (is_readable old slot) → (source_at old slot).asked ≤ most → (source_at new slot).asked ≤ most
   loaded_asked {most} can few = subst (λ asked. asked ≤ most) (sym (ap (λ (source : Source). source.asked) (passed_at slot count old new can loads.passed))) few
@@ -327,8 +327,8 @@ module _ {E : Type 0} (Holds : E → List ℕ → Type 0) (Ready : E → List Sl
 
 -- what is spare was given back
 
-back_at : (taken start used : List ℕ) {rest : List ℕ} {n : ℕ} → taken ≡ start ++ (used ++ rest) → length rest ≡ n → drop (length taken - n) taken ≡ rest
-back_at taken start used {rest} {n} is long =
+back_at : {taken : List ℕ} (start used : List ℕ) {rest : List ℕ} {n : ℕ} → taken ≡ start ++ (used ++ rest) → length rest ≡ n → drop (length taken - n) taken ≡ rest
+back_at {taken} start used {rest} {n} is long =
     let all : taken ≡ (start ++ used) ++ rest = is ∙ sym (append_assoc start used rest) in
     let at : length taken - n ≡ length (start ++ used) = omega (arith, ap length all ∙ length-append (start ++ used) rest, long) in
     ap (λ k. drop k taken) at ∙ ap (drop (length (start ++ used))) all ∙ drop_at (start ++ used) rest (length (start ++ used)) refl
@@ -336,7 +336,7 @@ back_at taken start used {rest} {n} is long =
 pub left_after : {work : Work} {x : List ℕ} {slot n : ℕ} {start sources new : List Source} (spare : IsSpare work x n) → HasTaken x slot start sources → IsTrue (is_readable sources slot) → new ≡ changed_at slot (gets_back n) sources → (source_at new slot).left.bytes ≡ spare.rest ++ (source_at sources slot).left.bytes
 left_after {slot} {n} {start} {sources} {new} spare took can is =
     ap (λ (source : Source). source.left.bytes) (changed_source slot (gets_back n) sources new can is)
-    ∙ ap (λ those. those ++ (source_at sources slot).left.bytes) (back_at (source_at sources slot).taken (source_at start slot).taken spare.used (took.taken ∙ ap (λ those. (source_at start slot).taken ++ those) spare.joined) spare.long)
+    ∙ ap (λ those. those ++ (source_at sources slot).left.bytes) (back_at (source_at start slot).taken spare.used (took.taken ∙ ap (λ those. (source_at start slot).taken ++ those) spare.joined) spare.long)
 
 pub read_used : {work : Work} {content : Content} {x : List ℕ} {slot n : ℕ} {start sources new : List Source} (spare : IsSpare work x n) → HasRead content x slot sources → HasTaken x slot start sources → IsTrue (is_readable sources slot) → new ≡ changed_at slot (gets_back n) sources → content.bytes ≡ spare.used ++ (source_at new slot).left.bytes
 read_used {slot} {sources} spare read took can is =
@@ -344,15 +344,15 @@ read_used {slot} {sources} spare read took can is =
     ∙ ap (λ those. spare.used ++ those) (sym (left_after spare took can is))
 
 -- one byte at the most is a piece
-pub needed_within : (is_complete : List ℕ → Bool) (most : ℕ) (x : List ℕ) → 0 < most → IsNeeded is_complete 1 x → IsNeeded is_complete most x
-needed_within is_complete most x room (inl none) = inl none
-needed_within is_complete most x room (inr (before, piece, is, few, going)) = inr (before, piece, is, omega (arith, few, room), going)
+pub needed_within : {is_complete : List ℕ → Bool} {most : ℕ} {x : List ℕ} → 0 < most → IsNeeded is_complete 1 x → IsNeeded is_complete most x
+needed_within room (inl none) = inl none
+needed_within room (inr (before, piece, is, few, going)) = inr (before, piece, is, omega (arith, few, room), going)
 
 -- what a run leaves of an input
 
 -- all of it was read, and the output was not complete
-pub uses_all : {work : Work} {most slot : ℕ} (there : Content) (x : List ℕ) {source : Source} → there.bytes ≡ x ++ source.left.bytes → source.left.bytes ≡ [] → IsNeeded work.is_complete most x → work.is_complete x ≡ false → source.reached ≤ length x → Uses work most slot there source
-uses_all there x joined none needed going few = record {
+pub uses_all : {work : Work} {most slot : ℕ} {there : Content} {x : List ℕ} {source : Source} → there.bytes ≡ x ++ source.left.bytes → source.left.bytes ≡ [] → IsNeeded work.is_complete most x → work.is_complete x ≡ false → source.reached ≤ length x → Uses work most slot there source
+uses_all {x} joined none needed going few = record {
   read = x;
   joined = joined;
   enough = inl none;
@@ -362,8 +362,8 @@ uses_all there x joined none needed going few = record {
 }
 
 -- the work ended with a fault within it
-pub uses_judged : {work : Work} {most slot : ℕ} (there : Content) (x : List ℕ) {source : Source} {fault : Fault} → there.bytes ≡ x ++ source.left.bytes → IsNeeded work.is_complete most x → work.is_complete x ≡ true → work.verdict x ≡ Some fault → source.reached ≤ length x → Uses work most slot there source
-uses_judged there x joined needed complete verdict few = record {
+pub uses_judged : {work : Work} {most slot : ℕ} {there : Content} {x : List ℕ} {source : Source} {fault : Fault} → there.bytes ≡ x ++ source.left.bytes → IsNeeded work.is_complete most x → work.is_complete x ≡ true → work.verdict x ≡ Some fault → source.reached ≤ length x → Uses work most slot there source
+uses_judged {x} joined needed complete verdict few = record {
   read = x;
   joined = joined;
   enough = inr complete;
@@ -373,13 +373,13 @@ uses_judged there x joined needed complete verdict few = record {
 }
 
 -- the output was complete, and what it doesn't use was given back
-pub uses_part : {work : Work} {most slot n : ℕ} (there : Content) {x : List ℕ} {start sources new : List Source} (spare : IsSpare work x n) → there.bytes ≡ spare.used ++ (source_at new slot).left.bytes → 0 < most → work.is_complete spare.used ≡ true → (slot ≡ 0 → n ≤ work.ahead) → HasTaken x slot start sources → IsUnread (source_at start slot) → IsTrue (is_readable sources slot) → new ≡ changed_at slot (gets_back n) sources
+pub uses_part : {work : Work} {most slot n : ℕ} {there : Content} {x : List ℕ} {start sources new : List Source} (spare : IsSpare work x n) → there.bytes ≡ spare.used ++ (source_at new slot).left.bytes → 0 < most → work.is_complete spare.used ≡ true → (slot ≡ 0 → n ≤ work.ahead) → HasTaken x slot start sources → IsUnread (source_at start slot) → IsTrue (is_readable sources slot) → new ≡ changed_at slot (gets_back n) sources
     → Uses work most slot there (source_at new slot)
-uses_part {work} {most} {slot} {n} there {sources} {new} spare joined room complete few took unread can is = record {
+uses_part {slot} {n} {sources} {new} spare joined room complete few took unread can is = record {
   read = spare.used;
   joined = joined;
   enough = inr complete;
-  needed = needed_within work.is_complete most spare.used room spare.needed;
+  needed = needed_within room spare.needed;
   exact = λ well. spare.needed;
   few = λ standard. omega (arith, few standard, took.far unread, ap length spare.joined ∙ length-append spare.used spare.rest, spare.long, ap (λ (source : Source). source.reached) (changed_source slot (gets_back n) sources new can is));
 }

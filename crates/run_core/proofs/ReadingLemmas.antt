@@ -28,11 +28,11 @@ one_more sources source = length-append sources (source ∷ [])
 
 -- how many bytes reads asked for
 
-asks_more : (most : ℕ) (sources : List Source) (source : Source) → source.asked ≤ most → AsksAtMost most sources → AsksAtMost most (sources ++ source ∷ [])
-asks_more most [] source little asked zero = little
-asks_more most [] source little asked (suc place) = asked place
-asks_more most (first ∷ sources) source little asked zero = asked 0
-asks_more most (first ∷ sources) source little asked (suc place) = asks_more most sources source little (λ those. asked (suc those)) place
+asks_more : {most : ℕ} (sources : List Source) (source : Source) → source.asked ≤ most → AsksAtMost most sources → AsksAtMost most (sources ++ source ∷ [])
+asks_more [] source little asked zero = little
+asks_more [] source little asked (suc place) = asked place
+asks_more (first ∷ sources) source little asked zero = asked 0
+asks_more (first ∷ sources) source little asked (suc place) = asks_more sources source little (λ those. asked (suc those)) place
 
 pub asks_there : {most slot : ℕ} {old new : List Source} → KeepsOthers slot old new → ((source_at old slot).asked ≤ most → (source_at new slot).asked ≤ most) → AsksAtMost most old → AsksAtMost most new
 asks_there {most} {slot} {new} keeps there asked place =
@@ -55,9 +55,9 @@ still_within {slot} {old} is can keeps =
     omega (arith, within, keeps.count)
 
 -- an input that was fed to an engine, unless a fault stopped it
-pub left_of : (told : Bool) (work : Work) (most slot : ℕ) (there : Content) (sources : List Source) (P : Content → Type 0) (stops : Bool) → slot < length sources → (told ≡ true → stops ≡ false → Uses work most slot there (source_at sources slot))
+pub left_of : {told : Bool} {work : Work} {most slot : ℕ} {there : Content} (sources : List Source) (P : Content → Type 0) {stops : Bool} → slot < length sources → (told ≡ true → stops ≡ false → Uses work most slot there (source_at sources slot))
     → OfContent told there (λ content. P content × BreaksOnly told content (source_at sources slot)) → OfContent told there (λ content. P content × (stops ≡ false → IsDone told work most (Some slot) (Some content) sources))
-left_of told work most slot there sources P stops within uses (content, is, holds) =
+left_of {work} {most} {slot} sources P within uses (content, is, holds) =
     (content, is, (holds.0, λ ends. (within, (λ t. subst (λ (those : Content). Uses work most slot those (source_at sources slot)) (sym (is t)) (uses t ends), holds.1))))
 
 -- nothing was taken of an input that was just opened
@@ -105,12 +105,12 @@ takes_more {most} {name} {old} {new} source differs some little is keeps asked =
       files = λ place _ within. front place within;
       unasked = λ _. front 0 some;
       again = λ _. front 0 some;
-      asked = λ before. asked (subst (AsksAtMost most) (sym is) (asks_more most old source little before));
+      asked = λ before. asked (subst (AsksAtMost most) (sym is) (asks_more old source little before));
     }
 
-pub takes_file : (told : Bool) {laid : ℕ → List ℕ → Option Content} {most : ℕ} {was_read : Bool} {name : List ℕ} {old mid new : List Source} {slot : ℕ} → is_dash name ≡ false → 0 < length old → Opens told laid old mid name slot → KeepsOthers slot mid new → (AsksAtMost most mid → AsksAtMost most new)
+pub takes_file : {told : Bool} {laid : ℕ → List ℕ → Option Content} {most : ℕ} {was_read : Bool} {name : List ℕ} {old mid new : List Source} {slot : ℕ} → is_dash name ≡ false → 0 < length old → Opens told laid old mid name slot → KeepsOthers slot mid new → (AsksAtMost most mid → AsksAtMost most new)
     → TakesOne most was_read name old new
-takes_file told {mid} {new} differs some opens keeps asked =
+takes_file {mid} {new} differs some opens keeps asked =
     takes_more (source_of opens.content) differs some (omega arith) opens.sources (subst (λ n. KeepsOthers n mid new) opens.number keeps) asked
 
 takes_none : {most : ℕ} {was_read : Bool} {name : List ℕ} {old new : List Source} → new ≡ old → TakesOne most was_read name old new
@@ -123,9 +123,9 @@ takes_none {most} {name} {old} same = record {
   asked = subst (AsksAtMost most) (sym same);
 }
 
-pub takes_missing : (told : Bool) {laid : ℕ → List ℕ → Option Content} {most : ℕ} {was_read : Bool} {name : List ℕ} {old new : List Source} {fault : Fault} → is_dash name ≡ false → 0 < length old → OpensNothing told laid old new name fault → TakesOne most was_read name old new
-takes_missing told {old} {new} differs some (from.broke at number lies is) = takes_more missing differs some (omega arith) is (keeps_itself (length old) new) (λ asked. asked)
-takes_missing told differs some (from.no_room is) = takes_none is
+pub takes_missing : {told : Bool} {laid : ℕ → List ℕ → Option Content} {most : ℕ} {was_read : Bool} {name : List ℕ} {old new : List Source} {fault : Fault} → is_dash name ≡ false → 0 < length old → OpensNothing told laid old new name fault → TakesOne most was_read name old new
+takes_missing {old} {new} differs some (from.broke at number lies is) = takes_more missing differs some (omega arith) is (keeps_itself (length old) new) (λ asked. asked)
+takes_missing differs some (from.no_room is) = takes_none is
 
 -- a file that could not be opened is not open
 pub missing_done : (told : Bool) (work : Work) (most : ℕ) (old : List Source) {new : List Source} → new ≡ old ++ missing ∷ [] → IsDone told work most (Some (length old)) None new
@@ -177,17 +177,17 @@ all_done told work most was_read [] sources done = tt
 all_done told work most was_read (input ∷ inputs) sources done = (done_at told work most was_read input.slot input.content sources done.0, all_done told work most was_read inputs sources done.1)
 
 -- the input of a name that was taken stays done
-done_for : (told : Bool) (work : Work) (most : ℕ) (world : World) (was_read : Bool) (count : ℕ) (name : List ℕ) (dash : Bool) (sources : List Source) → 0 < count
+done_for : (told : Bool) (work : Work) (most : ℕ) (world : World) (was_read : Bool) {count : ℕ} (name : List ℕ) (dash : Bool) (sources : List Source) → 0 < count
     → (let input = input_of world was_read count name dash in IsDone told work most input.slot input.content sources → StaysDone told work most (was_read || dash) input.slot input.content sources)
-done_for told work most world true count name true sources some done = tt
-done_for told work most world false count name true sources some done = (λ _. refl, done)
-done_for told work most world was_read count name false sources some done = (λ is. absurd (omega (arith, some, is)), done)
+done_for told work most world true name true sources some done = tt
+done_for told work most world false name true sources some done = (λ _. refl, done)
+done_for told work most world was_read name false sources some done = (λ is. absurd (omega (arith, some, is)), done)
 
-pub done_with : (told : Bool) (work : Work) (most : ℕ) (was_read : Bool) (count : ℕ) (name : List ℕ) (input : Input) (sources : List Source) → IsFor was_read count name input → 0 < count
+pub done_with : (told : Bool) (work : Work) (most : ℕ) (was_read : Bool) {count : ℕ} (name : List ℕ) {input : Input} (sources : List Source) → IsFor was_read count name input → 0 < count
     → IsDone told work most input.slot input.content sources → StaysDone told work most (was_read || is_dash name) input.slot input.content sources
-done_with told work most was_read count name input sources (world, is) some done =
+done_with told work most was_read {count} name sources (world, is) some done =
     subst (λ (those : Input). StaysDone told work most (was_read || is_dash name) those.slot those.content sources) (sym is)
-    (done_for told work most world was_read count name (is_dash name) sources some (subst (λ (those : Input). IsDone told work most those.slot those.content sources) is done))
+    (done_for told work most world was_read name (is_dash name) sources some (subst (λ (those : Input). IsDone told work most those.slot those.content sources) is done))
 
 -- the inputs after the place where a run was stopped were not touched
 

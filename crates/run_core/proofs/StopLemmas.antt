@@ -24,25 +24,25 @@ files_after : (first low high : List File) → FilesBegin low high → FilesBegi
 files_after [] low high begins = begins
 files_after (file ∷ first) low high begins = (refl, refl, refl, inr refl, begins_itself file.bytes, files_after first low high begins)
 
-out_after : (out low high : List ℕ) → IsBeginning low high → IsBeginning (out ++ low) (out ++ high)
-out_after out low high (rest, is) = (rest, ap (λ bytes. out ++ bytes) is ∙ sym (append_assoc out low rest))
+out_after : (out low : List ℕ) {high : List ℕ} → IsBeginning low high → IsBeginning (out ++ low) (out ++ high)
+out_after out low (rest, is) = (rest, ap (λ bytes. out ++ bytes) is ∙ sym (append_assoc out low rest))
 
-pub begins_after : (first low high : Part) → Begins low high → Begins (after_part first low) (after_part first high)
-begins_after first low high begins = record { out = out_after first.out low.out high.out begins.out; files = files_after first.files low.files high.files begins.files }
+pub begins_after : (first : Part) {low high : Part} → Begins low high → Begins (after_part first low) (after_part first high)
+begins_after first {low} {high} begins = record { out = out_after first.out low.out begins.out; files = files_after first.files low.files high.files begins.files }
 
 pub after_assoc : (first next last : Part) → after_part (after_part first next) last ≡ after_part first (after_part next last)
 after_assoc first next last = simp append_assoc
 
-pub nothing_after : (part : Part) → after_part part nothing ≡ part
-nothing_after part = simp append-nil
+pub nothing_after : {part : Part} → after_part part nothing ≡ part
+nothing_after = simp append-nil
 
 -- bytes on standard output, after a part
 pub out_on : (first : Part) (bytes : List ℕ) → record first { out = first.out ++ bytes } ≡ after_part first (only_out bytes)
 out_on first bytes = ap (λ (files : List File). record { out = first.out ++ bytes; files = files }) (sym (append-nil first.files))
 
 -- outputs that are at one part, and from there on at another, are at both
-pub at_after : (told : Bool) {base : List Slot} {first part : Part} {mid now : List Slot} → OutputsAt told base first mid → OutputsAt told mid part now → OutputsAt told base (after_part first part) now
-at_after told {base} {first} {part} {mid} one two = record {
+pub at_after : {told : Bool} {base : List Slot} {first part : Part} {mid now : List Slot} → OutputsAt told base first mid → OutputsAt told mid part now → OutputsAt told base (after_part first part) now
+at_after {told} {base} {first} {part} {mid} one two = record {
   standard = one.standard;
   since = one.since ++ two.since;
   slots = two.slots ∙ ap (λ front. front ++ two.since) more ∙ append_assoc (with_written 0 (told_of told (first.out ++ part.out)) base) one.since two.since;
@@ -79,15 +79,15 @@ from_after (Open slot) base place count first is at = ap (λ n. first + n) at
 from_after fault base place count first is at = tt
 
 -- what stopped after a part, stopped after it
-pub stop_after : (told : Bool) {base : List Slot} {first low high : Part} {fault : Fault} {mid now : List Slot} → OutputsAt told base first mid → StoppedBetween told mid low high fault now → StoppedBetween told base (after_part first low) (after_part first high) fault now
-stop_after told {base} {first} {low} {high} {fault} {mid} {now} at stop = record {
+pub stop_after : {told : Bool} {base : List Slot} {first low high : Part} {fault : Fault} {mid now : List Slot} → OutputsAt told base first mid → StoppedBetween told mid low high fault now → StoppedBetween told base (after_part first low) (after_part first high) fault now
+stop_after {told} {base} {first} {high} {fault} {mid} {now} at stop = record {
   part = after_part first stop.part;
-  above = begins_after first low stop.part stop.above;
-  below = begins_after first stop.part high stop.below;
+  above = begins_after first stop.above;
+  below = begins_after first stop.below;
   place = length first.files + stop.place;
   order = order_after first.files stop.order;
   reached = stop.reached;
-  outputs = at_after told at stop.outputs;
+  outputs = at_after at stop.outputs;
   marks = marks_by (IsNext stop.part high) (IsNext (after_part first stop.part) (after_part first high)) fault stop.reached now (next_after first) stop.marks;
   from = subst (λ n. IsAt fault (length base) (length first.files + stop.place) n) (sym (length-append first.files stop.part.files))
       (from_after fault (length base) stop.place (length stop.part.files) (length first.files) (outputs_count told base first mid at) stop.from);
@@ -95,13 +95,13 @@ stop_after told {base} {first} {low} {high} {fault} {mid} {now} at stop = record
 
 -- where there is no file, none is to be removed
 
-pub none_to_sweep : (clears : Bool) (first : ℕ) (slots : List Slot) → length slots ≤ first → Swept clears first slots slots
-none_to_sweep clears first slots past = swept_none clears first slots (λ place above. none_past slots place (omega (arith, past, above)))
+pub none_to_sweep : (clears : Bool) {first : ℕ} (slots : List Slot) → length slots ≤ first → Swept clears first slots slots
+none_to_sweep clears {first} slots past = swept_none clears first slots (λ place above. none_past slots place (omega (arith, past, above)))
 
 -- the same from another place, where it matters
-pub swept_from : (clears : Bool) {first : ℕ} (other : ℕ) (old new : List Slot) → (clears ≡ true → first ≡ other) → Swept clears first old new → Swept clears other old new
-swept_from true other old new same swept = subst (λ n. SweptFrom n old new) (same refl) swept
-swept_from false other old new same swept = swept
+pub swept_from : (clears : Bool) {first other : ℕ} (old new : List Slot) → (clears ≡ true → first ≡ other) → Swept clears first old new → Swept clears other old new
+swept_from true old new same swept = subst (λ n. SweptFrom n old new) (same refl) swept
+swept_from false old new same swept = swept
 
 -- Lemmas on outputs that a fault stopped, and on the message that tells it: standard error is the slot after the first, and what
 -- was opened comes after both.
@@ -136,34 +136,34 @@ marked_error IsName (Write (suc (suc place))) output error since opened marks = 
 marked_error IsName (Open slot) output error since opened marks = shape_of opened marks.1.4
 marked_error IsName fault output error since opened marks = shape_of opened marks
 
-pub stop_error : (told : Bool) {output error : Slot} {low high : Part} {fault : Fault} {now : List Slot} → is_open error.state ≡ true → StoppedBetween told (output ∷ error ∷ []) low high fault now → HasError now
-stop_error told {output} {error} {high} {fault} {now} opened stop =
+pub stop_error : {told : Bool} {output error : Slot} {low high : Part} {fault : Fault} {now : List Slot} → is_open error.state ≡ true → StoppedBetween told (output ∷ error ∷ []) low high fault now → HasError now
+stop_error {told} {output} {error} {high} {fault} {now} opened stop =
     marked_error (IsNext stop.part high) fault (adds (told_of told stop.part.out) output) error stop.outputs.since opened
     (subst (λ slots. Marks (IsNext stop.part high) fault slots now) stop.outputs.slots stop.marks)
 
 -- a message changes standard error, and no other output
 
-pub said_at : (told : Bool) {tool : Tool} {text : List ℕ} {output error : Slot} {part : Part} {old new : List Slot} → OutputsAt told (output ∷ error ∷ []) part old → SaysOn told tool text old new
+pub said_at : {told : Bool} {tool : Tool} {text : List ℕ} {output error : Slot} {part : Part} {old new : List Slot} → OutputsAt told (output ∷ error ∷ []) part old → SaysOn told tool text old new
     → (after : Slot) × Says told tool text error after × OutputsAt told (output ∷ after ∷ []) part new
-said_at told {output} {error} {part} at says =
+said_at {told} {output} {error} {part} at says =
     let said = says (adds (told_of told part.out) output) error at.since at.slots in
     (said.0, said.1, record { standard = lit< tt; since = at.since; slots = said.2; files = at.files })
 
-printed_named : (told : Bool) {text : List ℕ} {old new : Slot} → Prints told text old new → new.name ≡ old.name
-printed_named told (whole sound is) = ap (λ slot. slot.name) is
-printed_named told (cut sound n within is) = ap (λ slot. slot.name) is
-printed_named told (passed broken is) = ap (λ slot. slot.name) is
+printed_named : {told : Bool} {text : List ℕ} {old new : Slot} → Prints told text old new → new.name ≡ old.name
+printed_named (whole sound is) = ap (λ slot. slot.name) is
+printed_named (cut sound n within is) = ap (λ slot. slot.name) is
+printed_named (passed broken is) = ap (λ slot. slot.name) is
 
 -- an output that broke before the text says nothing of it
-printed_broken : (told : Bool) {text : List ℕ} (error : Slot) {new : Slot} → Prints told text (breaks error) new → new ≡ breaks error
-printed_broken told error (whole sound is) = absurd (false≢true (sym sound))
-printed_broken told error (cut sound n within is) = absurd (false≢true (sym sound))
-printed_broken told error (passed broken is) = is
+printed_broken : {told : Bool} {text : List ℕ} (error : Slot) {new : Slot} → Prints told text (breaks error) new → new ≡ breaks error
+printed_broken error (whole sound is) = absurd (false≢true (sym sound))
+printed_broken error (cut sound n within is) = absurd (false≢true (sym sound))
+printed_broken error (passed broken is) = is
 
 -- it may as well have broken at the text's first byte
-prints_nothing : (told : Bool) {text : List ℕ} {error : Slot} (broken : Bool) → error.is_broken ≡ broken → 0 < length text → Prints told text error (breaks error)
-prints_nothing told {error} true is some = passed is (ap (λ (b : Bool). record error { is_broken = b }) (sym is))
-prints_nothing told {error} false is some =
+prints_nothing : {told : Bool} {text : List ℕ} {error : Slot} (broken : Bool) → error.is_broken ≡ broken → 0 < length text → Prints told text error (breaks error)
+prints_nothing {error} true is some = passed is (ap (λ (b : Bool). record error { is_broken = b }) (sym is))
+prints_nothing {told} {error} false is some =
     cut is 0 some (ap (λ bytes. record error { written = bytes; is_broken = true }) (sym (ap (λ bytes. error.written ++ bytes) (told_of-nil told) ∙ append-nil error.written)))
 
 module _ (told : Bool) (tool : Tool) (text : List ℕ) (some : 0 < length text) where
@@ -178,9 +178,9 @@ module _ (told : Bool) (tool : Tool) (text : List ℕ) (some : 0 < length text) 
       (said.0, said.1, (marks.0, said.2), ap (λ slots. (slot_at slots 0).name) said.2 ∙ sym (ap (λ slots. (slot_at slots 0).name) marks.1))
   told_marked IsName (Write (suc zero)) output {error} since new marks says =
       let said = says output (breaks error) since marks.1 in
-      let same : said.0 ≡ breaks error = printed_broken told error said.1.printed in
+      let same : said.0 ≡ breaks error = printed_broken error said.1.printed in
       let now : new ≡ output ∷ breaks error ∷ since = said.2 ∙ ap (λ slot. output ∷ slot ∷ since) same in
-      (breaks error, record { said = text; is = inl refl; printed = prints_nothing told error.is_broken refl some }, (marks.0, now), ap (λ slots. (slot_at slots 1).name) now ∙ sym (ap (λ slots. (slot_at slots 1).name) marks.1))
+      (breaks error, record { said = text; is = inl refl; printed = prints_nothing error.is_broken refl some }, (marks.0, now), ap (λ slots. (slot_at slots 1).name) now ∙ sym (ap (λ slots. (slot_at slots 1).name) marks.1))
   told_marked IsName (Write (suc (suc place))) output {error} since new marks says =
       let said = says output error (with_broken place since) marks.1 in
       (said.0, said.1, (marks.0, said.2), ap (λ slots. (slot_at slots (suc (suc place))).name) said.2 ∙ sym (ap (λ slots. (slot_at slots (suc (suc place))).name) marks.1))
@@ -217,35 +217,31 @@ module _ (told : Bool) (tool : Tool) (text : List ℕ) (some : 0 < length text) 
 
 -- an output that is broken stays so, whatever is said
 
-printed_broken_still : (told : Bool) {text : List ℕ} {old new : Slot} → Prints told text old new → old.is_broken ≡ true → new.is_broken ≡ true
-printed_broken_still told (whole sound is) broken = absurd (false≢true (sym sound ∙ broken))
-printed_broken_still told (cut sound n within is) broken = absurd (false≢true (sym sound ∙ broken))
-printed_broken_still told (passed was is) broken = ap (λ (slot : Slot). slot.is_broken) is ∙ broken
+printed_broken_still : {told : Bool} {text : List ℕ} {old new : Slot} → Prints told text old new → old.is_broken ≡ true → new.is_broken ≡ true
+printed_broken_still (whole sound is) broken = absurd (false≢true (sym sound ∙ broken))
+printed_broken_still (cut sound n within is) broken = absurd (false≢true (sym sound ∙ broken))
+printed_broken_still (passed was is) broken = ap (λ (slot : Slot). slot.is_broken) is ∙ broken
 
-still_broken : (told : Bool) (tool : Tool) (text : List ℕ) {mid : List Slot} (new : List Slot) (slot : ℕ) → HasError mid → SaysOn told tool text mid new → (slot_at mid slot).is_broken ≡ true → (slot_at new slot).is_broken ≡ true
-still_broken told tool text new zero has says broken =
+still_broken : {told : Bool} {tool : Tool} {text : List ℕ} {mid new : List Slot} (slot : ℕ) → HasError mid → SaysOn told tool text mid new → (slot_at mid slot).is_broken ≡ true → (slot_at new slot).is_broken ≡ true
+still_broken zero has says broken =
     let said = says has.output has.error has.since has.are in
     ap (λ slots. (slot_at slots 0).is_broken) said.2 ∙ sym (ap (λ slots. (slot_at slots 0).is_broken) has.are) ∙ broken
-still_broken told tool text new (suc zero) has says broken =
+still_broken (suc zero) has says broken =
     let said = says has.output has.error has.since has.are in
-    ap (λ slots. (slot_at slots 1).is_broken) said.2 ∙ printed_broken_still told said.1.printed (sym (ap (λ slots. (slot_at slots 1).is_broken) has.are) ∙ broken)
-still_broken told tool text new (suc (suc place)) has says broken =
+    ap (λ slots. (slot_at slots 1).is_broken) said.2 ∙ printed_broken_still said.1.printed (sym (ap (λ slots. (slot_at slots 1).is_broken) has.are) ∙ broken)
+still_broken (suc (suc place)) has says broken =
     let said = says has.output has.error has.since has.are in
     ap (λ slots. (slot_at slots (suc (suc place))).is_broken) said.2 ∙ sym (ap (λ slots. (slot_at slots (suc (suc place))).is_broken) has.are) ∙ broken
 
 -- what stopped a step did so after the message too
-pub stops_still : (told : Bool) (tool : Tool) (text : List ℕ) (step : Step) {mid new : List Slot} (fault : Fault) → HasError mid → SaysOn told tool text mid new → Stops step mid fault → Stops step new fault
-stops_still told tool text step {new} (Write slot) has says stops = (stops.0, stops.1, still_broken told tool text new slot has says stops.2)
-stops_still told tool text step fault has says stops = stops
+pub stops_still : {told : Bool} {tool : Tool} {text : List ℕ} (step : Step) {mid new : List Slot} (fault : Fault) → HasError mid → SaysOn told tool text mid new → Stops step mid fault → Stops step new fault
+stops_still step {new} (Write slot) has says stops = (stops.0, stops.1, still_broken slot has says stops.2)
+stops_still step fault has says stops = stops
 
 -- what is said after files were removed
 
 swept_streams : {output error after : Slot} {since now : List Slot} {first : ℕ} → 2 ≤ first → SweptFrom first (output ∷ error ∷ since) (output ∷ error ∷ now) → SweptFrom first (output ∷ after ∷ since) (output ∷ after ∷ now)
-swept_streams {output} {after} {since} {now} {first} past swept = record {
-  size = swept.size;
-  before = same_before;
-  cleared = cleared_still;
-} where
+swept_streams {output} {after} {since} {now} {first} past swept = record { size = swept.size; before = same_before; cleared = cleared_still } where
   same_before : (place : ℕ) → place < first → slot_at (output ∷ after ∷ now) place ≡ slot_at (output ∷ after ∷ since) place
   same_before (suc (suc place)) within = swept.before (suc (suc place)) within
   same_before place within = refl
@@ -255,9 +251,9 @@ swept_streams {output} {after} {since} {now} {first} past swept = record {
   cleared_still place above = absurd (omega (arith, past, above))
 
 -- outputs that were swept have the same streams
-pub swept_error : (clears : Bool) (first : ℕ) (old new : List Slot) → 2 ≤ first → Swept clears first old new → slot_at new 1 ≡ slot_at old 1
-swept_error false first old new past same = ap (λ slots. slot_at slots 1) same
-swept_error true first old new past swept = swept.before 1 (omega (arith, past))
+pub swept_error : (clears : Bool) {first : ℕ} (old new : List Slot) → 2 ≤ first → Swept clears first old new → slot_at new 1 ≡ slot_at old 1
+swept_error false old new past same = ap (λ slots. slot_at slots 1) same
+swept_error true old new past swept = swept.before 1 (omega (arith, past))
 
 streams_left : {output error : Slot} {since : List Slot} (mid : List Slot) {first : ℕ} → 2 ≤ first → SweptFrom first (output ∷ error ∷ since) mid → (now : List Slot) × (mid ≡ output ∷ error ∷ now)
 streams_left {since} [] past swept = absurd (let none : 0 ≡ suc (suc (length since)) = swept.size in omega (arith, none))
@@ -270,7 +266,7 @@ module _ (told : Bool) (tool : Tool) (text : List ℕ) where
   pub said_swept : (clears : Bool) {output error : Slot} {part : Part} {reached : List Slot} (mid new : List Slot) (first : ℕ) → 2 ≤ first → OutputsAt told (output ∷ error ∷ []) part reached → Swept clears first reached mid → SaysOn told tool text mid new
       → (after : Slot) × Says told tool text error after × ((now : List Slot) × OutputsAt told (output ∷ after ∷ []) part now × Swept clears first now new)
   said_swept false {output} {error} {part} mid new first past at same says =
-      let said = said_at told (subst (OutputsAt told (output ∷ error ∷ []) part) (sym same) at) says in
+      let said = said_at (subst (OutputsAt told (output ∷ error ∷ []) part) (sym same) at) says in
       (said.0, said.1, (new, said.2, refl))
   said_swept true {output} {error} {part} mid new first past at swept says =
       let top = adds (told_of told part.out) output in
@@ -309,21 +305,21 @@ pub record ToldStop (told : Bool) (tool : Tool) (text : List ℕ) (step : Step) 
   pub swept : Swept clears first reached new
   pub named : output_named new fault ≡ output_named mid fault
 
-pub stop_swept : (told : Bool) {tool : Tool} {text : List ℕ} (step : Step) (clears : Bool) {output error : Slot} {low high : Part} {fault : Fault} {reached mid new : List Slot} {first : ℕ} → 0 < length text → 2 ≤ first → is_open error.state ≡ true
+pub stop_swept : {told : Bool} {tool : Tool} {text : List ℕ} (step : Step) (clears : Bool) {output error : Slot} {low high : Part} {fault : Fault} {reached mid new : List Slot} {first : ℕ} → 0 < length text → 2 ≤ first → is_open error.state ≡ true
     → StoppedBetween told (output ∷ error ∷ []) low high fault reached → Stops step reached fault → Swept clears first reached mid → SaysOn told tool text mid new → ToldStop told tool text step output error low high fault clears first mid new
-stop_swept told {tool} {text} step false {output} {error} {low} {high} {fault} {reached} {new} some past opened stop why same says =
+stop_swept {told} {tool} {text} step false {output} {error} {low} {high} {fault} {reached} {new} some past opened stop why same says =
     let here = subst (λ slots. StoppedBetween told (output ∷ error ∷ []) low high fault slots) (sym same) stop in
     let said_so = stop_said told tool text some here says in record {
       after = said_so.0;
       says = said_so.1;
       reached = new;
       stop = said_so.2;
-      why = stops_still told tool text step fault (stop_error told opened here) says (subst (λ slots. Stops step slots fault) (sym same) why);
+      why = stops_still step fault (stop_error opened here) says (subst (λ slots. Stops step slots fault) (sym same) why);
       swept = refl;
       named = said_so.3;
     }
-stop_swept told {tool} {text} step true {fault} {reached} {mid} {first} some past opened stop why swept says =
-    let has = stop_error told opened stop in
+stop_swept {told} {tool} {text} step true {fault} {reached} {mid} {first} some past opened stop why swept says =
+    let has = stop_error opened stop in
     let first_swept = subst (λ slots. SweptFrom first slots mid) has.are swept in
     let left = streams_left mid past first_swept in
     let said = says has.output has.error left.0 left.1 in
@@ -334,7 +330,7 @@ stop_swept told {tool} {text} step true {fault} {reached} {mid} {first} some pas
       says = said_so.1;
       reached = now;
       stop = said_so.2;
-      why = stops_still told tool text step fault has too why;
+      why = stops_still step fault has too why;
       swept = subst (λ slots. SweptFrom first now slots) (sym said.2) (swept_streams past (subst (λ slots. SweptFrom first (has.output ∷ has.error ∷ has.since) slots) left.1 first_swept));
-      named = ap (λ slots. output_named slots fault) said.2 ∙ named_same fault has.output has.error said.0 left.0 (printed_named told said.1.printed) ∙ sym (ap (λ slots. output_named slots fault) left.1);
+      named = ap (λ slots. output_named slots fault) said.2 ∙ named_same fault has.output has.error said.0 left.0 (printed_named said.1.printed) ∙ sym (ap (λ slots. output_named slots fault) left.1);
     }

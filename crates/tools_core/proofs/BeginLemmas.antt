@@ -1,5 +1,5 @@
 -- What a run leaves that a fault stopped is a beginning of what one leaves that none stopped.
-use Rattle.std.proofs.Common.{◌≡◌, ℕ, ◌≤◌, zero, suc, Bool, true, false, not, ◌||◌, nat_lt, List, [], ◌∷◌, ◌++◌, length, map, Option, Some, inl, inr, ◌⊎◌, refl, sym, ◌∙◌, ap, subst, arith, append-nil, length-append}
+use Rattle.std.proofs.Common.{◌≡◌, ℕ, ◌≤◌, zero, suc, Bool, true, false, not, ◌||◌, List, [], ◌∷◌, ◌++◌, length, map, Option, Some, inl, inr, ◌⊎◌, refl, sym, ◌∙◌, ap, subst, arith, append-nil, length-append}
 use Rattle.std.proofs.lemmas.Bool.{cases_lt, false≢true}
 use Rattle.std.proofs.lemmas.Bool.Decides.{nat_tests}
 use Rattle.std.proofs.lemmas.List.{length-map}
@@ -20,8 +20,7 @@ use Rattle.seg_core.specs.declared.cut.Cut.{Cut}
 use Rattle.seg_core.specs.declared.cut.Cut.TheVariants.{Lines, Bytes, LineBytes, Round}
 use Rattle.split_core.specs.declared.limit.Limit.TheVariants as limit
 use Rattle.split_core.specs.Split.{share, are_named, dealt_files, split_work, whole_by}
-use Rattle.split_core.specs.PartState.{parts_work}
-use Rattle.split_core.specs.Round.{opened_by, round_plan, round_work}
+use Rattle.split_core.specs.Round.{opened_by, round_plan}
 use Rattle.split_core.specs.inner.DealLaws.{share_of}
 use Rattle.split_core.specs.laws.DealLaws.{dealt_files_are, opened_by-grows}
 use Rattle.split_core.specs.laws.PartStateLaws as part_law
@@ -40,8 +39,8 @@ use Rattle.tools_core.specs.Promises.{BeginsAs}
 use Rattle.tools_core.proofs.PromiseLemmas.{ending, part_of, slot_of, slots_of, since_is, made_one}
 
 -- nothing is a beginning of anything
-pub empty_begins : (output other : Slot) → output.written ≡ [] → BeginsAs output other
-empty_begins output other none = record { bytes = subst (λ bytes. IsBeginning bytes other.written) (sym none) (nothing_begins other.written); named = inr none }
+pub empty_begins : {output other : Slot} → output.written ≡ [] → BeginsAs output other
+empty_begins {other} none = record { bytes = subst (λ bytes. IsBeginning bytes other.written) (sym none) (nothing_begins other.written); named = inr none }
 
 -- Outputs that have the same name and the same bytes
 
@@ -49,17 +48,17 @@ pub record IsAlike (output old : Slot) : Type 0 where
   pub name : output.name ≡ old.name
   pub bytes : output.written ≡ old.written
 
-alike_itself : (output old : Slot) → output ≡ old → IsAlike output old
-alike_itself output old same = record { name = ap (λ (slot : Slot). slot.name) same; bytes = ap (λ (slot : Slot). slot.written) same }
+alike_itself : {output old : Slot} → output ≡ old → IsAlike output old
+alike_itself same = record { name = ap (λ (slot : Slot). slot.name) same; bytes = ap (λ (slot : Slot). slot.written) same }
 
-alike_named : (output old other : Slot) → IsAlike output old → (old.name ≡ other.name) ⊎ (old.written ≡ []) → (output.name ≡ other.name) ⊎ (output.written ≡ [])
-alike_named output old other alike (inl same) = inl (alike.name ∙ same)
-alike_named output old other alike (inr none) = inr (alike.bytes ∙ none)
+alike_named : {output old : Slot} (other : Slot) → IsAlike output old → (old.name ≡ other.name) ⊎ (old.written ≡ []) → (output.name ≡ other.name) ⊎ (output.written ≡ [])
+alike_named other alike (inl same) = inl (alike.name ∙ same)
+alike_named other alike (inr none) = inr (alike.bytes ∙ none)
 
-alike_begins : (output old other : Slot) → IsAlike output old → BeginsAs old other → BeginsAs output other
-alike_begins output old other alike begins = record {
+alike_begins : {output old other : Slot} → IsAlike output old → BeginsAs old other → BeginsAs output other
+alike_begins {other} alike begins = record {
   bytes = subst (λ bytes. IsBeginning bytes other.written) (sym alike.bytes) begins.bytes;
-  named = alike_named output old other alike begins.named;
+  named = alike_named other alike begins.named;
 }
 
 broken_alike : (slot place : ℕ) (slots : List Slot) → IsAlike (slot_at (changed_at slot breaks slots) place) (slot_at slots place)
@@ -68,50 +67,50 @@ broken_alike (suc slot) (suc place) (first ∷ slots) = broken_alike slot place 
 broken_alike zero zero (first ∷ slots) = record { name = refl; bytes = refl }
 broken_alike slot place slots = record { name = refl; bytes = refl }
 
-cleared_alike : (old output : Slot) → Cleared old output → IsAlike output old
-cleared_alike old _ (swept_so.removed has) = record { name = refl; bytes = refl }
-cleared_alike old output cleared = record { name = refl; bytes = refl }
+cleared_alike : {old output : Slot} → Cleared old output → IsAlike output old
+cleared_alike (swept_so.removed has) = record { name = refl; bytes = refl }
+cleared_alike cleared = record { name = refl; bytes = refl }
 
 pub swept_alike : (clears : Bool) (old new : List Slot) → Swept clears 2 old new → (place : ℕ) → IsAlike (slot_at new place) (slot_at old place)
-swept_alike false old new swept place = alike_itself _ _ (ap (λ slots. slot_at slots place) swept)
+swept_alike false old new swept place = alike_itself (ap (λ slots. slot_at slots place) swept)
 swept_alike true old new swept place = elim (cases_lt place 2) [
-  | inl before ↦ alike_itself (slot_at new place) (slot_at old place) (swept.before place before)
-  | inr past ↦ cleared_alike (slot_at old place) (slot_at new place) (swept.cleared place past)
+  | inl before ↦ alike_itself (swept.before place before)
+  | inr past ↦ cleared_alike (swept.cleared place past)
 ]
 
 -- a file that couldn't be opened has nothing
-unopened_begins : (slots : List Slot) (kept : List ℕ) (place : ℕ) (other : Slot) → BeginsAs (slot_at slots place) other → BeginsAs (slot_at (slots ++ unopened kept ∷ []) place) other
-unopened_begins [] kept zero other begins = empty_begins (unopened kept) other refl
-unopened_begins (slot ∷ slots) kept (suc place) other begins = unopened_begins slots kept place other begins
-unopened_begins slots kept place other begins = begins
+unopened_begins : (slots : List Slot) (kept : List ℕ) (place : ℕ) {other : Slot} → BeginsAs (slot_at slots place) other → BeginsAs (slot_at (slots ++ unopened kept ∷ []) place) other
+unopened_begins [] kept zero {other} begins = empty_begins refl
+unopened_begins (slot ∷ slots) kept (suc place) {other} begins = unopened_begins slots kept place begins
+unopened_begins slots kept place begins = begins
 
-pub still_begins : (before after : List Slot) (place : ℕ) (other : Slot) → after ≡ before → BeginsAs (slot_at before place) other → BeginsAs (slot_at after place) other
-still_begins before after place other same begins = subst (λ slots. BeginsAs (slot_at slots place) other) (sym same) begins
+pub still_begins : {before after : List Slot} (place : ℕ) {other : Slot} → after ≡ before → BeginsAs (slot_at before place) other → BeginsAs (slot_at after place) other
+still_begins place {other} same begins = subst (λ slots. BeginsAs (slot_at slots place) other) (sym same) begins
 
 -- what a fault leaves in the slots by itself changes no name and no byte
-marked_begins : (IsDue : List ℕ → Type 0) (fault : Fault) (before after : List Slot) (place : ℕ) (other : Slot) → Marks IsDue fault before after → BeginsAs (slot_at before place) other → BeginsAs (slot_at after place) other
-marked_begins IsDue (Write slot) before after place other marks begins =
-    subst (λ slots. BeginsAs (slot_at slots place) other) (sym marks.1) (alike_begins _ _ other (broken_alike slot place before) begins)
-marked_begins IsDue (Open slot) before after place other (number, (name, kept, due, is, slots)) begins =
-    subst (λ those. BeginsAs (slot_at those place) other) (sym slots) (unopened_begins before kept place other begins)
-marked_begins IsDue fault before after place other marks begins = still_begins before after place other marks begins
+marked_begins : (IsDue : List ℕ → Type 0) (fault : Fault) (before after : List Slot) (place : ℕ) {other : Slot} → Marks IsDue fault before after → BeginsAs (slot_at before place) other → BeginsAs (slot_at after place) other
+marked_begins IsDue (Write slot) before after place {other} marks begins =
+    subst (λ slots. BeginsAs (slot_at slots place) other) (sym marks.1) (alike_begins (broken_alike slot place before) begins)
+marked_begins IsDue (Open slot) before after place {other} (number, (name, kept, due, is, slots)) begins =
+    subst (λ those. BeginsAs (slot_at those place) other) (sym slots) (unopened_begins before kept place begins)
+marked_begins IsDue fault before after place {other} marks begins = still_begins place marks begins
 
 -- The outputs of a part that begins another
 
 files_at : (files others : List File) → FilesBegin files others → (place : ℕ) → BeginsAs (slot_at (map slot_of files) place) (slot_at (map slot_of others) place)
-files_at [] others begins place = empty_begins _ _ refl
+files_at [] others begins place = empty_begins refl
 files_at (file ∷ files) [] begins place = absurd begins
 files_at (file ∷ files) (other ∷ others) begins zero = record { bytes = begins.4; named = inl begins.0 }
 files_at (file ∷ files) (other ∷ others) begins (suc place) = files_at files others begins.5 place
 
-part_at : (low high : Part) (error : Slot) (place : ℕ) → Begins low high → (place ≡ 1 → ⊥) → BeginsAs (slot_at (adds low.out standard_output ∷ error ∷ map slot_of low.files) place) (slot_at (slots_of high) place)
-part_at low high error zero begins differs = record { bytes = begins.out; named = inl refl }
-part_at low high error (suc zero) begins differs = absurd (differs refl)
-part_at low high error (suc (suc place)) begins differs = files_at low.files high.files begins.files place
+part_at : {low high : Part} (error : Slot) (place : ℕ) → Begins low high → (place ≡ 1 → ⊥) → BeginsAs (slot_at (adds low.out standard_output ∷ error ∷ map slot_of low.files) place) (slot_at (slots_of high) place)
+part_at error zero begins differs = record { bytes = begins.out; named = inl refl }
+part_at error (suc zero) begins differs = absurd (differs refl)
+part_at {low} {high} error (suc (suc place)) begins differs = files_at low.files high.files begins.files place
 
 -- outputs that are at a part
-pub slots_at : (part : Part) (error : Slot) (now : List Slot) → OutputsAt true (streams_with error) part now → now ≡ adds part.out standard_output ∷ error ∷ map slot_of part.files
-slots_at part error now at = at.slots ∙ ap (λ files. adds part.out standard_output ∷ error ∷ files) (since_is at.since part.files at.files)
+pub slots_at : {part : Part} {error : Slot} {now : List Slot} → OutputsAt true (streams_with error) part now → now ≡ adds part.out standard_output ∷ error ∷ map slot_of part.files
+slots_at {part} {error} at = at.slots ∙ ap (λ files. adds part.out standard_output ∷ error ∷ files) (since_is part.files at.files)
 
 -- What a step has written is a beginning of the whole.
 
@@ -119,81 +118,78 @@ pub record IsGrowing (work : Work) (bytes : List ℕ) : Type 0 where
   pub settled : (x rest : List ℕ) → bytes ≡ x ++ rest → Begins (work.settled x) (work.whole bytes)
   pub closed : (x : List ℕ) → HasAll work (ending bytes) x → Begins (work.whole x) (work.whole bytes)
 
-call_begins : (work : Work) (opening : Needs) (bytes : List ℕ) (call : Step) → IsGrowing work bytes → IsCall work opening largest_piece (ending bytes) call → Begins call.high (work.whole bytes)
-call_begins work opening bytes _ grows opens = grows.settled [] bytes refl
-call_begins work opening bytes _ grows (feeds x piece rest is few going) = grows.settled (x ++ piece) rest is
-call_begins work opening bytes _ grows (closes x has needed) = grows.closed x has
+call_begins : {work : Work} {opening : Needs} {bytes : List ℕ} {call : Step} → IsGrowing work bytes → IsCall work opening largest_piece (ending bytes) call → Begins call.high (work.whole bytes)
+call_begins {bytes} grows opens = grows.settled [] bytes refl
+call_begins grows (feeds x piece rest is few going) = grows.settled (x ++ piece) rest is
+call_begins grows (closes x has needed) = grows.closed x has
 
-step_begins : (task : Task) (name bytes : List ℕ) (slot : Option ℕ) (sources : List Source) (step : Step) → IsGrowing task.work bytes
+step_begins : {task : Task} (name : List ℕ) {bytes : List ℕ} {slot : Option ℕ} {sources : List Source} {step : Step} → IsGrowing task.work bytes
     → RunStep true task largest_piece nothing (header_text task.with_header true name) slot sources (Some (ending bytes)) step → Begins step.high (part_of task name bytes)
-step_begins task name bytes slot sources _ grows (heading content headed leaves) = record { out = begins_more _ _; files = tt }
-step_begins task name bytes slot sources _ grows (calling content call is leaves) =
-    begins_after (only_out (header_text task.with_header true name)) call.high (task.work.whole bytes) (call_begins task.work task.opening bytes call grows is)
-step_begins task name bytes slot sources step grows at = nothing_begins_part _
+step_begins name grows (heading content headed leaves) = record { out = begins_more _ _; files = tt }
+step_begins {task} name {bytes} grows (calling content call is leaves) =
+    begins_after (only_out (header_text task.with_header true name)) (call_begins grows is)
+step_begins name grows at = nothing_begins_part _
 
 -- A run over one input
-
-only_one : (input first : Input) (before after : List Input) (other : Input) → input ∷ [] ≡ first ∷ before ++ other ∷ after → ⊥
-only_one input first before after other is = let size : 1 ≡ suc (length (before ++ other ∷ after)) = ap length is in let more = length-append before (other ∷ after) in omega (arith, size, more)
 
 abbrev first_or : Input → List Input → Input
 first_or default [] = default
 first_or default (one ∷ more) = one
 
-first_is : (input other : Input) (after : List Input) → input ∷ [] ≡ other ∷ after → other ≡ input
-first_is input other after is = sym (ap (first_or other) is)
+first_is : {input other : Input} {after : List Input} → input ∷ [] ≡ other ∷ after → other ≡ input
+first_is {other} is = sym (ap (first_or other) is)
 
 -- nothing was written
-pub bare_begins : (error other : Slot) (place : ℕ) → (place ≡ 1 → ⊥) → BeginsAs (slot_at (streams_with error) place) other
-bare_begins error other zero differs = empty_begins standard_output other refl
-bare_begins error other (suc zero) differs = absurd (differs refl)
-bare_begins error other (suc (suc place)) differs = empty_begins _ other refl
+pub bare_begins : (error : Slot) {other : Slot} (place : ℕ) → (place ≡ 1 → ⊥) → BeginsAs (slot_at (streams_with error) place) other
+bare_begins error {other} zero differs = empty_begins refl
+bare_begins error (suc zero) differs = absurd (differs refl)
+bare_begins error {other} (suc (suc place)) differs = empty_begins refl
 
 -- outputs at a part that begins the whole, and what came of them
-left_begins : (clears : Bool) (low high : Part) (error : Slot) (reached new : List Slot) (place : ℕ) → Begins low high → (place ≡ 1 → ⊥) → OutputsAt true (streams_with error) low reached → Swept clears 2 reached new → BeginsAs (slot_at new place) (slot_at (slots_of high) place)
-left_begins clears low high error reached new place begins differs at swept =
-    alike_begins _ _ _ (swept_alike clears reached new swept place)
-    (subst (λ slots. BeginsAs (slot_at slots place) (slot_at (slots_of high) place)) (sym (slots_at low error reached at)) (part_at low high error place begins differs))
+left_begins : (clears : Bool) {low high : Part} {error : Slot} {reached : List Slot} (new : List Slot) {place : ℕ} → Begins low high → (place ≡ 1 → ⊥) → OutputsAt true (streams_with error) low reached → Swept clears 2 reached new → BeginsAs (slot_at new place) (slot_at (slots_of high) place)
+left_begins clears {low} {high} {error} {reached} new {place} begins differs at swept =
+    alike_begins (swept_alike clears reached new swept place)
+    (subst (λ slots. BeginsAs (slot_at slots place) (slot_at (slots_of high) place)) (sym (slots_at at)) (part_at error place begins differs))
 
-stopped_begins : (clears : Bool) (high all : Part) (low : Part) (error : Slot) (fault : Fault) (reached new : List Slot) (place : ℕ) → Begins high all → (place ≡ 1 → ⊥) → StoppedBetween true (streams_with error) low high fault reached → Swept clears 2 reached new
+stopped_begins : (clears : Bool) {high all low : Part} {error : Slot} {fault : Fault} {reached : List Slot} (new : List Slot) {place : ℕ} → Begins high all → (place ≡ 1 → ⊥) → StoppedBetween true (streams_with error) low high fault reached → Swept clears 2 reached new
     → BeginsAs (slot_at new place) (slot_at (slots_of all) place)
-stopped_begins clears high all low error fault reached new place begins differs between swept =
-    alike_begins _ _ _ (swept_alike clears reached new swept place)
-    (marked_begins _ fault between.reached reached place _ between.marks
-    (left_begins false between.part all error between.reached between.reached place (part_trans between.part high all between.below begins) differs between.outputs refl))
+stopped_begins clears {high} {all} {error} {fault} {reached} new {place} begins differs between swept =
+    alike_begins (swept_alike clears reached new swept place)
+    (marked_begins _ fault between.reached reached place between.marks
+    (left_begins false between.reached (part_trans between.part high all between.below begins) differs between.outputs refl))
 
-pub begins_whole : (task : Task) (input : Input) (bytes : List ℕ) (sources : List Source) (new : List Slot) (status : ℕ) (place : ℕ) → input.content ≡ Some (ending bytes) → IsGrowing task.work bytes → (place ≡ 1 → ⊥)
+pub begins_whole : {task : Task} {input : Input} {bytes : List ℕ} {sources : List Source} {new : List Slot} {status place : ℕ} → input.content ≡ Some (ending bytes) → IsGrowing task.work bytes → (place ≡ 1 → ⊥)
     → EndsAs true true task (input ∷ []) sources new status → BeginsAs (slot_at new place) (slot_at (slots_of (part_of task input.name bytes)) place)
-begins_whole task input bytes sources new status place is grows differs (as_defined error reached says outputs swept done status_is) =
-    let made = made_one task input bytes is in
-    left_begins _ _ (part_of task input.name bytes) error reached new place (subst (λ part. Begins part (part_of task input.name bytes)) (sym made) (part_begins_itself (part_of task input.name bytes))) differs outputs swept
-begins_whole task input bytes sources new status place is grows differs (stopped fault [] other after error step reached are done untouched at stops between swept says status_is) =
-    let same = first_is input other after are in
+begins_whole {task} {input} {bytes} {new} is grows differs (as_defined error reached says outputs swept done status_is) =
+    let made = made_one task input is in
+    left_begins _ new (subst (λ part. Begins part (part_of task input.name bytes)) (sym made) (part_begins_itself (part_of task input.name bytes))) differs outputs swept
+begins_whole {task} {input} {sources} {new} is grows differs (stopped fault [] other after error step reached are done untouched at stops between swept says status_is) =
+    let same = first_is are in
     let at_input = subst (λ (which : Input). RunStep true task largest_piece nothing (header_text task.with_header true which.name) which.slot sources which.content step) same at in
     let at_bytes = subst (λ content. RunStep true task largest_piece nothing (header_text task.with_header true input.name) input.slot sources content step) is at_input in
-    stopped_begins task.work.clears step.high (part_of task input.name bytes) step.low error fault reached new place (step_begins task input.name bytes input.slot sources step grows at_bytes) differs between swept
-begins_whole task input bytes sources new status place is grows differs (stopped fault (first ∷ before) other after error step reached are done untouched at stops between swept says status_is) = absurd (only_one input first before after other are)
-begins_whole task input bytes sources new status place is grows differs (no_room error says slots untouched count status_is) =
-    still_begins (streams_with error) new place _ slots (bare_begins error _ place differs)
+    stopped_begins task.work.clears new (step_begins input.name grows at_bytes) differs between swept
+begins_whole is grows differs (stopped fault (first ∷ before) other after error step reached are done untouched at stops between swept says status_is) = absurd
+    (let size : 1 ≡ suc (length (before ++ other ∷ after)) = ap length are in let more = length-append before (other ∷ after) in omega (arith, size, more))
+begins_whole {place} is grows differs (no_room error says slots untouched count status_is) = still_begins place slots (bare_begins error place differs)
 
 -- Works grow.
 
-closed_whole : (work : Work) (bytes : List ℕ) → IsLawful work → (x : List ℕ) → HasAll work (ending bytes) x → Begins (work.whole x) (work.whole bytes)
-closed_whole work bytes law x (to_end ends is) = subst (λ those. Begins (work.whole those) (work.whole bytes)) is (part_begins_itself (work.whole bytes))
-closed_whole work bytes law x (enough rest is complete) =
+closed_whole : {work : Work} {bytes : List ℕ} → IsLawful work → (x : List ℕ) → HasAll work (ending bytes) x → Begins (work.whole x) (work.whole bytes)
+closed_whole {work} {bytes} law x (to_end ends is) = subst (λ those. Begins (work.whole those) (work.whole bytes)) is (part_begins_itself (work.whole bytes))
+closed_whole {work} {bytes} law x (enough rest is complete) =
     let same : work.whole x ≡ work.whole bytes = ap work.whole (sym (append-nil x)) ∙ (law.stays x [] complete).whole_stays ∙ sym (law.stays x rest complete).whole_stays ∙ ap work.whole (sym is) in
     subst (λ part. Begins part (work.whole bytes)) (sym same) (part_begins_itself (work.whole bytes))
 
-settled_whole : (work : Work) (bytes : List ℕ) → IsLawful work → (x rest : List ℕ) → bytes ≡ x ++ rest → Begins (work.settled x) (work.whole bytes)
-settled_whole work bytes law x rest is =
+settled_whole : {work : Work} {bytes : List ℕ} → IsLawful work → (x rest : List ℕ) → bytes ≡ x ++ rest → Begins (work.settled x) (work.whole bytes)
+settled_whole {work} law x rest is =
     subst (λ those. Begins (work.settled x) (work.whole those)) (sym is) (part_trans (work.settled x) (work.settled (x ++ rest)) (work.whole (x ++ rest)) (law.grows x rest) (law.ends (x ++ rest)))
 
-pub lawful_grows : (work : Work) (bytes : List ℕ) → IsLawful work → IsGrowing work bytes
-lawful_grows work bytes law = record { settled = settled_whole work bytes law; closed = closed_whole work bytes law }
+pub lawful_grows : {work : Work} {bytes : List ℕ} → IsLawful work → IsGrowing work bytes
+lawful_grows law = record { settled = settled_whole law; closed = closed_whole law }
 
 -- where lines are dealt, and all files have names
-nameless : (names : Naming) (low high : ℕ) → low ≤ high → not (are_named names low) ≡ true → are_named names high ≡ true → ⊥
-nameless names low high few none all = by (are_named names low) refl where
+nameless : (names : Naming) {low high : ℕ} → low ≤ high → not (are_named names low) ≡ true → are_named names high ≡ true → ⊥
+nameless names {low} {high} few none all = by (are_named names low) refl where
   by : (has : Bool) → are_named names low ≡ has → ⊥
   by true is = absurd (false≢true (sym (ap not is) ∙ none))
   by false is = false≢true (sym (are_named_more names low high is few) ∙ all)
@@ -201,40 +197,37 @@ nameless names low high few none all = by (are_named names low) refl where
 dealt_count : (delim : ℕ) (elide : Bool) (n : ℕ) (x : List ℕ) → length (map (share Closed) (dealt_files delim elide n x)) ≡ opened_by delim elide n x
 dealt_count delim elide n x = length-map (dealt_files delim elide n x) (share Closed) ∙ ap length (dealt_files_are delim elide n x) ∙ length-map-range_with_len (share_of delim n x) 0 (opened_by delim elide n x)
 
-dealt_closed : (delim n : ℕ) (elide : Bool) (names : Naming) (bytes : List ℕ) → are_named names (length (map (share Closed) (dealt_files delim elide n bytes))) ≡ true
+dealt_closed : (delim n : ℕ) (elide : Bool) (names : Naming) {bytes : List ℕ} → are_named names (length (map (share Closed) (dealt_files delim elide n bytes))) ≡ true
     → (x : List ℕ) → HasAll (split_work (round_plan delim n elide names)) (ending bytes) x → Begins (whole_by (round_plan delim n elide names) x) (whole_by (round_plan delim n elide names) bytes)
-dealt_closed delim n elide names bytes all x (to_end ends is) = subst (λ those. Begins (whole_by (round_plan delim n elide names) those) (whole_by (round_plan delim n elide names) bytes)) is (part_begins_itself _)
-dealt_closed delim n elide names bytes all x (enough rest is complete) =
+dealt_closed delim n elide names {bytes} all x (to_end ends is) = subst (λ those. Begins (whole_by (round_plan delim n elide names) those) (whole_by (round_plan delim n elide names) bytes)) is (part_begins_itself _)
+dealt_closed delim n elide names {bytes} all x (enough rest is complete) =
     let few : length (map (share Closed) (dealt_files delim elide n x)) ≤ length (map (share Closed) (dealt_files delim elide n bytes)) = (
     let here = dealt_count delim elide n x in
     let there = ap (λ those. length (map (share Closed) (dealt_files delim elide n those))) is ∙ dealt_count delim elide n (x ++ rest) in
     let grows = opened_by-grows delim elide n x rest in omega (arith, here, there, grows)) in
-    absurd (nameless names _ _ few complete all)
+    absurd (nameless names few complete all)
 
-dealt_grows : (delim n : ℕ) (elide : Bool) (names : Naming) (bytes : List ℕ) → are_named names (length (map (share Closed) (dealt_files delim elide n bytes))) ≡ true → IsGrowing (split_work (round_plan delim n elide names)) bytes
-dealt_grows delim n elide names bytes all = record {
-  settled = settled_whole (round_work (round_plan delim n elide names)) bytes (round_law.lawful delim n elide names);
-  closed = dealt_closed delim n elide names bytes all;
+dealt_grows : (delim n : ℕ) (elide : Bool) (names : Naming) {bytes : List ℕ} → are_named names (length (map (share Closed) (dealt_files delim elide n bytes))) ≡ true → IsGrowing (split_work (round_plan delim n elide names)) bytes
+dealt_grows delim n elide names {bytes} all = record {
+  settled = settled_whole (round_law.lawful delim n elide names);
+  closed = dealt_closed delim n elide names all;
 }
 
 -- files that lines are dealt to have names
 
-named_place : (last n count : ℕ) → suc last ≤ n → n ≤ count → nat_lt last count ≡ true
-named_place last n count few all = grind (arith, nat_tests)
+either_named : (auto : Bool) {has : Bool} → has ≡ true → (auto || has) ≡ true
+either_named true is = refl
+either_named false is = is
 
-either_named : (auto has : Bool) → has ≡ true → (auto || has) ≡ true
-either_named true has is = refl
-either_named false has is = is
+named_up_to : (names : Naming) (count : ℕ) {n : ℕ} → count ≤ n → n ≤ name_count names.alphabet names.width → are_named names count ≡ true
+named_up_to names zero few all = refl
+named_up_to names (suc last) {n} few all = either_named names.auto (grind (arith, nat_tests))
 
-named_up_to : (names : Naming) (count n : ℕ) → count ≤ n → n ≤ name_count names.alphabet names.width → are_named names count ≡ true
-named_up_to names zero n few all = refl
-named_up_to names (suc last) n few all = either_named names.auto _ (named_place last n (name_count names.alphabet names.width) few all)
+dealt_named : (delim : ℕ) {n : ℕ} (elide : Bool) (names : Naming) (bytes : List ℕ) → n ≤ name_count names.alphabet names.width → are_named names (length (map (share Closed) (dealt_files delim elide n bytes))) ≡ true
+dealt_named delim {n} elide names bytes all = ap (are_named names) (dealt_count delim elide n bytes) ∙ named_up_to names (opened_by delim elide n bytes) (opened_by-most delim elide n bytes) all
 
-dealt_named : (delim n : ℕ) (elide : Bool) (names : Naming) (bytes : List ℕ) → n ≤ name_count names.alphabet names.width → are_named names (length (map (share Closed) (dealt_files delim elide n bytes))) ≡ true
-dealt_named delim n elide names bytes all = ap (are_named names) (dealt_count delim elide n bytes) ∙ named_up_to names (opened_by delim elide n bytes) n (opened_by-most delim elide n bytes) all
-
-pub split_grows : (delim : ℕ) (cut : Cut) (elide : Bool) (names : Naming) (bytes : List ℕ) → AreNamed cut names.alphabet names.width → IsGrowing (split_work (plan_by delim cut elide names)) bytes
-split_grows delim (Lines n) elide names bytes all = lawful_grows (parts_work (limit.Lines n delim) names) bytes (part_law.lawful (limit.Lines n delim) names)
-split_grows delim (Bytes n) elide names bytes all = lawful_grows (parts_work (limit.Bytes n) names) bytes (part_law.lawful (limit.Bytes n) names)
-split_grows delim (LineBytes n) elide names bytes all = lawful_grows (parts_work (limit.LineBytes n delim) names) bytes (part_law.lawful (limit.LineBytes n delim) names)
-split_grows delim (Round n) elide names bytes all = dealt_grows delim n elide names bytes (dealt_named delim n elide names bytes all)
+pub split_grows : (delim : ℕ) (cut : Cut) (elide : Bool) (names : Naming) {bytes : List ℕ} → AreNamed cut names.alphabet names.width → IsGrowing (split_work (plan_by delim cut elide names)) bytes
+split_grows delim (Lines n) elide names {bytes} all = lawful_grows (part_law.lawful (limit.Lines n delim) names)
+split_grows delim (Bytes n) elide names {bytes} all = lawful_grows (part_law.lawful (limit.Bytes n) names)
+split_grows delim (LineBytes n) elide names {bytes} all = lawful_grows (part_law.lawful (limit.LineBytes n delim) names)
+split_grows delim (Round n) elide names {bytes} all = dealt_grows delim n elide names (dealt_named delim elide names bytes all)

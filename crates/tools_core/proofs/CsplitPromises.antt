@@ -1,5 +1,5 @@
 -- What `csplit` leaves of its input.
-use Rattle.std.proofs.Common.{◌≡◌, ℕ, ◌+◌, suc, take, drop, Bool, true, false, cond, eqb, nat_lt, List, [], ◌∷◌, Option, Some, None, refl, ◌∙◌, ◌-◌, ◌<◌, ◌≤◌, zero, not, ◌&&◌, ◌++◌, length, length-drop, map, inl, inr, ◌⊎◌, sym, ap, subst, arith}
+use Rattle.std.proofs.Common.{◌≡◌, ℕ, ◌+◌, suc, take, drop, Bool, true, false, cond, eqb, nat_lt, List, [], ◌∷◌, Option, Some, None, refl, ◌∙◌, ◌-◌, ◌<◌, ◌≤◌, not, ◌&&◌, ◌++◌, length, length-drop, map, inl, inr, ◌⊎◌, sym, ap, subst, arith}
 use Rattle.operand_core.specs.declared.operand.Offset.{Offset}
 use Rattle.operand_core.specs.declared.operand.Operand.{Operand}
 use Rattle.operand_core.specs.declared.operand.Target.{Target}
@@ -12,7 +12,7 @@ use Rattle.csplit_core.specs.Operand.{is_kept, Line, has_more}
 use Rattle.tools_core.specs.Promises.{SkipNothing, skips, Run, Does, HasInput, AreNumbered, AreSections, IsSound, contents_of, files_of, in_turn, last_section, left_out, text_at}
 use Rattle.std.specs.List.{All}
 use Rattle.std.proofs.lemmas.List.{length-map, map-append, drop-drop, take-append-drop, take_all}
-use Rattle.std.proofs.lemmas.List.Elements.{All-nil, All-cons}
+use Rattle.std.proofs.lemmas.List.Elements.{All-nil}
 use Rattle.seg_core.specs.Line.{joined, lines_of}
 use Rattle.seg_core.proofs.FirstLines.{joined-append}
 use Rattle.seg_core.proofs.LinesOf.{joined-lines_of}
@@ -25,7 +25,7 @@ use Rattle.operand_core.specs.Style.{Style}
 use Rattle.csplit_core.specs.Csplit.{verdict_of}
 use Rattle.csplit_core.specs.Input.{all_lines, marked, newline}
 use Rattle.csplit_core.specs.Output.{Contents, contents_of as contents_in, is_empty, makes_file, file_at, files_of as files_by}
-use Rattle.csplit_core.specs.Plan.{State, start, line_after, state_after, operands_after, step_of, Step, Ending, below, Runs, is_used_up, misses, is_above, is_below, cuts}
+use Rattle.csplit_core.specs.Plan.{State, start, line_after, operands_after, step_of, Step, Ending, below, Runs, is_used_up, misses, is_above, is_below, cuts}
 use Rattle.csplit_core.specs.Planned.{plan}
 use Rattle.csplit_core.specs.Section.{Section, section_of, bytes_of, is_final, is_last_kept, lines_between, lines_in, whole_sections}
 use Rattle.csplit_core.specs.laws.PlanLaws.{plan_runs}
@@ -34,10 +34,9 @@ use Rattle.csplit_core.proofs.WholeLemmas.{ends_after_all, none_lost_at_end}
 use Rattle.words_core.specs.CsplitAsked.{CsplitAsked}
 use Rattle.words_core.specs.declared.settings.Settings.TheVariants.{Csplit}
 use Rattle.tools_core.specs.Outcome.{CsplitEndsAs}
-use Rattle.tools_core.specs.Tasks.{csplit_task}
 use Rattle.tools_core.proofs.NumberLemmas.{numbered_in_order}
 use Rattle.tools_core.proofs.PromiseLemmas.{DidOne, did_one, one_done, slot_of}
-use Rattle.tools_core.proofs.SplitPromises.{bytes_written}
+use Rattle.tools_core.proofs.SplitPromises.{AreNamed, bytes_written, named_step, sound_step}
 use Rattle.operand_core.specs.declared.operand_fault.OperandFaultKind.TheVariants as kind
 
 -- Where no word of `csplit`'s operands skips a section, each operand keeps its section.
@@ -138,11 +137,6 @@ read_keep [] [] keep are = tt
 read_keep (spelled ∷ more) (operand ∷ operands) keep are = (target_keeps spelled.aim operand.target keep.0 are.0.target, read_keep more operands keep.1 are.1)
 read_keep spelled operands keep are = absurd are
 
-pub targets_keep : (words : List (List ℕ)) (operands : List Operand) → SkipNothing words → Asks words operands → KeepTargets operands
-targets_keep words operands none asks = read_keep (words_of words).operands operands (all_keep words none) asks.read
-
--- What `csplit` leaves of its input.
-
 -- All sections are kept, where all operands keep theirs.
 
 abbrev AllKept : List Section → Type 0
@@ -161,19 +155,19 @@ record Kept (lines : List Line) (steps : List Step) (ending : Ending) : Type 0 w
   pub sections : AllKept (map (section_of lines) steps)
   pub final : is_last_kept ending ≡ true
 
-runs_keep : (suppress : Bool) (lines : List Line) (state : State) (steps : List Step) (last : State) (ending : Ending) → Runs suppress lines state steps last ending → KeepTargets state.operands → Kept lines steps ending
-runs_keep suppress lines _ _ _ _ (is_used_up state none) keep = record { sections = tt; final = refl }
-runs_keep suppress lines _ _ _ _ (misses state operand operands is none) keep = record { sections = tt; final = (subst KeepTargets is keep).0 }
-runs_keep suppress lines _ _ _ _ (is_above state operand operands matched cut is at far) keep = record { sections = tt; final = (subst KeepTargets is keep).0 }
-runs_keep suppress lines _ _ _ _ (is_below state operand operands matched cut is at within low) keep = record { sections = tt; final = (subst KeepTargets is keep).0 }
-runs_keep suppress lines _ _ _ _ (cuts state operand operands matched cut steps last ending is at from within rest) keep =
+runs_keep : {suppress : Bool} {lines : List Line} {state : State} {steps : List Step} {last : State} {ending : Ending} → Runs suppress lines state steps last ending → KeepTargets state.operands → Kept lines steps ending
+runs_keep (is_used_up state none) keep = record { sections = tt; final = refl }
+runs_keep (misses state operand operands is none) keep = record { sections = tt; final = (subst KeepTargets is keep).0 }
+runs_keep (is_above state operand operands matched cut is at far) keep = record { sections = tt; final = (subst KeepTargets is keep).0 }
+runs_keep (is_below state operand operands matched cut is at within low) keep = record { sections = tt; final = (subst KeepTargets is keep).0 }
+runs_keep (cuts state operand operands matched cut steps last ending is at from within rest) keep =
     let these = subst KeepTargets is keep in
-    let past = runs_keep suppress lines (state_after suppress operand operands state.repetition matched cut) steps last ending rest (kept_after (has_more operand.times state.repetition) operand operands these) in
+    let past = runs_keep rest (kept_after (has_more operand.times state.repetition) operand operands these) in
     record { sections = (these.0, past.sections); final = past.final }
 
 sections_kept : (suppress : Bool) (operands : List Operand) (lines : List Line) → KeepTargets operands → AllKept (whole_sections lines (plan suppress operands lines))
 sections_kept suppress operands lines keep =
-    let kept = runs_keep suppress lines (start operands) _ _ _ (plan_runs suppress operands lines) keep in
+    let kept = runs_keep (plan_runs suppress operands lines) keep in
     kept_then (map (section_of lines) (plan suppress operands lines).steps) _ kept.sections kept.final
 
 -- The files of sections that are kept are joined their lines.
@@ -208,23 +202,11 @@ files_joined style place (section ∷ sections) kept = elim (made_or_empty style
 
 -- Their names
 
-abbrev names_in : List File → List (List ℕ)
-names_in files = map (λ (file : Slot). file.name) (map slot_of files)
-
--- the files are numbered from this place on
-abbrev AreFrom : Style → ℕ → List File → Type 0
-AreFrom style start files = (k : ℕ) → k < length (map slot_of files) → text_at (names_in files) k ≡ numbered_name style.prefix style.digits (start + k)
-
-from_step : (style : Style) (start : ℕ) (has : Bool) (contents : Contents) (made others : List File) → AreFrom style (start + 1) made → AreFrom style start others → AreFrom style start (cond has (file_at style start contents ∷ made) others)
-from_step style start true contents made others are without zero within = ap (numbered_name style.prefix style.digits) (omega arith)
-from_step style start true contents made others are without (suc k) within =
-    are k (omega (arith, within)) ∙ ap (numbered_name style.prefix style.digits) (omega arith)
-from_step style start false contents made others are without k within = without k within
-
-numbered_from : (style : Style) (start : ℕ) (all : List Contents) → AreFrom style start (files_by style start all)
+numbered_from : (style : Style) (start : ℕ) (all : List Contents) → AreNamed (numbered_name style.prefix style.digits) start (files_by style start all)
 numbered_from style start [] k within = absurd (omega (arith, within))
 numbered_from style start (contents ∷ all) k within =
-    from_step style start (makes_file style contents) contents (files_by style (start + 1) all) (files_by style start all) (numbered_from style (start + 1) all) (numbered_from style start all) k within
+    named_step (numbered_name style.prefix style.digits) start (file_at style start contents) (files_by style (start + 1) all) (files_by style start all)
+    (makes_file style contents) refl (numbered_from style (start + 1) all) (numbered_from style start all) k within
 
 -- They were closed.
 
@@ -236,16 +218,12 @@ closed_steps : (lines : List Line) (steps : List Step) (last : Section) → last
 closed_steps lines [] last is = (is, tt)
 closed_steps lines (step ∷ steps) last is = (refl, closed_steps lines steps last is)
 
-sound_step : (style : Style) (place : ℕ) (has : Bool) (contents : Contents) (made others : List File) → contents.is_closed ≡ true → All (IsSound Fresh) (map slot_of made) → All (IsSound Fresh) (map slot_of others)
-    → All (IsSound Fresh) (map slot_of (cond has (file_at style place contents ∷ made) others))
-sound_step style place true contents made others is are without = All-cons (IsSound Fresh) _ _ (refl, ap (λ closed. cond closed Closed Open) is, refl) are
-sound_step style place false contents made others is are without = without
-
 all_sound : (style : Style) (place : ℕ) (sections : List Section) → AllClosed sections → All (IsSound Fresh) (map slot_of (files_by style place (map contents_in sections)))
 all_sound style place [] closed = All-nil (IsSound Fresh)
 all_sound style place (section ∷ sections) closed =
-    sound_step style place (makes_file style (contents_in section)) (contents_in section) (files_by style (place + 1) (map contents_in sections)) (files_by style place (map contents_in sections)) closed.0
-    (all_sound style (place + 1) sections closed.1) (all_sound style place sections closed.1)
+    sound_step (file_at style place (contents_in section)) (files_by style (place + 1) (map contents_in sections)) (files_by style place (map contents_in sections))
+    (makes_file style (contents_in section)) (refl, ap (λ closed. cond closed Closed Open) closed.0, refl) (all_sound style (place + 1) sections closed.1)
+    (all_sound style place sections closed.1)
 
 -- What a run leaves
 
@@ -260,21 +238,21 @@ pub record IsCsplit (run : Run) (asked : CsplitAsked) (input : List ℕ) : Type 
   pub well : is_final (plan asked.style.suppress operands (all_lines input)).ending ≡ false
   pub files : files_of run ≡ map slot_of (files_by asked.style 0 (map contents_in (whole_sections (all_lines input) (plan asked.style.suppress operands (all_lines input)))))
 
-was_cut : (run : Run) (asked : CsplitAsked) (input : List ℕ) (one : DidOne run (Csplit asked) input) → CsplitEndsAs true true asked (one.input ∷ []) run.inputs run.outputs 0 → IsCsplit run asked input
-was_cut run asked input one does =
-    let made = one_done (csplit_task asked does.operands) one.input input run.inputs run.outputs one.content does.ends in record {
+was_cut : {run : Run} {asked : CsplitAsked} {input : List ℕ} (one : DidOne run (Csplit asked) input) → CsplitEndsAs true true asked (one.input ∷ []) run.inputs run.outputs 0 → IsCsplit run asked input
+was_cut one does =
+    let made = one_done one.content does.ends in record {
       operands = does.operands;
       asks = does.asks;
       well = ends_well _ made.unjudged;
       files = ap (drop 2) made.slots;
     }
 
-is_csplit : (run : Run) (asked : CsplitAsked) (input : List ℕ) → Does run (Csplit asked) → HasInput run input → IsCsplit run asked input
-is_csplit run asked input does has = let one = did_one run (Csplit asked) input does has in was_cut run asked input one one.does
+is_csplit : {run : Run} {asked : CsplitAsked} {input : List ℕ} → Does run (Csplit asked) → HasInput run input → IsCsplit run asked input
+is_csplit does has = let one = did_one does has in was_cut one one.does
 
 pub are_numbered : (run : Run) (asked : CsplitAsked) (input : List ℕ) → Does run (Csplit asked) → HasInput run input → AreNumbered asked.style.prefix asked.style.digits (files_of run)
 are_numbered run asked input does has =
-    let split = is_csplit run asked input does has in
+    let split = is_csplit does has in
     let lines = all_lines input in
     let sections = whole_sections lines (plan asked.style.suppress split.operands lines) in
     let files = map slot_of (files_by asked.style 0 (map contents_in sections)) in
@@ -289,9 +267,9 @@ are_numbered run asked input does has =
 
 pub none_is_lost : (run : Run) (asked : CsplitAsked) (input : List ℕ) → Does run (Csplit asked) → HasInput run input → asked.style.suppress ≡ false → SkipNothing asked.operands → joined (contents_of run) ≡ input
 none_is_lost run asked input does has whole none =
-    let split = is_csplit run asked input does has in
+    let split = is_csplit does has in
     let lines = all_lines input in
-    let keep = targets_keep asked.operands split.operands none split.asks in
+    let keep = read_keep (words_of asked.operands).operands split.operands (all_keep asked.operands none) split.asks.read in
     ap (λ files. joined (map (λ (file : Slot). file.written) files)) split.files
     ∙ files_joined asked.style 0 (whole_sections lines (plan asked.style.suppress split.operands lines)) (sections_kept asked.style.suppress split.operands lines keep)
     ∙ ap (λ suppress. bytes_of (lines_in (whole_sections lines (plan suppress split.operands lines)))) whole
@@ -301,47 +279,47 @@ none_is_lost run asked input does has whole none =
 -- Each line in its turn
 
 -- the lines from one to before another, and the rest
-between_rest : (first cut : ℕ) (lines : List Line) → 1 ≤ first → first ≤ cut → lines_between first cut lines ++ drop (cut - 1) lines ≡ drop (first - 1) lines
-between_rest first cut lines some least =
+between_rest : {first cut : ℕ} (lines : List Line) → 1 ≤ first → first ≤ cut → lines_between first cut lines ++ drop (cut - 1) lines ≡ drop (first - 1) lines
+between_rest {first} {cut} lines some least =
     ap (λ those. lines_between first cut lines ++ those) (ap (λ n. drop n lines) (let e : cut - 1 ≡ first - 1 + (cut - first) = omega (arith, some, least) in e) ∙ sym (drop-drop (cut - first) (first - 1) lines))
     ∙ take-append-drop (cut - first) (drop (first - 1) lines)
 
 cut_rest : (suppress : Bool) (lines : List Line) (step : Step) → 1 ≤ step.cut → left_out suppress lines step ++ drop (line_after suppress step.cut - 1) lines ≡ drop (step.cut - 1) lines
-cut_rest true lines step some = between_rest step.cut (suc step.cut) lines some (omega arith)
+cut_rest true lines step some = between_rest lines some (omega arith)
 cut_rest false lines step some = refl
 
-past_cut : (suppress : Bool) (cut : ℕ) → 1 ≤ cut → 1 ≤ line_after suppress cut
-past_cut true cut some = omega (arith, some)
-past_cut false cut some = some
+past_cut : (suppress : Bool) {cut : ℕ} → 1 ≤ cut → 1 ≤ line_after suppress cut
+past_cut true some = omega (arith, some)
+past_cut false some = some
 
-all_in_turn : (suppress : Bool) (lines : List Line) (first : State) (steps : List Step) (last : State) (ending : Ending) → Runs suppress lines first steps last ending → 1 ≤ first.current
+all_in_turn : {suppress : Bool} {lines : List Line} {first : State} {steps : List Step} {last : State} {ending : Ending} → Runs suppress lines first steps last ending → 1 ≤ first.current
     → in_turn suppress lines steps (drop (last.current - 1) lines) ≡ drop (first.current - 1) lines
-all_in_turn suppress lines first steps last ending (cuts state operand operands matched cut steps' last' ending' is at from within rest) some =
+all_in_turn {suppress} {lines} (cuts state operand operands matched cut steps' last' ending' is at from within rest) some =
     let low : 1 ≤ cut = omega (arith, some, from) in
     let step = step_of state operand matched cut in
-    ap (λ those. lines_between state.current cut lines ++ (left_out suppress lines step ++ those)) (all_in_turn suppress lines (state_after suppress operand operands state.repetition matched cut) steps' last' ending' rest (past_cut suppress cut low))
+    ap (λ those. lines_between state.current cut lines ++ (left_out suppress lines step ++ those)) (all_in_turn rest (past_cut suppress low))
     ∙ ap (λ those. lines_between state.current cut lines ++ those) (cut_rest suppress lines step low)
-    ∙ between_rest state.current cut lines some from
-all_in_turn suppress lines first steps last ending run some = refl
+    ∙ between_rest lines some from
+all_in_turn run some = refl
 
-rest_is_all : (lines : List Line) (current : ℕ) → 1 ≤ current → lines_between current (suc (length lines)) lines ≡ drop (current - 1) lines
-rest_is_all lines current some = take_all (suc (length lines) - current) (drop (current - 1) lines) (let e : length (drop (current - 1) lines) ≡ length lines - (current - 1) = length-drop (current - 1) lines in omega (arith, e, some))
+rest_is_all : (lines : List Line) {current : ℕ} → 1 ≤ current → lines_between current (suc (length lines)) lines ≡ drop (current - 1) lines
+rest_is_all lines {current} some = take_all (suc (length lines) - current) (drop (current - 1) lines) (let e : length (drop (current - 1) lines) ≡ length lines - (current - 1) = length-drop (current - 1) lines in omega (arith, e, some))
 
-none_missing : (suppress : Bool) (operands : List Operand) (lines : List Line) → is_final (plan suppress operands lines).ending ≡ false → in_turn suppress lines (plan suppress operands lines).steps (last_section lines (plan suppress operands lines)) ≡ lines
-none_missing suppress operands lines live =
+none_missing : (suppress : Bool) (operands : List Operand) {lines : List Line} → is_final (plan suppress operands lines).ending ≡ false → in_turn suppress lines (plan suppress operands lines).steps (last_section lines (plan suppress operands lines)) ≡ lines
+none_missing suppress operands {lines} live =
     let plan' = plan suppress operands lines in
     let runs = plan_runs suppress operands lines in
     let some = (are_within suppress lines (start operands) _ _ _ runs (omega arith)).1 in
-    ap (in_turn suppress lines plan'.steps) (ap (λ end. lines_between plan'.last.current end lines) (ends_after_all (length lines) plan'.ending live) ∙ rest_is_all lines plan'.last.current some)
-    ∙ all_in_turn suppress lines (start operands) _ _ _ runs (omega arith)
+    ap (in_turn suppress lines plan'.steps) (ap (λ end. lines_between plan'.last.current end lines) (ends_after_all (length lines) plan'.ending live) ∙ rest_is_all lines some)
+    ∙ all_in_turn runs (omega arith)
 
 pub are_sections : (run : Run) (asked : CsplitAsked) (input : List ℕ) → Does run (Csplit asked) → HasInput run input → (operands : List Operand) × Asks asked.operands operands × AreSections asked.style operands input (contents_of run)
 are_sections run asked input does has =
-    let split = is_csplit run asked input does has in (
+    let split = is_csplit does has in (
       split.operands,
       split.asks,
       record {
-        all = none_missing asked.style.suppress split.operands (all_lines input) split.well;
+        all = none_missing asked.style.suppress split.operands split.well;
         files = ap (map (λ (file : Slot). file.written)) split.files ∙ bytes_written _;
       },
     )

@@ -8,10 +8,10 @@ use Rattle.seg_core.specs.declared.unit.Unit.TheVariants.{Lines, Bytes}
 use Rattle.ends_core.specs.Ends.{head_of, tail_of, after_of, first_of}
 use Rattle.ends_core.specs.laws.EndsLaws.{first_then_after, ends_together}
 use Rattle.run_core.specs.Task.{header_text}
-use Rattle.words_core.specs.declared.settings.Settings.TheVariants.{Head, Tail, Tee}
+use Rattle.words_core.specs.declared.settings.Settings.TheVariants.{Tee}
 use Rattle.words_core.specs.EndsAsked.{EndsAsked}
-use Rattle.tools_core.specs.Tasks.{head_task, tail_task, is_minus, is_plus}
-use Rattle.tools_core.specs.Promises.{Run, HasInput, IsHead, IsTail, IsBare, CountAlike, counted, output_of, Does, AreCopies, IsSound, files_of}
+use Rattle.tools_core.specs.Tasks.{is_minus, is_plus}
+use Rattle.tools_core.specs.Promises.{Run, HasInput, IsHead, IsTail, IsBare, CountAlike, output_of, Does, AreCopies, IsSound, files_of}
 use Rattle.tools_core.proofs.PromiseLemmas.{did_one, one_done}
 use Rattle.std.specs.List.{All}
 use Rattle.std.proofs.lemmas.List.Elements.{All-nil, All-cons}
@@ -22,40 +22,40 @@ use Rattle.words_core.specs.TeeAsked.{TeeAsked}
 
 -- What `head` and `tail` leave of one input.
 
-head_output : (run : Run) (options : EndsAsked) (sign : Sign) (n : ℕ) (input : List ℕ) → IsBare options → IsHead run options sign n → HasInput run input → output_of run ≡ head_of options.delim options.unit (is_minus sign) n input
-head_output run options sign n input bare does has =
-    let one = did_one run (Head (counted options sign n)) input does has in
-    let made = one_done (head_task (counted options sign n)) one.input input run.inputs run.outputs one.content one.does in
+head_output : {run : Run} (options : EndsAsked) {sign : Sign} {n : ℕ} {input : List ℕ} → IsBare options → IsHead run options sign n → HasInput run input → output_of run ≡ head_of options.delim options.unit (is_minus sign) n input
+head_output options {sign} {n} {input} bare does has =
+    let one = did_one does has in
+    let made = one_done one.content one.does in
     ap (λ slots. (slot_at slots 0).written) made.slots ∙ ap (λ with_header. header_text with_header true one.input.name ++ head_of options.delim options.unit (is_minus sign) n input) bare
 
-tail_output : (run : Run) (options : EndsAsked) (sign : Sign) (n : ℕ) (input : List ℕ) → IsBare options → IsTail run options sign n → HasInput run input → output_of run ≡ tail_of options.delim options.unit (is_plus sign) n input
-tail_output run options sign n input bare (looks, does) has =
-    let one = did_one run (Tail (record { ends = counted options sign n; followed = None; looks = looks })) input does has in
-    let made = one_done (tail_task (counted options sign n)) one.input input run.inputs run.outputs one.content one.does in
+tail_output : {run : Run} (options : EndsAsked) {sign : Sign} {n : ℕ} {input : List ℕ} → IsBare options → IsTail run options sign n → HasInput run input → output_of run ≡ tail_of options.delim options.unit (is_plus sign) n input
+tail_output options {sign} {n} {input} bare (looks, does) has =
+    let one = did_one does has in
+    let made = one_done one.content one.does in
     ap (λ slots. (slot_at slots 0).written) made.slots ∙ ap (λ with_header. header_text with_header true one.input.name ++ tail_of options.delim options.unit (is_plus sign) n input) bare
 
 -- whatever byte lines end with, bytes are counted alike
-tail_counted : (delim other : ℕ) (unit : Counted) (from_nth : Bool) (n : ℕ) (input : List ℕ) → (unit ≡ Lines → delim ≡ other) → tail_of delim unit from_nth n input ≡ tail_of other unit from_nth n input
-tail_counted delim other Lines from_nth n input same = ap (λ delim. tail_of delim Lines from_nth n input) (same refl)
-tail_counted delim other Bytes from_nth n input same = refl
+tail_counted : {delim other : ℕ} (unit : Counted) (from_nth : Bool) (n : ℕ) (input : List ℕ) → (unit ≡ Lines → delim ≡ other) → tail_of delim unit from_nth n input ≡ tail_of other unit from_nth n input
+tail_counted {delim} Lines from_nth n input same = ap (λ delim. tail_of delim Lines from_nth n input) (same refl)
+tail_counted Bytes from_nth n input same = refl
 
-tail_alike : (run : Run) (first rest : EndsAsked) (sign : Sign) (n : ℕ) (input : List ℕ) → CountAlike first rest → IsTail run rest sign n → HasInput run input → output_of run ≡ tail_of first.delim first.unit (is_plus sign) n input
-tail_alike run first rest sign n input alike does has =
-    tail_output run rest sign n input alike.bare.1 does has ∙ ap (λ unit. tail_of rest.delim unit (is_plus sign) n input) (sym alike.unit)
-    ∙ tail_counted rest.delim first.delim first.unit (is_plus sign) n input (λ lines. sym (alike.delim lines))
+tail_alike : {run : Run} {first rest : EndsAsked} {sign : Sign} {n : ℕ} {input : List ℕ} → CountAlike first rest → IsTail run rest sign n → HasInput run input → output_of run ≡ tail_of first.delim first.unit (is_plus sign) n input
+tail_alike {first} {rest} {sign} {n} {input} alike does has =
+    tail_output rest alike.bare.1 does has ∙ ap (λ unit. tail_of rest.delim unit (is_plus sign) n input) (sym alike.unit)
+    ∙ tail_counted first.unit (is_plus sign) n input (λ lines. sym (alike.delim lines))
 
 pub first_meet : (head tail : Run) (first rest : EndsAsked) (n : ℕ) (input : List ℕ) → CountAlike first rest → IsHead head first Plain n → IsTail tail rest Plus (n + 1) → HasInput head input → HasInput tail input → output_of head ++ output_of tail ≡ input
 first_meet head tail first rest n input alike one other has has_too =
-    ap (λ front. front ++ output_of tail) (head_output head first Plain n input alike.bare.0 one has)
-    ∙ ap (λ back. first_of first.delim first.unit n input ++ back) (tail_alike tail first rest Plus (n + 1) input alike other has_too ∙ ap (λ k. after_of first.delim first.unit k input) (same n))
+    ap (λ front. front ++ output_of tail) (head_output first alike.bare.0 one has)
+    ∙ ap (λ back. first_of first.delim first.unit n input ++ back) (tail_alike alike other has_too ∙ ap (λ k. after_of first.delim first.unit k input) (same n))
     ∙ first_then_after first.delim first.unit n input where
       same : (k : ℕ) → k + 1 - 1 ≡ k
       same k = omega arith
 
 pub last_meet : (head tail : Run) (first rest : EndsAsked) (n : ℕ) (input : List ℕ) → CountAlike first rest → IsHead head first Minus n → IsTail tail rest Plain n → HasInput head input → HasInput tail input → output_of head ++ output_of tail ≡ input
 last_meet head tail first rest n input alike one other has has_too =
-    ap (λ front. front ++ output_of tail) (head_output head first Minus n input alike.bare.0 one has)
-    ∙ ap (λ back. head_of first.delim first.unit true n input ++ back) (tail_alike tail first rest Plain n input alike other has_too)
+    ap (λ front. front ++ output_of tail) (head_output first alike.bare.0 one has)
+    ∙ ap (λ back. head_of first.delim first.unit true n input ++ back) (tail_alike alike other has_too)
     ∙ ends_together first.delim first.unit n input
 
 -- What `tee` leaves of its input.
@@ -80,22 +80,22 @@ copies_named mode bytes (name ∷ names) = ap (λ those. name ∷ those) (copies
 abbrev IsCopy : Mode → List ℕ → Slot → Type 0
 IsCopy mode bytes file = IsSound mode file × (file.written ≡ bytes)
 
-copies_each : (mode : Mode) (bytes : List ℕ) (names : List (List ℕ)) → All (IsCopy mode bytes) (map (copy mode bytes) names)
-copies_each mode bytes [] = All-nil (IsCopy mode bytes)
-copies_each mode bytes (name ∷ names) = All-cons (IsCopy mode bytes) (copy mode bytes name) (map (copy mode bytes) names) ((refl, refl, refl), refl) (copies_each mode bytes names)
+copies_each : {mode : Mode} {bytes : List ℕ} (names : List (List ℕ)) → All (IsCopy mode bytes) (map (copy mode bytes) names)
+copies_each {mode} {bytes} [] = All-nil (IsCopy mode bytes)
+copies_each {mode} {bytes} (name ∷ names) = All-cons (IsCopy mode bytes) (copy mode bytes name) (map (copy mode bytes) names) ((refl, refl, refl), refl) (copies_each names)
 
 pub record IsCopied (tee : Run) (asked : TeeAsked) (input : List ℕ) : Type 0 where
   pub output : output_of tee ≡ input
   pub files : AreCopies asked.mode asked.names input (files_of tee)
 
-pub is_copied : (tee : Run) (asked : TeeAsked) (input : List ℕ) → Does tee (Tee asked) → HasInput tee input → IsCopied tee asked input
-is_copied tee asked input does has =
-    let one = did_one tee (Tee asked) input does has in
+pub is_copied : {tee : Run} {asked : TeeAsked} {input : List ℕ} → Does tee (Tee asked) → HasInput tee input → IsCopied tee asked input
+is_copied {asked} {input} does has =
+    let one = did_one does has in
     let ends = one.does in
     let same : ends.content.bytes ≡ input = sym (ap bytes_at ends.input) ∙ ap bytes_in one.content in
     let whole = ends.whole refl refl in
     record {
       output = ap (λ slots. (slot_at slots 0).written) whole ∙ same;
       files = subst (AreCopies asked.mode asked.names input) (sym (ap (drop 2) whole ∙ ap (λ bytes. map (copy asked.mode bytes) asked.names) same))
-          (record { named = copies_named asked.mode input asked.names; each = copies_each asked.mode input asked.names });
+          (record { named = copies_named asked.mode input asked.names; each = copies_each asked.names });
     }

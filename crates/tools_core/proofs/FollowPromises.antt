@@ -36,84 +36,84 @@ abbrev pub looks_from : (ℕ → Snapshot) → ℕ → ℕ → List Snapshot
 looks_from shows start zero = []
 looks_from shows start (suc n) = shows start ∷ looks_from shows (suc start) n
 
-one_more : (shows : ℕ → Snapshot) (start n : ℕ) → looks_from shows start n ++ shows (start + n) ∷ [] ≡ looks_from shows start (suc n)
-one_more shows start zero = ap (λ k. shows k ∷ []) (omega arith)
-one_more shows start (suc n) = ap (λ rest. shows start ∷ rest) (ap (λ k. looks_from shows (suc start) n ++ shows k ∷ []) (let e : start + suc n ≡ suc start + n = omega arith in e) ∙ one_more shows (suc start) n)
+one_more : (shows : ℕ → Snapshot) {start : ℕ} (n : ℕ) → looks_from shows start n ++ shows (start + n) ∷ [] ≡ looks_from shows start (suc n)
+one_more shows zero = ap (λ k. shows k ∷ []) (omega arith)
+one_more shows {start} (suc n) = ap (λ rest. shows start ∷ rest) (ap (λ k. looks_from shows (suc start) n ++ shows k ∷ []) (let e : start + suc n ≡ suc start + n = omega arith in e) ∙ one_more shows n)
 
 pub seen_are : (shows : ℕ → Snapshot) (n : ℕ) → seen_first shows n ≡ looks_from shows 0 n
 seen_are shows zero = refl
-seen_are shows (suc n) = ap (λ front. front ++ shows n ∷ []) (seen_are shows n) ∙ ap (λ k. looks_from shows 0 n ++ shows k ∷ []) (omega arith) ∙ one_more shows 0 n
+seen_are shows (suc n) = ap (λ front. front ++ shows n ∷ []) (seen_are shows n) ∙ ap (λ k. looks_from shows 0 n ++ shows k ∷ []) (omega arith) ∙ one_more shows n
 
 -- the versions of its file
 abbrev pub versions : (ℕ → Snapshot) → ℕ → ℕ → ℕ → List Entry
 versions shows file start zero = []
 versions shows file start (suc n) = version_in (shows start) file ∷ versions shows file (suc start) n
 
-later_by : (by_name : Bool) (name : List ℕ) (file : ℕ) (snapshot : Snapshot) (led : Option ℕ) (rest : List Entry) → led ≡ Some file → version_in snapshot file ∷ (entries_led snapshot (Some file) led ++ rest) ≡ version_in snapshot file ∷ rest
-later_by by_name name file snapshot led rest is = ap (λ those. version_in snapshot file ∷ (entries_led snapshot (Some file) those ++ rest)) is ∙ ap (λ those. version_in snapshot file ∷ (those ++ rest)) (led_same snapshot file)
+later_by : (by_name : Bool) (name : List ℕ) {file : ℕ} (snapshot : Snapshot) {led : Option ℕ} {rest : List Entry} → led ≡ Some file → version_in snapshot file ∷ (entries_led snapshot (Some file) led ++ rest) ≡ version_in snapshot file ∷ rest
+later_by by_name name {file} snapshot {rest} is = ap (λ those. version_in snapshot file ∷ (entries_led snapshot (Some file) those ++ rest)) is ∙ ap (λ those. version_in snapshot file ∷ (those ++ rest)) (led_same snapshot file)
 
-later_are : (by_name : Bool) (name : List ℕ) (shows : ℕ → Snapshot) (file count start n : ℕ) → start + n ≤ count → OnlyGrows count shows name file → entries_later by_name name (Some file) (looks_from shows start n) ≡ versions shows file start n
-later_are by_name name shows file count start zero within grows = refl
-later_are true name shows file count start (suc n) within grows =
+later_are : (by_name : Bool) {name : List ℕ} (shows : ℕ → Snapshot) {file count : ℕ} (start n : ℕ) → start + n ≤ count → OnlyGrows count shows name file → entries_later by_name name (Some file) (looks_from shows start n) ≡ versions shows file start n
+later_are by_name shows start zero within grows = refl
+later_are true {name} shows {file} {count} start (suc n) within grows =
     let leads = grows.0 start (omega (arith, within)) in
-    later_by true name file (shows start) ((shows start).leads name) _ leads
+    later_by true name (shows start) leads
     ∙ ap (λ opened. version_in (shows start) file ∷ entries_later true name opened (looks_from shows (suc start) n)) leads
-    ∙ ap (λ rest. version_in (shows start) file ∷ rest) (later_are true name shows file count (suc start) n (omega (arith, within)) grows)
-later_are false name shows file count start (suc n) within grows = ap (λ rest. version_in (shows start) file ∷ rest) (later_are false name shows file count (suc start) n (omega (arith, within)) grows)
+    ∙ ap (λ rest. version_in (shows start) file ∷ rest) (later_are true shows (suc start) n (omega (arith, within)) grows)
+later_are false {name} shows {file} {count} start (suc n) within grows = ap (λ rest. version_in (shows start) file ∷ rest) (later_are false shows (suc start) n (omega (arith, within)) grows)
 
-entries_are : (by_name : Bool) (name : List ℕ) (shows : ℕ → Snapshot) (file count n : ℕ) → n ≤ count → OnlyGrows count shows name file → entries_of by_name name (looks_from shows 0 n) ≡ versions shows file 0 n
-entries_are by_name name shows file count zero within grows = refl
-entries_are by_name name shows file count (suc n) within grows =
+entries_are : (by_name : Bool) {name : List ℕ} (shows : ℕ → Snapshot) {file count : ℕ} (n : ℕ) → n ≤ count → OnlyGrows count shows name file → entries_of by_name name (looks_from shows 0 n) ≡ versions shows file 0 n
+entries_are by_name shows zero within grows = refl
+entries_are by_name {name} shows {file} {count} (suc n) within grows =
     ap (λ led. entries_led (shows 0) None led ++ entries_later by_name name led (looks_from shows 1 n)) (grows.0 0 (omega (arith, within)))
-    ∙ ap (λ rest. version_in (shows 0) file ∷ rest) (later_are by_name name shows file count 1 n (omega (arith, within)) grows)
+    ∙ ap (λ rest. version_in (shows 0) file ∷ rest) (later_are by_name shows 1 n (omega (arith, within)) grows)
 
-versions_kept : (shows : ℕ → Snapshot) (name : List ℕ) (file count start n : ℕ) → start + n ≤ count → OnlyGrows count shows name file → AreKept (versions shows file start n)
-versions_kept shows name file count start zero within grows = tt
-versions_kept shows name file count start (suc zero) within grows = (tt, tt)
-versions_kept shows name file count start (suc (suc n)) within grows = ((λ goes. grows.1 start (omega (arith, within))), versions_kept shows name file count (suc start) (suc n) (omega (arith, within)) grows)
+versions_kept : (shows : ℕ → Snapshot) {name : List ℕ} {file count : ℕ} (start n : ℕ) → start + n ≤ count → OnlyGrows count shows name file → AreKept (versions shows file start n)
+versions_kept shows start zero within grows = tt
+versions_kept shows start (suc zero) within grows = (tt, tt)
+versions_kept shows {name} {file} {count} start (suc (suc n)) within grows = ((λ goes. grows.1 start (omega (arith, within))), versions_kept shows (suc start) (suc n) (omega (arith, within)) grows)
 
-pub kept_in : (by_name : Bool) (name : List ℕ) (shows : ℕ → Snapshot) (file count : ℕ) → OnlyGrows count shows name file → AreKept (entries_of by_name name (seen_first shows count))
-kept_in by_name name shows file count grows = subst AreKept (sym (ap (entries_of by_name name) (seen_are shows count) ∙ entries_are by_name name shows file count count (omega arith) grows)) (versions_kept shows name file count 0 count (omega arith) grows)
+pub kept_in : (by_name : Bool) {name : List ℕ} (shows : ℕ → Snapshot) {file count : ℕ} → OnlyGrows count shows name file → AreKept (entries_of by_name name (seen_first shows count))
+kept_in by_name {name} shows {file} {count} grows = subst AreKept (sym (ap (entries_of by_name name) (seen_are shows count) ∙ entries_are by_name shows count (omega arith) grows)) (versions_kept shows 0 count (omega arith) grows)
 
 -- what came later
-begins_later : (shows : ℕ → Snapshot) (name : List ℕ) (file count start n : ℕ) → start + n < count → OnlyGrows count shows name file → IsBeginning ((shows start).holds file) ((shows (start + n)).holds file)
-begins_later shows name file count start zero within grows = subst (λ k. IsBeginning ((shows start).holds file) ((shows k).holds file)) (let e : start ≡ start + 0 = omega arith in e) (begins_itself _)
-begins_later shows name file count start (suc n) within grows =
+begins_later : (shows : ℕ → Snapshot) {name : List ℕ} {file count : ℕ} (start n : ℕ) → start + n < count → OnlyGrows count shows name file → IsBeginning ((shows start).holds file) ((shows (start + n)).holds file)
+begins_later shows {file} start zero within grows = subst (λ k. IsBeginning ((shows start).holds file) ((shows k).holds file)) (let e : start ≡ start + 0 = omega arith in e) (begins_itself _)
+begins_later shows {name} {file} {count} start (suc n) within grows =
     subst (λ k. IsBeginning ((shows start).holds file) ((shows k).holds file)) (let e : suc start + n ≡ start + suc n = omega arith in e)
-    (begins_trans _ ((shows (suc start)).holds file) _ (grows.1 start (omega (arith, within))) (begins_later shows name file count (suc start) n (omega (arith, within)) grows))
+    (begins_trans _ ((shows (suc start)).holds file) _ (grows.1 start (omega (arith, within))) (begins_later shows (suc start) n (omega (arith, within)) grows))
 
 -- what they gain is what came
-gains_are : (shows : ℕ → Snapshot) (name : List ℕ) (file count start n : ℕ) (came : List ℕ) → start + n < count → OnlyGrows count shows name file → (shows (start + n)).holds file ≡ (shows start).holds file ++ came
+gains_are : (shows : ℕ → Snapshot) {name : List ℕ} {file count : ℕ} (start n : ℕ) {came : List ℕ} → start + n < count → OnlyGrows count shows name file → (shows (start + n)).holds file ≡ (shows start).holds file ++ came
     → gains_later (version_in (shows start) file) (versions shows file (suc start) n) ≡ came
-gains_are shows name file count start zero came within grows is = nothing_more ((shows start).holds file) came (ap (λ k. (shows k).holds file) (let e : start ≡ start + 0 = omega arith in e) ∙ is) where
+gains_are shows {file} start zero {came} within grows is = nothing_more ((shows start).holds file) came (ap (λ k. (shows k).holds file) (let e : start ≡ start + 0 = omega arith in e) ∙ is) where
   none : (bytes : List ℕ) → length bytes ≡ 0 → ◌≡◌ {A = List ℕ} [] bytes
   none [] few = refl
   none (byte ∷ bytes) few = absurd (omega (arith, few))
 
   nothing_more : (front more : List ℕ) → front ≡ front ++ more → ◌≡◌ {A = List ℕ} [] more
   nothing_more front more same = none more (let size = ap length same in let sum = length-append front more in omega (arith, size, sum))
-gains_are shows name file count start (suc n) came within grows is =
+gains_are shows {name} {file} {count} start (suc n) {came} within grows is =
     let (piece, next) = grows.1 start (omega (arith, within)) in
     let below : suc start + n < count = omega (arith, within) in
-    let (rest, later) = begins_later shows name file count (suc start) n below grows in
+    let (rest, later) = begins_later shows (suc start) n below grows in
     let there : (shows (start + suc n)).holds file ≡ (shows (suc start + n)).holds file = ap (λ k. (shows k).holds file) (let e : start + suc n ≡ suc start + n = omega arith in e) in
     let both : (shows start).holds file ++ came ≡ (shows start).holds file ++ (piece ++ rest) =
     sym is ∙ there ∙ later ∙ ap (λ front. front ++ rest) next ∙ append_assoc ((shows start).holds file) piece rest in
-    ap (λ gained. gained ++ gains_later (version_in (shows (suc start)) file) (versions shows file (suc (suc start)) n)) (grown file ((shows start).holds file) piece ((shows (suc start)).holds file) next)
-    ∙ ap (λ more. piece ++ more) (gains_are shows name file count (suc start) n rest below grows later)
+    ap (λ gained. gained ++ gains_later (version_in (shows (suc start)) file) (versions shows file (suc (suc start)) n)) (grown file ((shows start).holds file) next)
+    ∙ ap (λ more. piece ++ more) (gains_are shows (suc start) n below grows later)
     ∙ sym (sym (drop_front ((shows start).holds file) came) ∙ ap (drop (length ((shows start).holds file))) both ∙ drop_front ((shows start).holds file) (piece ++ rest))
 
 -- the text of such a name
-pub growing_text : (by_name : Bool) (name : List ℕ) (shows : ℕ → Snapshot) (file count n : ℕ) (start : List ℕ → List ℕ) (came : List ℕ) → n < count → OnlyGrows count shows name file → (shows n).holds file ≡ (shows 0).holds file ++ came
+pub growing_text : (by_name : Bool) {name : List ℕ} (shows : ℕ → Snapshot) {file count n : ℕ} (start : List ℕ → List ℕ) (came : List ℕ) → n < count → OnlyGrows count shows name file → (shows n).holds file ≡ (shows 0).holds file ++ came
     → name_text start (entries_of by_name name (seen_first shows (suc n))) ≡ start ((shows 0).holds file) ++ came
-growing_text by_name name shows file count n start came within grows is =
-    ap (name_text start) (ap (entries_of by_name name) (seen_are shows (suc n)) ∙ entries_are by_name name shows file count (suc n) (omega (arith, within)) grows)
-    ∙ text_is_gains start (versions shows file 0 (suc n)) (versions_kept shows name file count 0 (suc n) (omega (arith, within)) grows)
-    ∙ ap (λ more. start ((shows 0).holds file) ++ more) (gains_are shows name file count 0 n came (omega (arith, within)) grows (ap (λ k. (shows k).holds file) (let e : 0 + n ≡ n = omega arith in e) ∙ is))
+growing_text by_name {name} shows {file} {count} {n} start came within grows is =
+    ap (name_text start) (ap (entries_of by_name name) (seen_are shows (suc n)) ∙ entries_are by_name shows (suc n) (omega (arith, within)) grows)
+    ∙ text_is_gains start (versions shows file 0 (suc n)) (versions_kept shows 0 (suc n) (omega (arith, within)) grows)
+    ∙ ap (λ more. start ((shows 0).holds file) ++ more) (gains_are shows 0 n (omega (arith, within)) grows (ap (λ k. (shows k).holds file) (let e : 0 + n ≡ n = omega arith in e) ∙ is))
 
 -- its file is open after each look
-pub stays_open : (by_name : Bool) (name : List ℕ) (shows : ℕ → Snapshot) (file count n : ℕ) → n < count → OnlyGrows count shows name file → open_after by_name name (looks_from shows 0 (suc n)) ≡ Some file
-stays_open by_name name shows file count n within grows = by by_name 1 n (omega (arith, within)) ((shows 0).leads name) (grows.0 0 (omega (arith, within))) where
+pub stays_open : (by_name : Bool) {name : List ℕ} (shows : ℕ → Snapshot) {file count : ℕ} (n : ℕ) → n < count → OnlyGrows count shows name file → open_after by_name name (looks_from shows 0 (suc n)) ≡ Some file
+stays_open by_name {name} shows {file} {count} n within grows = by by_name 1 n (omega (arith, within)) ((shows 0).leads name) (grows.0 0 (omega (arith, within))) where
   by : (by_name : Bool) (start n : ℕ) → start + n ≤ count → (opened : Option ℕ) → opened ≡ Some file → open_after_later by_name name opened (looks_from shows start n) ≡ Some file
   by by_name start zero below opened is = is
   by true start (suc n) below opened is = by true (suc start) n (omega (arith, below)) ((shows start).leads name) (grows.0 start (omega (arith, below)))
@@ -166,27 +166,22 @@ pub record IsText (ways : Ways) (name : List ℕ) (looks : List Look) (text : Li
 pub is_text : (ways : Ways) (name : List ℕ) (looks : List Look) → any_failed (shares_from ways (name ∷ []) [] looks) ≡ false → AreKept (entries_in ways name looks) → IsText ways name looks (text_from false None (shares_from ways (name ∷ []) [] looks))
 is_text ways name looks well all = let wrote = wrote_all ways name [] looks None refl well in record { is = wrote.is ∙ looks_give_text ways name looks all; kept = wrote.kept }
 
--- What `tail` writes of one file that only grows, where it follows it and meets no fault.
-
 -- a file that is open could always have more, so no look is the last that can give something
-alive_by : (dropped by_name : Bool) (opened : Option ℕ) (file : ℕ) → dropped ≡ false → opened ≡ Some file → ((not dropped && (by_name || is_some opened)) || false) ≡ true
-alive_by true by_name opened file kept is = absurd (false≢true (sym kept))
-alive_by false true opened file kept is = refl
-alive_by false false opened file kept is = ap (λ those. is_some those || false) is
+alive_by : (dropped by_name : Bool) {opened : Option ℕ} {file : ℕ} → dropped ≡ false → opened ≡ Some file → ((not dropped && (by_name || is_some opened)) || false) ≡ true
+alive_by true by_name kept is = absurd (false≢true (sym kept))
+alive_by false true kept is = refl
+alive_by false false kept is = ap (λ those. is_some those || false) is
 
-opens : (by_name : Bool) (name : List ℕ) (shows : ℕ → Snapshot) (file : ℕ) (looks : List Look) → OnlyGrows (length looks) shows name file → snapshots looks ≡ seen_first shows (length looks) → 0 < length looks → open_after by_name name (snapshots looks) ≡ Some file
-opens by_name name shows file [] grows saw some = absurd (omega (arith, some))
-opens by_name name shows file (look ∷ looks) grows saw some =
-    ap (open_after by_name name) (saw ∙ seen_are shows (suc (length looks))) ∙ stays_open by_name name shows file (suc (length looks)) (length looks) (omega arith) grows
+opens : (by_name : Bool) {name : List ℕ} (shows : ℕ → Snapshot) {file : ℕ} (looks : List Look) → OnlyGrows (length looks) shows name file → snapshots looks ≡ seen_first shows (length looks) → 0 < length looks → open_after by_name name (snapshots looks) ≡ Some file
+opens by_name shows [] grows saw some = absurd (omega (arith, some))
+opens by_name {name} shows {file} (look ∷ looks) grows saw some =
+    ap (open_after by_name name) (saw ∙ seen_are shows (suc (length looks))) ∙ stays_open by_name shows (length looks) (omega arith) grows
 
-never_over : (ways : Ways) (name : List ℕ) (shows : ℕ → Snapshot) (file : ℕ) (looks : List Look) → OnlyGrows (length looks) shows name file → snapshots looks ≡ seen_first shows (length looks) → 0 < length looks → is_dropped ways.first looks ≡ false → is_alive ways (name ∷ []) looks ≡ false → ⊥
-never_over ways name shows file looks grows saw some kept over =
-    false≢true (sym over ∙ alive_by (is_dropped ways.first looks) ways.by_name (open_after ways.by_name name (snapshots looks)) file kept (opens ways.by_name name shows file looks grows saw some))
-
-all_made : (ways : Ways) (name : List ℕ) (shows : ℕ → Snapshot) (file count : ℕ) (looks : List Look) → OnlyGrows (length looks) shows name file → snapshots looks ≡ seen_first shows (length looks) → is_dropped ways.first looks ≡ false → length looks ≤ count
+all_made : (ways : Ways) {name : List ℕ} (shows : ℕ → Snapshot) {file count : ℕ} (looks : List Look) → OnlyGrows (length looks) shows name file → snapshots looks ≡ seen_first shows (length looks) → is_dropped ways.first looks ≡ false → length looks ≤ count
     → (length looks < count → (0 < length looks) × (◌≡◌ {A = Bool} true true → is_alive ways (name ∷ []) looks ≡ false)) → length looks ≡ count
-all_made ways name shows file count looks grows saw kept few full = elim (cases_lt (length looks) count) [
-  | inl less ↦ let why = full less in absurd (never_over ways name shows file looks grows saw why.0 kept (why.1 refl))
+all_made ways {name} shows {file} {count} looks grows saw kept few full = elim (cases_lt (length looks) count) [
+  | inl less ↦ let why = full less in absurd
+      (false≢true (sym (why.1 refl) ∙ alive_by (is_dropped ways.first looks) ways.by_name kept (opens ways.by_name shows looks grows saw why.0)))
   | inr enough ↦ omega (arith, few, enough)
 ]
 
@@ -222,9 +217,9 @@ wrote_text ways name shows count seen watched new keeps_bytes (looked looks shar
 wrote_text ways name shows count seen watched new keeps_bytes (stopped mid why stop says failed) = absurd (not_one failed)
 wrote_text ways name shows count seen watched new keeps_bytes (no_room unseen unwatched says failed) = absurd (not_one failed)
 
-follows_text : (run : FollowRun) (options : EndsAsked) (followed : Followed) (name : List ℕ) → Follows run options followed → IsBare options → options.names ≡ name ∷ [] → (run.seen ≡ seen_first run.shows (length run.seen) → AreKept (entries_of (is_name followed) name run.seen))
+follows_text : {run : FollowRun} {options : EndsAsked} {followed : Followed} {name : List ℕ} → Follows run options followed → IsBare options → options.names ≡ name ∷ [] → (run.seen ≡ seen_first run.shows (length run.seen) → AreKept (entries_of (is_name followed) name run.seen))
     → WroteText (ways_of 0 (is_name followed) (start_of options)) name run.shows run.count run.seen run.outputs
-follows_text run options followed name follows bare named keeps_bytes =
+follows_text {run} {options} {followed} {name} follows bare named keeps_bytes =
     let ways = ways_of 0 (is_name followed) (start_of options) in
     let ends = subst (FollowingEndsAt true true run.words run.count run.shows run.seen run.watched run.outputs run.status) follows.read follows.ends in
     let one = subst (λ names. FollowEndsAs true true ways (has_headers options.headers options.names) names run.count run.shows streams run.seen run.watched run.outputs run.status) named ends in
@@ -233,17 +228,17 @@ follows_text run options followed name follows bare named keeps_bytes =
 
 pub tells_text : (run : FollowRun) (options : EndsAsked) (followed : Followed) (name : List ℕ) → Follows run options followed → IsBare options → options.names ≡ name ∷ [] → AreKept (entries_of (is_name followed) name run.seen)
     → (slot_at run.outputs 0).written ≡ name_text (tail_of options.delim options.unit (is_plus options.count.sign) options.count.amount) (entries_of (is_name followed) name run.seen)
-tells_text run options followed name follows bare named kept = (follows_text run options followed name follows bare named (λ saw. kept)).is
+tells_text run options followed name follows bare named kept = (follows_text follows bare named (λ saw. kept)).is
 
 pub tells_all : (run : FollowRun) (options : EndsAsked) (followed : Followed) (name came : List ℕ) (file n : ℕ) → Follows run options followed → IsBare options → options.names ≡ name ∷ [] → run.count ≡ n + 1 → OnlyGrows (length run.seen) run.shows name file
     → (run.shows n).holds file ≡ (run.shows 0).holds file ++ came
     → (slot_at run.outputs 0).written ≡ tail_of options.delim options.unit (is_plus options.count.sign) options.count.amount ((run.shows 0).holds file) ++ came
 tells_all run options followed name came file n follows bare named count grows is =
     let ways = ways_of 0 (is_name followed) (start_of options) in
-    let wrote = follows_text run options followed name follows bare named (λ saw. subst (λ those. AreKept (entries_of (is_name followed) name those)) (sym saw) (kept_in (is_name followed) name run.shows file (length run.seen) grows)) in
+    let wrote = follows_text follows bare named (λ saw. subst (λ those. AreKept (entries_of (is_name followed) name those)) (sym saw) (kept_in (is_name followed) run.shows grows)) in
     let grew = subst (λ k. OnlyGrows k run.shows name file) (sym wrote.count_is) grows in
-    let made : length wrote.looks ≡ run.count = all_made ways name run.shows file run.count wrote.looks grew wrote.saw wrote.kept wrote.few wrote.full in
+    let made : length wrote.looks ≡ run.count = all_made ways run.shows wrote.looks grew wrote.saw wrote.kept wrote.few wrote.full in
     let all : length wrote.looks ≡ suc n = made ∙ count ∙ (let e : n + 1 ≡ suc n = omega arith in e) in
     wrote.is
     ∙ ap (λ those. name_text ways.start (entries_of (is_name followed) name those)) (wrote.seen_is ∙ wrote.saw ∙ ap (seen_first run.shows) all)
-    ∙ growing_text (is_name followed) name run.shows file (length wrote.looks) n ways.start came (omega (arith, all)) grew is
+    ∙ growing_text (is_name followed) run.shows ways.start came (omega (arith, all)) grew is

@@ -13,7 +13,6 @@ use Rattle.seg_core.specs.declared.cut.Cut.{Cut}
 use Rattle.seg_core.specs.declared.cut.Cut.TheVariants.{Lines, Bytes, LineBytes, Round}
 use Rattle.seg_core.specs.declared.unit.Unit.{Unit as Counted}
 use Rattle.ends_core.specs.Ends.{tail_of}
-use Rattle.ends_core.specs.Head.{head_work}
 use Rattle.ends_core.specs.Tail.{tail_work}
 use Rattle.split_core.specs.declared.limit.Limit.{Limit}
 use Rattle.split_core.specs.declared.limit.Limit.TheVariants as limit
@@ -46,23 +45,20 @@ live_both (file ∷ front) back one other = (one.0, live_both front back one.1 o
 
 -- the files of a part that begins a live one
 
-live_state : (file whole : File) → (file.state ≡ Open) ⊎ (file ≡ whole) → has_file whole.state ≡ true → has_file file.state ≡ true
-live_state file whole (inl is) has = ap has_file is
-live_state file whole (inr same) has = ap (λ (those : File). has_file those.state) same ∙ has
+live_state : {file whole : File} → (file.state ≡ Open) ⊎ (file ≡ whole) → has_file whole.state ≡ true → has_file file.state ≡ true
+live_state (inl is) has = ap has_file is
+live_state (inr same) has = ap (λ (those : File). has_file those.state) same ∙ has
 
 pub live_begin : (files wholes : List File) → FilesBegin files wholes → AreLive wholes → AreLive files
 live_begin [] wholes begins live = tt
 live_begin (file ∷ files) [] begins live = absurd begins
-live_begin (file ∷ files) (whole ∷ wholes) begins live = ((begins.2 ∙ live.0.0, live_state file whole begins.3 live.0.1), live_begin files wholes begins.5 live.1)
+live_begin (file ∷ files) (whole ∷ wholes) begins live = ((begins.2 ∙ live.0.0, live_state begins.3 live.0.1), live_begin files wholes begins.5 live.1)
 
 -- Works, whatever came in
 
 pub record IsLiving (work : Work) : Type 0 where
   pub settled : (x : List ℕ) → AreLive (work.settled x).files
   pub whole : (x : List ℕ) → AreLive (work.whole x).files
-
-pub head_living : (delim : ℕ) (unit : Counted) (but_last : Bool) (n : ℕ) → IsLiving (head_work delim unit but_last n)
-head_living delim unit but_last n = record { settled = λ x. tt; whole = λ x. tt }
 
 no_files : (from_nth : Bool) (bytes : List ℕ) → AreLive (cond from_nth (only_out bytes) nothing).files
 no_files true bytes = tt
@@ -134,13 +130,13 @@ csplit_living style operands = record {
 
 -- What a run over inputs makes of them, and what each of its steps does
 
-enough_live : (work : Work) (enough : Bool) (bytes : List ℕ) → IsLiving work → AreLive (cond enough (work.whole bytes) (work.settled bytes)).files
-enough_live work true bytes living = living.whole bytes
-enough_live work false bytes living = living.settled bytes
+enough_live : {work : Work} (enough : Bool) (bytes : List ℕ) → IsLiving work → AreLive (cond enough (work.whole bytes) (work.settled bytes)).files
+enough_live true bytes living = living.whole bytes
+enough_live false bytes living = living.settled bytes
 
 content_live : (task : Task) (is_first : Bool) (name : List ℕ) (content : Option Content) → IsLiving task.work → AreLive (of_content task is_first name content).part.files
 content_live task is_first name None living = tt
-content_live task is_first name (Some content) living = enough_live task.work (is_enough task.work content) content.bytes living
+content_live task is_first name (Some content) living = enough_live (is_enough task.work content) content.bytes living
 
 pub inputs_live : (task : Task) (is_first : Bool) (inputs : List Input) → IsLiving task.work → AreLive (of_inputs task is_first inputs).part.files
 inputs_live task is_first [] living = tt
@@ -148,18 +144,18 @@ inputs_live task is_first (input ∷ inputs) living =
     live_both (of_content task is_first input.name input.content).part.files (of_inputs task (is_first && is_missing input.content) inputs).part.files (content_live task is_first input.name input.content living)
     (inputs_live task (is_first && is_missing input.content) inputs living)
 
-call_live : (work : Work) (opening : Needs) (most : ℕ) (content : Content) (call : Step) → IsLiving work → IsCall work opening most content call → AreLive call.high.files
-call_live work opening most content _ living opens = living.settled []
-call_live work opening most content _ living (feeds x piece rest is few going) = living.settled (x ++ piece)
-call_live work opening most content _ living (closes x has needed) = living.whole x
+call_live : {work : Work} {opening : Needs} {most : ℕ} {content : Content} {call : Step} → IsLiving work → IsCall work opening most content call → AreLive call.high.files
+call_live living opens = living.settled []
+call_live living (feeds x piece rest is few going) = living.settled (x ++ piece)
+call_live living (closes x has needed) = living.whole x
 
-pub step_live : (told : Bool) (task : Task) (before : Part) (header : List ℕ) (slot : Option ℕ) (sources : List Source) (content : Option Content) (step : Step) → IsLiving task.work → AreLive before.files
+pub step_live : {told : Bool} {task : Task} {before : Part} {header : List ℕ} {slot : Option ℕ} {sources : List Source} {content : Option Content} {step : Step} → IsLiving task.work → AreLive before.files
     → RunStep told task largest_piece before header slot sources content step → AreLive step.high.files
-step_live told task before header slot sources _ _ living live (unopened content place at past) = live
-step_live told task before header slot sources _ _ living live (unheaded content headed leaves) = live
-step_live told task before header slot sources _ _ living live (heading content headed leaves) = live_both before.files [] live tt
-step_live told task before header slot sources _ _ living live (calling content call is leaves) =
-    live_both (before.files ++ []) call.high.files (live_both before.files [] live tt) (call_live task.work task.opening largest_piece content call living is)
+step_live living live (unopened content place at past) = live
+step_live living live (unheaded content headed leaves) = live
+step_live {before} living live (heading content headed leaves) = live_both before.files [] live tt
+step_live {before} living live (calling content call is leaves) =
+    live_both (before.files ++ []) call.high.files (live_both before.files [] live tt) (call_live living is)
 
 -- The outputs of live files
 

@@ -40,16 +40,16 @@ told_again : (files : List File) → map (told_file true) files ≡ files
 told_again [] = refl
 told_again (file ∷ files) = ap (λ those. file ∷ those) (told_again files)
 
-pub since_is : (since : List Slot) (files : List File) → map file_of since ≡ map (told_file true) files → since ≡ map slot_of files
-since_is since files same = sym (slots_again since) ∙ ap (map slot_of) (same ∙ told_again files)
+pub since_is : {since : List Slot} (files : List File) → map file_of since ≡ map (told_file true) files → since ≡ map slot_of files
+since_is {since} files same = sym (slots_again since) ∙ ap (map slot_of) (same ∙ told_again files)
 
-left_so : (tool : Tool) (outcome : Outcome) (error : Slot) (reached new : List Slot) → outcome.messages ≡ [] → outcome.sweeps ≡ false → SaysAll true tool outcome.messages standard_error error
+left_so : (tool : Tool) (outcome : Outcome) {error : Slot} {reached new : List Slot} → outcome.messages ≡ [] → outcome.sweeps ≡ false → SaysAll true tool outcome.messages standard_error error
     → OutputsAt true (streams_with error) outcome.part reached → Swept outcome.sweeps 2 reached new → new ≡ slots_of outcome.part
-left_so tool outcome error reached new silent kept says outputs swept =
+left_so tool outcome {error} {reached} {new} silent kept says outputs swept =
     let same : new ≡ reached = subst (λ sweeps. Swept sweeps 2 reached new) kept swept in
     let none : error ≡ standard_error = subst (λ texts. SaysAll true tool texts standard_error error) silent says in
     same ∙ outputs.slots ∙ ap (λ slot. adds outcome.part.out standard_output ∷ slot ∷ outputs.since) none
-    ∙ ap (λ files. adds outcome.part.out standard_output ∷ standard_error ∷ files) (since_is outputs.since outcome.part.files outputs.files)
+    ∙ ap (λ files. adds outcome.part.out standard_output ∷ standard_error ∷ files) (since_is outcome.part.files outputs.files)
 
 -- a run whose status is 0 met no fault
 
@@ -85,13 +85,13 @@ pub record IsWhole (task : Task) (inputs : List Input) (new : List Slot) : Type 
   pub sound : (made_by task inputs).failed ≡ false
   pub slots : new ≡ slots_of (made_by task inputs).part
 
-pub well_done : (task : Task) (inputs : List Input) (sources : List Source) (new : List Slot) → EndsAs true true task inputs sources new 0 → IsWhole task inputs new
-well_done task inputs sources new (as_defined error reached says outputs swept done status) =
+pub well_done : {task : Task} {inputs : List Input} {sources : List Source} {new : List Slot} → EndsAs true true task inputs sources new 0 → IsWhole task inputs new
+well_done {task} {inputs} (as_defined error reached says outputs swept done status) =
     let sound = unfailed (made_by task inputs).failed status in
     let quiet = quiet_inputs task true inputs sound in
-    record { sound = sound; slots = left_so task.tool (made_by task inputs) error reached new quiet.0 quiet.1 says outputs swept }
-well_done task inputs sources new (stopped fault before input after error step reached are done untouched at stops between swept says status) = absurd (not_one status)
-well_done task inputs sources new (no_room error says slots untouched count status) = absurd (not_one status)
+    record { sound = sound; slots = left_so task.tool (made_by task inputs) quiet.0 quiet.1 says outputs swept }
+well_done (stopped fault before input after error step reached are done untouched at stops between swept says status) = absurd (not_one status)
+well_done (no_room error says slots untouched count status) = absurd (not_one status)
 
 -- one input, which ends after these bytes
 
@@ -106,18 +106,18 @@ not_judged (Some fault) sound = absurd (cc)
 abbrev pub part_of : Task → List ℕ → List ℕ → Part
 part_of task name bytes = after_part (only_out (header_text task.with_header true name)) (task.work.whole bytes)
 
-pub made_one : (task : Task) (input : Input) (bytes : List ℕ) → input.content ≡ Some (ending bytes) → (made_by task (input ∷ [])).part ≡ part_of task input.name bytes
-made_one task input bytes is = ap (λ content. after_part (of_content task true input.name content).part nothing) is ∙ nothing_after (part_of task input.name bytes)
+pub made_one : (task : Task) (input : Input) {bytes : List ℕ} → input.content ≡ Some (ending bytes) → (made_by task (input ∷ [])).part ≡ part_of task input.name bytes
+made_one task input {bytes} is = ap (λ content. after_part (of_content task true input.name content).part nothing) is ∙ nothing_after
 
 pub record IsMade (task : Task) (name bytes : List ℕ) (new : List Slot) : Type 0 where
   pub unjudged : task.work.verdict bytes ≡ None
   pub slots : new ≡ slots_of (part_of task name bytes)
 
-pub one_done : (task : Task) (input : Input) (bytes : List ℕ) (sources : List Source) (new : List Slot) → input.content ≡ Some (ending bytes) → EndsAs true true task (input ∷ []) sources new 0 → IsMade task input.name bytes new
-one_done task input bytes sources new is ends =
-    let whole = well_done task (input ∷ []) sources new ends in record {
+pub one_done : {task : Task} {input : Input} {bytes : List ℕ} {sources : List Source} {new : List Slot} → input.content ≡ Some (ending bytes) → EndsAs true true task (input ∷ []) sources new 0 → IsMade task input.name bytes new
+one_done {task} {input} {bytes} is ends =
+    let whole = well_done ends in record {
       unjudged = not_judged (task.work.verdict bytes) (subst (λ content. ((of_content task true input.name content).failed || false) ≡ false) is whole.sound);
-      slots = whole.slots ∙ ap slots_of (made_one task input bytes is);
+      slots = whole.slots ∙ ap slots_of (made_one task input is);
     }
 
 -- what the words of a run ask for was done, over what the run found, or its operands were refused
@@ -126,8 +126,8 @@ not_refused : {A B C : Type 0} → A ⊎ (B × C) → A ⊎ C
 not_refused (inl did) = inl did
 not_refused (inr (same, refuses)) = inr refuses
 
-pub ran_over : (run : Run) (asked : Settings) → Ran run asked → DoesAsked true true asked (inputs_at run.world (names_of asked)) run.inputs run.outputs run.status ⊎ RefusesOperands true run.words asked run.outputs run.status
-ran_over run asked ran =
+pub ran_over : {run : Run} {asked : Settings} → Ran run asked → DoesAsked true true asked (inputs_at run.world (names_of asked)) run.inputs run.outputs run.status ⊎ RefusesOperands true run.words asked run.outputs run.status
+ran_over {run} ran =
     let (found, finds, ends) = ran.ends in
     not_refused (subst (λ (meant : Result Settings Fault). RunEndsAt true true run.words (inputs_at run.world (names_at meant)) (source_of run.world.standard ∷ []) run.inputs run.outputs run.status meant) ran.read
     (subst (λ those. RunEndsAt true true run.words those (source_of run.world.standard ∷ []) run.inputs run.outputs run.status (settings_of run.words)) (finds.there refl) ends))
@@ -138,7 +138,7 @@ by_either run asked found well (inl does) = subst (DoesAsked true true asked fou
 by_either run asked found well (inr (fault, bad, refuses)) = absurd (not_one (sym well ∙ refuses.failed))
 
 pub did : (run : Run) (asked : Settings) → Does run asked → DoesAsked true true asked (inputs_at run.world (names_of asked)) run.inputs run.outputs 0
-did run asked does = by_either run asked (inputs_at run.world (names_of asked)) does.well (ran_over run asked does.ran)
+did run asked does = by_either run asked (inputs_at run.world (names_of asked)) does.well (ran_over does.ran)
 
 content_by : (world : World) (name : List ℕ) (is_standard : Bool) → (input_of world false 1 name is_standard).content ≡ cond is_standard (Some world.standard) (world.laid 1 name)
 content_by world name true = refl
@@ -150,8 +150,8 @@ pub record HasOne (run : Run) (asked : Settings) (bytes : List ℕ) : Type 0 whe
   pub content : input.content ≡ Some (ending bytes)
   pub only : inputs_at run.world (names_of asked) ≡ input ∷ []
 
-pub has_one : (run : Run) (asked : Settings) (bytes : List ℕ) → Ran run asked → HasInput run bytes → HasOne run asked bytes
-has_one run asked bytes ran has = record {
+pub has_one : {run : Run} {asked : Settings} {bytes : List ℕ} → Ran run asked → HasInput run bytes → HasOne run asked bytes
+has_one {run} ran has = record {
   input = input_of run.world false 1 has.name (is_dash has.name);
   content = content_by run.world has.name (is_dash has.name) ∙ has.holds;
   only = ap (inputs_at run.world) (sym (ap names_at ran.read) ∙ has.only);
@@ -163,9 +163,9 @@ pub record DidOne (run : Run) (asked : Settings) (bytes : List ℕ) : Type 0 whe
   pub content : input.content ≡ Some (ending bytes)
   pub does : DoesAsked true true asked (input ∷ []) run.inputs run.outputs 0
 
-pub did_one : (run : Run) (asked : Settings) (bytes : List ℕ) → Does run asked → HasInput run bytes → DidOne run asked bytes
-did_one run asked bytes does has =
-    let one = has_one run asked bytes does.ran has in record {
+pub did_one : {run : Run} {asked : Settings} {bytes : List ℕ} → Does run asked → HasInput run bytes → DidOne run asked bytes
+did_one {run} {asked} does has =
+    let one = has_one does.ran has in record {
       input = one.input;
       content = one.content;
       does = subst (λ found. DoesAsked true true asked found run.inputs run.outputs 0) one.only (did run asked does);

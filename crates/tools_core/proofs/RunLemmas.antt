@@ -3,7 +3,7 @@ use Rattle.std.proofs.Common.{◌≡◌, ℕ, List, [], ◌∷◌, Option, Some,
 use Rattle.ports_core.specs.declared.fault.Fault.{Fault}
 use Rattle.ports_core.specs.declared.tool.Tool.{Tool}
 use Rattle.words_core.specs.declared.settings.Settings.{Settings}
-use Rattle.words_core.specs.declared.settings.Settings.TheVariants.{Tail, Split, Csplit, Head, Tee}
+use Rattle.words_core.specs.declared.settings.Settings.TheVariants.{Tail, Split, Csplit, Tee}
 use Rattle.words_core.specs.CsplitWords.{csplit_asked, HasBadOperand}
 use Rattle.words_core.specs.Given.{Given}
 use Rattle.words_core.specs.Spelling.{given_by, IsRefused}
@@ -13,7 +13,7 @@ use Rattle.words_core.specs.TailWords.{tail_asked}
 use Rattle.words_core.specs.Table.{ToolRow, row_named, tools}
 use Rattle.words_core.specs.Words.{settings_for, settings_of, tool_settings, CanRun, HasBadOperands, follows, looks}
 use Rattle.tools_core.specs.Outcome.{speaker, or_cutters, CsplitEndsAs, DoesAsked, RefusesFor, RunEnds, RunEndsAt, TeeEndsAs, names_at, names_read}
-use Rattle.tools_core.specs.Tasks.{tool_of, csplit_task, head_task, tail_task, split_task, names_of, has_headers}
+use Rattle.tools_core.specs.Tasks.{tool_of, csplit_task, names_of, has_headers}
 use Rattle.words_core.proofs.LimitLemmas.{read-can}
 use Rattle.std.proofs.lemmas.Bool.{false≢true}
 use Rattle.ports_core.specs.Slot.{Slot, changed_at, slot_at, streams}
@@ -59,86 +59,86 @@ tool_in (Ok settings) = tool_of settings
 tool_in (Err fault) = tool.Cutters
 
 -- what is asked of a tool that may find more wrong with it
-by_check : {A : Type 0} (which : Tool) (make : A → Settings) → ((asked : A) → tool_of (make asked) ≡ which) → (asked : Result A Fault) (settings : Settings) → then_check asked (λ those. Ok (make those)) ≡ Ok settings → which ≡ tool_of settings
+by_check : {A : Type 0} {which : Tool} (make : A → Settings) → ((asked : A) → tool_of (make asked) ≡ which) → (asked : Result A Fault) (settings : Settings) → then_check asked (λ those. Ok (make those)) ≡ Ok settings → which ≡ tool_of settings
 unfolding tool_in
-by_check which make same (Ok asked) settings is = sym (same asked) ∙ ap tool_in is
-by_check which make same (Err fault) settings is = absurd (cc)
+by_check make same (Ok asked) settings is = sym (same asked) ∙ ap tool_in is
+by_check make same (Err fault) settings is = absurd (cc)
 
 by_tool : (which : Tool) (given : Given) (settings : Settings) → settings_for which given ≡ Ok settings → which ≡ tool_of settings
 unfolding tool_in
 by_tool tool.Head given settings is = ap tool_in is
-by_tool tool.Tail given settings is = by_check tool.Tail (λ asked. Tail asked) (λ asked. refl) (tail_asked given) settings is
-by_tool tool.Split given settings is = by_check tool.Split (λ asked. Split asked) (λ asked. refl) (split_asked given) settings is
-by_tool tool.Csplit given settings is = by_check tool.Csplit (λ asked. Csplit asked) (λ asked. refl) (csplit_asked given) settings is
+by_tool tool.Tail given settings is = by_check (λ asked. Tail asked) (λ asked. refl) (tail_asked given) settings is
+by_tool tool.Split given settings is = by_check (λ asked. Split asked) (λ asked. refl) (split_asked given) settings is
+by_tool tool.Csplit given settings is = by_check (λ asked. Csplit asked) (λ asked. refl) (csplit_asked given) settings is
 by_tool tool.Tee given settings is = ap tool_in is
 by_tool tool.Cutters given settings is = absurd (cc)
 
-by_given : (which : Tool) (given : Result Given Fault) (settings : Settings) → then_check given (settings_for which) ≡ Ok settings → which ≡ tool_of settings
-by_given which (Ok given) settings is = by_tool which given settings is
-by_given which (Err fault) settings is = absurd (cc)
+by_given : {which : Tool} (given : Result Given Fault) {settings : Settings} → then_check given (settings_for which) ≡ Ok settings → which ≡ tool_of settings
+by_given {which} (Ok given) {settings} is = by_tool which given settings is
+by_given (Err fault) is = absurd (cc)
 
 named : (row : Option ToolRow) (words : List (List ℕ)) (settings : Settings) → tool_settings words row ≡ Ok settings → or_cutters (option_map (λ row. row.tool) row) ≡ tool_of settings
-named (Some row) words settings is = by_given row.tool (given_by row words) settings is
+named (Some row) words settings is = by_given (given_by row words) is
 named None words settings is = absurd (cc)
 
-pub runs_as_named : (words : List (List ℕ)) (settings : Settings) → settings_of words ≡ Ok settings → speaker words ≡ tool_of settings
-runs_as_named [] settings is = absurd (cc)
-runs_as_named (name ∷ words) settings is = named (row_named tools name) words settings is
+pub runs_as_named : (words : List (List ℕ)) {settings : Settings} → settings_of words ≡ Ok settings → speaker words ≡ tool_of settings
+runs_as_named [] is = absurd (cc)
+runs_as_named (name ∷ words) {settings} is = named (row_named tools name) words settings is
 
 -- What words ask for can be done.
 
-can_given : (row : ToolRow) (words : List (List ℕ)) (settings : Settings) (given : Result Given Fault) → given_by row words ≡ given → then_check given (settings_for row.tool) ≡ Ok settings → CanRun settings
-can_given row words settings (Ok given) read is = read-can row words given row.tool (Ok settings) read is
-can_given row words settings (Err fault) read is = absurd (cc)
+can_given : (row : ToolRow) (words : List (List ℕ)) {settings : Settings} (given : Result Given Fault) → given_by row words ≡ given → then_check given (settings_for row.tool) ≡ Ok settings → CanRun settings
+can_given row words {settings} (Ok given) read is = read-can row words given row.tool (Ok settings) read is
+can_given row words (Err fault) read is = absurd (cc)
 
-can_tool : (words : List (List ℕ)) (settings : Settings) (row : Option ToolRow) → tool_settings words row ≡ Ok settings → CanRun settings
-can_tool words settings (Some row) is = can_given row words settings (given_by row words) refl is
-can_tool words settings None is = absurd (cc)
+can_tool : (words : List (List ℕ)) {settings : Settings} (row : Option ToolRow) → tool_settings words row ≡ Ok settings → CanRun settings
+can_tool words {settings} (Some row) is = can_given row words (given_by row words) refl is
+can_tool words None is = absurd (cc)
 
-pub can_run : (words : List (List ℕ)) (settings : Settings) → settings_of words ≡ Ok settings → CanRun settings
-can_run [] settings is = absurd (cc)
-can_run (name ∷ words) settings is = can_tool words settings (row_named tools name) is
+pub can_run : (words : List (List ℕ)) {settings : Settings} → settings_of words ≡ Ok settings → CanRun settings
+can_run [] is = absurd (cc)
+can_run (name ∷ words) {settings} is = can_tool words (row_named tools name) is
 
 -- Lemmas on how a run ends, by its words.
 
-pub tool_runs : (told_in told : Bool) (world : World) (words : List (List ℕ)) (settings : Settings) (old sources : List Source) (new : List Slot) (status : ℕ) → settings_of words ≡ Ok settings
+pub tool_runs : {told_in : Bool} (told : Bool) {world : World} (words : List (List ℕ)) {settings : Settings} (old sources : List Source) (new : List Slot) (status : ℕ) → settings_of words ≡ Ok settings
     → RunsOver told_in world (names_of settings) (λ found. DoesAsked told_in told settings found sources new status)
     → RunsOver told_in world (names_read words) (λ found. RunEnds told_in told words found old sources new status)
-tool_runs told_in told world words settings old sources new status is (found, finds, does) =
+tool_runs {told_in} told {world} words old sources new status is (found, finds, does) =
     subst (λ (meant : Result Settings Fault). RunsOver told_in world (names_at meant) (λ found. RunEndsAt told_in told words found old sources new status meant)) (sym is) (found, finds, inl does)
 
-pub for_settings : (told_in told : Bool) (world : World) (settings same : Settings) (sources : List Source) (new : List Slot) (status : ℕ) → settings ≡ same
+pub for_settings : {told_in : Bool} (told : Bool) {world : World} {settings same : Settings} (sources : List Source) (new : List Slot) (status : ℕ) → settings ≡ same
     → RunsOver told_in world (names_of same) (λ found. DoesAsked told_in told same found sources new status)
     → RunsOver told_in world (names_of settings) (λ found. DoesAsked told_in told settings found sources new status)
-for_settings told_in told world settings same sources new status is runs =
+for_settings {told_in} told {world} sources new status is runs =
     subst (λ those. RunsOver told_in world (names_of those) (λ found. DoesAsked told_in told those found sources new status)) (sym is) runs
 
 -- the same for an equal list of names
-pub runs_names : (told_in : Bool) (world : World) (names same : List (List ℕ)) (P : List Input → Type 0) → names ≡ same → RunsOver told_in world names P → RunsOver told_in world same P
-runs_names told_in world names same P is runs = subst (λ those. RunsOver told_in world those P) is runs
+pub runs_names : {told_in : Bool} {world : World} {names same : List (List ℕ)} (P : List Input → Type 0) → names ≡ same → RunsOver told_in world names P → RunsOver told_in world same P
+runs_names {told_in} {world} P is runs = subst (λ those. RunsOver told_in world those P) is runs
 
 -- the names that a run reads are those of its settings
-pub ends_names : (asked : EndsAsked) (unit : Counted) (count : Count) (headers : Headers) (delim : ℕ) (items now : List (Bor (List ℕ))) → now ≡ items → record { unit = unit; count = count; headers = headers; delim = delim; names = map (λ (name : Bor (List ℕ)). name.now) items } ≡ asked
+pub ends_names : {asked : EndsAsked} {unit : Counted} {count : Count} {headers : Headers} {delim : ℕ} {items now : List (Bor (List ℕ))} → now ≡ items → record { unit = unit; count = count; headers = headers; delim = delim; names = map (λ (name : Bor (List ℕ)). name.now) items } ≡ asked
     → map (λ (name : Bor (List ℕ)). name.now) now ≡ asked.names
-ends_names asked unit count headers delim items now same is = ap (map (λ (name : Bor (List ℕ)). name.now)) same ∙ ap (λ (those : EndsAsked). those.names) is
+ends_names {now} same is = ap (map (λ (name : Bor (List ℕ)). name.now)) same ∙ ap (λ (those : EndsAsked). those.names) is
 
 -- `tee` over what is there
 
 -- the name that it reads finds standard input
-finds_standard : (told : Bool) (laid : ℕ → List ℕ → Option Content) (sources : List Source) (content : Content) → (told ≡ true → content ≡ (source_at sources 0).left) → Finds told (world_of laid sources) (codes "-" ∷ []) (standard_input content ∷ [])
-finds_standard told laid sources content there = record {
+finds_standard : {told : Bool} {laid : ℕ → List ℕ → Option Content} (sources : List Source) {content : Content} → (told ≡ true → content ≡ (source_at sources 0).left) → Finds told (world_of laid sources) (codes "-" ∷ []) (standard_input content ∷ [])
+finds_standard {laid} sources {content} there = record {
   are = ((record { laid = laid; standard = content }, refl), refl);
   there = λ t. ap (λ (those : Content). standard_input those ∷ []) (there t);
 }
 
-pub tee_runs : (told_in told : Bool) (laid : ℕ → List ℕ → Option Content) (asked : TeeAsked) (mode : Mode) (items now : List (Bor (List ℕ))) (old sources : List Source) (new : List Slot) (status : ℕ) → now ≡ items
+pub tee_runs : {told_in told : Bool} {laid : ℕ → List ℕ → Option Content} {asked : TeeAsked} {mode : Mode} {items now : List (Bor (List ℕ))} (old : List Source) {sources : List Source} {new : List Slot} {status : ℕ} → now ≡ items
     → record { mode = mode; names = map (λ (name : Bor (List ℕ)). name.now) items } ≡ asked
     → OfContent told_in (source_at old 0).left (λ content. TeeCopies told_in told mode (map (λ (name : Bor (List ℕ)). name.now) now) content (source_at sources 0) new status × BreaksOnly told_in content (source_at sources 0))
     → (told_in ≡ true → status ≡ 0 → new ≡ all_copied told mode (map (λ (name : Bor (List ℕ)). name.now) now) (source_at old 0).left.bytes)
     → RunsOver told_in (world_of laid old) (codes "-" ∷ []) (λ found. TeeEndsAs told_in told asked found sources new status)
-tee_runs told_in told laid asked mode items now old sources new status same is (content, there, (ends, breaks)) whole = (
+tee_runs {told_in} {told} {mode} {now} old {sources} {new} {status} same is (content, there, (ends, breaks)) whole = (
   standard_input content ∷ [],
-  finds_standard told_in laid old content there,
+  finds_standard old there,
   record {
     content = content;
     input = refl;
@@ -152,30 +152,30 @@ tee_runs told_in told laid asked mode items now old sources new status same is (
 )
 
 -- it opens no input
-pub tee_counts : (old new : List Source) → IsFresh old → KeepsOthers 0 old new → length new ≤ 1
-tee_counts old new fresh keeps = omega (arith, keeps.count, ap length fresh.only)
+pub tee_counts : {old new : List Source} → IsFresh old → KeepsOthers 0 old new → length new ≤ 1
+tee_counts fresh keeps = omega (arith, keeps.count, ap length fresh.only)
 
 -- words that weren't read for want of memory, where they ask for this
 
 -- an input that wasn't read, whether it tells its bytes or not
-unread_source : (told : Bool) (sources : List Source) → IsFresh sources → OfContent told (source_at sources 0).left (λ content. IsUnread told content (source_at sources 0) × BreaksOnly told content (source_at sources 0))
-unread_source true sources fresh =
+unread_source : (told : Bool) {sources : List Source} → IsFresh sources → OfContent told (source_at sources 0).left (λ content. IsUnread told content (source_at sources 0) × BreaksOnly told content (source_at sources 0))
+unread_source true {sources} fresh =
     let is = ap (λ those. source_at those 0) fresh.only in ((source_at sources 0).left, λ t. refl, ((fresh.standard, is, λ t. sym (ap (λ (source : Source). source.left) is)), λ untold. absurd (false≢true (sym untold))))
-unread_source false sources fresh = (empty, λ t. absurd (false≢true t), ((fresh.standard, ap (λ those. source_at those 0) fresh.only, λ t. absurd (false≢true t)), λ untold breaks. absurd (false≢true breaks)))
+unread_source false fresh = (empty, λ t. absurd (false≢true t), ((fresh.standard, ap (λ those. source_at those 0) fresh.only, λ t. absurd (false≢true t)), λ untold breaks. absurd (false≢true breaks)))
 
-unread_task : (told_in told : Bool) (laid : ℕ → List ℕ → Option Content) (sources : List Source) (task : Task) (names : List (List ℕ)) (new : List Slot) (error : Slot) → IsFresh sources
+unread_task : {told_in told : Bool} {laid : ℕ → List ℕ → Option Content} {sources : List Source} {task : Task} {names : List (List ℕ)} {new : List Slot} {error : Slot} → IsFresh sources
     → Says told task.tool (message_of task.tool Memory []) standard_error error → new ≡ streams_with error
     → RunsOver told_in (world_of laid sources) names (λ found. EndsAs told_in told task found sources new 1)
-unread_task told_in told laid sources task names new error fresh says slots =
-    let untouched = none_touched told_in laid sources names fresh in (untouched.0, untouched.1, no_room error (error, says, refl) slots untouched.2 (ap length fresh.only) refl)
+unread_task {told_in} {laid} {sources} {names} {error} fresh says slots =
+    let untouched = none_touched {told_in = told_in} {laid = laid} {names = names} fresh in (untouched.0, untouched.1, no_room error (error, says, refl) slots untouched.2 (ap length fresh.only) refl)
 
-unread_tee : (told_in told : Bool) (laid : ℕ → List ℕ → Option Content) (sources : List Source) (asked : TeeAsked) (new : List Slot) (error : Slot) → IsFresh sources
+unread_tee : {told_in told : Bool} {laid : ℕ → List ℕ → Option Content} {sources : List Source} {asked : TeeAsked} {new : List Slot} {error : Slot} → IsFresh sources
     → Says told tool.Tee (message_of tool.Tee Memory []) standard_error error → new ≡ streams_with error
     → RunsOver told_in (world_of laid sources) (codes "-" ∷ []) (λ found. TeeEndsAs told_in told asked found sources new 1)
-unread_tee told_in told laid sources asked new error fresh says slots =
-    let (content, there, (unread, breaks)) = unread_source told_in sources fresh in (
+unread_tee {told_in} {sources} {error} fresh says slots =
+    let (content, there, (unread, breaks)) = unread_source told_in fresh in (
       standard_input content ∷ [],
-      finds_standard told_in laid sources content there,
+      finds_standard sources there,
       record { content = content; input = refl; ends = copies.no_room error (error, says, refl) unread slots refl; breaks = breaks; whole = λ t well. absurd (cc) },
     )
 
@@ -183,91 +183,85 @@ unread_tee told_in told laid sources asked new error fresh says slots =
 pub lacks_memory : (asked : CsplitAsked) → HasBadOperand asked Memory
 lacks_memory asked = (record { kind = kind.Memory; index = 0 }, no_memory 0, refl)
 
-unread_settings : (told_in told : Bool) (laid : ℕ → List ℕ → Option Content) (sources : List Source) (words : List (List ℕ)) (settings : Settings) (new : List Slot) (error : Slot) → IsFresh sources → RefusesFor told words Memory new 1
+unread_settings : {told_in told : Bool} {laid : ℕ → List ℕ → Option Content} {sources : List Source} (words : List (List ℕ)) (settings : Settings) {new : List Slot} {error : Slot} → IsFresh sources → RefusesFor told words Memory new 1
     → Says told (tool_of settings) (message_of (tool_of settings) Memory []) standard_error error → new ≡ streams_with error
     → RunsOver told_in (world_of laid sources) (names_of settings) (λ found. RunEndsAt told_in told words found sources sources new 1 (Ok settings))
-unread_settings told_in told laid sources words (Head asked) new error fresh refuses says slots =
-    let (found, finds, does) = unread_task told_in told laid sources (head_task asked) asked.names new error fresh says slots in (found, finds, inl does)
-unread_settings told_in told laid sources words (Tail asked) new error fresh refuses says slots =
-    let (found, finds, does) = unread_task told_in told laid sources (tail_task asked.ends) asked.ends.names new error fresh says slots in (found, finds, inl does)
-unread_settings told_in told laid sources words (Split asked) new error fresh refuses says slots =
-    let (found, finds, does) = unread_task told_in told laid sources (split_task asked) (asked.input ∷ []) new error fresh says slots in (found, finds, inl does)
-unread_settings told_in told laid sources words (Csplit asked) new error fresh refuses says slots =
-    let untouched = none_touched told_in laid sources (asked.input ∷ []) fresh in (untouched.0, untouched.1, inr (refl, (Memory, lacks_memory asked, refuses)))
-unread_settings told_in told laid sources words (Tee asked) new error fresh refuses says slots =
-    let (found, finds, does) = unread_tee told_in told laid sources asked new error fresh says slots in (found, finds, inl does)
+unread_settings {told_in} {laid} {sources} words (Csplit asked) fresh refuses says slots =
+    let untouched = none_touched {told_in = told_in} {laid = laid} {names = asked.input ∷ []} fresh in (untouched.0, untouched.1, inr (refl, (Memory, lacks_memory asked, refuses)))
+unread_settings words (Tee asked) fresh refuses says slots = let (found, finds, does) = unread_tee fresh says slots in (found, finds, inl does)
+unread_settings words asked fresh refuses says slots = let (found, finds, does) = unread_task fresh says slots in (found, finds, inl does)
 
 -- words that are refused, or weren't read for want of memory
 
-pub refused_memory : (told : Bool) (words : List (List ℕ)) (fault : Fault) (new : List Slot) (status : ℕ) → RefusesFor told words Memory new status → RefusesFor told words fault new status
-refused_memory told words fault new status refuses = record {
+pub refused_memory : {told : Bool} (words : List (List ℕ)) (fault : Fault) {new : List Slot} {status : ℕ} → RefusesFor told words Memory new status → RefusesFor told words fault new status
+refused_memory words fault refuses = record {
   error = refuses.error;
   says = record { said = refuses.says.said; is = inr (elim refuses.says.is [ inl is ↦ is | inr is ↦ is ]); printed = refuses.says.printed };
   slots = refuses.slots;
   failed = refuses.failed;
 }
 
-unread_for : (told_in told : Bool) (laid : ℕ → List ℕ → Option Content) (sources : List Source) (words : List (List ℕ)) (meant : Result Settings Fault) (new : List Slot) (error : Slot) → IsFresh sources → settings_of words ≡ meant
+unread_for : {told_in told : Bool} {laid : ℕ → List ℕ → Option Content} {sources : List Source} (words : List (List ℕ)) (meant : Result Settings Fault) {new : List Slot} {error : Slot} → IsFresh sources → settings_of words ≡ meant
     → Says told (speaker words) (message_of (speaker words) Memory []) standard_error error → new ≡ streams_with error
     → RunsOver told_in (world_of laid sources) (names_at meant) (λ found. RunEndsAt told_in told words found sources sources new 1 meant)
-unread_for told_in told laid sources words (Ok settings) new error fresh is says slots =
-    unread_settings told_in told laid sources words settings new error fresh (record { error = error; says = says; slots = slots; failed = refl })
-    (subst (λ (which : Tool). Says told which (message_of which Memory []) standard_error error) (runs_as_named words settings is) says) slots
-unread_for told_in told laid sources words (Err fault) new error fresh is says slots = (
+unread_for {told} words (Ok settings) {new} {error} fresh is says slots =
+    unread_settings words settings fresh (record { error = error; says = says; slots = slots; failed = refl })
+    (subst (λ (which : Tool). Says told which (message_of which Memory []) standard_error error) (runs_as_named words is) says) slots
+unread_for words (Err fault) {new} {error} fresh is says slots = (
   [],
   record { are = refl; there = λ t. refl },
-  (refl, refused_memory told words fault new 1 (record { error = error; says = says; slots = slots; failed = refl })),
+  (refl, refused_memory words fault (record { error = error; says = says; slots = slots; failed = refl })),
 )
 
 -- the words ask for something whose operands can't be read
-operands_refused : (told_in told : Bool) (laid : ℕ → List ℕ → Option Content) (sources : List Source) (words : List (List ℕ)) (settings : Settings) (fault : Fault) (new : List Slot) (status : ℕ) → IsFresh sources → HasBadOperands settings fault
+operands_refused : {told_in told : Bool} {laid : ℕ → List ℕ → Option Content} {sources : List Source} (words : List (List ℕ)) (settings : Settings) (fault : Fault) {new : List Slot} {status : ℕ} → IsFresh sources → HasBadOperands settings fault
     → RefusesFor told words fault new status → RunsOver told_in (world_of laid sources) (names_of settings) (λ found. RunEndsAt told_in told words found sources sources new status (Ok settings))
-operands_refused told_in told laid sources words settings fault new status fresh bad refuses =
-    let untouched = none_touched told_in laid sources (names_of settings) fresh in (untouched.0, untouched.1, inr (refl, (fault, bad, refuses)))
+operands_refused {told_in} {laid} {sources} words settings fault fresh bad refuses =
+    let untouched = none_touched {told_in = told_in} {laid = laid} {names = names_of settings} fresh in (untouched.0, untouched.1, inr (refl, (fault, bad, refuses)))
 
-pub refused_or_memory : (told_in told : Bool) (laid : ℕ → List ℕ → Option Content) (sources : List Source) (words : List (List ℕ)) (fault : Fault) (new : List Slot) (status : ℕ) → IsFresh sources → IsRefused HasBadOperands (settings_of words) fault
+pub refused_or_memory : {told_in told : Bool} {laid : ℕ → List ℕ → Option Content} {sources : List Source} (words : List (List ℕ)) {fault : Fault} {new : List Slot} {status : ℕ} → IsFresh sources → IsRefused HasBadOperands (settings_of words) fault
     → RefusesFor told words fault new status → RunsOver told_in (world_of laid sources) (names_read words) (λ found. RunEnds told_in told words found sources sources new status)
-refused_or_memory told_in told laid sources words fault new status fresh (inr (inl is)) refuses =
+refused_or_memory {told_in} {told} {laid} {sources} words {new} {status} fresh (inr (inl is)) refuses =
     subst (λ (meant : Result Settings Fault). RunsOver told_in (world_of laid sources) (names_at meant) (λ found. RunEndsAt told_in told words found sources sources new status meant)) (sym is) (
       [],
       record { are = refl; there = λ t. refl },
       (refl, refuses),
     )
-refused_or_memory told_in told laid sources words fault new status fresh (inr (inr (settings, is, bad))) refuses =
+refused_or_memory {told_in} {told} {laid} {sources} words {fault} {new} {status} fresh (inr (inr (settings, is, bad))) refuses =
     subst (λ (meant : Result Settings Fault). RunsOver told_in (world_of laid sources) (names_at meant) (λ found. RunEndsAt told_in told words found sources sources new status meant)) (sym is)
-    (operands_refused told_in told laid sources words settings fault new status fresh bad refuses)
-refused_or_memory told_in told laid sources words fault new status fresh (inl is) refuses =
+    (operands_refused words settings fault fresh bad refuses)
+refused_or_memory {told_in} {told} {laid} {sources} words {new} {status} fresh (inl is) refuses =
     let said : RefusesFor told words Memory new status = subst (λ why. RefusesFor told words why new status) is refuses in
     subst (λ those. RunsOver told_in (world_of laid sources) (names_read words) (λ found. RunEnds told_in told words found sources sources new those)) (sym said.failed)
-    (unread_for told_in told laid sources words (settings_of words) new said.error fresh refl said.says said.slots)
+    (unread_for words (settings_of words) fresh refl said.says said.slots)
 
 -- `csplit` cuts at the operands that were read
-pub csplit_runs : (told_in told : Bool) (world : World) (asked : CsplitAsked) (input : List ℕ) (operands : List Operand) (sources : List Source) (new : List Slot) (status : ℕ) → input ≡ asked.input → Asks asked.operands operands
+pub csplit_runs : {told_in told : Bool} {world : World} {asked : CsplitAsked} {input : List ℕ} {operands : List Operand} {sources : List Source} {new : List Slot} {status : ℕ} → input ≡ asked.input → Asks asked.operands operands
     → RunsOver told_in world (input ∷ []) (λ found. EndsAs told_in told (csplit_task asked operands) found sources new status)
     → RunsOver told_in world (asked.input ∷ []) (λ found. CsplitEndsAs told_in told asked found sources new status)
-csplit_runs told_in told world asked input operands sources new status is asks (found, finds, ends) =
+csplit_runs {told_in} {world} {operands} is asks (found, finds, ends) =
     (found, subst (λ name. Finds told_in world (name ∷ []) found) is finds, record { operands = operands; asks = asks; ends = ends })
 
-pub asked_or_none : (words : List (List ℕ)) (settings : Settings) (fault : Fault) → settings_of words ≡ Ok settings → settings_of words ≡ Err fault → ⊥
-asked_or_none words settings fault asks refuses = both (sym asks ∙ refuses) where
+pub asked_or_none : (words : List (List ℕ)) {settings : Settings} {fault : Fault} → settings_of words ≡ Ok settings → settings_of words ≡ Err fault → ⊥
+asked_or_none words {settings} {fault} asks refuses = both (sym asks ∙ refuses) where
   both : Ok settings ≡ Err fault → ⊥
   both is = cc
 
 -- how many inputs there can be, by the names
 
-pub counts_by : (count : ℕ) (words : List (List ℕ)) (settings : Settings) → settings_of words ≡ Ok settings → count ≤ count_after 1 (names_of settings) → count ≤ count_after 1 (names_read words)
-counts_by count words settings is few = subst (λ (meant : Result Settings Fault). count ≤ count_after 1 (names_at meant)) (sym is) few
+pub counts_by : {count : ℕ} (words : List (List ℕ)) {settings : Settings} → settings_of words ≡ Ok settings → count ≤ count_after 1 (names_of settings) → count ≤ count_after 1 (names_read words)
+counts_by {count} words is few = subst (λ (meant : Result Settings Fault). count ≤ count_after 1 (names_at meant)) (sym is) few
 
-pub counts_for : (count : ℕ) (settings same : Settings) (names : List (List ℕ)) → settings ≡ same → names ≡ names_of same → count ≤ count_after 1 names → count ≤ count_after 1 (names_of settings)
-counts_for count settings same names is named few = subst (λ those. count ≤ count_after 1 (names_of those)) (sym is) (subst (λ those. count ≤ count_after 1 those) named few)
+pub counts_for : {count : ℕ} {settings same : Settings} {names : List (List ℕ)} → settings ≡ same → names ≡ names_of same → count ≤ count_after 1 names → count ≤ count_after 1 (names_of settings)
+counts_for {count} is named few = subst (λ those. count ≤ count_after 1 (names_of those)) (sym is) (subst (λ those. count ≤ count_after 1 those) named few)
 
 -- Lemmas on how a run that follows ends, by its words.
 
 -- what is followed is what the settings ask for
-pub follows_as : (told_in told : Bool) (asked : EndsAsked) (followed : Followed) (by_name : Bool) (start : Start) (headers : Bool) (names : List (List ℕ)) (looks : ℕ) (shows : ℕ → Snapshot) (first : List Slot) (seen : List Snapshot) (watched : List Watched) (new : List Slot) (status : ℕ)
+pub follows_as : {told_in told : Bool} (asked : EndsAsked) (followed : Followed) {by_name : Bool} {start : Start} {headers : Bool} {names : List (List ℕ)} {looks : ℕ} {shows : ℕ → Snapshot} {first : List Slot} {seen : List Snapshot} {watched : List Watched} {new : List Slot} {status : ℕ}
     → by_name ≡ is_name followed → start ≡ start_of asked → headers ≡ has_headers asked.headers asked.names → names ≡ asked.names → first ≡ streams
     → FollowEndsAs told_in told (ways_of 0 by_name start) headers names looks shows first seen watched new status → FollowsAs told_in told asked followed looks shows seen watched new status
-follows_as told_in told asked followed by_name start headers names looks shows first seen watched new status name_is start_is headers_are names_are first_is ends =
+follows_as {told_in} {told} asked followed {by_name} {start} {headers} {names} {looks} {shows} {seen} {watched} {new} {status} name_is start_is headers_are names_are first_is ends =
     subst (λ b. F b (start_of asked) (has_headers asked.headers asked.names) asked.names streams) name_is
     (subst (λ (s : Start). F by_name s (has_headers asked.headers asked.names) asked.names streams) start_is
     (subst (λ h. F by_name start h asked.names streams) headers_are
@@ -278,8 +272,8 @@ follows_as told_in told asked followed by_name start headers names looks shows f
 
 -- words that weren't read for want of memory, where they ask for this
 
-says_at : (told : Bool) (words : List (List ℕ)) (new : List Slot) (status : ℕ) → speaker words ≡ tool.Tail → RefusesFor told words Memory new status → SaysOn told tool.Tail (message_of tool.Tail Memory []) streams new
-says_at told words new status speaks refuses output error since are = (
+says_at : {told : Bool} (words : List (List ℕ)) {new : List Slot} {status : ℕ} → speaker words ≡ tool.Tail → RefusesFor told words Memory new status → SaysOn told tool.Tail (message_of tool.Tail Memory []) streams new
+says_at {told} words speaks refuses output error since are = (
   refuses.error,
   subst (λ slot. Says told tool.Tail (message_of tool.Tail Memory []) slot refuses.error) (ap (λ slots. slot_at slots 1) are)
       (subst (λ (which : Tool). Says told which (message_of which Memory []) standard_error refuses.error) speaks refuses.says),
@@ -287,47 +281,47 @@ says_at told words new status speaks refuses output error since are = (
 )
 
 unread : (told_in told : Bool) (words : List (List ℕ)) (asked : EndsAsked) (followed : Option Followed) (looks : ℕ) (shows : ℕ → Snapshot) (seen : List Snapshot) (watched : List Watched) (new : List Slot) (status : ℕ) → speaker words ≡ tool.Tail → seen ≡ [] → watched ≡ [] → RefusesFor told words Memory new status → FollowsTail told_in told words asked followed looks shows seen watched new status
-unread told_in told words asked (Some followed) looks shows seen watched new status speaks unseen unwatched refuses = no_room_yet unseen unwatched (says_at told words new status speaks refuses) refuses.failed
-unread told_in told words asked None looks shows seen watched new status speaks unseen unwatched refuses = (unseen, unwatched, refused_memory told words (Usage BadFollow 0) new status refuses)
+unread told_in told words asked (Some followed) looks shows seen watched new status speaks unseen unwatched refuses = no_room_yet unseen unwatched (says_at words speaks refuses) refuses.failed
+unread told_in told words asked None looks shows seen watched new status speaks unseen unwatched refuses = (unseen, unwatched, refused_memory words (Usage BadFollow 0) refuses)
 
-unread_files : (told_in told : Bool) (words : List (List ℕ)) (meant : Result Settings Fault) (looks : ℕ) (shows : ℕ → Snapshot) (seen : List Snapshot) (watched : List Watched) (new : List Slot) (status : ℕ) → settings_of words ≡ meant → seen ≡ [] → watched ≡ [] → RefusesFor told words Memory new status → FollowingEndsAt told_in told words looks shows seen watched new status meant
-unread_files told_in told words (Ok (Tail asked)) looks shows seen watched new status is unseen unwatched refuses = unread told_in told words asked.ends asked.followed looks shows seen watched new status (runs_as_named words (Tail asked) is) unseen unwatched refuses
-unread_files told_in told words (Ok (Csplit asked)) looks shows seen watched new status is unseen unwatched refuses = inr (unseen, unwatched, (Memory, lacks_memory asked, refuses))
-unread_files told_in told words (Ok asked) looks shows seen watched new status is unseen unwatched refuses = inl (tt, (unseen, unwatched, refused_memory told words (Usage BadFollow 0) new status refuses))
-unread_files told_in told words (Err fault) looks shows seen watched new status is unseen unwatched refuses = (unseen, unwatched, refused_memory told words fault new status refuses)
+unread_files : (told_in : Bool) {told : Bool} (words : List (List ℕ)) (meant : Result Settings Fault) (looks : ℕ) (shows : ℕ → Snapshot) {seen : List Snapshot} {watched : List Watched} {new : List Slot} {status : ℕ} → settings_of words ≡ meant → seen ≡ [] → watched ≡ [] → RefusesFor told words Memory new status → FollowingEndsAt told_in told words looks shows seen watched new status meant
+unread_files told_in {told} words (Ok (Tail asked)) looks shows {seen} {watched} {new} {status} is unseen unwatched refuses = unread told_in told words asked.ends asked.followed looks shows seen watched new status (runs_as_named words is) unseen unwatched refuses
+unread_files told_in words (Ok (Csplit asked)) looks shows is unseen unwatched refuses = inr (unseen, unwatched, (Memory, lacks_memory asked, refuses))
+unread_files told_in {told} words (Ok asked) looks shows {new} {status} is unseen unwatched refuses = inl (tt, (unseen, unwatched, refused_memory words (Usage BadFollow 0) refuses))
+unread_files told_in {told} words (Err fault) looks shows {new} {status} is unseen unwatched refuses = (unseen, unwatched, refused_memory words fault refuses)
 
 -- operands that can't be read
-operands_unread : (told_in told : Bool) (words : List (List ℕ)) (settings : Settings) (fault : Fault) (looks : ℕ) (shows : ℕ → Snapshot) (seen : List Snapshot) (watched : List Watched) (new : List Slot) (status : ℕ) → HasBadOperands settings fault → seen ≡ [] → watched ≡ [] → RefusesFor told words fault new status → FollowingEndsAt told_in told words looks shows seen watched new status (Ok settings)
-operands_unread told_in told words (Csplit asked) fault looks shows seen watched new status bad unseen unwatched refuses = inr (unseen, unwatched, (fault, bad, refuses))
-operands_unread told_in told words asked fault looks shows seen watched new status bad unseen unwatched refuses = absurd bad
+operands_unread : (told_in : Bool) {told : Bool} (words : List (List ℕ)) (settings : Settings) (fault : Fault) (looks : ℕ) (shows : ℕ → Snapshot) {seen : List Snapshot} {watched : List Watched} {new : List Slot} {status : ℕ} → HasBadOperands settings fault → seen ≡ [] → watched ≡ [] → RefusesFor told words fault new status → FollowingEndsAt told_in told words looks shows seen watched new status (Ok settings)
+operands_unread told_in words (Csplit asked) fault looks shows bad unseen unwatched refuses = inr (unseen, unwatched, (fault, bad, refuses))
+operands_unread told_in words asked fault looks shows bad unseen unwatched refuses = absurd bad
 
-pub refused_words : (told_in told : Bool) (words : List (List ℕ)) (fault : Fault) (looks : ℕ) (shows : ℕ → Snapshot) (seen : List Snapshot) (watched : List Watched) (new : List Slot) (status : ℕ) → IsRefused HasBadOperands (settings_of words) fault → seen ≡ [] → watched ≡ [] → RefusesFor told words fault new status → FollowingEnds told_in told words looks shows seen watched new status
-refused_words told_in told words fault looks shows seen watched new status (inr (inl is)) unseen unwatched refuses = subst (λ (meant : Result Settings Fault). FollowingEndsAt told_in told words looks shows seen watched new status meant) (sym is) (unseen, unwatched, refuses)
-refused_words told_in told words fault looks shows seen watched new status (inr (inr (settings, is, bad))) unseen unwatched refuses =
-    subst (λ (meant : Result Settings Fault). FollowingEndsAt told_in told words looks shows seen watched new status meant) (sym is) (operands_unread told_in told words settings fault looks shows seen watched new status bad unseen unwatched refuses)
-refused_words told_in told words fault looks shows seen watched new status (inl is) unseen unwatched refuses =
-    unread_files told_in told words (settings_of words) looks shows seen watched new status refl unseen unwatched (subst (λ why. RefusesFor told words why new status) is refuses)
+pub refused_words : (told_in : Bool) {told : Bool} (words : List (List ℕ)) {fault : Fault} (looks : ℕ) (shows : ℕ → Snapshot) {seen : List Snapshot} {watched : List Watched} {new : List Slot} {status : ℕ} → IsRefused HasBadOperands (settings_of words) fault → seen ≡ [] → watched ≡ [] → RefusesFor told words fault new status → FollowingEnds told_in told words looks shows seen watched new status
+refused_words told_in {told} words looks shows {seen} {watched} {new} {status} (inr (inl is)) unseen unwatched refuses = subst (λ (meant : Result Settings Fault). FollowingEndsAt told_in told words looks shows seen watched new status meant) (sym is) (unseen, unwatched, refuses)
+refused_words told_in {told} words {fault} looks shows {seen} {watched} {new} {status} (inr (inr (settings, is, bad))) unseen unwatched refuses =
+    subst (λ (meant : Result Settings Fault). FollowingEndsAt told_in told words looks shows seen watched new status meant) (sym is) (operands_unread told_in words settings fault looks shows bad unseen unwatched refuses)
+refused_words told_in {told} words looks shows {seen} {watched} {new} {status} (inl is) unseen unwatched refuses =
+    unread_files told_in words (settings_of words) looks shows refl unseen unwatched (subst (λ why. RefusesFor told words why new status) is refuses)
 
 -- Which of both runs the words ask for.
 
 -- what the words ask for was followed
-pub program_follows : (told_in told_watched told : Bool) (words : List (List ℕ)) (settings : Settings) (laid : ℕ → List ℕ → Option Content) (sources : List Source) (shows : ℕ → Snapshot) (seen : List Snapshot) (watched : List Watched) (new : List Slot) (status : ℕ) → settings_of words ≡ Ok settings → follows settings ≡ true
+pub program_follows : (told_in told_watched told : Bool) (words : List (List ℕ)) {settings : Settings} (laid : ℕ → List ℕ → Option Content) (sources : List Source) (shows : ℕ → Snapshot) (seen : List Snapshot) (watched : List Watched) (new : List Slot) (status : ℕ) → settings_of words ≡ Ok settings → follows settings ≡ true
     → FollowingEndsAt told_watched told words (looks settings) shows seen watched new status (Ok settings) → ProgramEnds told_in told_watched told words laid sources sources shows seen watched new status
-program_follows told_in told_watched told words settings laid sources shows seen watched new status is asked ends =
+program_follows told_in told_watched told words {settings} laid sources shows seen watched new status is asked ends =
     subst (λ (which : Option ℕ). ProgramEndsAt told_in told_watched told words laid sources sources shows seen watched new status which) (sym (ap looks_at is ∙ ap (λ b. if b then Some (looks settings) else None) asked))
     (refl, subst (λ (meant : Result Settings Fault). FollowingEndsAt told_watched told words (looks settings) shows seen watched new status meant) (sym is) ends)
 
 -- their tool ran over its inputs
-pub program_runs : (told_in told_watched told : Bool) (words : List (List ℕ)) (settings : Settings) (laid : ℕ → List ℕ → Option Content) (sources sources_new : List Source) (shows : ℕ → Snapshot) (seen : List Snapshot) (watched : List Watched) (new : List Slot) (status : ℕ) → settings_of words ≡ Ok settings → follows settings ≡ false → seen ≡ [] → watched ≡ []
+pub program_runs : {told_in : Bool} (told_watched told : Bool) (words : List (List ℕ)) {settings : Settings} {laid : ℕ → List ℕ → Option Content} (sources sources_new : List Source) (shows : ℕ → Snapshot) {seen : List Snapshot} {watched : List Watched} (new : List Slot) (status : ℕ) → settings_of words ≡ Ok settings → follows settings ≡ false → seen ≡ [] → watched ≡ []
     → RunsOver told_in (world_of laid sources) (names_of settings) (λ found. DoesAsked told_in told settings found sources_new new status) → ProgramEnds told_in told_watched told words laid sources sources_new shows seen watched new status
-program_runs told_in told_watched told words settings laid sources sources_new shows seen watched new status is asked unseen unwatched does =
+program_runs {told_in} told_watched told words {settings} {laid} sources sources_new shows {seen} {watched} new status is asked unseen unwatched does =
     subst (λ (which : Option ℕ). ProgramEndsAt told_in told_watched told words laid sources sources_new shows seen watched new status which) (sym (ap looks_at is ∙ ap (λ b. if b then Some (looks settings) else None) asked))
-    (unseen, unwatched, tool_runs told_in told (world_of laid sources) words settings sources sources_new new status is does)
+    (unseen, unwatched, tool_runs told words sources sources_new new status is does)
 
 -- what words leave that are refused, whichever run they ask for
-pub program_refuses : (told_in told_watched told : Bool) (words : List (List ℕ)) (laid : ℕ → List ℕ → Option Content) (sources : List Source) (shows : ℕ → Snapshot) (seen : List Snapshot) (watched : List Watched) (fault : Fault) (new : List Slot) (status : ℕ) → IsFresh sources → seen ≡ [] → watched ≡ [] → IsRefused HasBadOperands (settings_of words) fault → RefusesFor told words fault new status
+pub program_refuses : (told_in told_watched : Bool) {told : Bool} (words : List (List ℕ)) (laid : ℕ → List ℕ → Option Content) {sources : List Source} (shows : ℕ → Snapshot) {seen : List Snapshot} {watched : List Watched} {fault : Fault} {new : List Slot} {status : ℕ} → IsFresh sources → seen ≡ [] → watched ≡ [] → IsRefused HasBadOperands (settings_of words) fault → RefusesFor told words fault new status
     → ProgramEnds told_in told_watched told words laid sources sources shows seen watched new status
-program_refuses told_in told_watched told words laid sources shows seen watched fault new status fresh unseen unwatched refused refuses = by (looks_at (settings_of words)) where
+program_refuses told_in told_watched {told} words laid {sources} shows {seen} {watched} {fault} {new} {status} fresh unseen unwatched refused refuses = by (looks_at (settings_of words)) where
   by : (asked : Option ℕ) → ProgramEndsAt told_in told_watched told words laid sources sources shows seen watched new status asked
-  by (Some looks) = (refl, refused_words told_watched told words fault looks shows seen watched new status refused unseen unwatched refuses)
-  by None = (unseen, unwatched, refused_or_memory told_in told laid sources words fault new status fresh refused refuses)
+  by (Some looks) = (refl, refused_words told_watched words looks shows refused unseen unwatched refuses)
+  by None = (unseen, unwatched, refused_or_memory words fresh refused refuses)

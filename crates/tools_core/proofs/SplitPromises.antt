@@ -39,7 +39,7 @@ use Rattle.split_core.proofs.SectionLemmas.{joined_parts, part_lines, part_bytes
 use Rattle.words_core.specs.declared.settings.Settings.TheVariants.{Split}
 use Rattle.words_core.specs.SplitAsked.{SplitAsked}
 use Rattle.words_core.specs.SplitWords.{CanSplit, IsInLimits}
-use Rattle.tools_core.specs.Tasks.{naming_of, split_task}
+use Rattle.tools_core.specs.Tasks.{naming_of}
 use Rattle.tools_core.specs.Promises.{Run, Does, HasInput, AreInOrder, AreListed, ArePieces, AreLinePieces, AreUncut, AreDealt, EndsLine, IsFilled, IsSound, contents_of, files_of, text_at}
 use Rattle.tools_core.proofs.RunLemmas.{can_run}
 use Rattle.tools_core.proofs.PromiseLemmas.{did_one, one_done, slot_of}
@@ -66,9 +66,9 @@ pub bytes_written : (files : List File) → map (λ (file : Slot). file.written)
 bytes_written [] = refl
 bytes_written (file ∷ files) = ap (λ those. file.bytes ∷ those) (bytes_written files)
 
-all_named : (names : Naming) (pieces : List (List ℕ)) → are_named names (length (map (share Closed) pieces)) ≡ true
+all_named : (names : Naming) {pieces : List (List ℕ)} → are_named names (length (map (share Closed) pieces)) ≡ true
     → map (λ (file : Slot). file.written) (map slot_of (named names 0 (map (share Closed) pieces))) ≡ pieces
-all_named names pieces are =
+all_named names {pieces} are =
     bytes_written (named names 0 (map (share Closed) pieces)) ∙ bytes_named names 0 (map (share Closed) pieces)
     ∙ ap (named_bytes names 0) (bytes_of_shares Closed pieces)
     ∙ each_named names pieces (ap (are_named names) (sym (length-map pieces (share Closed))) ∙ are)
@@ -93,27 +93,30 @@ names_in_order names place (one ∷ two ∷ shares) wide =
     (λ has. in_order names.prefix names.alphabet names.width names.auto names.ending place (place + 1) wide (omega arith) has)
     (names_in_order names (place + 1) (two ∷ shares) wide)
 
--- the files have the names from this place on
-abbrev HaveNames : Naming → ℕ → List File → Type 0
-HaveNames names start files = (k : ℕ) → k < length (map slot_of files) → text_at (map (λ (file : Slot). file.name) (map slot_of files)) k ≡ name_of names (start + k)
+-- the files have these names from this place on
+abbrev pub AreNamed : (ℕ → List ℕ) → ℕ → List File → Type 0
+AreNamed name start files = (k : ℕ) → k < length (map slot_of files) → text_at (map (λ (file : Slot). file.name) (map slot_of files)) k ≡ name (start + k)
 
-have_step : (names : Naming) (start : ℕ) (share : Share) (files : List File) (has : Bool) → HaveNames names (start + 1) files → HaveNames names start (cond has (file_at names start share ∷ files) [])
-have_step names start share files false have k within = absurd (omega (arith, within))
-have_step names start share files true have zero within = ap (name_of names) (omega arith)
-have_step names start share files true have (suc k) within = have k (omega (arith, within)) ∙ ap (name_of names) (omega arith)
+pub named_step : (name : ℕ → List ℕ) (start : ℕ) (file : File) (made others : List File) (has : Bool) → file.name ≡ name start → AreNamed name (start + 1) made
+    → AreNamed name start others → AreNamed name start (cond has (file ∷ made) others)
+named_step name start file made others true is are without zero within = is ∙ ap name (omega arith)
+named_step name start file made others true is are without (suc k) within = are k (omega (arith, within)) ∙ ap name (omega arith)
+named_step name start file made others false is are without k within = without k within
 
-have_names : (names : Naming) (start : ℕ) (shares : List Share) → HaveNames names start (named names start shares)
+have_names : (names : Naming) (start : ℕ) (shares : List Share) → AreNamed (name_of names) start (named names start shares)
 have_names names start [] k within = absurd (omega (arith, within))
-have_names names start (share ∷ shares) k within =
-    have_step names start share (named names (start + 1) shares) (is_named names start) (have_names names (start + 1) shares) k within
+have_names names start (share ∷ shares) k within = named_step (name_of names) start (file_at names start share) (named names (start + 1) shares) []
+    (is_named names start) refl (have_names names (start + 1) shares) (λ k within. absurd (omega (arith, within))) k within
 
-sound_step : (names : Naming) (place : ℕ) (bytes : List ℕ) (files : List File) (has : Bool) → All (IsSound Fresh) (map slot_of files) → All (IsSound Fresh) (map slot_of (cond has (file_at names place (share Closed bytes) ∷ files) []))
-sound_step names place bytes files true are = All-cons (IsSound Fresh) _ _ (refl, refl, refl) are
-sound_step names place bytes files false are = All-nil (IsSound Fresh)
+pub sound_step : (file : File) (made others : List File) (has : Bool) → IsSound Fresh (slot_of file) → All (IsSound Fresh) (map slot_of made)
+    → All (IsSound Fresh) (map slot_of others) → All (IsSound Fresh) (map slot_of (cond has (file ∷ made) others))
+sound_step file made others true sound are without = All-cons (IsSound Fresh) _ _ sound are
+sound_step file made others false sound are without = without
 
 all_sound : (names : Naming) (place : ℕ) (pieces : List (List ℕ)) → All (IsSound Fresh) (map slot_of (named names place (map (share Closed) pieces)))
 all_sound names place [] = All-nil (IsSound Fresh)
-all_sound names place (bytes ∷ pieces) = sound_step names place bytes (named names (place + 1) (map (share Closed) pieces)) (is_named names place) (all_sound names (place + 1) pieces)
+all_sound names place (bytes ∷ pieces) = sound_step (file_at names place (share Closed bytes)) (named names (place + 1) (map (share Closed) pieces)) []
+    (is_named names place) (refl, refl, refl) (all_sound names (place + 1) pieces) (All-nil (IsSound Fresh))
 
 -- What a run leaves
 
@@ -122,11 +125,11 @@ pub record IsSplit (run : Run) (asked : SplitAsked) (input : List ℕ) : Type 0 
   pub listed : AreListed asked (files_of run)
   pub contents : contents_of run ≡ pieces_of asked.delim asked.cut asked.elide input
 
-pub is_split : (run : Run) (asked : SplitAsked) (input : List ℕ) → Does run (Split asked) → HasInput run input → IsSplit run asked input
-is_split run asked input does has =
-    let one = did_one run (Split asked) input does has in
-    let made = one_done (split_task asked) one.input input run.inputs run.outputs one.content one.does in
-    let can = can_run run.words (Split asked) does.ran.read in
+pub is_split : {run : Run} {asked : SplitAsked} {input : List ℕ} → Does run (Split asked) → HasInput run input → IsSplit run asked input
+is_split {run} {asked} {input} does has =
+    let one = did_one does has in
+    let made = one_done one.content one.does in
+    let can = can_run run.words does.ran.read in
     let names = naming_of asked in
     let pieces = pieces_of asked.delim asked.cut asked.elide input in
     let shares : whole_shares asked.delim asked.cut asked.elide input ≡ map (share Closed) pieces = shares_are asked.delim asked.cut asked.elide input in
@@ -136,7 +139,7 @@ is_split run asked input does has =
     record {
       can = can;
       listed = subst (AreListed asked) (sym files) (record { named = λ place within. have_names names 0 (map (share Closed) pieces) place within ∙ ap (name_of names) (omega arith); in_order = names_in_order names 0 (map (share Closed) pieces) can.width.0; sound = all_sound names 0 pieces });
-      contents = ap (map (λ (file : Slot). file.written)) files ∙ all_named names pieces are;
+      contents = ap (map (λ (file : Slot). file.written)) files ∙ all_named names are;
     }
 
 -- Pieces of n lines or bytes
@@ -154,32 +157,32 @@ AreFew count n all = (all ≤ count * n) × (count * n < all + n)
 run_size : {X : Type 0} (n i : ℕ) (xs : List X) → length (take n (drop (i * n) xs)) ≡ min n (length xs - i * n)
 run_size n i xs = length-take n (drop (i * n) xs) ∙ ap (min n) (length-drop (i * n) xs)
 
-run_some : {X : Type 0} (n count i : ℕ) (xs : List X) → 0 < n → AreFew count n (length xs) → i < count → 0 < length (take n (drop (i * n) xs))
-run_some n count i xs some few within = let here = up_to i count n within in let size = run_size n i xs in omega (arith, here, size, few.1, some)
+run_some : {X : Type 0} {n count i : ℕ} (xs : List X) → 0 < n → AreFew count n (length xs) → i < count → 0 < length (take n (drop (i * n) xs))
+run_some {n} {count} {i} xs some few within = let here = up_to i count n within in let size = run_size n i xs in omega (arith, here, size, few.1, some)
 
-run_most : {X : Type 0} (n i : ℕ) (xs : List X) → length (take n (drop (i * n) xs)) ≤ n
-run_most n i xs = let size = run_size n i xs in omega (arith, size)
+run_most : {X : Type 0} {n : ℕ} (i : ℕ) (xs : List X) → length (take n (drop (i * n) xs)) ≤ n
+run_most {n} i xs = let size = run_size n i xs in omega (arith, size)
 
-run_full : {X : Type 0} (n count i : ℕ) (xs : List X) → AreFew count n (length xs) → i + 1 < count → length (take n (drop (i * n) xs)) ≡ n
-run_full n count i xs few next =
+run_full : {X : Type 0} {n count : ℕ} (i : ℕ) (xs : List X) → AreFew count n (length xs) → i + 1 < count → length (take n (drop (i * n) xs)) ≡ n
+run_full {n} {count} i xs few next =
     let there = up_to (suc i) count n (omega (arith, next)) in
     let step : suc i * n ≡ i * n + n = suc-mul i n in
     let size = run_size n i xs in omega (arith, there, step, size, few.1)
 
-pub line_pieces : (delim n : ℕ) (x : List ℕ) → 0 < n → ArePieces (line_count delim) n x (parts (limit.Lines n delim) x)
-line_pieces delim n x some =
+pub line_pieces : (delim : ℕ) {n : ℕ} {x : List ℕ} → 0 < n → ArePieces (line_count delim) n x (parts (limit.Lines n delim) x)
+line_pieces delim {n} {x} some =
     let few = lines_count delim n x some in
     let pieces = parts (limit.Lines n delim) x in record {
       all = joined_parts (limit.Lines n delim) x;
-      some = λ i within. subst (λ size. 0 < size) (sym (ap length (part_lines delim n i x some))) (run_some n (length pieces) i (lines_of delim x) some few within);
-      most = λ i within. subst (λ size. size ≤ n) (sym (ap length (part_lines delim n i x some))) (run_most n i (lines_of delim x));
-      full = λ i next. ap length (part_lines delim n i x some) ∙ run_full n (length pieces) i (lines_of delim x) few next;
+      some = λ i within. subst (λ size. 0 < size) (sym (ap length (part_lines delim n i x some))) (run_some (lines_of delim x) some few within);
+      most = λ i within. subst (λ size. size ≤ n) (sym (ap length (part_lines delim n i x some))) (run_most i (lines_of delim x));
+      full = λ i next. ap length (part_lines delim n i x some) ∙ run_full i (lines_of delim x) few next;
     }
 
 -- as many lines as there are delimiters end with one
-lines_end : (delim k : ℕ) (bytes : List ℕ) (ends : Bool) → 0 < k → k ≤ delimiters delim bytes → ends_with delim (first_lines delim k bytes) ≡ ends → ends ≡ true
-lines_end delim k bytes true some enough is = refl
-lines_end delim k bytes false some enough is =
+lines_end : (delim : ℕ) {k : ℕ} (bytes : List ℕ) (ends : Bool) → 0 < k → k ≤ delimiters delim bytes → ends_with delim (first_lines delim k bytes) ≡ ends → ends ≡ true
+lines_end delim bytes true some enough is = refl
+lines_end delim {k} bytes false some enough is =
     let all : delimiters delim (first_lines delim k bytes) ≡ k = delimiters-first_lines delim k bytes enough in
     let count : line_count delim (first_lines delim k bytes) ≡ min k (line_count delim bytes) = ap length (lines_of-first_lines delim k bytes) ∙ length-take k (lines_of delim bytes) in
     let long : delimiters delim (first_lines delim k bytes) ≤ length (first_lines delim k bytes) = delimiters-le-length delim (first_lines delim k bytes) in
@@ -187,45 +190,45 @@ lines_end delim k bytes false some enough is =
     absurd (omega (arith, all, count, one_more))
 
 -- the lines from this place on hold a run of n lines and more
-more_lines : (n i count all : ℕ) → count * n < all + n → i + 1 < count → n < all - i * n
-more_lines n i count all few next =
+more_lines : {n : ℕ} (i : ℕ) {count : ℕ} (all : ℕ) → count * n < all + n → i + 1 < count → n < all - i * n
+more_lines {n} i {count} all few next =
     let there = up_to (suc i) count n (omega (arith, next)) in
     let step : suc i * n ≡ i * n + n = suc-mul i n in omega (arith, there, step, few)
 
-line_part : (delim n i : ℕ) (x : List ℕ) → 0 < n → text_at (parts (limit.Lines n delim) x) i ≡ first_lines delim n (after_lines delim (i * n) x)
-line_part delim n i x some =
+line_part : (delim : ℕ) {n : ℕ} (i : ℕ) (x : List ℕ) → 0 < n → text_at (parts (limit.Lines n delim) x) i ≡ first_lines delim n (after_lines delim (i * n) x)
+line_part delim {n} i x some =
     sym (joined-lines_of delim (text_at (parts (limit.Lines n delim) x) i))
     ∙ ap joined (part_lines delim n i x some ∙ ap (take n) (sym (lines_of-after_lines delim (i * n) x)))
 
-pub line_ends : (delim n : ℕ) (x : List ℕ) → 0 < n → AreUncut delim (parts (limit.Lines n delim) x)
-line_ends delim n x some i next =
+pub line_ends : (delim : ℕ) {n : ℕ} (x : List ℕ) → 0 < n → AreUncut delim (parts (limit.Lines n delim) x)
+line_ends delim {n} x some i next =
     let rest = after_lines delim (i * n) x in
     let left : line_count delim rest ≡ line_count delim x - i * n = ap length (lines_of-after_lines delim (i * n) x) ∙ length-drop (i * n) (lines_of delim x) in
     let near : line_count delim rest ≤ delimiters delim rest + 1 = (line_count_near delim rest).1 in
-    let more = more_lines n i (length (parts (limit.Lines n delim) x)) (line_count delim x) (lines_count delim n x some).1 next in
-    ap (ends_with delim) (line_part delim n i x some) ∙ lines_end delim n rest _ some (omega (arith, left, near, more)) refl
+    let more = more_lines i (line_count delim x) (lines_count delim n x some).1 next in
+    ap (ends_with delim) (line_part delim i x some) ∙ lines_end delim rest _ some (omega (arith, left, near, more)) refl
 
-pub byte_pieces : (n : ℕ) (x : List ℕ) → 0 < n → ArePieces length n x (parts (limit.Bytes n) x)
-byte_pieces n x some =
+pub byte_pieces : {n : ℕ} {x : List ℕ} → 0 < n → ArePieces length n x (parts (limit.Bytes n) x)
+byte_pieces {n} {x} some =
     let few = bytes_count n x some in
     let pieces = parts (limit.Bytes n) x in record {
       all = joined_parts (limit.Bytes n) x;
-      some = λ i within. subst (λ size. 0 < size) (sym (ap length (part_bytes n i x some))) (run_some n (length pieces) i x some few within);
-      most = λ i within. subst (λ size. size ≤ n) (sym (ap length (part_bytes n i x some))) (run_most n i x);
-      full = λ i next. ap length (part_bytes n i x some) ∙ run_full n (length pieces) i x few next;
+      some = λ i within. subst (λ size. 0 < size) (sym (ap length (part_bytes n i x some))) (run_some x some few within);
+      most = λ i within. subst (λ size. size ≤ n) (sym (ap length (part_bytes n i x some))) (run_most i x);
+      full = λ i next. ap length (part_bytes n i x some) ∙ run_full i x few next;
     }
 
 -- Pieces of whole lines within n bytes
 
-ends_line : (delim n : ℕ) (bytes : List ℕ) → length bytes ≡ n → EndsLine delim n (whole_lines delim bytes)
-ends_line delim n bytes long = elim (cases_lt 0 (delimiters delim bytes)) [
-  | inl lines ↦ inl (ap (ends_with delim) (whole_of_lines delim bytes lines) ∙ lines_end delim (delimiters delim bytes) bytes _ lines (omega arith) refl)
+ends_line : (delim : ℕ) {n : ℕ} (bytes : List ℕ) → length bytes ≡ n → EndsLine delim n (whole_lines delim bytes)
+ends_line delim {n} bytes long = elim (cases_lt 0 (delimiters delim bytes)) [
+  | inl lines ↦ inl (ap (ends_with delim) (whole_of_lines delim bytes lines) ∙ lines_end delim bytes _ lines (omega arith) refl)
   | inr few ↦ let none : delimiters delim bytes ≡ 0 = omega (arith, few) in
       inr (subst (λ piece. (length piece ≡ n) × (delimiters delim piece ≡ 0)) (sym (whole_of_none delim bytes none)) (long, none))
 ]
 
 uncut : (delim n : ℕ) (x : List ℕ) (pieces : List (List ℕ)) → AreLineByteParts delim n x pieces → (place : ℕ) → place + 1 < length pieces → EndsLine delim n (text_at pieces place)
-uncut delim n _ _ (piece.more x pieces enough past) zero next = ends_line delim n (take n x) (length-take-le n x enough)
+uncut delim n _ _ (piece.more x pieces enough past) zero next = ends_line delim (take n x) (length-take-le n x enough)
 uncut delim n _ _ (piece.more x pieces enough past) (suc place) next = uncut delim n _ pieces past place (omega (arith, next))
 uncut delim n x pieces are place next = absurd (omega (arith, next))
 
@@ -236,8 +239,8 @@ some_line delim [] some = absurd (omega (arith, some))
 some_line delim (byte ∷ text) some = subst (λ line. 0 < length line) (sym (first_lines-cons delim byte 0 text)) (omega arith)
 
 -- the line after the complete ones of a front, which is completed
-line_after : (delim : ℕ) (front rest : List ℕ) (k : ℕ) → k ≡ delimiters delim front → length (first_lines delim (k + 1) ((front ++ rest) ++ delim ∷ [])) ≡ length front + length (first_lines delim 1 (rest ++ delim ∷ []))
-line_after delim front rest k count =
+line_after : (delim : ℕ) (front rest : List ℕ) {k : ℕ} → k ≡ delimiters delim front → length (first_lines delim (k + 1) ((front ++ rest) ++ delim ∷ [])) ≡ length front + length (first_lines delim 1 (rest ++ delim ∷ []))
+line_after delim front rest {k} count =
     let one : k + 1 - delimiters delim front ≡ 1 = omega (arith, count) in
     ap (λ text. length (first_lines delim (k + 1) text)) (append_assoc front rest (delim ∷ []))
     ∙ ap length (first_lines-append delim (k + 1) front (rest ++ delim ∷ []))
@@ -245,11 +248,11 @@ line_after delim front rest k count =
     ∙ ap (λ text. length text + length (first_lines delim (k + 1 - delimiters delim front) (rest ++ delim ∷ []))) (first_lines-short delim (k + 1) front (omega (arith, count)))
     ∙ ap (λ n. length front + length (first_lines delim n (rest ++ delim ∷ []))) one
 
-line_past : (delim n : ℕ) (x part rest : List ℕ) → n ≤ length x → x ≡ part ++ rest → delimiters delim part ≡ delimiters delim (take n x) → IsFilled delim n part rest
-line_past delim n x part rest enough is same =
+line_past : (delim : ℕ) {n : ℕ} {x : List ℕ} (part rest : List ℕ) → n ≤ length x → x ≡ part ++ rest → delimiters delim part ≡ delimiters delim (take n x) → IsFilled delim n part rest
+line_past delim {n} {x} part rest enough is same =
     let k = delimiters delim (take n x) in
     let both : length part + length (first_lines delim 1 (rest ++ delim ∷ [])) ≡ length (take n x) + length (first_lines delim 1 (drop n x ++ delim ∷ [])) =
-    sym (line_after delim part rest k (sym same)) ∙ ap (λ text. length (first_lines delim (k + 1) (text ++ delim ∷ []))) (sym is ∙ sym (take-append-drop n x)) ∙ line_after delim (take n x) (drop n x) k refl in
+    sym (line_after delim part rest (sym same)) ∙ ap (λ text. length (first_lines delim (k + 1) (text ++ delim ∷ []))) (sym is ∙ sym (take-append-drop n x)) ∙ line_after delim (take n x) (drop n x) refl in
     let long : length (take n x) ≡ n = length-take-le n x enough in
     let more : length (drop n x ++ delim ∷ []) ≡ length (drop n x) + 1 = length-append (drop n x) (delim ∷ []) in
     let some = some_line delim (drop n x ++ delim ∷ []) (omega (arith, more)) in
@@ -266,14 +269,14 @@ same_line delim next rest some =
     ap (first_lines delim 1) (append_assoc next rest (delim ∷ [])) ∙ first_lines-full delim 1 next (rest ++ delim ∷ []) (omega (arith, some))
     ∙ sym (first_lines-full delim 1 next (delim ∷ []) (omega (arith, some)))
 
-open_next : (delim n : ℕ) (part next : List ℕ) → length next ≡ n → delimiters delim next ≡ 0 → IsFilled delim n part next
-open_next delim n part next long none =
+open_next : (delim : ℕ) {n : ℕ} (part next : List ℕ) → length next ≡ n → delimiters delim next ≡ 0 → IsFilled delim n part next
+open_next delim part next long none =
     let line : length (first_lines delim 1 (next ++ delim ∷ [])) ≡ length next + 1 = ap length (first_lines-more delim 1 next delim (omega (arith, none))) ∙ length-append next (delim ∷ []) in
     omega (arith, line, long)
 
 -- the next piece has the next line, or n bytes of it
-filled_by : (delim n : ℕ) (part rest : List ℕ) → n ≤ length rest → IsFilled delim n part rest → IsFilled delim n part (whole_lines delim (take n rest))
-filled_by delim n part rest enough filled =
+filled_by : (delim : ℕ) {n : ℕ} (part rest : List ℕ) → n ≤ length rest → IsFilled delim n part rest → IsFilled delim n part (whole_lines delim (take n rest))
+filled_by delim {n} part rest enough filled =
     let next = whole_lines delim (take n rest) in
     let count : delimiters delim next ≡ delimiters delim (take n rest) = whole_count delim (take n rest) in
     let whole : next ++ drop (length next) rest ≡ rest = first_then_after (limit.LineBytes n delim) rest in
@@ -281,38 +284,38 @@ filled_by delim n part rest enough filled =
       | inl lines ↦ subst (λ line. n < length part + length line) (ap (λ text. first_lines delim 1 (text ++ delim ∷ [])) (sym whole) ∙ same_line delim next (drop (length next) rest) (omega (arith, lines, count))) filled
       | inr few ↦
           let none : delimiters delim (take n rest) ≡ 0 = omega (arith, few) in
-          open_next delim n part next (ap length (whole_of_none delim (take n rest) none) ∙ length-take-le n rest enough) (count ∙ none)
+          open_next delim part next (ap length (whole_of_none delim (take n rest) none) ∙ length-take-le n rest enough) (count ∙ none)
     ]
 
-first_filled : (delim n : ℕ) (part rest : List ℕ) (pieces : List (List ℕ)) → AreLineByteParts delim n rest pieces → 0 < length pieces → IsFilled delim n part rest → IsFilled delim n part (text_at pieces 0)
-first_filled delim n part _ _ piece.none some filled = absurd (omega (arith, some))
-first_filled delim n part _ _ (piece.one rest has short) some filled = filled
-first_filled delim n part _ _ (piece.more rest pieces enough past) some filled = filled_by delim n part rest enough filled
+first_filled : {delim n : ℕ} (part : List ℕ) {rest : List ℕ} {pieces : List (List ℕ)} → AreLineByteParts delim n rest pieces → 0 < length pieces → IsFilled delim n part rest → IsFilled delim n part (text_at pieces 0)
+first_filled part piece.none some filled = absurd (omega (arith, some))
+first_filled part (piece.one rest has short) some filled = filled
+first_filled {delim} part (piece.more rest pieces enough past) some filled = filled_by delim part rest enough filled
 
-each_filled : (delim n : ℕ) (x : List ℕ) (pieces : List (List ℕ)) → AreLineByteParts delim n x pieces → (place : ℕ) → place + 1 < length pieces → IsFilled delim n (text_at pieces place) (text_at pieces (suc place))
-each_filled delim n _ _ (piece.more x pieces enough past) zero next =
+each_filled : {delim n : ℕ} {x : List ℕ} {pieces : List (List ℕ)} → AreLineByteParts delim n x pieces → (place : ℕ) → place + 1 < length pieces → IsFilled delim n (text_at pieces place) (text_at pieces (suc place))
+each_filled {delim} {n} (piece.more x pieces enough past) zero next =
     let first = whole_lines delim (take n x) in
-    first_filled delim n first (drop (length first) x) pieces past (omega (arith, next)) (line_past delim n x first (drop (length first) x) enough (sym (first_then_after (limit.LineBytes n delim) x)) (whole_count delim (take n x)))
-each_filled delim n _ _ (piece.more x pieces enough past) (suc place) next = each_filled delim n _ pieces past place (omega (arith, next))
-each_filled delim n x pieces are place next = absurd (omega (arith, next))
+    first_filled first past (omega (arith, next)) (line_past delim first (drop (length first) x) enough (sym (first_then_after (limit.LineBytes n delim) x)) (whole_count delim (take n x)))
+each_filled (piece.more x pieces enough past) (suc place) next = each_filled past place (omega (arith, next))
+each_filled are place next = absurd (omega (arith, next))
 
-pub line_byte_pieces : (delim n : ℕ) (x : List ℕ) → 0 < n → AreLinePieces delim n x (parts (limit.LineBytes n delim) x)
-line_byte_pieces delim n x some =
+pub line_byte_pieces : {delim n : ℕ} {x : List ℕ} → 0 < n → AreLinePieces delim n x (parts (limit.LineBytes n delim) x)
+line_byte_pieces {delim} {n} {x} some =
     let are = line_bytes_are_parts delim n x some in
     let within = line_bytes_within delim n x (parts (limit.LineBytes n delim) x) some are in record {
       all = joined_parts (limit.LineBytes n delim) x;
       some = λ place less. (within place [] less).0;
       most = λ place less. (within place [] less).1;
       uncut = uncut delim n x (parts (limit.LineBytes n delim) x) are;
-      filled = each_filled delim n x (parts (limit.LineBytes n delim) x) are;
+      filled = each_filled are;
     }
 
 -- Lines dealt in turn
 
 -- a file that is left out has no line
-dealt_at : (delim n : ℕ) (elide : Bool) (x : List ℕ) (file : ℕ) → file < n → text_at (dealt_files delim elide n x) file ≡ text_at (round_robin delim n x) file
-dealt_at delim n false x file within = refl
-dealt_at delim n true x file within = ap (λ files. text_at files file) (first_files delim n x) ∙ elim (cases_lt file (line_count delim x)) [
+dealt_at : (delim : ℕ) {n : ℕ} (elide : Bool) (x : List ℕ) {file : ℕ} → file < n → text_at (dealt_files delim elide n x) file ≡ text_at (round_robin delim n x) file
+dealt_at delim false x within = refl
+dealt_at delim {n} true x {file} within = ap (λ files. text_at files file) (first_files delim n x) ∙ elim (cases_lt file (line_count delim x)) [
   | inl some ↦ get_or-take (line_count delim x) (round_robin delim n x) file [] some
   | inr past ↦
       let here : 0 + file ≡ file = omega arith in
@@ -335,10 +338,10 @@ all_some [] = All-nil (λ bytes. 0 < length bytes)
 all_some ([] ∷ files) = all_some files
 all_some ((byte ∷ bytes) ∷ files) = All-cons (λ bytes. 0 < length bytes) (byte ∷ bytes) (filter is_some files) (omega arith) (all_some files)
 
-pub dealt_lines : (delim n : ℕ) (elide : Bool) (x : List ℕ) → 0 < n → AreDealt delim n elide x (dealt_files delim elide n x)
-dealt_lines delim n elide x some = record {
+pub dealt_lines : {delim n : ℕ} {elide : Bool} {x : List ℕ} → 0 < n → AreDealt delim n elide x (dealt_files delim elide n x)
+dealt_lines {delim} {n} {elide} {x} some = record {
   lines = λ i. sym (
-      ap (λ text. get_or (lines_of delim text) (i / n) []) (dealt_at delim n elide x (i % n) (mod_below i n some))
+      ap (λ text. get_or (lines_of delim text) (i / n) []) (dealt_at delim elide x (mod_below i n some))
       ∙ line_at delim n (i % n) (i / n) x (mod_below i n some)
       ∙ ap (λ place. get_or (lines_of delim x) place []) (let sum = div-add-mod' i n in omega (arith, sum)));
   all = ap length (joined_dealt delim n elide x) ∙ all_dealt delim n x some;
@@ -349,7 +352,7 @@ dealt_lines delim n elide x some = record {
 -- By the way to split
 
 -- what is true of the pieces, where they are within limits, is true of the files
-pub by_cut : (run : Run) (asked : SplitAsked) (cut : Cut) (input : List ℕ) (P : List (List ℕ) → Type 0) → (IsInLimits cut → P (pieces_of asked.delim cut asked.elide input)) → Does run (Split asked) → HasInput run input → asked.cut ≡ cut → P (contents_of run)
-by_cut run asked cut input P holds does has is =
-    let split = is_split run asked input does has in
+pub by_cut : {run : Run} {asked : SplitAsked} {cut : Cut} {input : List ℕ} (P : List (List ℕ) → Type 0) → (IsInLimits cut → P (pieces_of asked.delim cut asked.elide input)) → Does run (Split asked) → HasInput run input → asked.cut ≡ cut → P (contents_of run)
+by_cut {asked} {cut} {input} P holds does has is =
+    let split = is_split does has in
     subst P (sym (split.contents ∙ ap (λ those. pieces_of asked.delim those asked.elide input) is)) (holds (subst IsInLimits is split.can.cut))

@@ -26,15 +26,15 @@ use Rattle.words_core.specs.CsplitWords.{fault_in}
 use Rattle.words_core.specs.Words.{HasBadOperands}
 use Rattle.words_core.specs.declared.settings.Settings.{Settings}
 use Rattle.words_core.specs.declared.settings.Settings.TheVariants.{Head, Tail, Split, Csplit, Tee}
-use Rattle.tools_core.specs.Outcome.{DoesAsked, RefusesOperands, speaker, word_of}
-use Rattle.tools_core.specs.Tasks.{csplit_task, head_task, names_of, split_task, tail_task, tool_of, is_minus, is_plus, plan_of}
+use Rattle.tools_core.specs.Outcome.{DoesAsked, RefusesOperands, word_of}
+use Rattle.tools_core.specs.Tasks.{names_of, tool_of, is_plus, plan_of}
 use Rattle.tools_core.specs.Promises.{BrokeAt, Completes, HasLong, IsCalled, IsCopied, IsStopped, IsUnstopped, Ran, Run, StopsRun, Unstopped, failing, WhyBroken, IsGone, SaysLines, removes_files, told, unremoved}
 use Rattle.tools_core.proofs.BeginLemmas.{slots_at}
 use Rattle.tools_core.proofs.PromiseLemmas.{ran_over}
 use Rattle.tools_core.proofs.SamePromises.{some_left}
 use Rattle.tools_core.proofs.RunLemmas.{runs_as_named}
 use Rattle.tools_core.proofs.ToldLemmas.{SaysLine, has_after, has_before, says_line, says_one, stop_says, stopped_error, tee_lines, tee_says, unsound_broke}
-use Rattle.tools_core.proofs.LiveLemmas.{AreLive, IsLiving, csplit_living, head_living, inputs_live, live_begin, outputs_have, outputs_sound, split_living, step_live, tail_living}
+use Rattle.tools_core.proofs.LiveLemmas.{AreLive, IsLiving, csplit_living, inputs_live, live_begin, outputs_have, outputs_sound, split_living, step_live, tail_living}
 use Rattle.ports_core.specs.Swept as swept_so
 use Rattle.ports_core.specs.declared.slot.State.TheVariants as state
 use Rattle.ports_core.specs.declared.tool.Tool.TheVariants as tool
@@ -45,16 +45,16 @@ use Rattle.tee_core.specs.Run as tee
 
 -- an output that broke stays broken, whether its file is removed or not
 
-cleared_still : (old output : Slot) → Cleared old output → old.is_broken ≡ true → output.is_broken ≡ true
-cleared_still old _ (swept_so.removed has) broken = broken
-cleared_still old _ (swept_so.stuck has) broken = refl
-cleared_still old _ (swept_so.none lacks) broken = broken
+cleared_still : {old output : Slot} → Cleared old output → old.is_broken ≡ true → output.is_broken ≡ true
+cleared_still (swept_so.removed has) broken = broken
+cleared_still (swept_so.stuck has) broken = refl
+cleared_still (swept_so.none lacks) broken = broken
 
 swept_still : (clears : Bool) (old new : List Slot) (place : ℕ) → Swept clears 2 old new → (slot_at old place).is_broken ≡ true → (slot_at new place).is_broken ≡ true
 swept_still false old new place swept broken = ap (λ slots. (slot_at slots place).is_broken) swept ∙ broken
 swept_still true old new place swept broken = elim (cases_lt place 2) [
   | inl before ↦ ap (λ (slot : Slot). slot.is_broken) (swept.before place before) ∙ broken
-  | inr past ↦ cleared_still (slot_at old place) (slot_at new place) (swept.cleared place past) broken
+  | inr past ↦ cleared_still (swept.cleared place past) broken
 ]
 
 last_broke : (kept : List ℕ) (slots : List Slot) → (slot_at (slots ++ unopened kept ∷ []) (length slots)).is_broken ≡ true
@@ -63,18 +63,18 @@ last_broke kept (slot ∷ slots) = last_broke kept slots
 
 -- what was read of an input is a beginning of it
 
-call_long : (work : Work) (opening : Needs) (most : ℕ) (content : Content) (call : Step) → IsCall work opening most content call → 2 ^ 63 ≤ length call.read → 2 ^ 63 ≤ length content.bytes
-call_long work opening most content _ opens long = absurd (omega (arith, long))
-call_long work opening most content _ (feeds x piece rest is short more) long = let size = ap length is in let all = length-append (x ++ piece) rest in omega (arith, size, all, long)
-call_long work opening most content _ (ends_call x (to_end ended is) needed) long = subst (λ bytes. 2 ^ 63 ≤ length bytes) (sym is) long
-call_long work opening most content _ (ends_call x (enough rest is complete) needed) long = let size = ap length is in let all = length-append x rest in omega (arith, size, all, long)
+call_long : {work : Work} {opening : Needs} {most : ℕ} {content : Content} {call : Step} → IsCall work opening most content call → 2 ^ 63 ≤ length call.read → 2 ^ 63 ≤ length content.bytes
+call_long opens long = absurd (omega (arith, long))
+call_long (feeds x piece rest is short more) long = let size = ap length is in let all = length-append (x ++ piece) rest in omega (arith, size, all, long)
+call_long (ends_call x (to_end ended is) needed) long = subst (λ bytes. 2 ^ 63 ≤ length bytes) (sym is) long
+call_long (ends_call x (enough rest is complete) needed) long = let size = ap length is in let all = length-append x rest in omega (arith, size, all, long)
 
 abbrev IsLong : Option Content → Type 0
 IsLong there = (content : Content) × (there ≡ Some content) × (2 ^ 63 ≤ length content.bytes)
 
-step_long : (task : Task) (most : ℕ) (so_far : Part) (header : List ℕ) (slot : Option ℕ) (sources : List Source) (there : Option Content) (step : Step) → RunStep true task most so_far header slot sources there step → 2 ^ 63 ≤ length step.read → IsLong there
-step_long task most so_far header slot sources _ _ (calling content call is leaves) long = (content, refl, call_long task.work task.opening most content call is long)
-step_long task most so_far header slot sources there step at long = absurd (omega (arith, long))
+step_long : {task : Task} {most : ℕ} {so_far : Part} {header : List ℕ} {slot : Option ℕ} {sources : List Source} {there : Option Content} {step : Step} → RunStep true task most so_far header slot sources there step → 2 ^ 63 ≤ length step.read → IsLong there
+step_long (calling content call is leaves) long = (content, refl, call_long is long)
+step_long at long = absurd (omega (arith, long))
 
 stops_run : (run : Run) (asked : Settings) (IsDue : List ℕ → Type 0) (step : Step) (clears : Bool) (place count : ℕ) (before reached : List Slot) (fault : Fault) → (2 ^ 63 ≤ length step.read → HasLong run asked) → 2 ≤ length before → IsAt fault 2 place count
     → Stops step reached fault → Marks IsDue fault before reached → Swept clears 2 reached run.outputs → StopsRun run asked (output_named run.outputs fault) fault
@@ -96,92 +96,90 @@ record IsStop (which : Tool) (run : Run) (asked : Settings) : Type 0 where
   pub stops : StopsRun run asked name why
   pub line : SaysLine which (message_of which why name) (slot_at run.outputs 1)
 
-ends_or : (run : Run) (asked : Settings) (task : Task) → (ends : EndsAs true true task (inputs_at run.world (names_of asked)) run.inputs run.outputs run.status) → IsUnstopped ends ⊎ IsStop task.tool run asked
-ends_or run asked task (as_defined error reached says outputs swept done is) = inl tt
-ends_or run asked task (stopped fault before input after error step reached are done untouched at stops between swept says is) =
-    let slots = ap length (slots_at between.part error between.reached between.outputs) in inr (record {
+ends_or : {run : Run} {asked : Settings} {task : Task} (ends : EndsAs true true task (inputs_at run.world (names_of asked)) run.inputs run.outputs run.status) → IsUnstopped ends ⊎ IsStop task.tool run asked
+ends_or (as_defined error reached says outputs swept done is) = inl tt
+ends_or {run} {asked} {task} (stopped fault before input after error step reached are done untouched at stops between swept says is) =
+    let slots = ap length (slots_at between.outputs) in inr (record {
       failed = is;
       why = fault;
       name = output_named run.outputs fault;
       stops = stops_run run asked (IsNext between.part step.high) step task.work.clears between.place (length between.part.files) between.reached reached fault
-          (λ many. let (content, there, long) = step_long task _ _ _ input.slot run.inputs input.content step at many in (before, input, after, content, are, there, long)) (omega (arith, slots)) between.from stops between.marks swept;
-      line = subst (SaysLine task.tool (message_of task.tool fault (output_named run.outputs fault))) (sym (stopped_error task.work.clears error step.low step.high fault reached run.outputs between swept)) ((made_by task before).messages, [], stop_says task before fault (output_named run.outputs fault) error says);
+          (λ many. let (content, there, long) = step_long at many in (before, input, after, content, are, there, long)) (omega (arith, slots)) between.from stops between.marks swept;
+      line = subst (SaysLine task.tool (message_of task.tool fault (output_named run.outputs fault))) (sym (stopped_error task.work.clears run.outputs between swept)) ((made_by task before).messages, [], stop_says task before fault (output_named run.outputs fault) says);
     })
-ends_or run asked task (no_room error says slots untouched count is) = inr (record {
+ends_or {task} (no_room error says slots untouched count is) = inr (record {
   failed = is;
   why = Memory;
   name = [];
   stops = tt;
-  line = subst (λ those. SaysLine task.tool (message_of task.tool Memory []) (slot_at those 1)) (sym slots) ([], [], says_one task.tool Memory [] error says);
+  line = subst (λ those. SaysLine task.tool (message_of task.tool Memory []) (slot_at those 1)) (sym slots) ([], [], says_one Memory [] says);
 })
 
 -- `tee`
 
-read_or : (content : Content) (Leaves : List ℕ → Type 0) (is_vain : Bool) (x : List ℕ) (fault : Option Fault) → is_vain ≡ false → IsRead content Leaves is_vain x fault → (x ≡ content.bytes) ⊎ ((fault ≡ Some TooLong) × (2 ^ 63 ≤ length content.bytes))
-read_or content Leaves _ _ _ left (tee.to_end x is ended leaves) = inl (sym is)
-read_or content Leaves _ _ _ left (tee.to_break x is breaks leaves) = inl (sym is)
-read_or content Leaves _ _ _ left (tee.to_limit x piece rest is many within leaves) = let size = ap length is in let all = length-append (x ++ piece) rest in inr (refl, omega (arith, size, all, many))
-read_or content Leaves _ _ _ left (tee.to_last_output x rest is leaves) = absurd (false≢true (sym left))
+read_or : {content : Content} (Leaves : List ℕ → Type 0) {is_vain : Bool} {x : List ℕ} {fault : Option Fault} → is_vain ≡ false → IsRead content Leaves is_vain x fault → (x ≡ content.bytes) ⊎ ((fault ≡ Some TooLong) × (2 ^ 63 ≤ length content.bytes))
+read_or Leaves left (tee.to_end x is ended leaves) = inl (sym is)
+read_or Leaves left (tee.to_break x is breaks leaves) = inl (sym is)
+read_or Leaves left (tee.to_limit x piece rest is many within leaves) = let size = ap length is in let all = length-append (x ++ piece) rest in inr (refl, omega (arith, size, all, many))
+read_or Leaves left (tee.to_last_output x rest is leaves) = absurd (false≢true (sym left))
 
-failing_stops : (run : Run) (asked : Settings) (name : List ℕ) (place : ℕ) (which : State) → BrokeAt run place name → StopsRun run asked name (failing place which)
-failing_stops run asked name place state.Open broke = broke
-failing_stops run asked name place which broke = broke
+failing_stops : (run : Run) (asked : Settings) {name : List ℕ} {place : ℕ} (which : State) → BrokeAt run place name → StopsRun run asked name (failing place which)
+failing_stops run asked state.Open broke = broke
+failing_stops run asked which broke = broke
 
-broke_stop : (run : Run) (asked : Settings) (mode : Mode) (pieces names : List (List ℕ)) (first : Option ℕ) (broke : List (Option ℕ)) (output error : Slot) (files : List Slot) (fault : Option Fault) → are_sound (first ∷ broke) ≡ false → OutputLeft true pieces first output
+broke_stop : {run : Run} {asked : Settings} {mode : Mode} {pieces names : List (List ℕ)} {first : Option ℕ} {broke : List (Option ℕ)} {output error : Slot} {files : List Slot} (fault : Option Fault) → are_sound (first ∷ broke) ≡ false → OutputLeft true pieces first output
     → FilesLeft true mode pieces names broke files → SaysAll true tool.Tee (messages_of names (first ∷ broke) (length pieces) fault) standard_error error → run.outputs ≡ output ∷ error ∷ files → run.status ≡ cond (are_sound (first ∷ broke) && is_none fault) 0 1 → IsStop tool.Tee run asked
-broke_stop run asked mode pieces names first broke output error files fault unsound left rest says slots is =
-    let (place, differs, broken) = unsound_broke mode pieces names first broke output error files left rest unsound in
-    let (name, called, line) = tee_says mode pieces names first broke output error files fault place left rest says differs broken in record {
+broke_stop {run} {asked} {output} {error} {files} fault unsound left rest says slots is =
+    let (place, differs, broken) = unsound_broke left rest unsound in
+    let (name, called, line) = tee_says fault left rest says differs broken in record {
       failed = is ∙ ap (λ flag. cond (flag && is_none fault) 0 1) unsound;
       why = failing place (slot_at (output ∷ error ∷ files) place).state;
       name = name;
-      stops = failing_stops run asked name place (slot_at (output ∷ error ∷ files) place).state (subst (λ those. (place ≡ 1 → ⊥) × IsCalled (slot_at those place) name × ((slot_at those place).is_broken ≡ true)) (sym slots) (differs, called, broken));
+      stops = failing_stops run asked (slot_at (output ∷ error ∷ files) place).state (subst (λ those. (place ≡ 1 → ⊥) × IsCalled (slot_at those place) name × ((slot_at those place).is_broken ≡ true)) (sym slots) (differs, called, broken));
       line = subst (λ those. SaysLine tool.Tee (message_of tool.Tee (failing place (slot_at (output ∷ error ∷ files) place).state) name) (slot_at those 1)) (sym slots) line;
     }
 
-long_stop : (run : Run) (asked : Settings) (names : List (List ℕ)) (broke : List (Option ℕ)) (pieces : ℕ) (error : Slot) (fault : Option Fault) → HasLong run asked → are_sound broke ≡ true → fault ≡ Some TooLong → SaysAll true tool.Tee (messages_of names broke pieces fault) standard_error error
+long_stop : {run : Run} {asked : Settings} (names : List (List ℕ)) (broke : List (Option ℕ)) (pieces : ℕ) {error : Slot} {fault : Option Fault} → HasLong run asked → are_sound broke ≡ true → fault ≡ Some TooLong → SaysAll true tool.Tee (messages_of names broke pieces fault) standard_error error
     → slot_at run.outputs 1 ≡ error → run.status ≡ cond (are_sound broke && is_none fault) 0 1 → IsStop tool.Tee run asked
-long_stop run asked names broke pieces error fault long sound met says last is = record {
+long_stop names broke pieces {error} {fault} long sound met says last is = record {
   failed = is ∙ ap (λ flag. cond (flag && is_none fault) 0 1) sound ∙ ap (λ why. cond (is_none why) 0 1) met;
   why = TooLong;
   name = codes "standard input";
   stops = long;
   line = subst (SaysLine tool.Tee (message_of tool.Tee TooLong (codes "standard input"))) (sym last)
-      (says_line tool.Tee (message_of tool.Tee TooLong (codes "standard input")) (messages_of names broke pieces (Some TooLong)) error
-      (has_before _ (said_before (suc pieces) (output_names names) broke ++ said_of_input (Some TooLong)) (said_in (suc pieces) (output_names names) broke) (has_after _ (said_before (suc pieces) (output_names names) broke) (said_of_input (Some TooLong)) ([], [], refl)))
-      (tee_lines names broke pieces (Some TooLong) error (subst (λ why. SaysAll true tool.Tee (messages_of names broke pieces why) standard_error error) met says)));
+      (says_line
+      (has_before (said_in (suc pieces) (output_names names) broke) (has_after (said_before (suc pieces) (output_names names) broke) ([], [], refl)))
+      (tee_lines names broke pieces (Some TooLong) (subst (λ why. SaysAll true tool.Tee (messages_of names broke pieces why) standard_error error) met says)));
 }
 
-tee_by : (run : Run) (asked : Settings) (mode : Mode) (content : Content) (Leaves : List ℕ → Type 0) (is_vain : Bool) (pieces names : List (List ℕ)) (first : Option ℕ) (broke : List (Option ℕ)) (output error : Slot) (files : List Slot) (fault : Option Fault) (sound : Bool) → are_sound (first ∷ broke) ≡ sound
+tee_by : {run : Run} {asked : Settings} {mode : Mode} {content : Content} (Leaves : List ℕ → Type 0) {is_vain : Bool} {pieces names : List (List ℕ)} {first : Option ℕ} {broke : List (Option ℕ)} {output error : Slot} {files : List Slot} {fault : Option Fault} (sound : Bool) → are_sound (first ∷ broke) ≡ sound
     → (2 ^ 63 ≤ length content.bytes → HasLong run asked) → (first ≡ None → is_vain ≡ false) → IsRead content Leaves is_vain (concat pieces) fault → OutputLeft true pieces first output → FilesLeft true mode pieces names broke files
     → SaysAll true tool.Tee (messages_of names (first ∷ broke) (length pieces) fault) standard_error error → run.outputs ≡ output ∷ error ∷ files → run.status ≡ cond (are_sound (first ∷ broke) && is_none fault) 0 1
     → ((are_sound (first ∷ broke) ≡ true) × (concat pieces ≡ content.bytes)) ⊎ IsStop tool.Tee run asked
-tee_by run asked mode content Leaves is_vain pieces names first broke output error files fault false sound long vain reads left rest says slots is = inr (broke_stop run asked mode pieces names first broke output error files fault sound left rest says slots is)
-tee_by run asked mode content Leaves is_vain pieces names first broke output error files fault true sound long vain reads left rest says slots is = elim (read_or content Leaves is_vain (concat pieces) fault (vain (sound_first first (are_sound broke) sound).0) reads) [
+tee_by Leaves {pieces} {names} {first} {broke} {output} {error} {files} {fault} false sound long vain reads left rest says slots is = inr (broke_stop fault sound left rest says slots is)
+tee_by Leaves {is_vain} {pieces} {names} {first} {broke} {error} {fault} true sound long vain reads left rest says slots is = elim (read_or Leaves (vain (sound_first first (are_sound broke) sound).0) reads) [
   | inl all ↦ inl (sound, all)
-  | inr (met, many) ↦ inr (long_stop run asked names (first ∷ broke) (length pieces) error fault (long many) sound met says (ap (λ those. slot_at those 1) slots) is)
+  | inr (met, many) ↦ inr (long_stop names (first ∷ broke) (length pieces) (long many) sound met says (ap (λ those. slot_at those 1) slots) is)
 ]
 
-tee_or : (run : Run) (asked : Settings) (mode : Mode) (names : List (List ℕ)) (content : Content) (source : Source) → inputs_at run.world (names_of asked) ≡ standard_input content ∷ [] → (ends : tee.EndsAs true true mode names content source run.outputs run.status)
+tee_or : {run : Run} {asked : Settings} {mode : Mode} {names : List (List ℕ)} {content : Content} {source : Source} → inputs_at run.world (names_of asked) ≡ standard_input content ∷ [] → (ends : tee.EndsAs true true mode names content source run.outputs run.status)
     → IsCopied ends ⊎ IsStop tool.Tee run asked
-tee_or run asked mode names content source only (tee.copied pieces fault first broke output error files comes some left rest says slots is) =
-    tee_by run asked mode content _ _ pieces names first broke output error files fault (are_sound (first ∷ broke)) refl (λ many. ([], standard_input content, [], content, only, refl, many)) (λ none. some_left (suc (length pieces)) first broke none) comes.read left rest says slots is
-tee_or run asked mode names content source only (tee.no_room error says unread slots is) = inr (record {
+tee_or {content} only (tee.copied pieces fault first broke output error files comes some left rest says slots is) =
+    tee_by _ (are_sound (first ∷ broke)) refl (λ many. ([], standard_input content, [], content, only, refl, many)) (λ none. some_left (suc (length pieces)) broke none) comes.read left rest says slots is
+tee_or only (tee.no_room error says unread slots is) = inr (record {
   failed = is;
   why = Memory;
   name = [];
   stops = tt;
-  line = subst (λ those. SaysLine tool.Tee (message_of tool.Tee Memory []) (slot_at those 1)) (sym slots) ([], [], says_one tool.Tee Memory [] error says);
+  line = subst (λ those. SaysLine tool.Tee (message_of tool.Tee Memory []) (slot_at those 1)) (sym slots) ([], [], says_one Memory [] says);
 })
 
 -- All tools
 
-does_or : (run : Run) (asked : Settings) → (does : DoesAsked true true asked (inputs_at run.world (names_of asked)) run.inputs run.outputs run.status) → Unstopped asked (inputs_at run.world (names_of asked)) run.inputs run.outputs run.status does ⊎ IsStop (tool_of asked) run asked
-does_or run (Head asked) does = ends_or run (Head asked) (head_task asked) does
-does_or run (Tail asked) does = ends_or run (Tail asked) (tail_task asked.ends) does
-does_or run (Split asked) does = ends_or run (Split asked) (split_task asked) does
-does_or run (Csplit asked) does = ends_or run (Csplit asked) (csplit_task asked does.operands) does.ends
-does_or run (Tee asked) does = tee_or run (Tee asked) asked.mode asked.names does.content _ does.input does.ends
+does_or : {run : Run} (asked : Settings) (does : DoesAsked true true asked (inputs_at run.world (names_of asked)) run.inputs run.outputs run.status) → Unstopped asked (inputs_at run.world (names_of asked)) run.inputs run.outputs run.status does ⊎ IsStop (tool_of asked) run asked
+does_or (Csplit asked) does = ends_or does.ends
+does_or (Tee asked) does = tee_or does.input does.ends
+does_or asked does = ends_or does
 
 -- operands that are wrong
 
@@ -195,31 +193,28 @@ bad_stops run (Csplit asked) fault bad =
     subst (λ why. HasBadOperands (Csplit asked) why → StopsRun run (Csplit asked) (word_of run.words why) why) (sym same) (operand_stops run (Csplit asked) _ found.kind) bad
 bad_stops run asked fault bad = absurd bad
 
-refused_stop : (run : Run) (asked : Settings) → Ran run asked → RefusesOperands true run.words asked run.outputs run.status → IsStop (tool_of asked) run asked
-refused_stop run asked ran (fault, bad, refuses) = record {
+refused_stop : {run : Run} {asked : Settings} → Ran run asked → RefusesOperands true run.words asked run.outputs run.status → IsStop (tool_of asked) run asked
+refused_stop {run} {asked} ran (fault, bad, refuses) = record {
   failed = refuses.failed;
   why = fault;
   name = word_of run.words fault;
   stops = bad_stops run asked fault bad;
   line = subst (λ those. SaysLine (tool_of asked) (message_of (tool_of asked) fault (word_of run.words fault)) (slot_at those 1)) (sym refuses.slots)
-      (subst (λ which. SaysLine which (message_of which fault (word_of run.words fault)) refuses.error) (runs_as_named run.words asked ran.read)
-      ([], [], says_one (speaker run.words) fault (word_of run.words fault) refuses.error (refuses.error, refuses.says, refl)));
+      (subst (λ which. SaysLine which (message_of which fault (word_of run.words fault)) refuses.error) (runs_as_named run.words ran.read)
+      ([], [], says_one fault (word_of run.words fault) (refuses.error, refuses.says, refl)));
 }
 
-stopped_so : (run : Run) (asked : Settings) → IsStop (tool_of asked) run asked → IsStopped run asked
-stopped_so run asked stop = record { failed = stop.failed; why = stop.why; name = stop.name; stops = stop.stops; told = stop.line }
-
-by_unstopped : (run : Run) (asked : Settings) → Ran run asked → (does : DoesAsked true true asked (inputs_at run.world (names_of asked)) run.inputs run.outputs run.status)
-    → Unstopped asked (inputs_at run.world (names_of asked)) run.inputs run.outputs run.status does ⊎ IsStop (tool_of asked) run asked → Completes run asked ⊎ IsStopped run asked
-by_unstopped run asked ran does (inl unstopped) = inl (record { read = ran.read; does = does; unstopped = unstopped })
-by_unstopped run asked ran does (inr stop) = inr (stopped_so run asked stop)
-
-stopped_by_either : (run : Run) (asked : Settings) → Ran run asked → DoesAsked true true asked (inputs_at run.world (names_of asked)) run.inputs run.outputs run.status ⊎ RefusesOperands true run.words asked run.outputs run.status → Completes run asked ⊎ IsStopped run asked
-stopped_by_either run asked ran (inl does) = by_unstopped run asked ran does (does_or run asked does)
-stopped_by_either run asked ran (inr refuses) = inr (stopped_so run asked (refused_stop run asked ran refuses))
+stopped_so : {run : Run} {asked : Settings} → IsStop (tool_of asked) run asked → IsStopped run asked
+stopped_so stop = record { failed = stop.failed; why = stop.why; name = stop.name; stops = stop.stops; told = stop.line }
 
 pub completes_or : (run : Run) (asked : Settings) → Ran run asked → Completes run asked ⊎ IsStopped run asked
-completes_or run asked ran = stopped_by_either run asked ran (ran_over run asked ran)
+completes_or run asked ran = elim (ran_over ran) [
+  | inl does ↦ elim (does_or asked does) [
+    | inl unstopped ↦ inl (record { read = ran.read; does = does; unstopped = unstopped })
+    | inr stop ↦ inr (stopped_so stop)
+  ]
+  | inr refuses ↦ inr (stopped_so (refused_stop ran refuses))
+]
 
 -- An output that is broken was told by its name, unless it is a file that was to be removed.
 
@@ -230,10 +225,10 @@ IsBlamed (Write slot) output place = (place ≡ slot) × (failing place output.s
 IsBlamed (Open slot) output place = (place ≡ slot) × (failing place output.state ≡ Open place)
 IsBlamed fault output place = ⊥
 
-failing_file : (place : ℕ) (which : State) → has_file which ≡ true → failing place which ≡ Write place
-failing_file place state.Removed has = absurd (cc)
-failing_file place state.Unopened has = absurd (cc)
-failing_file place which has = refl
+failing_file : {place : ℕ} (which : State) → has_file which ≡ true → failing place which ≡ Write place
+failing_file state.Removed has = absurd (cc)
+failing_file state.Unopened has = absurd (cc)
+failing_file which has = refl
 
 broken_there : (slot place : ℕ) (slots : List Slot) → (slot_at slots place).is_broken ≡ false → (place < length slots → has_file (slot_at slots place).state ≡ true) → (slot_at (changed_at slot breaks slots) place).is_broken ≡ true
     → (place ≡ slot) × (has_file (slot_at (changed_at slot breaks slots) place).state ≡ true)
@@ -250,18 +245,18 @@ unopened_there kept (suc place) [] sound broken = absurd (false≢true broken)
 unopened_there kept zero (first ∷ slots) sound broken = absurd (false≢true (sym sound ∙ broken))
 unopened_there kept (suc place) (first ∷ slots) sound broken = let there = unopened_there kept place slots sound broken in (ap suc there.0, there.1)
 
-still_sound : {A : Type 0} (before after : List Slot) (place : ℕ) → after ≡ before → (slot_at before place).is_broken ≡ false → (slot_at after place).is_broken ≡ true → A
-still_sound before after place same sound broken = absurd (false≢true (sym sound ∙ sym (ap (λ slots. (slot_at slots place).is_broken) same) ∙ broken))
+still_sound : {A : Type 0} {before after : List Slot} (place : ℕ) → after ≡ before → (slot_at before place).is_broken ≡ false → (slot_at after place).is_broken ≡ true → A
+still_sound place same sound broken = absurd (false≢true (sym sound ∙ sym (ap (λ slots. (slot_at slots place).is_broken) same) ∙ broken))
 
-marked_there : (IsDue : List ℕ → Type 0) (fault : Fault) (before after : List Slot) (place : ℕ) → Marks IsDue fault before after → (slot_at before place).is_broken ≡ false → (place < length before → has_file (slot_at before place).state ≡ true)
+marked_there : (IsDue : List ℕ → Type 0) (fault : Fault) (before after : List Slot) {place : ℕ} → Marks IsDue fault before after → (slot_at before place).is_broken ≡ false → (place < length before → has_file (slot_at before place).state ≡ true)
     → (slot_at after place).is_broken ≡ true → IsBlamed fault (slot_at after place) place
-marked_there IsDue (Write slot) before after place marks sound has broken =
+marked_there IsDue (Write slot) before after {place} marks sound has broken =
     let there = broken_there slot place before sound has (subst (λ slots. (slot_at slots place).is_broken ≡ true) marks.1 broken) in
-    (there.0, failing_file place _ (subst (λ slots. has_file (slot_at slots place).state ≡ true) (sym marks.1) there.1))
-marked_there IsDue (Open slot) before after place (number, (name, kept, due, is, slots)) sound has broken =
+    (there.0, failing_file _ (subst (λ slots. has_file (slot_at slots place).state ≡ true) (sym marks.1) there.1))
+marked_there IsDue (Open slot) before after {place} (number, (name, kept, due, is, slots)) sound has broken =
     let there = unopened_there kept place before sound (subst (λ those. (slot_at those place).is_broken ≡ true) slots broken) in
     (there.0 ∙ sym number, ap (failing place) (ap (λ those. (slot_at those place).state) slots ∙ there.1))
-marked_there IsDue fault before after place marks sound has broken = still_sound before after place marks sound broken
+marked_there IsDue fault before after {place} marks sound has broken = still_sound place marks sound broken
 
 -- the line that tells the fault speaks of that output
 blamed_line : (tool : Tool) (new : List Slot) (place : ℕ) (fault : Fault) → IsBlamed fault (slot_at new place) place → message_of tool fault (output_named new fault) ≡ message_of tool (failing place (slot_at new place).state) (slot_at new place).name
@@ -275,7 +270,7 @@ blamed_line tool new place fault blamed = absurd blamed
 
 removed_blamed : (fault : Fault) (old : Slot) (place : ℕ) → has_file old.state ≡ true → IsBlamed fault old place → IsBlamed fault (removes old) place
 removed_blamed (Write slot) old place has blamed = (blamed.0, refl)
-removed_blamed (Open slot) old place has blamed = absurd (let is = sym (failing_file place old.state has) ∙ blamed.1 in (cc))
+removed_blamed (Open slot) old place has blamed = absurd (let is = sym (failing_file old.state has) ∙ blamed.1 in (cc))
 removed_blamed fault old place has blamed = absurd blamed
 
 -- it was broken before, by the same fault; or it was to be removed
@@ -288,28 +283,28 @@ AllGone new = (other : ℕ) → 2 ≤ other → IsGone (slot_at new other)
 abbrev IsStuck : Bool → List Slot → ℕ → Type 0
 IsStuck clears new place = (clears ≡ true) × ((slot_at new place).state ≡ state.Closed) × AllGone new
 
-cleared_gone : (old output : Slot) → Cleared old output → IsGone output
-cleared_gone old _ (swept_so.removed has) = inl refl
-cleared_gone old _ (swept_so.stuck has) = inr refl
-cleared_gone old _ (swept_so.none lacks) = inl lacks
+cleared_gone : {old output : Slot} → Cleared old output → IsGone output
+cleared_gone (swept_so.removed has) = inl refl
+cleared_gone (swept_so.stuck has) = inr refl
+cleared_gone (swept_so.none lacks) = inl lacks
 
-same_broke : (old output : Slot) (place : ℕ) → output ≡ old → output.is_broken ≡ true → BrokeBefore old output place
-same_broke old output place same broken = (sym (ap (λ (slot : Slot). slot.is_broken) same) ∙ broken, λ fault blamed. subst (λ slot. IsBlamed fault slot place) (sym same) blamed)
+same_broke : {old output : Slot} {place : ℕ} → output ≡ old → output.is_broken ≡ true → BrokeBefore old output place
+same_broke {place} same broken = (sym (ap (λ (slot : Slot). slot.is_broken) same) ∙ broken, λ fault blamed. subst (λ slot. IsBlamed fault slot place) (sym same) blamed)
 
-cleared_broke : (old output : Slot) (place : ℕ) → Cleared old output → output.is_broken ≡ true → BrokeBefore old output place ⊎ (output.state ≡ state.Closed)
-cleared_broke old _ place (swept_so.removed has) broken = inl (broken, λ fault blamed. removed_blamed fault old place has blamed)
-cleared_broke old _ place (swept_so.stuck has) broken = inr refl
-cleared_broke old _ place (swept_so.none has) broken = inl (broken, λ fault blamed. blamed)
+cleared_broke : {old output : Slot} {place : ℕ} → Cleared old output → output.is_broken ≡ true → BrokeBefore old output place ⊎ (output.state ≡ state.Closed)
+cleared_broke {old} {place} (swept_so.removed has) broken = inl (broken, λ fault blamed. removed_blamed fault old place has blamed)
+cleared_broke (swept_so.stuck has) broken = inr refl
+cleared_broke (swept_so.none has) broken = inl (broken, λ fault blamed. blamed)
 
 when_cleared : {A : Type 0} (new : List Slot) (place : ℕ) → AllGone new → A ⊎ ((slot_at new place).state ≡ state.Closed) → A ⊎ IsStuck true new place
 when_cleared new place gone (inl before) = inl before
 when_cleared new place gone (inr closed) = inr (refl, closed, gone)
 
-swept_broke : (clears : Bool) (old new : List Slot) (place : ℕ) → Swept clears 2 old new → (slot_at new place).is_broken ≡ true → BrokeBefore (slot_at old place) (slot_at new place) place ⊎ IsStuck clears new place
-swept_broke false old new place swept broken = inl (same_broke (slot_at old place) (slot_at new place) place (ap (λ slots. slot_at slots place) swept) broken)
-swept_broke true old new place swept broken = elim (cases_lt place 2) [
-  | inl before ↦ inl (same_broke (slot_at old place) (slot_at new place) place (swept.before place before) broken)
-  | inr past ↦ when_cleared new place (λ other past. cleared_gone (slot_at old other) (slot_at new other) (swept.cleared other past)) (cleared_broke (slot_at old place) (slot_at new place) place (swept.cleared place past) broken)
+swept_broke : (clears : Bool) (old new : List Slot) {place : ℕ} → Swept clears 2 old new → (slot_at new place).is_broken ≡ true → BrokeBefore (slot_at old place) (slot_at new place) place ⊎ IsStuck clears new place
+swept_broke false old new {place} swept broken = inl (same_broke (ap (λ slots. slot_at slots place) swept) broken)
+swept_broke true old new {place} swept broken = elim (cases_lt place 2) [
+  | inl before ↦ inl (same_broke (swept.before place before) broken)
+  | inr past ↦ when_cleared new place (λ other past. cleared_gone (swept.cleared other past)) (cleared_broke (swept.cleared place past) broken)
 ]
 
 -- files are removed only after a fault, and only if the work clears them
@@ -318,16 +313,16 @@ content_sweeps : (task : Task) (is_first : Bool) (name : List ℕ) (content : Op
 content_sweeps task is_first name None sweeps = absurd (false≢true sweeps)
 content_sweeps task is_first name (Some content) sweeps = and_parts task.work.clears (ends_badly task.work content) sweeps
 
-either_sweeps : (clears one other failed failed_too : Bool) → (one || other) ≡ true → (one ≡ true → (clears ≡ true) × (failed ≡ true)) → (other ≡ true → (clears ≡ true) × (failed_too ≡ true)) → (clears ≡ true) × ((failed || failed_too) ≡ true)
-either_sweeps clears true other failed failed_too is first second = let why = first refl in (why.0, or_left failed failed_too why.1)
-either_sweeps clears false other failed failed_too is first second = let why = second is in (why.0, or_right failed failed_too why.1)
+either_sweeps : {clears : Bool} (one : Bool) {other failed failed_too : Bool} → (one || other) ≡ true → (one ≡ true → (clears ≡ true) × (failed ≡ true)) → (other ≡ true → (clears ≡ true) × (failed_too ≡ true)) → (clears ≡ true) × ((failed || failed_too) ≡ true)
+either_sweeps true {failed} {failed_too} is first second = let why = first refl in (why.0, or_left failed failed_too why.1)
+either_sweeps false {failed} {failed_too} is first second = let why = second is in (why.0, or_right failed failed_too why.1)
 
 inputs_sweep : (task : Task) (is_first : Bool) (inputs : List Input) → (of_inputs task is_first inputs).sweeps ≡ true → (task.work.clears ≡ true) × ((of_inputs task is_first inputs).failed ≡ true)
 inputs_sweep task is_first [] sweeps = absurd (false≢true sweeps)
 inputs_sweep task is_first (input ∷ inputs) sweeps =
     let first = of_content task is_first input.name input.content in
     let next = of_inputs task (is_first && is_missing input.content) inputs in
-    either_sweeps task.work.clears first.sweeps next.sweeps first.failed next.failed sweeps (content_sweeps task is_first input.name input.content) (inputs_sweep task (is_first && is_missing input.content) inputs)
+    either_sweeps first.sweeps sweeps (content_sweeps task is_first input.name input.content) (inputs_sweep task (is_first && is_missing input.content) inputs)
 
 -- A run over inputs
 
@@ -338,55 +333,51 @@ IsToldOf tool new place = (name : List ℕ) × IsCalled (slot_at new place) name
 abbrev IsDueTo : Tool → Bool → List Slot → ℕ → ℕ → Type 0
 IsDueTo tool clears new status place = (status ≡ 1) × (IsToldOf tool new place ⊎ IsStuck clears new place)
 
-part_sound : (part : Part) (error : Slot) (now : List Slot) (place : ℕ) → AreLive part.files → OutputsAt true (streams_with error) part now → (place ≡ 1 → ⊥) → (slot_at now place).is_broken ≡ false
-part_sound part error now place live at differs = subst (λ slots. (slot_at slots place).is_broken ≡ false) (sym (slots_at part error now at)) (outputs_sound part error place live differs)
+part_sound : {part : Part} {error : Slot} {now : List Slot} {place : ℕ} → AreLive part.files → OutputsAt true (streams_with error) part now → (place ≡ 1 → ⊥) → (slot_at now place).is_broken ≡ false
+part_sound {part} {error} {place} live at differs = subst (λ slots. (slot_at slots place).is_broken ≡ false) (sym (slots_at at)) (outputs_sound part error place live differs)
 
-part_has : (part : Part) (error : Slot) (now : List Slot) (place : ℕ) → AreLive part.files → OutputsAt true (streams_with error) part now → (place ≡ 1 → ⊥) → place < length now → has_file (slot_at now place).state ≡ true
-part_has part error now place live at differs =
-    subst (λ slots. place < length slots → has_file (slot_at slots place).state ≡ true) (sym (slots_at part error now at)) (outputs_have part error place live differs)
-
-stopped_there : (low high : Part) (error : Slot) (fault : Fault) (reached : List Slot) (place : ℕ) → AreLive high.files → StoppedBetween true (streams_with error) low high fault reached → (place ≡ 1 → ⊥) → (slot_at reached place).is_broken ≡ true
+stopped_there : {low high : Part} {error : Slot} {fault : Fault} {reached : List Slot} {place : ℕ} → AreLive high.files → StoppedBetween true (streams_with error) low high fault reached → (place ≡ 1 → ⊥) → (slot_at reached place).is_broken ≡ true
     → IsBlamed fault (slot_at reached place) place
-stopped_there low high error fault reached place live between differs broken =
+stopped_there {high} {error} {fault} {reached} {place} live between differs broken =
     let part_live = live_begin between.part.files high.files between.below.files live in
-    marked_there (IsNext between.part high) fault between.reached reached place between.marks (part_sound between.part error between.reached place part_live between.outputs differs)
-    (part_has between.part error between.reached place part_live between.outputs differs) broken
+    marked_there (IsNext between.part high) fault between.reached reached between.marks (part_sound part_live between.outputs differs)
+    (subst (λ slots. place < length slots → has_file (slot_at slots place).state ≡ true) (sym (slots_at between.outputs)) (outputs_have between.part error place part_live differs)) broken
 
-defined_due : (task : Task) (inputs : List Input) (new : List Slot) (status place : ℕ) → status ≡ cond (made_by task inputs).failed 1 0 → IsStuck (made_by task inputs).sweeps new place → IsDueTo task.tool task.work.clears new status place
-defined_due task inputs new status place is (sweeps, closed, gone) = let why = inputs_sweep task true inputs sweeps in (is ∙ ap (λ failed. cond failed 1 0) why.1, inr (why.0, closed, gone))
+defined_due : (task : Task) (inputs : List Input) (new : List Slot) {status : ℕ} (place : ℕ) → status ≡ cond (made_by task inputs).failed 1 0 → IsStuck (made_by task inputs).sweeps new place → IsDueTo task.tool task.work.clears new status place
+defined_due task inputs new place is (sweeps, closed, gone) = let why = inputs_sweep task true inputs sweeps in (is ∙ ap (λ failed. cond failed 1 0) why.1, inr (why.0, closed, gone))
 
 streams_sound : (place : ℕ) (error : Slot) → (place ≡ 1 → ⊥) → (slot_at (streams_with error) place).is_broken ≡ false
 streams_sound (suc zero) error differs = absurd (differs refl)
 streams_sound place error differs = refl
 
-blamed_told : (tool : Tool) (lines : List (List ℕ)) (new : List Slot) (place : ℕ) (fault : Fault) (error : Slot) → slot_at new 1 ≡ error → SaysLines tool (lines ++ message_of tool fault (output_named new fault) ∷ []) error
+blamed_told : {tool : Tool} (lines : List (List ℕ)) (new : List Slot) (place : ℕ) (fault : Fault) {error : Slot} → slot_at new 1 ≡ error → SaysLines tool (lines ++ message_of tool fault (output_named new fault) ∷ []) error
     → IsBlamed fault (slot_at new place) place → IsToldOf tool new place
-blamed_told tool lines new place fault error is says blamed = (
+blamed_told {tool} lines new place fault {error} is says blamed = (
   (slot_at new place).name,
   inl refl,
   subst (SaysLine tool (message_of tool (failing place (slot_at new place).state) (slot_at new place).name)) (sym is)
-      (says_line tool (message_of tool (failing place (slot_at new place).state) (slot_at new place).name) _ error (lines, [], ap (λ line. lines ++ line ∷ []) (blamed_line tool new place fault blamed)) says),
+      (says_line (lines, [], ap (λ line. lines ++ line ∷ []) (blamed_line tool new place fault blamed)) says),
 )
 
-stopped_due : (tool : Tool) (clears : Bool) (new : List Slot) (place : ℕ) (old : Slot) (fault : Fault) → (old.is_broken ≡ true → IsBlamed fault old place) → (IsBlamed fault (slot_at new place) place → IsToldOf tool new place)
+stopped_due : {tool : Tool} {clears : Bool} (new : List Slot) {place : ℕ} {old : Slot} (fault : Fault) → (old.is_broken ≡ true → IsBlamed fault old place) → (IsBlamed fault (slot_at new place) place → IsToldOf tool new place)
     → BrokeBefore old (slot_at new place) place ⊎ IsStuck clears new place → IsToldOf tool new place ⊎ IsStuck clears new place
-stopped_due tool clears new place old fault there tells (inl (was, same)) = inl (tells (same fault (there was)))
-stopped_due tool clears new place old fault there tells (inr stuck) = inr stuck
+stopped_due new fault there tells (inl (was, same)) = inl (tells (same fault (there was)))
+stopped_due new fault there tells (inr stuck) = inr stuck
 
-ends_due : (task : Task) (inputs : List Input) (sources : List Source) (new : List Slot) (status place : ℕ) → IsLiving task.work → (place ≡ 1 → ⊥) → (slot_at new place).is_broken ≡ true → EndsAs true true task inputs sources new status
+ends_due : {task : Task} {inputs : List Input} {sources : List Source} {new : List Slot} {status place : ℕ} → IsLiving task.work → (place ≡ 1 → ⊥) → (slot_at new place).is_broken ≡ true → EndsAs true true task inputs sources new status
     → IsDueTo task.tool task.work.clears new status place
-ends_due task inputs sources new status place living differs broken (as_defined error reached says outputs swept done is) = elim (swept_broke (made_by task inputs).sweeps reached new place swept broken) [
-  | inl before ↦ absurd (false≢true (sym (part_sound (made_by task inputs).part error reached place (inputs_live task true inputs living) outputs differs) ∙ before.0))
-  | inr stuck ↦ defined_due task inputs new status place is stuck
+ends_due {task} {inputs} {new} {place} living differs broken (as_defined error reached says outputs swept done is) = elim (swept_broke (made_by task inputs).sweeps reached new swept broken) [
+  | inl before ↦ absurd (false≢true (sym (part_sound (inputs_live task true inputs living) outputs differs) ∙ before.0))
+  | inr stuck ↦ defined_due task inputs new place is stuck
 ]
-ends_due task inputs sources new status place living differs broken (stopped fault before input after error step reached are done untouched at stops between swept says is) = (
+ends_due {task} {new} {place} living differs broken (stopped fault before input after error step reached are done untouched at stops between swept says is) = (
   is,
-  stopped_due task.tool task.work.clears new place (slot_at reached place) fault
-      (stopped_there step.low step.high error fault reached place (step_live true task (made_by task before).part _ input.slot sources input.content step living (inputs_live task true before living) at) between differs)
-      (blamed_told task.tool (made_by task before).messages new place fault error (stopped_error task.work.clears error step.low step.high fault reached new between swept) (stop_says task before fault (output_named new fault) error says))
-      (swept_broke task.work.clears reached new place swept broken),
+  stopped_due new fault
+      (stopped_there (step_live living (inputs_live task true before living) at) between differs)
+      (blamed_told (made_by task before).messages new place fault (stopped_error task.work.clears new between swept) (stop_says task before fault (output_named new fault) says))
+      (swept_broke task.work.clears reached new swept broken),
 )
-ends_due task inputs sources new status place living differs broken (no_room error says slots untouched count is) = still_sound (streams_with error) new place slots (streams_sound place error differs) broken
+ends_due {place} living differs broken (no_room error says slots untouched count is) = still_sound place slots (streams_sound place error differs) broken
 
 -- `tee`
 
@@ -399,45 +390,42 @@ all_sound mode bytes names error zero differs = refl
 all_sound mode bytes names error (suc zero) differs = absurd (differs refl)
 all_sound mode bytes names error (suc (suc place)) differs = copies_sound mode bytes names place
 
-broken_status : (mode : Mode) (pieces names : List (List ℕ)) (first : Option ℕ) (broke : List (Option ℕ)) (output error : Slot) (files : List Slot) (fault : Option Fault) (place : ℕ) (sound : Bool) → are_sound (first ∷ broke) ≡ sound → OutputLeft true pieces first output
+broken_status : {mode : Mode} {pieces names : List (List ℕ)} {first : Option ℕ} {broke : List (Option ℕ)} {output : Slot} (error : Slot) {files : List Slot} (fault : Option Fault) {place : ℕ} (sound : Bool) → are_sound (first ∷ broke) ≡ sound → OutputLeft true pieces first output
     → FilesLeft true mode pieces names broke files → (place ≡ 1 → ⊥) → (slot_at (output ∷ error ∷ files) place).is_broken ≡ true → ◌≡◌ {A = ℕ} (cond (sound && is_none fault) 0 1) 1
-broken_status mode pieces names first broke output error files fault place false is left rest differs broken = refl
-broken_status mode pieces names first broke output error files fault place true is left rest differs broken =
+broken_status error fault false is left rest differs broken = refl
+broken_status {mode} {pieces} {names} {first} {broke} {output} error {files} fault {place} true is left rest differs broken =
     let sounds = sound_first first (are_sound broke) is in
-    still_sound (adds (concat pieces) standard_output ∷ error ∷ map (λ name. closes (adds (concat pieces) (opened name mode))) names) (output ∷ error ∷ files) place
+    still_sound place
     (ap (λ slot. slot ∷ error ∷ files) (whole_output true pieces first output sounds.0 left) ∙ ap (λ those. adds (concat pieces) standard_output ∷ error ∷ those) (whole_files true mode pieces names broke files sounds.1 rest))
     (all_sound mode (concat pieces) names error place differs) broken
 
-tee_due : (mode : Mode) (names : List (List ℕ)) (content : Content) (source : Source) (new : List Slot) (status place : ℕ) → (place ≡ 1 → ⊥) → (slot_at new place).is_broken ≡ true → tee.EndsAs true true mode names content source new status
+tee_due : {mode : Mode} {names : List (List ℕ)} {content : Content} {source : Source} {new : List Slot} {status place : ℕ} → (place ≡ 1 → ⊥) → (slot_at new place).is_broken ≡ true → tee.EndsAs true true mode names content source new status
     → IsDueTo tool.Tee false new status place
-tee_due mode names content source new status place differs broken (tee.no_room error says unread slots is) = still_sound (streams_with error) new place slots (streams_sound place error differs) broken
-tee_due mode names content source new status place differs broken (tee.copied pieces fault first broke output error files comes some left rest says slots is) =
+tee_due {place} differs broken (tee.no_room error says unread slots is) = still_sound place slots (streams_sound place error differs) broken
+tee_due {place} differs broken (tee.copied pieces fault first broke output error files comes some left rest says slots is) =
     let there = subst (λ those. (slot_at those place).is_broken ≡ true) slots broken in (
-      is ∙ broken_status mode pieces names first broke output error files fault place (are_sound (first ∷ broke)) refl left rest differs there,
-      inl (subst (λ those. IsToldOf tool.Tee those place) (sym slots) (tee_says mode pieces names first broke output error files fault place left rest says differs there)),
+      is ∙ broken_status error fault (are_sound (first ∷ broke)) refl left rest differs there,
+      inl (subst (λ those. IsToldOf tool.Tee those place) (sym slots) (tee_says fault left rest says differs there)),
     )
 
 -- All tools
 
-does_due : (asked : Settings) (inputs : List Input) (sources : List Source) (new : List Slot) (status place : ℕ) → (place ≡ 1 → ⊥) → (slot_at new place).is_broken ≡ true → DoesAsked true true asked inputs sources new status → IsDueTo (tool_of asked) (removes_files asked) new status place
-does_due (Head asked) inputs sources new status place differs broken does = ends_due (head_task asked) inputs sources new status place (head_living asked.delim asked.unit (is_minus asked.count.sign) asked.count.amount) differs broken does
-does_due (Tail asked) inputs sources new status place differs broken does =
-    ends_due (tail_task asked.ends) inputs sources new status place (tail_living asked.ends.delim asked.ends.unit (is_plus asked.ends.count.sign) asked.ends.count.amount) differs broken does
-does_due (Split asked) inputs sources new status place differs broken does = ends_due (split_task asked) inputs sources new status place (split_living (plan_of asked)) differs broken does
-does_due (Csplit asked) inputs sources new status place differs broken does =
-    ends_due (csplit_task asked does.operands) inputs sources new status place (csplit_living asked.style does.operands) differs broken does.ends
-does_due (Tee asked) inputs sources new status place differs broken does = tee_due asked.mode asked.names does.content _ new status place differs broken does.ends
-
-by_either : (run : Run) (asked : Settings) (found : List Input) (place : ℕ) → (place ≡ 1 → ⊥) → (slot_at run.outputs place).is_broken ≡ true → DoesAsked true true asked found run.inputs run.outputs run.status ⊎ RefusesOperands true run.words asked run.outputs run.status
-    → IsDueTo (tool_of asked) (removes_files asked) run.outputs run.status place
-by_either run asked found place differs broken (inl does) = does_due asked found run.inputs run.outputs run.status place differs broken does
-by_either run asked found place differs broken (inr (fault, bad, refuses)) =
-    still_sound (streams_with refuses.error) run.outputs place refuses.slots (streams_sound place refuses.error differs) broken
-
-why_broken : (run : Run) (asked : Settings) (place : ℕ) → IsToldOf (tool_of asked) run.outputs place ⊎ IsStuck (removes_files asked) run.outputs place → WhyBroken run asked place
-why_broken run asked place (inl (name, called, line)) = told name called line
-why_broken run asked place (inr (removes, closed, gone)) = unremoved removes closed gone
+does_due : (asked : Settings) (inputs : List Input) (sources : List Source) (new : List Slot) {status place : ℕ} → (place ≡ 1 → ⊥) → (slot_at new place).is_broken ≡ true → DoesAsked true true asked inputs sources new status → IsDueTo (tool_of asked) (removes_files asked) new status place
+does_due (Head asked) inputs sources new {status} {place} differs broken does = ends_due (record { settled = λ x. tt; whole = λ x. tt }) differs broken does
+does_due (Tail asked) inputs sources new {status} {place} differs broken does =
+    ends_due (tail_living asked.ends.delim asked.ends.unit (is_plus asked.ends.count.sign) asked.ends.count.amount) differs broken does
+does_due (Split asked) inputs sources new {status} {place} differs broken does = ends_due (split_living (plan_of asked)) differs broken does
+does_due (Csplit asked) inputs sources new {status} {place} differs broken does = ends_due (csplit_living asked.style does.operands) differs broken does.ends
+does_due (Tee asked) inputs sources new {status} {place} differs broken does = tee_due differs broken does.ends
 
 pub is_broken : (run : Run) (asked : Settings) (place : ℕ) → Ran run asked → (place ≡ 1 → ⊥) → (slot_at run.outputs place).is_broken ≡ true → (run.status ≡ 1) × WhyBroken run asked place
-is_broken run asked place ran differs broken =
-    let due = by_either run asked _ place differs broken (ran_over run asked ran) in (due.0, why_broken run asked place due.1)
+is_broken run asked place ran differs broken = elim (ran_over ran) [
+  | inl does ↦ let due = does_due asked _ run.inputs run.outputs differs broken does in (
+    due.0,
+    elim due.1 [
+      | inl (name, called, line) ↦ told name called line
+      | inr (removes, closed, gone) ↦ unremoved removes closed gone
+    ],
+  )
+  | inr (fault, bad, refuses) ↦ still_sound place refuses.slots (streams_sound place refuses.error differs) broken
+]

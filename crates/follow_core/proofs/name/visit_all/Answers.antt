@@ -14,7 +14,7 @@ loop-place-init g c = record {
   within = omega arith;
   same = refl;
   ready = c.requires.ready;
-  visited = λ from looks same stand. visited_none g.O.Outs.told stand;
+  visited = λ from looks same stand. visited_none stand;
   count = refl;
   others = λ number other. refl;
   can = c.requires.can;
@@ -41,7 +41,7 @@ returns-in-Err-clause-visits g c =
       stopped = λ from looks same. subst (λ first. AllStand g.W.Watch.told (ways first) looks c.args.names.now (g.W.Watch.watched c.args.watch.now)
           → StoppedAt g.W.Watch.told g.O.Outs.told (ways first) looks snapshot (texts c.args.names.now) c.args.visitor.now (g.O.Outs.slots c.args.outs.now) (g.W.Watch.watched c.visit.new.watch) (g.O.Outs.slots c.visit.new.outs) c.in-Err.fault)
           (same (omega (arith, many, test)))
-          (λ stand. visited_short g.O.Outs.told c.index-names-place.result test (ap latest l.invariant.seen) visits.halts (l.invariant.visited c.args.first looks (λ some. refl) stand) (visits.stopped looks));
+          (λ stand. visited_short c.index-names-place.result test (ap latest l.invariant.seen) visits.halts (l.invariant.visited c.args.first looks (λ some. refl) stand) (visits.stopped looks));
       ready = tt;
       count = others.count ∙ l.invariant.count;
       others = λ number other. others.others number (other l.place (omega (arith, many, test))) ∙ l.invariant.others number other;
@@ -59,11 +59,11 @@ loop-place-preserved g c =
     let visits = c.in-Ok.ensures.visits c.args.first in
     record {
       within = subst (λ n. l.place + 1 ≤ n) (sym (length-set l.names l.place c.visit.new.self)) (omega arith);
-      same = texts_set l.names l.place c.index-names-place.result c.visit.new.self c.loop-place-test.true (c.visit.ensures.visits c.args.first).same ∙ l.invariant.same;
-      ready = next_ready c.args.first l.names c.visit.new.self l.place c.loop-place-test.true l.invariant.ready visits.others visits.ready;
+      same = texts_set l.names c.index-names-place.result c.visit.new.self c.loop-place-test.true (c.visit.ensures.visits c.args.first).same ∙ l.invariant.same;
+      ready = next_ready c.args.first l.names c.visit.new.self c.loop-place-test.true l.invariant.ready visits.others visits.ready;
       visited = λ from looks same. subst (λ first. AllStand g.W.Watch.told (ways first) looks c.args.names.now (g.W.Watch.watched c.args.watch.now)
           → VisitedUpTo g.W.Watch.told g.O.Outs.told (ways first) looks snapshot (l.place + 1) c.args.names.now c.args.visitor.now (g.O.Outs.slots c.args.outs.now) c.visit.new.visitor (g.O.Outs.slots c.visit.new.outs) (g.W.Watch.watched c.visit.new.watch) (set l.names l.place c.visit.new.self) (l.has_failed || c.in-Ok.failed))
-          (same (omega (arith, many, test))) (λ stand. visited_more g.O.Outs.told c.index-names-place.result c.visit.new.self c.in-Ok.failed
+          (same (omega (arith, many, test))) (λ stand. visited_more c.index-names-place.result
           c.loop-place-test.true (c.visit.ensures.visits c.args.first).same visits.others (ap latest l.invariant.seen) (l.invariant.visited c.args.first looks (λ some. refl) stand) (visits.visited looks) (omega arith));
       count = visits.others.count ∙ l.invariant.count;
       others = λ number other. visits.others.others number (other l.place (omega (arith, many, test))) ∙ l.invariant.others number other;
@@ -76,7 +76,7 @@ pub returns-clause-visits : goal.returns-clause-visits
 returns-clause-visits g c =
     let l = c.loop-place in
     record {
-      visited = λ from looks same stand. visited_all g.O.Outs.told l.has_failed (omega arith) (l.invariant.visited from looks same stand);
+      visited = λ from looks same stand. visited_all (omega arith) (l.invariant.visited from looks same stand);
       stopped = tt;
       ready = l.invariant.ready;
       count = l.invariant.count;

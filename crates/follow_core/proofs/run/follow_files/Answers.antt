@@ -9,8 +9,8 @@ returns-in-Ok-make_looks g c =
     let names : List (List ℕ) = map (λ (name : Bor (List ℕ)). name.now) c.args.names.now in
     let ways = ways_of 0 c.args.by_name c.args.start in
     let slots = g.O.Outs.slots c.args.outs.now in
-    ends_looked g.O.Outs.told c.failed.result c.failed.ensures c.from.ensures
-    (c.in-Ok-make_looks.ensures.looked ways c.args.headers names slots (open_holds g.O.Outs.told c.args.by_name c.args.start c.in-Ok.ensures.ok c.requires.unwatched))
+    ends_looked c.failed.ensures c.from.ensures
+    (c.in-Ok-make_looks.ensures.looked ways c.args.headers names slots (open_holds c.in-Ok.ensures.ok c.requires.unwatched))
 
 pub returns : goal.returns
 returns g c =
@@ -18,5 +18,5 @@ returns g c =
     let ways = ways_of 0 c.args.by_name c.args.start in
     let slots = g.O.Outs.slots c.args.outs.now in
     stopped (g.O.Outs.slots c.make_looks.new.outs) c.in-Err-make_looks.fault
-    (c.in-Err-make_looks.ensures.stopped ways c.args.headers names slots (open_holds g.O.Outs.told c.args.by_name c.args.start c.in-Ok.ensures.ok c.requires.unwatched))
+    (c.in-Err-make_looks.ensures.stopped ways c.args.headers names slots (open_holds c.in-Ok.ensures.ok c.requires.unwatched))
     c.tell-in-Err-make_looks.ensures refl

@@ -15,9 +15,9 @@ returns-in-Begins-clause-part g c told =
     let more = c.loop-end-test.true in
     let within = c.loop-end.invariant.within in
     let size : c.min-size.result ≡ min c.loop-end.end (length c.loop-end.buffer) = c.min-size.ensures in
-    begins_last contents (omega (arith, more, within, long)) (begins_in c.loop-end.end (c.loop-end.end - c.min-size.result) c.min-size.result contents
+    begins_last contents (omega (arith, more, within, long)) (begins_in (c.loop-end.end - c.min-size.result) c.min-size.result contents
     (c.loop-end.invariant.lines told) (omega (arith, size)) (omega (arith, within, long))
-    (block_read c.loop-end.buffer c.read_block.new.block (c.loop-end.end - c.min-size.result) c.in_ok-n.n c.loop-end.end c.min-size.ensures c.in_ok-n.ensures.bound c.read_block.ensures.length (contents_same c.args.place c.loop-end.invariant.seen c.loop-end.invariant.watched) (c.in_ok-n.ensures.bytes told))
+    (block_read c.loop-end.buffer c.read_block.new.block (c.loop-end.end - c.min-size.result) c.loop-end.end c.min-size.ensures c.in_ok-n.ensures.bound c.read_block.ensures.length (contents_same c.args.place c.loop-end.invariant.seen c.loop-end.invariant.watched) (c.in_ok-n.ensures.bytes told))
     c.in-Begins.ensures)
 
 pub loop-end-preserved : goal.loop-end-preserved
@@ -27,19 +27,19 @@ loop-end-preserved g c =
     let size : c.min-size.result ≡ min c.loop-end.end (length c.loop-end.buffer) = c.min-size.ensures in
     let fewer : c.in-Short.found < c.loop-end.wanted = c.in-Short.ensures.fewer in record {
       lines = λ told. let long : c.args.len ≡ length contents = c.requires.whole told in
-          wanted_before c.args.count c.loop-end.end (c.loop-end.end - c.min-size.result) c.min-size.result contents
+          wanted_before (c.loop-end.end - c.min-size.result) c.min-size.result contents
           (c.loop-end.invariant.lines told) (omega (arith, size)) (omega (arith, within, long))
-          (block_read c.loop-end.buffer c.read_block.new.block (c.loop-end.end - c.min-size.result) c.in_ok-n.n c.loop-end.end c.min-size.ensures c.in_ok-n.ensures.bound c.read_block.ensures.length (contents_same c.args.place c.loop-end.invariant.seen c.loop-end.invariant.watched) (c.in_ok-n.ensures.bytes told))
+          (block_read c.loop-end.buffer c.read_block.new.block (c.loop-end.end - c.min-size.result) c.loop-end.end c.min-size.ensures c.in_ok-n.ensures.bound c.read_block.ensures.length (contents_same c.args.place c.loop-end.invariant.seen c.loop-end.invariant.watched) (c.in_ok-n.ensures.bytes told))
           c.in-Short.ensures;
       some = omega (arith, fewer);
       within = omega (arith, within);
       seen = c.read_block.ensures.seen ∙ c.loop-end.invariant.seen;
       watched = c.in_ok-n.ensures.same ∙ c.loop-end.invariant.watched;
       shows = c.read_block.ensures.shows ∙ c.loop-end.invariant.shows;
-      room = room_kept c.loop-end.buffer c.read_block.new.block c.loop-end.end c.min-size.ensures c.loop-end-test.true c.read_block.ensures.length c.loop-end.invariant.room;
+      room = room_kept c.loop-end.buffer c.read_block.new.block c.min-size.ensures c.loop-end-test.true c.read_block.ensures.length c.loop-end.invariant.room;
     }
 
 pub returns-clause-part : goal.returns-clause-part
 returns-clause-part g c told =
     let front = c.loop-end-test.false in
-    all_wanted c.args.delim c.args.count c.loop-end.wanted c.loop-end.end (c.loop-end.invariant.lines told) (omega (arith, front)) c.loop-end.invariant.some
+    all_wanted c.args.delim c.loop-end.end (c.loop-end.invariant.lines told) (omega (arith, front)) c.loop-end.invariant.some

@@ -7,8 +7,8 @@ use Rattle.follow_core.proofs.start.pass_lines.Goals as goal
 pub returns-in-Ends-clause-part : goal.returns-in-Ends-clause-part
 returns-in-Ends-clause-part g c told =
     let contents = open_contents (latest (g.W.Watch.seen c.args.watch.now)) (watched_at (g.W.Watch.watched c.args.watch.now) c.args.place) in
-    passed_in c.loop-at.at c.min-size.result c.in-Ends.end contents
-    (block_read c.loop-at.buffer c.read_block.new.block c.loop-at.at c.in_ok-n.n (c.args.len - c.loop-at.at) c.min-size.ensures c.in_ok-n.ensures.bound c.read_block.ensures.length (contents_same c.args.place c.loop-at.invariant.seen c.loop-at.invariant.watched) (c.in_ok-n.ensures.bytes told))
+    passed_in c.loop-at.at c.min-size.result contents
+    (block_read c.loop-at.buffer c.read_block.new.block c.loop-at.at (c.args.len - c.loop-at.at) c.min-size.ensures c.in_ok-n.ensures.bound c.read_block.ensures.length (contents_same c.args.place c.loop-at.invariant.seen c.loop-at.invariant.watched) (c.in_ok-n.ensures.bytes told))
     c.in-Ends.ensures (c.loop-at.invariant.lines told)
 
 pub loop-at-preserved : goal.loop-at-preserved
@@ -16,10 +16,10 @@ loop-at-preserved g c =
     let contents = open_contents (latest (g.W.Watch.seen c.args.watch.now)) (watched_at (g.W.Watch.watched c.args.watch.now) c.args.place) in
     let less = c.loop-at-test.true in record {
       lines = λ told. passed_by c.loop-at.at c.min-size.result contents
-          (block_read c.loop-at.buffer c.read_block.new.block c.loop-at.at c.in_ok-n.n (c.args.len - c.loop-at.at) c.min-size.ensures c.in_ok-n.ensures.bound c.read_block.ensures.length (contents_same c.args.place c.loop-at.invariant.seen c.loop-at.invariant.watched) (c.in_ok-n.ensures.bytes told))
+          (block_read c.loop-at.buffer c.read_block.new.block c.loop-at.at (c.args.len - c.loop-at.at) c.min-size.ensures c.in_ok-n.ensures.bound c.read_block.ensures.length (contents_same c.args.place c.loop-at.invariant.seen c.loop-at.invariant.watched) (c.in_ok-n.ensures.bytes told))
           c.in-Short.ensures (c.loop-at.invariant.lines told);
       seen = c.read_block.ensures.seen ∙ c.loop-at.invariant.seen;
       watched = c.in_ok-n.ensures.same ∙ c.loop-at.invariant.watched;
       shows = c.read_block.ensures.shows ∙ c.loop-at.invariant.shows;
-      room = room_kept c.loop-at.buffer c.read_block.new.block (c.args.len - c.loop-at.at) c.min-size.ensures (omega (arith, less)) c.read_block.ensures.length c.loop-at.invariant.room;
+      room = room_kept c.loop-at.buffer c.read_block.new.block c.min-size.ensures (omega (arith, less)) c.read_block.ensures.length c.loop-at.invariant.room;
     }

@@ -7,12 +7,12 @@ use Rattle.follow_core.proofs.StartLemmas.{contents_same}
 use Rattle.follow_core.proofs.visitor.copy.Goals as goal
 
 pub loop-at-init : goal.loop-at-init
-loop-at-init g c = record { shows = refl; copying = copy_starts _ c.requires.writable c.requires.within c.requires.room }
+loop-at-init g c = record { shows = refl; copying = copy_starts c.requires.writable c.requires.within c.requires.room }
 
 pub loop-at-preserved : goal.loop-at-preserved
 loop-at-preserved g c = record {
   shows = c.read_at.ensures.shows ∙ c.loop-at.invariant.shows;
-  copying = copy_more g.O.Outs.told (take c.min-room.result c.loop-at.buffer) c.read_at.new.buffer (drop c.min-room.result c.loop-at.buffer)
+  copying = copy_more (drop c.min-room.result c.loop-at.buffer)
       c.loop-at.invariant.copying (contents_same c.args.place (sym c.loop-at.invariant.copying.seen_same) (sym c.loop-at.invariant.copying.watched_same))
       c.in-Ok.ensures.bound c.read_at.ensures.length (few_fit _ _ c.in-Ok.ensures.bound c.min-room.ensures) c.loop-at-test.true
       c.in-Ok.ensures.bytes c.in-Ok-put.ensures.out c.in-Ok-put.ensures.last c.read_at.ensures.seen c.in-Ok.ensures.same (some_left _ _ _ c.read_at.ensures.length c.loop-at.invariant.copying.some);
@@ -38,6 +38,6 @@ pub returns-in-Err-put-clause-keeps : goal.returns-in-Err-put-clause-keeps
 returns-in-Err-put-clause-keeps g c = c.in-Ok.ensures.same ∙ c.loop-at.invariant.copying.watched_same
 
 pub returns-in-Err-put-clause-ends : goal.returns-in-Err-put-clause-ends
-returns-in-Err-put-clause-ends g c = copy_over g.O.Outs.told (take c.min-room.result c.loop-at.buffer) c.read_at.new.buffer (drop c.min-room.result c.loop-at.buffer)
+returns-in-Err-put-clause-ends g c = copy_over (drop c.min-room.result c.loop-at.buffer)
     c.loop-at.invariant.copying (contents_same c.args.place (sym c.loop-at.invariant.copying.seen_same) (sym c.loop-at.invariant.copying.watched_same))
     c.in-Ok.ensures.bound c.read_at.ensures.length c.in-Ok.ensures.bytes c.in-Err-put.ensures.short

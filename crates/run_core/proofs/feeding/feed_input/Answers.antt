@@ -61,7 +61,7 @@ returns-in-Err g c =
       reads = λ told. (so_far.fed, so_far.needed, read_failed _ _ _ _ _ _ (so_far.read told) so_far.readable c.in-Err.ensures.err);
       used = λ told ends unread.
           let failed = c.in-Err.ensures.err in
-          uses_all _ so_far.fed (read_failed _ _ _ _ _ _ (so_far.read told) so_far.readable failed)
+          uses_all (read_failed _ _ _ _ _ _ (so_far.read told) so_far.readable failed)
           (ap (λ (source : Source). source.left.bytes) (changed_source _ _ _ _ so_far.readable failed) ∙ (c.in-Err.ensures.break_off told).no_more)
           so_far.needed (ap (λ (work : Work). work.is_complete so_far.fed) (sym so_far.feeds.same) ∙ going)
           ((takes_none _ (so_far.took told) so_far.readable failed).far unread);
@@ -96,7 +96,7 @@ returns-then-n-eq0 g c =
           let none = (gave.ended c.if-n-eq0.true (omega (arith, c.requires.room, so_far.room))).0 in
           let after = changed_source _ _ _ _ so_far.readable c.in-Ok.ensures.rest in
           let nothing : take c.in-Ok.n c.read_part.new.buffer ≡ [] = ap (λ k. take k c.read_part.new.buffer) c.if-n-eq0.true in
-          uses_all _ so_far.fed (read_none_more _ _ _ _ _ _ c.in-Ok.n (so_far.read told) so_far.readable c.if-n-eq0.true c.in-Ok.ensures.rest)
+          uses_all (read_none_more _ _ _ _ _ _ c.in-Ok.n (so_far.read told) so_far.readable c.if-n-eq0.true c.in-Ok.ensures.rest)
           (ap (λ (source : Source). source.left.bytes) after ∙ ap (drop c.in-Ok.n) none ∙ ap (λ k. drop k []) c.if-n-eq0.true)
           so_far.needed (ap (λ (work : Work). work.is_complete so_far.fed) (sym so_far.feeds.same) ∙ going)
           (subst (λ x. (source_at (g.I.Inputs.sources c.read_part.new.inputs) c.args.slot).reached ≤ length x) (ap (λ more. so_far.fed ++ more) nothing ∙ append-nil so_far.fed)
@@ -117,15 +117,15 @@ pieces-preserved g c =
       others = keeps_again _ _ _ _ so_far.others (keeps_others _ _ _ _ c.in-Ok.ensures.rest);
       read = λ told. read_more _ _ _ _ _ _ _ _ _ (so_far.read told) so_far.readable (c.in-Ok.ensures.bytes told) c.in-Ok.ensures.rest;
       took = λ told. takes_more _ (so_far.took told) so_far.readable (c.in-Ok.ensures.bytes told) c.in-Ok.ensures.rest;
-      last = λ told. needed_more c.in-Ok.n so_far.fed c.read_part.new.buffer (ap (λ (work : Work). work.is_complete so_far.fed) (sym so_far.feeds.same) ∙ sym (c.done.ensures.complete so_far.fed so_far.feeds.holds) ∙ c.pieces-test.true) (omega (arith, last_given _ _ _ so_far.readable (c.in-Ok.ensures.bytes told) c.in-Ok.ensures.rest));
+      last = λ told. needed_more so_far.fed c.read_part.new.buffer (ap (λ (work : Work). work.is_complete so_far.fed) (sym so_far.feeds.same) ∙ sym (c.done.ensures.complete so_far.fed so_far.feeds.holds) ∙ c.pieces-test.true) (omega (arith, last_given _ _ _ so_far.readable (c.in-Ok.ensures.bytes told) c.in-Ok.ensures.rest));
       few = λ standard n spare. subst (λ (those : Work). n ≤ those.ahead) so_far.feeds.same
           (c.wanted.ensures.few so_far.fed (take c.in-Ok.n c.read_part.new.buffer) c.feed.new.self.stage n so_far.feeds.holds.within
           (sym (c.done.ensures.complete so_far.fed so_far.feeds.holds) ∙ c.pieces-test.true)
-          (omega (arith, piece_within c.in-Ok.n _ c.read_part.new.buffer c.in-Ok.ensures.bound, c.piece_size-size.ensures.few standard))
+          (omega (arith, piece_within c.read_part.new.buffer c.in-Ok.ensures.bound, c.piece_size-size.ensures.few standard))
           c.in-Ok-feed.ensures.same (c.in-Ok-feed.ensures.holds so_far.fed so_far.feeds.holds).within
           (subst (λ (those : Work). IsSpare those (so_far.fed ++ take c.in-Ok.n c.read_part.new.buffer) n) (sym so_far.feeds.same) spare));
       room = c.read_part.ensures.room ∙ so_far.room;
-      needed = needed_more c.in-Ok.n so_far.fed c.read_part.new.buffer (ap (λ (work : Work). work.is_complete so_far.fed) (sym so_far.feeds.same) ∙ sym (c.done.ensures.complete so_far.fed so_far.feeds.holds) ∙ c.pieces-test.true) (omega (arith, c.in-Ok.ensures.bound, c.piece_size-size.ensures.within, c.pieces.invariant.room));
+      needed = needed_more so_far.fed c.read_part.new.buffer (ap (λ (work : Work). work.is_complete so_far.fed) (sym so_far.feeds.same) ∙ sym (c.done.ensures.complete so_far.fed so_far.feeds.holds) ∙ c.pieces-test.true) (omega (arith, c.in-Ok.ensures.bound, c.piece_size-size.ensures.within, c.pieces.invariant.room));
       asked = λ within. asked_again _ _ _ _ _ _ so_far.readable c.in-Ok.ensures.rest (omega (arith, c.piece_size-size.ensures.within, so_far.room)) (so_far.asked within);
       laid = c.read_part.ensures.kept ∙ so_far.laid;
       ready = c.in-Ok-feed.ensures.ready;
@@ -141,30 +141,30 @@ returns-in-Err-feed g c =
     let so_far = c.pieces.invariant in
     let going : (g.S.Stage.work c.pieces.engine.stage).is_complete so_far.fed ≡ false = sym (c.done.ensures.complete so_far.fed so_far.feeds.holds) ∙ c.pieces-test.true in record {
       ends = λ before opening own at.
-          let within : length (take c.in-Ok.n c.read_part.new.buffer) ≤ length c.args.buffer.now = piece_within c.in-Ok.n _ c.read_part.new.buffer (omega (arith, c.in-Ok.ensures.bound, c.piece_size-size.ensures.within, so_far.room)) in
+          let within : length (take c.in-Ok.n c.read_part.new.buffer) ≤ length c.args.buffer.now = piece_within c.read_part.new.buffer (omega (arith, c.in-Ok.ensures.bound, c.piece_size-size.ensures.within, so_far.room)) in
           of_content g.I.Inputs.told _ (record { bytes = so_far.fed ++ take c.in-Ok.n c.read_part.new.buffer; breaks_off = false }) (source_at (g.I.Inputs.sources c.read_part.new.inputs) c.args.slot) _
           (λ told. let more = (read_more _ _ _ _ _ _ _ _ _ (so_far.read told) so_far.readable (c.in-Ok.ensures.bytes told) c.in-Ok.ensures.rest).bytes in
-          given_so _ _ c.given_up.ensures.same (stopped_feeding _ _ _ g.met.S.Stage.lawful _ c.feed.new.self _ (take c.in-Ok.n c.read_part.new.buffer) _ so_far.feeds own at
+          given_so _ c.given_up.ensures.same (stopped_feeding _ _ _ g.met.S.Stage.lawful _ c.feed.new.self _ (take c.in-Ok.n c.read_part.new.buffer) _ so_far.feeds own at
           more within going (sound_at (g.I.Inputs.sources c.read_part.new.inputs) c.args.slot (still_readable _ _ _ _ c.in-Ok.n c.in-Ok.ensures.rest so_far.readable), λ _. more)
           c.in-Err-feed.ensures.cut c.in-Err-feed.ensures.refused c.feed.ensures.same (λ unjudged. c.feed.ensures.owns) c.given_up.ensures.judged c.given_up.ensures.swept))
-          (λ untold. given_so _ _ c.given_up.ensures.same (stopped_feeding _ _ _ g.met.S.Stage.lawful _ c.feed.new.self _ (take c.in-Ok.n c.read_part.new.buffer) [] so_far.feeds own at
+          (λ untold. given_so _ c.given_up.ensures.same (stopped_feeding _ _ _ g.met.S.Stage.lawful _ c.feed.new.self _ (take c.in-Ok.n c.read_part.new.buffer) [] so_far.feeds own at
           (sym (append-nil _)) within going (sound_at (g.I.Inputs.sources c.read_part.new.inputs) c.args.slot (still_readable _ _ _ _ c.in-Ok.n c.in-Ok.ensures.rest so_far.readable), λ told. absurd (false≢true (sym untold ∙ told))) c.in-Err-feed.ensures.cut c.in-Err-feed.ensures.refused c.feed.ensures.same (λ unjudged. c.feed.ensures.owns) c.given_up.ensures.judged c.given_up.ensures.swept))
           (λ breaks. absurd (false≢true breaks));
       others = keeps_again _ _ _ _ so_far.others (keeps_others _ _ _ _ c.in-Ok.ensures.rest);
       reads = λ told. (
         so_far.fed ++ take c.in-Ok.n c.read_part.new.buffer,
-        needed_more c.in-Ok.n so_far.fed c.read_part.new.buffer (ap (λ (work : Work). work.is_complete so_far.fed) (sym so_far.feeds.same) ∙ going) (omega (arith, c.in-Ok.ensures.bound, c.piece_size-size.ensures.within, so_far.room)),
+        needed_more so_far.fed c.read_part.new.buffer (ap (λ (work : Work). work.is_complete so_far.fed) (sym so_far.feeds.same) ∙ going) (omega (arith, c.in-Ok.ensures.bound, c.piece_size-size.ensures.within, so_far.room)),
         (read_more _ _ _ _ _ _ _ _ _ (so_far.read told) so_far.readable (c.in-Ok.ensures.bytes told) c.in-Ok.ensures.rest).bytes,
       );
       used = λ told ends unread.
           let gave = c.in-Ok.ensures.bytes told in
           let judging = judging_of c.given_up.ensures.same ends in
           let settles : IsSettled (g.S.Stage.work c.pieces.engine.stage) (so_far.fed ++ take c.in-Ok.n c.read_part.new.buffer) c.in-Err-feed.fault
-          = judges (g.S.Stage.work c.pieces.engine.stage).means (g.S.Stage.work c.pieces.engine.stage).means.feeding _ (EndsWith g.S.Stage.Holds g.S.Stage.work c.pieces.engine.stage (take c.in-Ok.n c.read_part.new.buffer)) _ _ judging c.in-Err-feed.ensures.refused so_far.fed so_far.feeds.holds.within in
+          = judges (g.S.Stage.work c.pieces.engine.stage).means _ (EndsWith g.S.Stage.Holds g.S.Stage.work c.pieces.engine.stage (take c.in-Ok.n c.read_part.new.buffer)) judging c.in-Err-feed.ensures.refused so_far.fed so_far.feeds.holds.within in
           subst (λ (those : Work). Uses those (length c.args.buffer.now) c.args.slot (source_at (g.I.Inputs.sources c.args.inputs.now) c.args.slot).left (source_at (g.I.Inputs.sources c.read_part.new.inputs) c.args.slot)) so_far.feeds.same
-          (uses_judged _ (so_far.fed ++ take c.in-Ok.n c.read_part.new.buffer)
+          (uses_judged
           (read_more _ _ _ _ _ _ _ _ _ (so_far.read told) so_far.readable gave c.in-Ok.ensures.rest).bytes
-          (needed_more c.in-Ok.n so_far.fed c.read_part.new.buffer going (omega (arith, c.in-Ok.ensures.bound, c.piece_size-size.ensures.within, so_far.room)))
+          (needed_more so_far.fed c.read_part.new.buffer going (omega (arith, c.in-Ok.ensures.bound, c.piece_size-size.ensures.within, so_far.room)))
           settles.0 settles.1 ((takes_more _ (so_far.took told) so_far.readable gave c.in-Ok.ensures.rest).far unread));
       asked = λ within. asked_again _ _ _ _ _ _ so_far.readable c.in-Ok.ensures.rest (omega (arith, c.piece_size-size.ensures.within, so_far.room)) (so_far.asked within);
       broke = tt;
@@ -194,23 +194,23 @@ returns g c =
       ends = λ before opening own at.
           let used = complete_used _ so_far.fed _ spare done in
           let sound = sound_at (g.I.Inputs.sources c.give_back.new.self) c.args.slot
-              (ap (λ (source : Source). source.is_open && not source.is_broken) (changed_source _ (gets_back _) _ _ so_far.readable back) ∙ so_far.readable)
-              in
+          (ap (λ (source : Source). source.is_open && not source.is_broken) (changed_source _ (gets_back _) _ _ so_far.readable back) ∙ so_far.readable)
+          in
           of_content g.I.Inputs.told _ (record { bytes = so_far.fed; breaks_off = false }) (source_at (g.I.Inputs.sources c.give_back.new.self) c.args.slot) _
           (λ told. let left = read_used spare (so_far.read told) (so_far.took told) so_far.readable back in
           ended _ _ _ g.met.S.Stage.lawful _ _ so_far.feeds own at (done, (_, (so_far.read told).bytes)) (enough _ left used) (alike_used spare (g.met.S.Stage.lawful _) used)
-          (needed_within _ _ spare.used c.requires.room spare.needed) (sound, λ _. left) c.end-2.ensures)
+          (needed_within c.requires.room spare.needed) (sound, λ _. left) c.end-2.ensures)
           (λ untold. ended _ _ _ g.met.S.Stage.lawful _ _ so_far.feeds own at (done, ([], sym (append-nil so_far.fed))) (enough [] (sym (append-nil so_far.fed)) done) (alike_itself)
           (subst (λ (those : Work). IsNeeded those.is_complete (length c.args.buffer.now) so_far.fed) (sym so_far.feeds.same) so_far.needed) (sound, λ told. absurd (false≢true (sym untold ∙ told))) c.end-2.ensures)
           (λ breaks. absurd (false≢true breaks));
       reads = λ told. (
         spare.used,
-        subst (λ (those : Work). IsNeeded those.is_complete (length c.args.buffer.now) spare.used) so_far.feeds.same (needed_within _ _ spare.used c.requires.room spare.needed),
+        subst (λ (those : Work). IsNeeded those.is_complete (length c.args.buffer.now) spare.used) so_far.feeds.same (needed_within c.requires.room spare.needed),
         read_used spare (so_far.read told) (so_far.took told) so_far.readable back,
       );
       used = λ told ends unread.
           subst (λ (those : Work). Uses those (length c.args.buffer.now) c.args.slot (source_at (g.I.Inputs.sources c.args.inputs.now) c.args.slot).left (source_at (g.I.Inputs.sources c.give_back.new.self) c.args.slot)) so_far.feeds.same
-          (uses_part _ spare (read_used spare (so_far.read told) (so_far.took told) so_far.readable back) c.requires.room (complete_used _ so_far.fed _ spare done)
+          (uses_part spare (read_used spare (so_far.read told) (so_far.took told) so_far.readable back) c.requires.room (complete_used _ so_far.fed _ spare done)
           (λ standard. subst (λ (those : Work). c.unused-unused.result ≤ those.ahead) (sym so_far.feeds.same) (so_far.few standard _ (subst (λ (those : Work). IsSpare those so_far.fed c.unused-unused.result) so_far.feeds.same spare)))
           (so_far.took told) unread so_far.readable back);
       others = keeps_again _ _ _ _ so_far.others (keeps_others _ _ _ _ back);

@@ -6,16 +6,16 @@ use Rattle.run_core.proofs.ReadingLemmas.{unread_source, asks_there, still_withi
 use Rattle.run_core.proofs.inputs.feed_source.Goals as goal
 
 pub returns-in_err-engine-clause-fed : goal.returns-in_err-engine-clause-fed
-returns-in_err-engine-clause-fed g c = rw (handed_on _ _ c.from_residual.ensures.1) (unread_source _ _ _ _ c.requires.input (λ content unread. (not_opened _ _ c.in_err-engine.ensures.err unread, λ ends. absurd (false≢true (sym ends ∙ ap not c.in_err-engine.ensures.err.unjudged)))))
+returns-in_err-engine-clause-fed g c = rw (handed_on _ _ c.from_residual.ensures.1) (unread_source _ _ _ _ c.requires.input (λ content unread. (not_opened _ c.in_err-engine.ensures.err unread, λ ends. absurd (false≢true (sym ends ∙ ap not c.in_err-engine.ensures.err.unjudged)))))
 
 pub returns-in-Some-clause-fed : goal.returns-in-Some-clause-fed
-returns-in-Some-clause-fed g c = fed_as _ _ _ _ _ _ _ c.in-Some.is c.in_ok-engine.ensures.ok (still_within c.in-Some.is c.requires.input c.feed_input.ensures.others) c.feed_input.ensures.ends (λ told ends. c.feed_input.ensures.used told ends (rw c.in-Some.is at c.requires.unread))
+returns-in-Some-clause-fed g c = fed_as _ _ _ _ _ _ c.in-Some.is c.in_ok-engine.ensures.ok (still_within c.in-Some.is c.requires.input c.feed_input.ensures.others) c.feed_input.ensures.ends (λ told ends. c.feed_input.ensures.used told ends (rw c.in-Some.is at c.requires.unread))
 
 pub returns-in-Some-clause-asked : goal.returns-in-Some-clause-asked
 returns-in-Some-clause-asked g c = asks_there c.feed_input.ensures.others c.feed_input.ensures.asked
 
 pub returns-clause-fed : goal.returns-clause-fed
-returns-clause-fed g c = fed_none _ _ _ _ _ _ _ _ _ c.in-None.is c.in_ok-engine.ensures.ok c.feed_nothing.ensures.ends
+returns-clause-fed g c = fed_none _ _ _ _ _ _ _ _ c.in-None.is c.in_ok-engine.ensures.ok c.feed_nothing.ensures.ends
 
 pub returns-in_err-engine-clause-others : goal.returns-in_err-engine-clause-others
 returns-in_err-engine-clause-others g c = keeps_all _ _

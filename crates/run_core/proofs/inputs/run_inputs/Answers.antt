@@ -11,8 +11,8 @@ tell-requires g c = ap (λ slots. is_open (slot_at slots 1).state) c.requires.ou
 pub returns-in_default : goal.returns-in_default
 returns-in_default g c = record {
   untouched = λ none. refl;
-  ends = over_too _ _ (λ found took. ran_into_as _ c.tool.ensures took c.tell.ensures) (no_memory_first _ c.requires.fresh c.requires.outputs);
-  opened = fresh_counts _ (map (λ name. name.now) c.args.names.now) c.requires.fresh;
+  ends = over_too _ _ (λ found took. ran_into_as c.tool.ensures took c.tell.ensures) (no_memory_first c.requires.fresh c.requires.outputs);
+  opened = fresh_counts (map (λ name. name.now) c.args.names.now) c.requires.fresh;
   asked = fresh_asks _ _ c.requires.fresh;
 }
 
@@ -20,10 +20,10 @@ pub take_names-requires-clause-room : goal.take_names-requires-clause-room
 take_names-requires-clause-room g c = c.deref_mut.ensures.len ∙ c.in-Ok.ensures.len
 
 pub tell-requires-in-Err : goal.tell-requires-in-Err
-tell-requires-in-Err g c = from_over _ _ (λ found took. stop_open _ took) c.in-Err.ensures.took
+tell-requires-in-Err g c = from_over _ _ (λ found took. stop_open took) c.in-Err.ensures.took
 
 pub returns-in-Ok-take_names-clause-ends : goal.returns-in-Ok-take_names-clause-ends
-returns-in-Ok-take_names-clause-ends g c = over_too _ _ (λ found took. ran_through _ c.in-Ok-take_names.failed (c.from.ensures ∙ as_status c.in-Ok-take_names.failed) took) c.in-Ok-take_names.ensures.took
+returns-in-Ok-take_names-clause-ends g c = over_too _ _ (λ found took. ran_through (c.from.ensures ∙ as_status c.in-Ok-take_names.failed) took) c.in-Ok-take_names.ensures.took
 
 pub returns-clause-ends : goal.returns-clause-ends
-returns-clause-ends g c = over_too _ _ (λ found took. ran_into_as _ c.tool-in-Err.ensures took c.tell-in-Err.ensures) c.in-Err.ensures.took
+returns-clause-ends g c = over_too _ _ (λ found took. ran_into_as c.tool-in-Err.ensures took c.tell-in-Err.ensures) c.in-Err.ensures.took

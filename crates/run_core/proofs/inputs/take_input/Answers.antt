@@ -6,17 +6,17 @@ use Rattle.run_core.proofs.ReadingLemmas.{unread_source}
 use Rattle.run_core.proofs.inputs.take_input.Goals as goal
 
 pub put_header-requires : goal.put_header-requires
-put_header-requires g c = let had = c.requires.outputs in part_writable _ had.error had.at
+put_header-requires g c = let had = c.requires.outputs in part_writable had.at
 
 pub feed_source-requires-clause-streams : goal.feed_source-requires-clause-streams
-feed_source-requires-clause-streams g c = let had = c.requires.outputs in part_two _ had.error (headed _ _ had.at c.in_ok-put_header.ensures.ok)
+feed_source-requires-clause-streams g c = let had = c.requires.outputs in part_two (headed _ had.at c.in_ok-put_header.ensures.ok)
 
 pub feed_source-requires-clause-output : goal.feed_source-requires-clause-output
-feed_source-requires-clause-output g c = let had = c.requires.outputs in part_writable _ had.error (headed _ _ had.at c.in_ok-put_header.ensures.ok)
+feed_source-requires-clause-output g c = let had = c.requires.outputs in part_writable (headed _ had.at c.in_ok-put_header.ensures.ok)
 
 pub returns-in_err-put_header-clause-took : goal.returns-in_err-put_header-clause-took
 returns-in_err-put_header-clause-took g c so_far error opened at =
-    rw (handed_on _ _ c.from_residual.ensures.1) (unread_source _ _ _ _ c.requires.input (λ content unread. stopped_in_header _ _ _ c.in_err-put_header.ensures.due unread at c.in_err-put_header.ensures.err))
+    rw (handed_on _ _ c.from_residual.ensures.1) (unread_source _ _ _ _ c.requires.input (λ content unread. stopped_in_header _ _ c.in_err-put_header.ensures.due unread at c.in_err-put_header.ensures.err))
 
 pub returns-in_err-put_header-clause-others : goal.returns-in_err-put_header-clause-others
 returns-in_err-put_header-clause-others g c = keeps_all _ _
@@ -24,29 +24,29 @@ returns-in_err-put_header-clause-others g c = keeps_all _ _
 pub say-requires : goal.say-requires
 say-requires g c =
     let had = c.requires.outputs in
-    from_source _ _ _ _ _ _ (λ content fed done. fed_open _ had.error _ c.in-Ok-Broken.field-0-is had.opened (headed _ _ had.at c.in_ok-put_header.ensures.ok) fed) c.in-Ok-Broken.ensures.fed
+    from_source _ _ _ _ _ _ (λ content fed done. fed_open _ c.in-Ok-Broken.field-0-is had.opened (headed _ had.at c.in_ok-put_header.ensures.ok) fed) c.in-Ok-Broken.ensures.fed
 
 pub say-requires-in-Err : goal.say-requires-in-Err
 say-requires-in-Err g c =
     let had = c.requires.outputs in
-    from_source _ _ _ _ _ _ (λ content fed done. judged_open _ had.error _ (sym c.if-not-is_verdict.ensures) had.opened (headed _ _ had.at c.in_ok-put_header.ensures.ok) fed) c.in-Err.ensures.fed
+    from_source _ _ _ _ _ _ (λ content fed done. judged_open _ (sym c.if-not-is_verdict.ensures) had.opened (headed _ had.at c.in_ok-put_header.ensures.ok) fed) c.in-Err.ensures.fed
 
 pub returns-in-Ok-Whole-clause-took : goal.returns-in-Ok-Whole-clause-took
 returns-in-Ok-Whole-clause-took g c so_far error opened at =
-    of_source_too _ _ _ _ _ _ (λ content fed done. took_well _ _ _ _ _ _ _ so_far error _ _ _ _ (headed_count g.O.Outs.told _ _ c.in_ok-put_header.ensures.ok) (part_two _ error at) (headed _ _ at c.in_ok-put_header.ensures.ok) (done refl) (inl c.in-Ok-Whole.field-0-is) fed) c.in-Ok-Whole.ensures.fed
+    of_source_too _ _ _ _ _ _ (λ content fed done. took_well _ _ _ _ _ _ _ so_far error _ _ _ _ (headed_count g.O.Outs.told _ _ c.in_ok-put_header.ensures.ok) (part_two at) (headed _ at c.in_ok-put_header.ensures.ok) (done refl) (inl c.in-Ok-Whole.field-0-is) fed) c.in-Ok-Whole.ensures.fed
 
 pub returns-in-Ok-Enough-clause-took : goal.returns-in-Ok-Enough-clause-took
 returns-in-Ok-Enough-clause-took g c so_far error opened at =
-    of_source_too _ _ _ _ _ _ (λ content fed done. took_well _ _ _ _ _ _ _ so_far error _ _ _ _ (headed_count g.O.Outs.told _ _ c.in_ok-put_header.ensures.ok) (part_two _ error at) (headed _ _ at c.in_ok-put_header.ensures.ok) (done refl) (inr c.in-Ok-Enough.field-0-is) fed) c.in-Ok-Enough.ensures.fed
+    of_source_too _ _ _ _ _ _ (λ content fed done. took_well _ _ _ _ _ _ _ so_far error _ _ _ _ (headed_count g.O.Outs.told _ _ c.in_ok-put_header.ensures.ok) (part_two at) (headed _ at c.in_ok-put_header.ensures.ok) (done refl) (inr c.in-Ok-Enough.field-0-is) fed) c.in-Ok-Enough.ensures.fed
 
 pub returns-in-Ok-Broken-clause-took : goal.returns-in-Ok-Broken-clause-took
 returns-in-Ok-Broken-clause-took g c so_far error opened at =
-    of_source_too _ _ _ _ _ _ (λ content fed done. took_broken _ _ _ _ _ _ _ so_far error _ _ _ _ (headed_count g.O.Outs.told _ _ c.in_ok-put_header.ensures.ok) (part_two _ error at) (headed _ _ at c.in_ok-put_header.ensures.ok) (done refl) c.in-Ok-Broken.field-0-is fed (said_as _ _ (fault.Read 0) c.tool.ensures refl c.say.ensures)) c.in-Ok-Broken.ensures.fed
+    of_source_too _ _ _ _ _ _ (λ content fed done. took_broken _ _ _ _ _ _ _ so_far error _ _ _ _ (headed_count g.O.Outs.told _ _ c.in_ok-put_header.ensures.ok) (part_two at) (headed _ at c.in_ok-put_header.ensures.ok) (done refl) c.in-Ok-Broken.field-0-is fed (said_as (fault.Read 0) c.tool.ensures refl c.say.ensures)) c.in-Ok-Broken.ensures.fed
 
 pub returns-then-not-is_verdict-clause-took : goal.returns-then-not-is_verdict-clause-took
 returns-then-not-is_verdict-clause-took g c so_far error opened at =
-    of_source_too _ _ _ _ _ _ (λ content fed done. took_stopped _ _ _ _ _ _ _ so_far error _ _ _ _ (headed_count g.O.Outs.told _ _ c.in_ok-put_header.ensures.ok) (part_two _ error at) (headed _ _ at c.in_ok-put_header.ensures.ok) (sym c.if-not-is_verdict.ensures) fed) c.in-Err.ensures.fed
+    of_source_too _ _ _ _ _ _ (λ content fed done. took_stopped _ _ _ _ _ _ _ so_far error _ _ _ _ (headed_count g.O.Outs.told _ _ c.in_ok-put_header.ensures.ok) (part_two at) (headed _ at c.in_ok-put_header.ensures.ok) (sym c.if-not-is_verdict.ensures) fed) c.in-Err.ensures.fed
 
 pub returns-else-not-is_verdict-clause-took : goal.returns-else-not-is_verdict-clause-took
 returns-else-not-is_verdict-clause-took g c so_far error opened at =
-    of_source_too _ _ _ _ _ _ (λ content fed done. took_verdict _ _ _ _ _ _ _ so_far error _ _ _ _ (headed_count g.O.Outs.told _ _ c.in_ok-put_header.ensures.ok) (part_two _ error at) (headed _ _ at c.in_ok-put_header.ensures.ok) (done (ap not (sym c.if-not-is_verdict.ensures))) (sym c.if-not-is_verdict.ensures) fed (said_as _ _ _ c.tool-in-Err.ensures c.subject-subject.ensures c.say-in-Err.ensures)) c.in-Err.ensures.fed
+    of_source_too _ _ _ _ _ _ (λ content fed done. took_verdict _ _ _ _ _ _ _ so_far error _ _ _ _ (headed_count g.O.Outs.told _ _ c.in_ok-put_header.ensures.ok) (part_two at) (headed _ at c.in_ok-put_header.ensures.ok) (done (ap not (sym c.if-not-is_verdict.ensures))) (sym c.if-not-is_verdict.ensures) fed (said_as _ c.tool-in-Err.ensures c.subject-subject.ensures c.say-in-Err.ensures)) c.in-Err.ensures.fed

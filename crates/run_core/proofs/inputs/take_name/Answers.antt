@@ -8,7 +8,7 @@ use Rattle.run_core.proofs.inputs.take_name.Goals as goal
 
 pub returns-then-is_dash-clause-took : goal.returns-then-is_dash-clause-took
 returns-then-is_dash-clause-took g c so_far error opened at =
-    took_standard _ c.args.progress (g.I.Inputs.laid c.args.inputs.now) c.args.name.now (g.I.Inputs.sources c.args.inputs.now) so_far error c.standard_source-source.ensures (sym c.is_dash.ensures ∙ c.if-is_dash.true) (c.take_input.ensures.took so_far error opened at)
+    took_standard (g.I.Inputs.laid c.args.inputs.now) c.args.name.now (g.I.Inputs.sources c.args.inputs.now) c.standard_source-source.ensures (sym c.is_dash.ensures ∙ c.if-is_dash.true) (c.take_input.ensures.took so_far error opened at)
 
 pub returns-then-is_dash-clause-takes : goal.returns-then-is_dash-clause-takes
 returns-then-is_dash-clause-takes g c = takes_dash _ (sym c.is_dash.ensures ∙ c.if-is_dash.true) (rw c.standard_source-source.ensures at c.take_input.ensures.others) c.take_input.ensures.asked
@@ -18,29 +18,29 @@ returns-then-is_dash-clause-takes g c = takes_dash _ (sym c.is_dash.ensures ∙ 
 pub returns-in-Ok-clause-took : goal.returns-in-Ok-clause-took
 returns-in-Ok-clause-took g c so_far error opened at =
     let differs = sym c.is_dash.ensures ∙ c.if-is_dash.false in
-    of_opened g.I.Inputs.told c.args.progress.was_read _ _ differs c.in-Ok.ensures.ok (λ content took. took_file _ differs c.in-Ok.ensures.ok took)
+    of_opened c.args.progress.was_read _ _ differs c.in-Ok.ensures.ok (λ content took. took_file differs c.in-Ok.ensures.ok took)
     (c.take_input-in-Ok.ensures.took so_far error opened at)
 
 pub returns-in-Ok-clause-takes : goal.returns-in-Ok-clause-takes
-returns-in-Ok-clause-takes g c = takes_file _ (sym c.is_dash.ensures ∙ c.if-is_dash.false) c.requires.some c.in-Ok.ensures.ok c.take_input-in-Ok.ensures.others c.take_input-in-Ok.ensures.asked
+returns-in-Ok-clause-takes g c = takes_file (sym c.is_dash.ensures ∙ c.if-is_dash.false) c.requires.some c.in-Ok.ensures.ok c.take_input-in-Ok.ensures.others c.take_input-in-Ok.ensures.asked
 
 -- it can't be opened
 
 pub returns-else-not-is_unopened-clause-took : goal.returns-else-not-is_unopened-clause-took
 returns-else-not-is_unopened-clause-took g c so_far error opened at =
-    of_missing _ c.args.progress error (sym c.is_dash.ensures ∙ c.if-is_dash.false) c.in-Err.ensures.err (sym c.if-not-is_unopened.ensures) at (said_as _ _ c.in-Err.fault c.tool.ensures refl c.say.ensures)
+    of_missing (sym c.is_dash.ensures ∙ c.if-is_dash.false) c.in-Err.ensures.err (sym c.if-not-is_unopened.ensures) at (said_as c.in-Err.fault c.tool.ensures refl c.say.ensures)
 
 pub returns-else-not-is_unopened-clause-takes : goal.returns-else-not-is_unopened-clause-takes
-returns-else-not-is_unopened-clause-takes g c = takes_missing _ (sym c.is_dash.ensures ∙ c.if-is_dash.false) c.requires.some c.in-Err.ensures.err
+returns-else-not-is_unopened-clause-takes g c = takes_missing (sym c.is_dash.ensures ∙ c.if-is_dash.false) c.requires.some c.in-Err.ensures.err
 
 -- there is no room for it
 
 pub returns-then-not-is_unopened-clause-took : goal.returns-then-not-is_unopened-clause-took
 returns-then-not-is_unopened-clause-took g c so_far error opened at =
-    of_no_room _ c.args.progress error (sym c.is_dash.ensures ∙ c.if-is_dash.false) c.in-Err.ensures.err (sym c.if-not-is_unopened.ensures) at
+    of_no_room (sym c.is_dash.ensures ∙ c.if-is_dash.false) c.in-Err.ensures.err (sym c.if-not-is_unopened.ensures) at
 
 pub returns-then-not-is_unopened-clause-takes : goal.returns-then-not-is_unopened-clause-takes
-returns-then-not-is_unopened-clause-takes g c = takes_missing _ (sym c.is_dash.ensures ∙ c.if-is_dash.false) c.requires.some c.in-Err.ensures.err
+returns-then-not-is_unopened-clause-takes g c = takes_missing (sym c.is_dash.ensures ∙ c.if-is_dash.false) c.requires.some c.in-Err.ensures.err
 
 pub take_input-requires-in-Ok-clause-unread : goal.take_input-requires-in-Ok-clause-unread
 take_input-requires-in-Ok-clause-unread g c = grind (arith, common_steps)

@@ -7,7 +7,7 @@ use Rattle.run_core.proofs.inputs.take_names.Goals as goal
 
 pub loop-left-init : goal.loop-left-init
 loop-left-init g c = record {
-  walked = walk_begins _ c.requires.fresh c.requires.outputs c.requires.alone;
+  walked = walk_begins c.requires.fresh c.requires.outputs c.requires.alone;
   untouched = record { none_left = λ none. none; same = λ none. refl };
   room = c.requires.room;
 }
@@ -16,17 +16,17 @@ pub take_name-requires-clause-some : goal.take_name-requires-clause-some
 take_name-requires-clause-some g c = c.loop-left.invariant.walked.some
 
 pub take_name-requires-clause-standard : goal.take_name-requires-clause-standard
-take_name-requires-clause-standard g c = walk_readable _ c.loop-left.invariant.walked
+take_name-requires-clause-standard g c = walk_readable c.loop-left.invariant.walked
 
 pub take_name-requires-clause-unread : goal.take_name-requires-clause-unread
 take_name-requires-clause-unread g c = λ first. nothing_taken (g.I.Inputs.sources c.loop-left.inputs) 0 (c.loop-left.invariant.walked.standard first)
 
 pub take_name-requires-clause-outputs : goal.take_name-requires-clause-outputs
-take_name-requires-clause-outputs g c = walk_streams _ (omega (arith, length-map c.loop-left.left.now (λ word. word.now), c.in-len1-up.len_at_least)) c.loop-left.invariant.walked
+take_name-requires-clause-outputs g c = walk_streams (omega (arith, length-map c.loop-left.left.now (λ word. word.now), c.in-len1-up.len_at_least)) c.loop-left.invariant.walked
 
 pub loop-left-preserved : goal.loop-left-preserved
 loop-left-preserved g c = record {
-  walked = walk_goes_on _ c.loop-left.invariant.room
+  walked = walk_goes_on c.loop-left.invariant.room
       (walked_at _ _ c.loop-left.left.now c.in-len1-up.len_at_least c.loop-left.invariant.walked) c.in_ok-progress.ensures.took c.take_name.ensures.takes c.in_ok-progress.ensures.opens c.in_ok-progress.ensures.laid;
   untouched = untouched_on _ c.loop-left.left.now _ c.in-len1-up.len_at_least c.loop-left.invariant.untouched c.take_name.ensures.takes.unasked;
   room = c.take_name.auto.buffer ∙ c.loop-left.invariant.room;
@@ -43,8 +43,8 @@ returns-in_err-progress g c = record {
 
 pub returns : goal.returns
 returns g c = record {
-  took = walk_ends _ (none_left c.loop-left.left.now c.in_default.len_below) c.loop-left.invariant.walked;
-  opened = walk_counts _ (none_left c.loop-left.left.now c.in_default.len_below) c.loop-left.invariant.walked;
+  took = walk_ends (none_left c.loop-left.left.now c.in_default.len_below) c.loop-left.invariant.walked;
+  opened = walk_counts (none_left c.loop-left.left.now c.in_default.len_below) c.loop-left.invariant.walked;
   asked = c.loop-left.invariant.walked.asked;
   untouched = c.loop-left.invariant.untouched.same;
 }

@@ -11,9 +11,9 @@ use Rattle.tools_core.proofs.run.run.Goals as goal
 pub returns-in-Ok : goal.returns-in-Ok
 returns-in-Ok g c = record {
   untouched = λ none. c.run_tool.ensures.untouched (sym (ap (λ (meant : Result Settings Fault). has_dash (names_at meant)) c.in-Ok.ensures.ok) ∙ none);
-  unopened = λ none. absurd (asked_or_none (map (λ word. word.now) c.args.words.now) c.in-Ok.settings none.0 c.in-Ok.ensures.ok none.1);
-  ends = tool_runs _ _ _ _ _ _ _ _ _ c.in-Ok.ensures.ok c.run_tool.ensures.ends;
-  opened = counts_by _ (map (λ word. word.now) c.args.words.now) c.in-Ok.settings c.in-Ok.ensures.ok c.run_tool.ensures.opened;
+  unopened = λ none. absurd (asked_or_none (map (λ word. word.now) c.args.words.now) c.in-Ok.ensures.ok none.1);
+  ends = tool_runs _ _ _ _ _ _ c.in-Ok.ensures.ok c.run_tool.ensures.ends;
+  opened = counts_by (map (λ word. word.now) c.args.words.now) c.in-Ok.ensures.ok c.run_tool.ensures.opened;
   asked = c.run_tool.ensures.asked;
 }
 
@@ -21,7 +21,7 @@ pub returns-in-Err : goal.returns-in-Err
 returns-in-Err g c = record {
   untouched = λ none. refl;
   unopened = λ none. refl;
-  ends = refused_or_memory g.I.Inputs.told g.O.Outs.told _ _ (map (λ word. word.now) c.args.words.now) c.in-Err.fault (g.O.Outs.slots c.refuse_words.new.outs) c.refuse_words.result c.requires.inputs c.in-Err.ensures.err c.refuse_words.ensures;
-  opened = fresh_counts _ (names_read (map (λ word. word.now) c.args.words.now)) c.requires.inputs;
+  ends = refused_or_memory (map (λ word. word.now) c.args.words.now) c.requires.inputs c.in-Err.ensures.err c.refuse_words.ensures;
+  opened = fresh_counts (names_read (map (λ word. word.now) c.args.words.now)) c.requires.inputs;
   asked = fresh_asks _ _ c.requires.inputs;
 }

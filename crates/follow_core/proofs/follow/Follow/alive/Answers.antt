@@ -7,4 +7,4 @@ use Rattle.follow_core.proofs.follow.Follow.alive.Goals as goal
 pub returns : goal.returns
 returns c told ways headers names looks first slots watched holds =
     c.any_goes_on.ensures ∙ ap (any_goes_on c.self.inside.by_name) c.deref.ensures.value
-    ∙ ap (λ (state : FollowState). any_goes_on state.by_name state.names) c.self.view_is ∙ alive_is told holds
+    ∙ ap (λ (state : FollowState). any_goes_on state.by_name state.names) c.self.view_is ∙ alive_is holds

@@ -22,7 +22,7 @@ pub invariant_of-self : goal.invariant_of-self
 invariant_of-self g c = grind (arith, common_steps)
 
 pub returns-in-Ok-clause-makes : goal.returns-in-Ok-clause-makes
-returns-in-Ok-clause-makes g c = makes_look (Ok c.in-Ok.failed) c.requires.live c.requires.can c.self.view_is c.in_default.ensures.begins
+returns-in-Ok-clause-makes g c = makes_look c.requires.live c.requires.can c.self.view_is c.in_default.ensures.begins
     c.begin.ensures.shows c.begin.ensures.seen c.in_default-turn.ensures.ok c.turn.ensures.watched c.deref_mut.ensures.value
     (sym (with_items_is c.self.inside.names c.visit_all.new.names (c.visit_all.auto.names ∙ c.deref_mut.ensures.len))) c.visit_all.ensures.seen c.in-Ok.ensures.visits
 
@@ -30,6 +30,6 @@ pub invariant_of-self-in-Err-visit_all : goal.invariant_of-self-in-Err-visit_all
 invariant_of-self-in-Err-visit_all g c = grind (arith, common_steps)
 
 pub returns-in-Err-visit_all-clause-makes : goal.returns-in-Err-visit_all-clause-makes
-returns-in-Err-visit_all-clause-makes g c = makes_look (Err c.in-Err-visit_all.fault) c.requires.live c.requires.can c.self.view_is c.in_default.ensures.begins
+returns-in-Err-visit_all-clause-makes g c = makes_look c.requires.live c.requires.can c.self.view_is c.in_default.ensures.begins
     c.begin.ensures.shows c.begin.ensures.seen c.in_default-turn.ensures.ok c.turn.ensures.watched c.deref_mut.ensures.value
     (sym (with_items_is c.self.inside.names c.visit_all.new.names (c.visit_all.auto.names ∙ c.deref_mut.ensures.len))) c.visit_all.ensures.seen c.in-Err-visit_all.ensures.visits

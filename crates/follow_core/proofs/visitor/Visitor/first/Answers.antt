@@ -22,23 +22,23 @@ returns-in-Err-open-clause-looks g c first by_name = gave_fails (Over c.in-Err-o
     (refl, refl)
 
 pub write_start-requires-clause-readable : goal.write_start-requires-clause-readable
-write_start-requires-clause-readable g c = readable_there _ c.in-Ok-true.ensures.ok c.in-Ok-true.field-0-test c.requires.watchable
+write_start-requires-clause-readable g c = readable_there c.in-Ok-true.ensures.ok c.in-Ok-true.field-0-test c.requires.watchable
 
 pub write_start-requires-clause-can : goal.write_start-requires-clause-can
 write_start-requires-clause-can g c = written_can _ _ c.in_default.ensures.out c.requires.can
 
 pub returns-in-Ok-clause-looks : goal.returns-in-Ok-clause-looks
 returns-in-Ok-clause-looks g c first by_name = gave_through c.requires.name c.requires.watchable
-    (follows_there g.W.Watch.told by_name _ (Ok c.in-Ok.len) c.in-Ok-true.ensures.ok c.requires.name c.in-Ok.ensures.keeps)
+    (follows_there by_name _ (Ok c.in-Ok.len) c.in-Ok-true.ensures.ok c.requires.name c.in-Ok.ensures.keeps)
     (first_gave _ c.self.view_is c.in-Ok-true.ensures.ok c.in-Ok-true.field-0-test c.requires.name
-    (contents_led g.W.Watch.told (ap latest c.reopen.ensures.seen) c.requires.watchable c.in-Ok-true.ensures.ok c.requires.name) c.in-Ok.ensures.keeps c.in-Ok.ensures.len
+    (contents_led (ap latest c.reopen.ensures.seen) c.requires.watchable c.in-Ok-true.ensures.ok c.requires.name) c.in-Ok.ensures.keeps c.in-Ok.ensures.len
     (ends_opened c.in_default.ensures.out c.in_default.ensures.last c.in-Ok.ensures.ends))
 
 pub returns-in-Err-write_start-clause-looks : goal.returns-in-Err-write_start-clause-looks
 returns-in-Err-write_start-clause-looks g c first by_name = gave_fails c.in-Err-write_start.stop c.requires.watchable
-    (follows_there g.W.Watch.told by_name _ (Err c.in-Err-write_start.stop) c.in-Ok-true.ensures.ok c.requires.name c.in-Err-write_start.ensures.keeps)
+    (follows_there by_name _ (Err c.in-Err-write_start.stop) c.in-Ok-true.ensures.ok c.requires.name c.in-Err-write_start.ensures.keeps)
     (first_gave _ c.self.view_is c.in-Ok-true.ensures.ok c.in-Ok-true.field-0-test c.requires.name
-    (contents_led g.W.Watch.told (ap latest c.reopen.ensures.seen) c.requires.watchable c.in-Ok-true.ensures.ok c.requires.name) c.in-Err-write_start.ensures.keeps tt
+    (contents_led (ap latest c.reopen.ensures.seen) c.requires.watchable c.in-Ok-true.ensures.ok c.requires.name) c.in-Err-write_start.ensures.keeps tt
     (ends_opened c.in_default.ensures.out c.in_default.ensures.last c.in-Err-write_start.ensures.ends))
     c.stop-in-Err-write_start.ensures.tells
 

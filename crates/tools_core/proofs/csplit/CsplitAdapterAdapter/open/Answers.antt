@@ -1,18 +1,22 @@
 use Rattle.std.proofs.Common.{◌∙◌, refl, ap}
 use Rattle.ports_core.proofs.HandedOn.{fault_is}
 use Rattle.words_core.specs.CsplitAsked.{CsplitAsked}
-use Rattle.tools_core.proofs.AdapterLemmas.{csplit_opened, csplit_short, no_memory}
+use Rattle.tools_core.proofs.AdapterLemmas.{csplit_stops, no_memory, opened_of, opened_short, some_there}
+use Rattle.csplit_core.specs.Csplit.{csplit_work}
+use Rattle.std.proofs.lemmas.Result.{on_ok_weaker}
+use Rattle.ports_core.proofs.PartLemmas.{nothing_out}
 use Rattle.tools_core.proofs.csplit.CsplitAdapterAdapter.open.Goals as goal
 
 pub returns-in_err-style-clause-err : goal.returns-in_err-style-clause-err
-returns-in_err-style-clause-err g c = fault_is _ _ _ c.from_residual.ensures.1 (no_memory _ _ _ _ _ refl c.requires.streams refl)
+returns-in_err-style-clause-err g c = fault_is _ _ _ c.from_residual.ensures.1 (no_memory refl c.requires.streams refl)
 
 pub returns-clause-ok : goal.returns-clause-ok
 returns-clause-ok g c =
     let same = c.in_ok-style.ensures ∙ ap (λ (asked : CsplitAsked). asked.style) c.settings.view_is in
-    csplit_opened _ _ _ _ _ _ _ _ _ _ c.open.result same c.requires.streams c.open.ensures.holds c.open.ensures.does c.open.ensures.bound c.open.ensures.ready c.open.ensures.owns c.open.ensures.outputs
+    opened_of _ _ _ _ _ _ _ c.open.result (ap (λ style. csplit_work style c.args.self.now.operands.now) same) c.open.ensures.holds c.open.ensures.does c.open.ensures.bound c.open.ensures.ready
+    c.open.ensures.owns (on_ok_weaker c.open.result (λ puts. puts _ (nothing_out _ _ (some_there _ c.requires.streams))) c.open.ensures.outputs)
 
 pub returns-clause-err : goal.returns-clause-err
 returns-clause-err g c =
     let same = c.in_ok-style.ensures ∙ ap (λ (asked : CsplitAsked). asked.style) c.settings.view_is in
-    csplit_short _ _ _ _ _ _ _ _ c.open.result refl refl same c.requires.streams c.open.ensures.cut c.open.ensures.refused c.open.ensures.none
+    opened_short _ _ _ c.open.result _ _ (ap (λ style. csplit_work style c.args.self.now.operands.now) same) c.requires.streams (csplit_stops c.in_ok-style.style c.args.self.now.operands.now _ _) c.open.ensures.cut c.open.ensures.refused c.open.ensures.none
