@@ -1,20 +1,20 @@
--- The spots of heads and tails are right.
-use Rattle.std.proofs.Common.{◌≡◌, ℕ, ◌+◌, ◌-◌, ◌<◌, ◌≤◌, zero, suc, List, [], ◌∷◌, ◌++◌, length, get_or, Bool, true, false, cond, inl, inr, refl, sym, ◌∙◌, ap, subst, arith, length-append}
-use Rattle.std.proofs.lemmas.Bool.{cases_lt, le-ltb}
-use Rattle.std.proofs.lemmas.List.{get_or_append_left}
+-- The spots of heads and tails are right: each writes one stretch of its input, and nothing else.
+use Rattle.std.proofs.Common.{◌≡◌, ℕ, ◌+◌, ◌-◌, ◌<◌, ◌≤◌, zero, suc, List, [], ◌∷◌, ◌++◌, length, get_or, Bool, true, false, inl, inr, refl, sym, ◌∙◌, ap, subst, arith, length-append}
+use Rattle.std.proofs.lemmas.Bool.{cases_lt}
+use Rattle.std.proofs.lemmas.List.{append-nil, get_or_append_left}
 use Rattle.std.proofs.Math.Seq.{get_or-append_right}
 use Rattle.ports_core.specs.Part.{only_out}
 use Rattle.ports_core.specs.Agreed.{Spot, spot, spots_from, output_at, GoesTo, ArePlaced}
 use Rattle.ports_core.proofs.AgreedLemmas.{spot_in, spot_past}
 use Rattle.seg_core.specs.declared.unit.Unit.{Unit as Counted}
+use Rattle.seg_core.specs.declared.unit.Unit.TheVariants.{Bytes}
+use Rattle.ports_core.specs.Work.{Work}
 use Rattle.ends_core.specs.Ends.{after_of, last_of, head_of, tail_of}
 use Rattle.ends_core.specs.laws.EndsLaws.{first_then_after, ends_together}
 use Rattle.ends_core.specs.Head.{head_work}
 use Rattle.ends_core.specs.Tail.{tail_work}
-use Rattle.ends_core.specs.Place.{head_spots, skipped, tail_spots}
-use Rattle.ends_core.proofs.AgreedLemmas.{tail_first, tail_together, tail_long, skipped_is, tail_nowhere, tail_somewhere}
-
--- one output alone
+use Rattle.ends_core.specs.Place.{head_spots, tail_spots}
+use Rattle.ends_core.proofs.AgreedLemmas.{tail_first, tail_together, tail_nowhere, tail_there}
 
 one_spot : (bytes : List ℕ) (i : ℕ) {at : Spot} → GoesTo at (spots_from 0 (bytes ∷ []) i) → (i < length bytes) × (at ≡ spot 0 i)
 one_spot bytes i {at} goes = elim (cases_lt i (length bytes)) [
@@ -25,72 +25,78 @@ one_spot bytes i {at} goes = elim (cases_lt i (length bytes)) [
   only (inl is) = is
   only (inr none) = absurd none
 
-goes_in : (bytes : List ℕ) (i : ℕ) → i < length bytes → GoesTo (spot 0 i) (spots_from 0 (bytes ∷ []) i)
-goes_in bytes i less = subst (GoesTo (spot 0 i)) (sym (spot_in 0 i bytes [] less)) (inl refl)
-
 -- the byte at a spot
 abbrev StandsThere : List ℕ → Spot → ℕ → Type 0
 StandsThere bytes at byte = (at.offset < length (output_at (only_out bytes) at.place)) × (get_or (output_at (only_out bytes) at.place) at.offset 0 ≡ byte)
 
--- heads
+-- what is written stands in the input between what comes before it and what is left
+record IsStretch (spots_of : List ℕ → ℕ → List Spot) (out_of : List ℕ → List ℕ) : Type 0 where
+  before : List ℕ → List ℕ
+  rest : List ℕ → List ℕ
+  whole : (x : List ℕ) → x ≡ before x ++ (out_of x ++ rest x)
+  nowhere : (x : List ℕ) (i : ℕ) → i < length (before x) → spots_of x i ≡ []
+  there : (x : List ℕ) (i : ℕ) → length (before x) ≤ i → spots_of x i ≡ spots_from 0 (out_of x ∷ []) (i - length (before x))
 
-head_together : (delim : ℕ) (unit : Counted) (but_last : Bool) (n : ℕ) {x : List ℕ} → (rest : List ℕ) × (x ≡ head_of delim unit but_last n x ++ rest)
-head_together delim unit false n {x} = (after_of delim unit n x, sym (first_then_after delim unit n x))
-head_together delim unit true n {x} = (last_of delim unit n x, sym (ends_together delim unit n x))
+abbrev writes : (List ℕ → List ℕ) → Work
+writes out_of = record (head_work 0 Bytes false 0) { whole = λ x. only_out (out_of x) }
 
-head_filled : (delim : ℕ) (unit : Counted) (but_last : Bool) (n : ℕ) (x : List ℕ) (place offset : ℕ) → offset < length (output_at (only_out (head_of delim unit but_last n x)) place)
-    → (i : ℕ) × (i < length x) × GoesTo (spot place offset) (head_spots delim unit but_last n x i)
-head_filled delim unit but_last n x zero offset less =
-    let rest = head_together delim unit but_last n in
-    let long : length x ≡ length (head_of delim unit but_last n x) + length rest.0 = ap length rest.1 ∙ length-append (head_of delim unit but_last n x) rest.0 in
-    (offset, omega (arith, less, long), goes_in (head_of delim unit but_last n x) offset less)
-head_filled delim unit but_last n x (suc place) offset less = absurd (omega (arith, less))
+module _ {spots_of : List ℕ → ℕ → List Spot} {out_of : List ℕ → List ℕ} (stretch : IsStretch spots_of out_of) where
+  goes : (x : List ℕ) (i : ℕ) {at : Spot} → GoesTo at (spots_of x i)
+      → (length (stretch.before x) ≤ i) × (i - length (stretch.before x) < length (out_of x)) × (at ≡ spot 0 (i - length (stretch.before x)))
+  goes x i {at} is = elim (cases_lt i (length (stretch.before x))) [
+    | inl early ↦ absurd (subst (GoesTo at) (stretch.nowhere x i early) is)
+    | inr past ↦ (let one = one_spot (out_of x) (i - length (stretch.before x)) (subst (GoesTo at) (stretch.there x i past) is) in (past, one.0, one.1))
+  ]
+
+  byte_at : (x : List ℕ) (i : ℕ) → length (stretch.before x) ≤ i → i - length (stretch.before x) < length (out_of x) → get_or (out_of x) (i - length (stretch.before x)) 0 ≡ get_or x i 0
+  byte_at x i past less = sym (ap (λ those. get_or those i 0) (stretch.whole x) ∙ get_or-append_right (stretch.before x) (out_of x ++ stretch.rest x) i 0 past
+      ∙ get_or_append_left (out_of x) (stretch.rest x) 0 (i - length (stretch.before x)) less)
+
+  filled : (x : List ℕ) (place offset : ℕ) → offset < length (output_at (only_out (out_of x)) place) → (i : ℕ) × (i < length x) × GoesTo (spot place offset) (spots_of x i)
+  filled x zero offset less =
+      let here : length (stretch.before x) + offset - length (stretch.before x) ≡ offset = omega arith in
+      let long = ap length (stretch.whole x) ∙ length-append (stretch.before x) (out_of x ++ stretch.rest x) in (
+        length (stretch.before x) + offset,
+        omega (arith, less, long, length-append (out_of x) (stretch.rest x)),
+        subst (GoesTo (spot 0 offset)) (sym (stretch.there x (length (stretch.before x) + offset) (omega arith)
+            ∙ ap (spots_from 0 (out_of x ∷ [])) here ∙ spot_in 0 offset (out_of x) [] less)) (inl refl),
+      )
+  filled x (suc place) offset less = absurd (omega (arith, less))
+
+  placed : ArePlaced (writes out_of) spots_of
+  placed = record {
+    stands = λ x i at less is. (let one = goes x i is in
+        subst (λ there. StandsThere (out_of x) there (get_or x i 0)) (sym one.2) (one.1, byte_at x i one.0 one.1));
+    filled = λ x at less. filled x at.place at.offset less;
+    apart = λ x i j at is also. (let one = goes x i is in let two = goes x j also in
+        let same : i - length (stretch.before x) ≡ j - length (stretch.before x) = ap (λ there. there.offset) (sym one.2 ∙ two.2) in
+        omega (arith, one.0, two.0, same));
+  }
+
+head_together : (delim : ℕ) (unit : Counted) (but_last : Bool) (n : ℕ) (x : List ℕ) → (rest : List ℕ) × (x ≡ head_of delim unit but_last n x ++ rest)
+head_together delim unit false n x = (after_of delim unit n x, sym (first_then_after delim unit n x))
+head_together delim unit true n x = (last_of delim unit n x, sym (ends_together delim unit n x))
+
+head_stretch : (delim : ℕ) (unit : Counted) (but_last : Bool) (n : ℕ) → IsStretch (head_spots delim unit but_last n) (head_of delim unit but_last n)
+head_stretch delim unit but_last n = record {
+  before = λ x. [];
+  rest = λ x. (head_together delim unit but_last n x).0;
+  whole = λ x. (head_together delim unit but_last n x).1;
+  nowhere = λ x i less. absurd (omega (arith, less));
+  there = λ x i past. ap (spots_from 0 (head_of delim unit but_last n x ∷ [])) (omega arith);
+}
 
 pub head_placed : (delim : ℕ) (unit : Counted) (but_last : Bool) (n : ℕ) → ArePlaced (head_work delim unit but_last n) (head_spots delim unit but_last n)
-head_placed delim unit but_last n = record {
-  stands = λ x i at less goes. (let one = one_spot (head_of delim unit but_last n x) i goes in let rest = head_together delim unit but_last n in
-      subst (λ there. StandsThere (head_of delim unit but_last n x) there (get_or x i 0)) (sym one.1)
-      (one.0, sym (ap (λ those. get_or those i 0) rest.1 ∙ get_or_append_left (head_of delim unit but_last n x) rest.0 0 i one.0)));
-  filled = λ x at less. head_filled delim unit but_last n x at.place at.offset less;
-  apart = λ x i j at goes also. (let one = one_spot (head_of delim unit but_last n x) i goes in let two = one_spot (head_of delim unit but_last n x) j also in ap (λ there. there.offset) (sym one.1 ∙ two.1));
+head_placed delim unit but_last n = let all = placed (head_stretch delim unit but_last n) in record { stands = all.stands; filled = all.filled; apart = all.apart }
+
+tail_stretch : (delim : ℕ) (unit : Counted) (from_nth : Bool) (n : ℕ) → IsStretch (tail_spots delim unit from_nth n) (tail_of delim unit from_nth n)
+tail_stretch delim unit from_nth n = record {
+  before = tail_first delim unit from_nth n;
+  rest = λ x. [];
+  whole = λ x. sym (ap (λ those. tail_first delim unit from_nth n x ++ those) (append-nil (tail_of delim unit from_nth n x)) ∙ tail_together delim unit from_nth n);
+  nowhere = tail_nowhere delim unit from_nth n;
+  there = tail_there delim unit from_nth n;
 }
-
--- tails
-
-tail_goes : (delim : ℕ) (unit : Counted) (from_nth : Bool) (n : ℕ) (x : List ℕ) (i : ℕ) {at : Spot} → GoesTo at (tail_spots delim unit from_nth n x i)
-    → (skipped delim unit from_nth n x ≤ i) × (i - skipped delim unit from_nth n x < length (tail_of delim unit from_nth n x)) × (at ≡ spot 0 (i - skipped delim unit from_nth n x))
-tail_goes delim unit from_nth n x i {at} goes = elim (cases_lt i (skipped delim unit from_nth n x)) [
-  | inl before ↦ absurd (subst (GoesTo at) (tail_nowhere delim unit from_nth n x i before) goes)
-  | inr past ↦ (let one = one_spot (tail_of delim unit from_nth n x) (i - skipped delim unit from_nth n x) (subst (GoesTo at) (after past) goes) in (past, one.0, one.1))
-] where
-  after : skipped delim unit from_nth n x ≤ i → tail_spots delim unit from_nth n x i ≡ spots_from 0 (tail_of delim unit from_nth n x ∷ []) (i - skipped delim unit from_nth n x)
-  after past = ap (λ before. cond before [] (spots_from 0 (tail_of delim unit from_nth n x ∷ []) (i - skipped delim unit from_nth n x))) (le-ltb i (skipped delim unit from_nth n x) past)
-
-tail_byte : (delim : ℕ) (unit : Counted) (from_nth : Bool) (n : ℕ) (x : List ℕ) (i : ℕ) → skipped delim unit from_nth n x ≤ i → get_or (tail_of delim unit from_nth n x) (i - skipped delim unit from_nth n x) 0 ≡ get_or x i 0
-tail_byte delim unit from_nth n x i past =
-    let is = skipped_is delim unit from_nth n x in
-    ap (λ k. get_or (tail_of delim unit from_nth n x) (i - k) 0) is
-    ∙ sym (get_or-append_right (tail_first delim unit from_nth n x) (tail_of delim unit from_nth n x) i 0 (omega (arith, past, is)))
-    ∙ ap (λ those. get_or those i 0) (tail_together delim unit from_nth n)
-
-tail_filled : (delim : ℕ) (unit : Counted) (from_nth : Bool) (n : ℕ) (x : List ℕ) (place offset : ℕ) → offset < length (output_at (only_out (tail_of delim unit from_nth n x)) place)
-    → (i : ℕ) × (i < length x) × GoesTo (spot place offset) (tail_spots delim unit from_nth n x i)
-tail_filled delim unit from_nth n x zero offset less =
-    let long = tail_long delim unit from_nth n x in let is = skipped_is delim unit from_nth n x in
-    let within : skipped delim unit from_nth n x + offset < length x = omega (arith, less, long, is) in
-    let here : skipped delim unit from_nth n x + offset - skipped delim unit from_nth n x ≡ offset = omega arith in (
-      skipped delim unit from_nth n x + offset,
-      within,
-      subst (GoesTo (spot 0 offset)) (sym (tail_somewhere delim unit from_nth n x (skipped delim unit from_nth n x + offset) (omega arith) within ∙ ap (λ k. spot 0 k ∷ []) here)) (inl refl),
-    )
-tail_filled delim unit from_nth n x (suc place) offset less = absurd (omega (arith, less))
 
 pub tail_placed : (delim : ℕ) (unit : Counted) (from_nth : Bool) (n : ℕ) → ArePlaced (tail_work delim unit from_nth n) (tail_spots delim unit from_nth n)
-tail_placed delim unit from_nth n = record {
-  stands = λ x i at less goes. (let one = tail_goes delim unit from_nth n x i goes in
-      subst (λ there. StandsThere (tail_of delim unit from_nth n x) there (get_or x i 0)) (sym one.2) (one.1, tail_byte delim unit from_nth n x i one.0));
-  filled = λ x at less. tail_filled delim unit from_nth n x at.place at.offset less;
-  apart = λ x i j at goes also. (let one = tail_goes delim unit from_nth n x i goes in let two = tail_goes delim unit from_nth n x j also in
-      let same : i - skipped delim unit from_nth n x ≡ j - skipped delim unit from_nth n x = ap (λ there. there.offset) (sym one.2 ∙ two.2) in
-      omega (arith, one.0, two.0, same));
-}
+tail_placed delim unit from_nth n = let all = placed (tail_stretch delim unit from_nth n) in record { stands = all.stands; filled = all.filled; apart = all.apart }
