@@ -6,9 +6,10 @@ use Rattle.std.proofs.lemmas.List.{append-nil, nil_from_length}
 use Rattle.std.proofs.lemmas.List.Elements.{All-replicate}
 use Rattle.ports_core.specs.Slot.{Slot, is_writable, with_written, told_of}
 use Rattle.ports_core.specs.Source.{Source}
-use Rattle.ports_core.specs.Part.{only_out}
+use Rattle.ports_core.specs.Part.{OutputsAt, StoppedBetween, only_out}
+use Rattle.ports_core.proofs.PartLemmas.{out_more}
 use Rattle.ports_core.specs.Work.{on_output}
-use Rattle.ports_core.specs.Engine.{Loads, TakesIn, PutsOut, CutsOff, Finishes, EndsShort, EndsWith, EndsThere, IsMet}
+use Rattle.ports_core.specs.Engine.{Loads, TakesIn, PutsOut, CutsOff, Finishes, EndsShort, EndsWith, EndsThere, IsMet, cut}
 use Rattle.ports_core.specs.inner.Engine.{OwnsNone}
 use Rattle.ports_core.specs.declared.fault.Fault.{Fault}
 use Rattle.ports_core.specs.declared.fault.Fault.TheVariants as fault
@@ -67,17 +68,22 @@ rest_out (Last kept) holds = ap only_out holds.waits
 rest_out ends {x} holds = ap only_out (append-nil ((work ends).settled x).out)
 
 pub puts_out : (told : Bool) (ends : Ends) (piece : List ℕ) {old new : List Slot} → new ≡ with_written 0 (told_of told (due ends piece)) old → PutsOut Holds OwnsNone work ends piece told old new
-puts_out told ends piece {old} wrote = stop.puts_out Holds OwnsNone work told piece (due ends piece) old (λ x holds. went_out ends piece holds) wrote
+puts_out told ends piece {old} {new} wrote before x at =
+    subst (λ part. OutputsAt told before part new) (went_out ends piece at.holds) (out_more told before _ old new (due ends piece) at.outputs wrote)
 
 pub cuts_off : (told : Bool) {lacks : Bool} (ends : Ends) (piece : List ℕ) {old new : List Slot} {f : Fault} → Stops told lacks (due ends piece) old new f → CutsOff Holds OwnsNone work ends piece told old new f
-cuts_off told ends piece stops = stop.cuts_off Holds OwnsNone work told piece (λ x holds. went_out ends piece holds) stops
+cuts_off told ends piece {new} {f} stops before x at =
+    cut (stop.unjudged told stops) (subst (λ part. StoppedBetween told before ((work ends).settled x) part f new) (went_out ends piece at.holds) (stop.between told at.outputs stops))
 
 pub finishes : (told : Bool) (ends : Ends) {old new : List Slot} → new ≡ with_written 0 (told_of told (due_at_end ends)) old → Finishes Holds OwnsNone work ends told old new
-finishes told ends {old} wrote =
-    stop.finishes Holds OwnsNone work told (due_at_end ends) old (λ x holds. rest_out ends holds) (always_well (stretch_of ends) (delim_of ends) (unit_of ends) (count_of ends)) wrote
+finishes told ends {old} {new} wrote before x at = (
+  always_well (stretch_of ends) (delim_of ends) (unit_of ends) (count_of ends) x,
+  subst (λ part. OutputsAt told before part new) (rest_out ends at.holds) (out_more told before _ old new (due_at_end ends) at.outputs wrote),
+)
 
 pub ends_short : (told : Bool) {lacks : Bool} (ends : Ends) {old new : List Slot} {f : Fault} → Stops told lacks (due_at_end ends) old new f → EndsShort Holds OwnsNone work ends told old new f
-ends_short told ends stops = stop.ends_short Holds OwnsNone work told (λ x holds. rest_out ends holds) stops
+ends_short told ends {new} {f} stops before x at =
+    cut (stop.unjudged told stops) (subst (λ part. StoppedBetween told before ((work ends).settled x) part f new) (rest_out ends at.holds) (stop.between told at.outputs stops))
 
 minus_both : (n a b : ℕ) → (n - a) - b ≡ n - (a + b)
 minus_both n a b = omega arith
