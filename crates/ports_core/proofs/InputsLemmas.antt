@@ -5,7 +5,7 @@ use Rattle.std.proofs.lemmas.Bool.{false≢true, and_parts, not-true}
 use Rattle.ports_core.specs.Inputs.{AsksAtMost, BreaksOnly, KeepsOthers, OfContent}
 use Rattle.ports_core.specs.Slot.{changed_at}
 use Rattle.ports_core.specs.Source.{Content, Source, source_at, source_of, is_readable, gives, fails, without, Gave, BrokeOff, IsFresh}
-use Rattle.ports_core.proofs.SlotLemmas.{changed_there, length-changed_at}
+use Rattle.ports_core.proofs.SlotLemmas.{changed_there, elsewhere, length-changed_at}
 use Rattle.ports_core.proofs.SourceLemmas.{readable_within}
 
 -- what was read of the input with this number so far, and what is left of it
@@ -19,10 +19,7 @@ nothing_read slot sources = record { bytes = refl; breaks_off = refl }
 -- a change of one input
 
 pub changed_elsewhere : {X : Type 0} (default : X) (place other : ℕ) (change : X → X) (xs : List X) → (other ≡ place → ⊥) → slice_index_or (changed_at place change xs) other default ≡ slice_index_or xs other default
-changed_elsewhere default place other change [] differs = refl
-changed_elsewhere default zero zero change (x ∷ xs) differs = absurd (differs refl)
-changed_elsewhere default (suc place) (suc other) change (x ∷ xs) differs = changed_elsewhere default place other change xs (λ same. differs (ap suc same))
-changed_elsewhere default place other change xs differs = refl
+changed_elsewhere = elsewhere
 
 pub keeps_others : (slot : ℕ) (change : Source → Source) (old new : List Source) → new ≡ changed_at slot change old → KeepsOthers slot old new
 keeps_others slot change old new is = record {
