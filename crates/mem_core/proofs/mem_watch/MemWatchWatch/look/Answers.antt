@@ -12,7 +12,7 @@ index-requires c = grind (arith, common_steps)
 
 pub returns-clause-ok : goal.returns-clause-ok
 returns-clause-ok c told =
-    finds_now c.self.inside.turns c.args.place c.self.view_is
-    c.self.invariant.1 (c.world_in-world.ensures ∙ ap (λ worlds. world_at worlds c.self.inside.turns) c.deref.ensures.value)
+    finds_now c.self.inside.turns c.self.view_is
+    c.self.invariant.1 (c.world_in-world.ensures ∙ ap (λ worlds. world_at worlds c.self.inside.turns) c.deref.ensures.value) c.args.place
     (names_within _ _ c.args.place (ap (λ (those : MemWatchState). those.watched) c.self.view_is) c.requires) c.index.ensures
     (subst (λ name. Finds (seen_in c.world_in-world.result.now) name c.find-found.result) (c.as_str.ensures.value ∙ ap (λ (those : Watched). those.name) c.behind-self.view_is) c.find-found.ensures)

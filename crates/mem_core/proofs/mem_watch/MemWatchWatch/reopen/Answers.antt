@@ -17,6 +17,6 @@ pub returns-clause-ok : goal.returns-clause-ok
 returns-clause-ok c =
     let within = names_within _ _ c.args.place (ap (λ (those : MemWatchState). those.watched) c.self.view_is) c.requires in
     reopens_now c.self.inside.turns c.self.view_is
-    c.self.invariant.1 (c.world_in-world.ensures ∙ ap (λ worlds. world_at worlds c.self.inside.turns) c.deref.ensures.value) within c.index_mut.ensures.value
+    c.self.invariant.1 (c.world_in-world.ensures ∙ ap (λ worlds. world_at worlds c.self.inside.turns) c.deref.ensures.value) c.args.place within c.index_mut.ensures.value
     (c.file_of-file.ensures ∙ ap (λ name. led_to c.world_in-world.result.now.links name) (c.as_str.ensures.value ∙ ap (λ (those : Watched). those.name) (c.behind-self.view_is ∙ name_there _ c.args.place _ within c.index.ensures ∙ sym (name_there _ c.args.place _ within c.index_mut.ensures.value))))
     c.open.ensures.opened c.open.ensures.found
