@@ -19,11 +19,9 @@ use Rattle.ends_core.specs.declared.ends.Ends.{Ends}
 use Rattle.ends_core.specs.declared.ends.Ends.TheVariants.{First, ButLast, FromNth, Last}
 use Rattle.ends_core.specs.declared.kept.Kept.{Kept}
 use Rattle.ends_core.specs.Ends.{measure, first_of, after_of, last_of, but_last_of}
-use Rattle.ends_core.specs.Head.{head_work}
-use Rattle.ends_core.specs.Head.{IsDone}
-use Rattle.ends_core.specs.Stage.{Stretch, the_first, from_the_nth, the_last, keeps, work_in, front_in, stretch_of, delim_of, unit_of, count_of, left_of, waiting_of, waiting, past_in, past_of, may_lack, work, Holds}
+use Rattle.ends_core.specs.Head.{head_work, IsDone}
+use Rattle.ends_core.specs.Stage.{Stretch, the_first, from_the_nth, the_last, keeps, work_in, front_in, stretch_of, delim_of, unit_of, count_of, left_of, waiting_of, waiting, past_in, past_of, may_lack, work, Holds, is_done, all_but_last}
 use Rattle.ends_core.specs.inner.Stage.{is_last, due, due_at_end, left_waiting, is_full, unused_of, FullLacksNone, SameAsked}
-use Rattle.ends_core.specs.Stage.{is_done}
 use Rattle.ends_core.specs.Kept.{most_of, may_lack_of, delim_of as kept_delim, unit_of as kept_unit}
 use Rattle.ends_core.specs.inner.Load.{Passes}
 use Rattle.ends_core.specs.inner.Stops.{Stops}
@@ -33,6 +31,7 @@ use Rattle.ends_core.proofs.EndsLaws.{measure-delimiters, first_of-more, but_las
 use Rattle.ends_core.proofs.StopLemmas as stop
 use Rattle.ends_core.proofs.KeptLemmas.{full_once}
 use Rattle.ends_core.proofs.LoadLemmas.{last_none}
+use Rattle.ports_core.specs.Guard.{GuardState, HoldsIn}
 
 -- what is a function of what was asked for is the same where the same was asked for
 same_for : {A : Type 0} (f : Stretch → ℕ → Counted → ℕ → A) {old new : Ends} → SameAsked old new → f (stretch_of new) (delim_of new) (unit_of new) (count_of new) ≡ f (stretch_of old) (delim_of old) (unit_of old) (count_of old)
@@ -198,14 +197,11 @@ waits_none the_first delim unit n = refl
 waits_none from_the_nth delim unit n = refl
 waits_none s delim unit n = last_none delim unit n
 
-last_within : (delim : ℕ) (unit : Counted) (n : ℕ) (x : List ℕ) → length (last_of delim unit n x) ≤ length x
-last_within delim unit n x = omega (arith, sym (length-append (but_last_of delim unit n x) (last_of delim unit n x)) ∙ ap length (ends_together delim unit n x))
-
 -- no more waits than came in
 pub waits_within : (s : Stretch) (delim : ℕ) (unit : Counted) (n : ℕ) (x : List ℕ) → length ((work_in s delim unit n).waiting x) ≤ length x
 waits_within the_first delim unit n x = omega arith
 waits_within from_the_nth delim unit n x = omega arith
-waits_within s delim unit n x = last_within delim unit n x
+waits_within s delim unit n x = omega (arith, sym (length-append (but_last_of delim unit n x) (last_of delim unit n x)) ∙ ap length (ends_together delim unit n x))
 
 -- only where the last are asked for is a front taken in, and of these nothing is written before the end
 
@@ -250,3 +246,17 @@ loads told slot count ends next old new fresh same left past others passes full 
       idle = settled_same (stretch_of ends) (delim_of ends) (unit_of ends) (count_of ends) none;
       going = goes_on (stretch_of ends) (delim_of ends) (unit_of ends) (count_of ends) none;
     }
+
+-- What waits in an engine that was fed a text.
+module _ (engine : GuardState Ends) (x : List ℕ) (holds : HoldsIn Holds engine x) where
+  pub head_waits : stretch_of engine.stage ≡ all_but_last → waiting_of engine.stage ≡ last_of (delim_of engine.stage) (unit_of engine.stage) (count_of engine.stage) x
+  head_waits is = holds.within.waits ∙ ap (λ s. (work_in s (delim_of engine.stage) (unit_of engine.stage) (count_of engine.stage)).waiting x) is
+
+  pub tail_waits : stretch_of engine.stage ≡ the_last → waiting_of engine.stage ≡ last_of (delim_of engine.stage) (unit_of engine.stage) (count_of engine.stage) x
+  tail_waits is = holds.within.waits ∙ ap (λ s. (work_in s (delim_of engine.stage) (unit_of engine.stage) (count_of engine.stage)).waiting x) is
+
+  pub loses_nothing : stretch_of engine.stage ≡ all_but_last → ((work engine.stage).settled x).out ++ waiting_of engine.stage ≡ x
+  loses_nothing is =
+      ap (λ held. ((work engine.stage).settled x).out ++ held) (head_waits is)
+      ∙ ap (λ s. ((work_in s (delim_of engine.stage) (unit_of engine.stage) (count_of engine.stage)).settled x).out ++ last_of (delim_of engine.stage) (unit_of engine.stage) (count_of engine.stage) x) is
+      ∙ ends_together (delim_of engine.stage) (unit_of engine.stage) (count_of engine.stage) x

@@ -1,7 +1,6 @@
 -- Lemmas on what of its input a head uses.
-use Rattle.std.proofs.Common.{◌≡◌, ℕ, zero, suc, ◌+◌, ◌-◌, ◌<◌, ◌≤◌, true, false, List, [], ◌∷◌, ◌++◌, ◌⊎◌, length, take, drop, nat_le, inl, inr, refl, sym, ◌∙◌, ap, subst, arith, length-append}
-use Rattle.std.proofs.lemmas.Bool.{cases_lt, le-leb, leb-true, leb-false}
-use Rattle.std.proofs.lemmas.Bool.Decides.{nat_tests}
+use Rattle.std.proofs.Common.{◌≡◌, ℕ, zero, suc, ◌+◌, ◌-◌, ◌<◌, ◌≤◌, true, false, List, [], ◌∷◌, ◌++◌, ◌⊎◌, length, take, drop, inl, inr, refl, sym, ◌∙◌, ap, subst, arith, length-append}
+use Rattle.std.proofs.lemmas.Bool.{cases_lt, le-leb, lt-leb, leb-true, leb-false}
 use Rattle.std.proofs.lemmas.List.{append-nil, append_cancel_left, nil_from_length, take-append-drop, take-append-le, take_at, length-drop, length-take}
 use Rattle.ports_core.specs.Work.{IsNeeded, IsSpare}
 use Rattle.ports_core.specs.Engine.{MayGet}
@@ -22,9 +21,6 @@ use Rattle.ends_core.specs.laws.WorkLaws.{lawful}
 use Rattle.ends_core.proofs.EndsLaws.{first_of-more, first_of-nil}
 use Rattle.ends_core.proofs.EndsLemmas.{past_after}
 use Rattle.ends_core.proofs.LoadLemmas.{after-past}
-
-not_le : (n m : ℕ) → m < n → nat_le n m ≡ false
-not_le n m less = grind (arith, nat_tests)
 
 first_within : (delim : ℕ) (unit : Counted) (n : ℕ) (x : List ℕ) → length (first_of delim unit n x) ≤ length x
 first_within delim unit n x = omega (arith, sym (length-append (first_of delim unit n x) (after_of delim unit n x)) ∙ ap length (first_then_after delim unit n x))
@@ -51,7 +47,7 @@ needed_by delim unit n (suc k) {used} long again = inr (
   drop k used,
   sym (take-append-drop k used),
   omega (arith, length-drop k used, long),
-  not_le n (measure delim unit (take k used)) (last_needed delim unit n long again),
+  lt-leb n (measure delim unit (take k used)) (last_needed delim unit n long again),
 )
 
 -- the first n of the first n are these
@@ -60,7 +56,7 @@ first_again delim unit n x full = sym (first_of-full delim unit n (first_of deli
 
 first_needed : (delim : ℕ) (unit : Counted) (n : ℕ) (x : List ℕ) → IsNeeded (head_work delim unit false n).is_complete 1 (first_of delim unit n x)
 first_needed delim unit n x = elim (cases_lt (measure delim unit (first_of delim unit n x)) n) [
-  | inl short ↦ inr (first_of delim unit n x, [], sym (append-nil (first_of delim unit n x)), omega arith, not_le n (measure delim unit (first_of delim unit n x)) short)
+  | inl short ↦ inr (first_of delim unit n x, [], sym (append-nil (first_of delim unit n x)), omega arith, lt-leb n (measure delim unit (first_of delim unit n x)) short)
   | inr full ↦ needed_by delim unit n (length (first_of delim unit n x)) refl (first_again delim unit n x full)
 ]
 
@@ -110,14 +106,11 @@ spare_here (Last kept) {x} holds = all_used (work (Last kept)) x refl
 -- a text that goes on from x, cut in two where more stands before the cut than in x: the cut is after x, and what is before
 -- it and after x has no more delimiters than bytes
 
-front_at : (a b : List ℕ) {c : List ℕ} (d : List ℕ) → a ++ b ≡ c ++ d → length c ≤ length a → c ≡ take (length c) a
-front_at a b {c} d is short = sym (take_at c d (length c) refl) ∙ ap (take (length c)) (sym is) ∙ take-append-le (length c) a b short
-
 goes_past : (delim : ℕ) (x piece used rest : List ℕ) → x ++ piece ≡ used ++ rest → delimiters delim x < delimiters delim used → length x < length used
 goes_past delim x piece used rest is more = elim (cases_lt (length x) (length used)) [
   | inl past ↦ past
   | inr short ↦
-      let front = front_at x piece rest is short in
+      let front : used ≡ take (length used) x = sym (take_at used rest (length used) refl) ∙ ap (take (length used)) (sym is) ∙ take-append-le (length used) x piece short in
       absurd (omega (arith, more, ap (delimiters delim) front, delimiters-take-le delim (length used) x))
 ]
 
