@@ -30,9 +30,7 @@ writable_still told old bytes can wrote = subst (λ those. is_writable those 0 �
 -- the output broke in a later write
 pub broke_later : (told : Bool) (old mid new : List Slot) (first then past : List ℕ) (n : ℕ) → mid ≡ with_written 0 (told_of told first) old → BrokeAfter told mid new 0 then n → BrokeAfter told old new 0 (first ++ (then ++ past)) (length first + n)
 broke_later told old mid new first then past n one cut = record {
-  within = let short : n < length then = cut.within in
-      let long : length (first ++ (then ++ past)) ≡ length first + length (then ++ past) = length-append first (then ++ past) in
-      let more : length (then ++ past) ≡ length then + length past = length-append then past in omega arith;
+  within = omega (arith, cut.within, length-append first (then ++ past), length-append then past);
   slots = cut.slots ∙ ap (with_broken 0) (written_both told old mid (with_written 0 (told_of told (take n then)) mid) first (take n then) one refl
       ∙ ap (λ bytes. with_written 0 (told_of told bytes) old) (sym (taken first n then past (let short : n < length then = cut.within in omega arith))));
 } where

@@ -50,14 +50,11 @@ needed_by delim unit n (suc k) {used} long again = inr (
   lt-leb n (measure delim unit (take k used)) (last_needed delim unit n long again),
 )
 
--- the first n of the first n are these
-first_again : (delim : ℕ) (unit : Counted) (n : ℕ) (x : List ℕ) → n ≤ measure delim unit (first_of delim unit n x) → first_of delim unit n (first_of delim unit n x) ≡ first_of delim unit n x
-first_again delim unit n x full = sym (first_of-full delim unit n (first_of delim unit n x) (after_of delim unit n x) full) ∙ ap (first_of delim unit n) (first_then_after delim unit n x)
-
 first_needed : (delim : ℕ) (unit : Counted) (n : ℕ) (x : List ℕ) → IsNeeded (head_work delim unit false n).is_complete 1 (first_of delim unit n x)
 first_needed delim unit n x = elim (cases_lt (measure delim unit (first_of delim unit n x)) n) [
   | inl short ↦ inr (first_of delim unit n x, [], sym (append-nil (first_of delim unit n x)), omega arith, lt-leb n (measure delim unit (first_of delim unit n x)) short)
-  | inr full ↦ needed_by delim unit n (length (first_of delim unit n x)) refl (first_again delim unit n x full)
+  | inr full ↦ needed_by delim unit n (length (first_of delim unit n x)) refl
+      (sym (first_of-full delim unit n (first_of delim unit n x) (after_of delim unit n x) full) ∙ ap (first_of delim unit n) (first_then_after delim unit n x))
 ]
 
 first_enough : (delim : ℕ) (unit : Counted) (n : ℕ) (x : List ℕ) → (after_of delim unit n x ≡ []) ⊎ ((head_work delim unit false n).is_complete (first_of delim unit n x) ≡ true)
