@@ -79,14 +79,11 @@ spot_past place i bytes outputs past = ap (λ in_it. cond in_it (spot place i �
 pub some_spot : (one : Spot) (spots : List Spot) → one ∷ spots ≡ [] → ⊥
 some_spot one spots is = cc
 
-pub same_spot : (one : Spot) {two : Spot} → one ∷ [] ≡ two ∷ [] → one ≡ two
-same_spot one is = ap (λ those. get_or those 0 one) is
-
 -- no byte of outputs from a place on goes to an output before it
 pub none_before : (from i place offset : ℕ) (outputs : List (List ℕ)) → place < from → spots_from from outputs i ≡ spot place offset ∷ [] → ⊥
 none_before from i place offset [] before is = some_spot (spot place offset) [] (sym is)
 none_before from i place offset (bytes ∷ outputs) before is = elim (cases_lt i (length bytes)) [
-  | inl within ↦ (let e : from ≡ place = ap (λ those. those.place) (same_spot (spot from i) (sym (spot_in from i bytes outputs within) ∙ is)) in omega (arith, before, e))
+  | inl within ↦ (let e : from ≡ place = ap (λ those. (get_or those 0 (spot from i)).place) (sym (spot_in from i bytes outputs within) ∙ is) in omega (arith, before, e))
   | inr past ↦ none_before (from + 1) (i - length bytes) place offset outputs (omega (arith, before)) (sym (spot_past from i bytes outputs past) ∙ is)
 ]
 
