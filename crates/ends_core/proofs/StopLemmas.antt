@@ -1,6 +1,5 @@
 -- How bytes are written to standard output one after another, and how that stops.
 use Rattle.std.proofs.Common.{◌≡◌, ℕ, ◌+◌, ◌<◌, ◌≤◌, List, [], ◌++◌, length, take, Bool, true, false, Ok, Err, Result, IfErr, IsTrue, refl, sym, ◌∙◌, ap, subst, arith, length-append}
-use Rattle.std.proofs.lemmas.Bool.{false≢true}
 use Rattle.std.proofs.lemmas.List.{take-append-le}
 use Rattle.std.proofs.Math.Seq.{take-append-add}
 use Rattle.ports_core.specs.Slot.{Slot, slot_at, is_writable, with_written, with_broken, told_of}
@@ -36,11 +35,6 @@ broke_later told old mid new first then past n one cut = record {
 } where
   taken : (first : List ℕ) (n : ℕ) (then past : List ℕ) → n ≤ length then → take (length first + n) (first ++ (then ++ past)) ≡ first ++ take n then
   taken first n then past within = take-append-add first (then ++ past) n ∙ ap (λ z. first ++ z) (take-append-le n then past within)
-
--- what stops a write of some bytes stops a write of more
-pub stops_later : (told lacks : Bool) (old mid new : List Slot) (first then past : List ℕ) (fault : Fault) → mid ≡ with_written 0 (told_of told first) old → Stops told false then mid new fault → Stops told lacks (first ++ (then ++ past)) old new fault
-stops_later told lacks old mid new first then past _ one (broke n cut) = broke (length first + n) (broke_later told old mid new first then past n one cut)
-stops_later told lacks old mid new first then past _ one (no_room never wrote) = absurd (false≢true never)
 
 -- where a stop leaves the outputs
 pub between : (told : Bool) {lacks : Bool} {before : List Slot} {part : Part} {bytes : List ℕ} {old new : List Slot} {fault : Fault} → OutputsAt told before part old → Stops told lacks bytes old new fault → StoppedBetween told before part (record part { out = part.out ++ bytes }) fault new

@@ -11,7 +11,7 @@ use Rattle.seg_core.proofs.FirstLines.{delimiters-first_lines}
 use Rattle.seg_core.specs.declared.unit.Unit.{Unit as Counted}
 use Rattle.seg_core.specs.declared.unit.Unit.TheVariants.{Lines, Bytes}
 use Rattle.ends_core.specs.declared.ends.Ends.{Ends}
-use Rattle.ends_core.specs.declared.ends.Ends.TheVariants.{First, ButLast, FromNth, Last}
+use Rattle.ends_core.specs.declared.ends.Ends.TheVariants.{First}
 use Rattle.ends_core.specs.Ends.{measure, first_of, after_of}
 use Rattle.ends_core.specs.Head.{head_work, ahead_of}
 use Rattle.ends_core.specs.Stage.{Holds, past_of, work}
@@ -96,9 +96,7 @@ rest_left delim unit n used {rest} needed enough =
 
 pub spare_here : (ends : Ends) {x : List ℕ} → Holds ends x → IsSpare (work ends) x (past_of ends)
 spare_here (First count front) {x} holds = subst (IsSpare (head_work front.delim front.unit false count) x) (sym (holds.past ∙ past_after front.delim front.unit count x)) (first_used front.delim front.unit count)
-spare_here (ButLast kept) {x} holds = all_used (work (ButLast kept)) x refl
-spare_here (FromNth count front) {x} holds = all_used (work (FromNth count front)) x refl
-spare_here (Last kept) {x} holds = all_used (work (Last kept)) x refl
+spare_here ends {x} holds = all_used (work ends) x refl
 
 -- a text that goes on from x, cut in two where more stands before the cut than in x: the cut is after x, and what is before
 -- it and after x has no more delimiters than bytes

@@ -1,6 +1,7 @@
 -- Lemmas on removing many files.
 use Rattle.std.proofs.Common.{◌≡◌, ℕ, ◌+◌, ◌<◌, ◌≤◌, zero, suc, eqb, eqb-true, eq-eqb, Bool, true, false, ◌||◌, List, [], ◌∷◌, ◌++◌, length, get_or, set, take, drop, Result, Ok, Err, is_ok, OnOk, IfErr, IsTrue, refl, sym, ◌∙◌, ap, subst, arith, length-set, take-suc, take-suc-set, drop-cons, drop-set-lt}
 use Rattle.std.proofs.lemmas.Bool.{false≢true, or_parts}
+use Rattle.std.proofs.lemmas.List.{append-nil}
 use Rattle.ports_core.specs.Slot.{Slot, has_file, slot_at, changed_at, with_broken, removes, closes, breaks, is_removable}
 use Rattle.ports_core.specs.Swept.{Cleared, SweptFrom, removed, stuck, none, is_among, AreThere, Removes, all_tried, goes, stays}
 use Rattle.ports_core.specs.declared.fault.Fault.{Fault}
@@ -62,15 +63,10 @@ module _ (one : ℕ) (change : Slot → Slot) (old : List Slot) {mid : List Slot
 
 -- One removal more, after those of other files
 
-pub gone_more : {files left : List ℕ} {old mid new : List Slot} (place : ℕ) → Removes files old left mid → new ≡ changed_at place removes mid → Removes (files ++ place ∷ []) old left new
-gone_more {new} place (all_tried slots) is = goes place [] [] slots new (subst (λ those. Removes [] those [] new) is (all_tried new))
-gone_more {new} place (goes one places left' old' mid' rest) is = goes one (places ++ place ∷ []) left' old' new (gone_more place rest is)
-gone_more {new} place (stays one places left' old' mid' rest) is = stays one (places ++ place ∷ []) left' old' new (gone_more place rest is)
-
-pub left_more : {files left : List ℕ} {old mid new : List Slot} (place : ℕ) → Removes files old left mid → new ≡ with_broken place (changed_at place closes mid) → Removes (files ++ place ∷ []) old (left ++ place ∷ []) new
-left_more {new} place (all_tried slots) is = stays place [] [] slots new (subst (λ those. Removes [] those [] new) is (all_tried new))
-left_more {new} place (goes one places left' old' mid' rest) is = goes one (places ++ place ∷ []) (left' ++ place ∷ []) old' new (left_more place rest is)
-left_more {new} place (stays one places left' old' mid' rest) is = stays one (places ++ place ∷ []) (left' ++ place ∷ []) old' new (left_more place rest is)
+tried_more : {files left : List ℕ} {old mid new : List Slot} (place : ℕ) (more : List ℕ) → Removes files old left mid → Removes (place ∷ []) mid more new → Removes (files ++ place ∷ []) old (left ++ more) new
+tried_more place more (all_tried slots) last = last
+tried_more {new} place more (goes one places left' old' mid' rest) last = goes one (places ++ place ∷ []) (left' ++ more) old' new (tried_more place more rest last)
+tried_more {new} place more (stays one places left' old' mid' rest) last = stays one (places ++ place ∷ []) (left' ++ more) old' new (tried_more place more rest last)
 
 -- the files before this place were tried, and the first `left` are those that couldn't be removed
 pub record Sweeping (files now : List ℕ) (place left : ℕ) (old slots : List Slot) : Type 0 where
@@ -104,7 +100,9 @@ one_tried {files} {now} {next} {place} {few} {old} {mid} {new} {file} change so_
 -- the same by what the removal returned
 pub sweep_on : {files now : List ℕ} {place left file : ℕ} {old mid new : List Slot} (result : Result (Unit {0}) Fault) → Sweeping files now place left old mid → place < length now → file ≡ get_or now place 0 → is_ok result ≡ true → OnOk result (new ≡ changed_at file removes mid)
     → Sweeping files now (place + 1) left old new
-sweep_on {file} (Ok done) so_far within file_is ok gone = one_tried removes so_far within file_is refl (omega arith) refl (gone_more file so_far.tried gone) gone
+sweep_on {files} {now} {place} {left} {file} {old} {mid} {new} (Ok done) so_far within file_is ok gone =
+    one_tried removes so_far within file_is refl (omega arith) refl (subst (λ those. Removes (take place files ++ file ∷ []) old those new) (append-nil (take left now))
+    (tried_more file [] so_far.tried (goes file [] [] mid new (subst (λ those. Removes [] those [] new) gone (all_tried new))))) gone
 sweep_on (Err f) so_far within file_is ok gone = absurd (false≢true ok)
 
 pub sweep_past : {files now : List ℕ} {place left file : ℕ} {old mid new : List Slot} (result : Result (Unit {0}) Fault) → Sweeping files now place left old mid → place < length now → file ≡ get_or now place 0 → is_ok result ≡ false
@@ -114,7 +112,8 @@ sweep_past {files} {now} {place} {left} {file} {old} {mid} {new} (Err f) so_far 
     let few = so_far.few in
     subst (λ n. Sweeping files (set now left file) (place + 1) n old new) (let e : suc left ≡ left + 1 = omega arith in e)
     (one_tried fails_so so_far within file_is (length-set now left file) (omega arith) (drop-set-lt (suc place) now left file (omega (arith, few)))
-    (subst (λ those. Removes (take place files ++ file ∷ []) old those new) (sym (take-suc-set now left file (omega (arith, few, within)))) (left_more file so_far.tried stuck_so.1))
+    (subst (λ those. Removes (take place files ++ file ∷ []) old those new) (sym (take-suc-set now left file (omega (arith, few, within))))
+    (tried_more file (file ∷ []) so_far.tried (stays file [] [] mid new (subst (λ those. Removes [] those [] new) stuck_so.1 (all_tried new)))))
     (stuck_so.1 ∙ changed_at-again file closes breaks mid))
 
 -- What was removed, slot by slot
