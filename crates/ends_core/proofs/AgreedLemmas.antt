@@ -62,7 +62,8 @@ first_long delim unit n x y short =
 module _ {spots_of : List ℕ → ℕ → List Spot} (delim : ℕ) (unit : Counted) (n : ℕ) where
   first_decided : Cuts spots_of (first_of delim unit n) → (x : List ℕ) (i : ℕ) → i < length x → (y z : List ℕ) → spots_of (x ++ y) i ≡ spots_of (x ++ z) i
   first_decided cuts x i less y z = elim (cases_lt (measure delim unit x) n) [
-    | inl short ↦ cuts.before (x ++ y) i (omega (arith, less, first_long delim unit n x y short)) ∙ sym (cuts.before (x ++ z) i (omega (arith, less, first_long delim unit n x z short)))
+    | inl short ↦ cuts.before (x ++ y) i (omega (arith, less, first_long delim unit n x y short))
+        ∙ sym (cuts.before (x ++ z) i (omega (arith, less, first_long delim unit n x z short)))
     | inr full ↦ elim (cases_lt i (length (first_of delim unit n x))) [
       | inl within ↦ cuts.before (x ++ y) i (omega (arith, within, same y full)) ∙ sym (cuts.before (x ++ z) i (omega (arith, within, same z full)))
       | inr past ↦ beyond y full past ∙ sym (beyond z full past)
@@ -71,8 +72,10 @@ module _ {spots_of : List ℕ → ℕ → List Spot} (delim : ℕ) (unit : Count
     same : (w : List ℕ) → n ≤ measure delim unit x → length (first_of delim unit n (x ++ w)) ≡ length (first_of delim unit n x)
     same w full = ap length (first_of-full delim unit n x w full)
 
-    beyond : (w : List ℕ) → n ≤ measure delim unit x → length (first_of delim unit n x) ≤ i → spots_of (x ++ w) i ≡ cuts.late (length (first_of delim unit n x)) i
-    beyond w full past = cuts.after (x ++ w) i (omega (arith, past, same w full)) (omega (arith, less, length-append x w)) ∙ ap (λ k. cuts.late k i) (same w full)
+    beyond : (w : List ℕ) → n ≤ measure delim unit x → length (first_of delim unit n x) ≤ i
+        → spots_of (x ++ w) i ≡ cuts.late (length (first_of delim unit n x)) i
+    beyond w full past = cuts.after (x ++ w) i (omega (arith, past, same w full)) (omega (arith, less, length-append x w))
+        ∙ ap (λ k. cuts.late k i) (same w full)
 
   first_undecided : Cuts spots_of (first_of delim unit n) → {x : List ℕ} → IsUndecided spots_of x []
   first_undecided cuts {x} = record {
@@ -82,7 +85,8 @@ module _ {spots_of : List ℕ → ℕ → List Spot} (delim : ℕ) (unit : Count
     decided = λ i less y z can also. first_decided cuts x i less y z;
   }
 
-  last_decided : Cuts spots_of (but_last_of delim unit n) → (x : List ℕ) (i : ℕ) → i < length (but_last_of delim unit n x) → (y : List ℕ) → spots_of (x ++ y) i ≡ spots_of x i
+  last_decided : Cuts spots_of (but_last_of delim unit n) → (x : List ℕ) (i : ℕ) → i < length (but_last_of delim unit n x) → (y : List ℕ)
+      → spots_of (x ++ y) i ≡ spots_of x i
   last_decided cuts x i less y =
       let more = ap length (but_last_of-append delim unit n x y) ∙ length-append (but_last_of delim unit n x) (but_last_of delim unit n (last_of delim unit n x ++ y)) in
       cuts.before (x ++ y) i (omega (arith, less, more)) ∙ sym (cuts.before x i less)
@@ -96,7 +100,8 @@ module _ {spots_of : List ℕ → ℕ → List Spot} (delim : ℕ) (unit : Count
   } where
     differ : (i : ℕ) → length (but_last_of delim unit n x) ≤ i → i < length x → spots_of (x ++ []) i ≢ spots_of (x ++ replicate (n + 1) delim) i
     differ i past within same = cuts.apart (length (but_last_of delim unit n x)) i
-        (sym (cuts.before (x ++ replicate (n + 1) delim) i (omega (arith, within, far delim unit n x))) ∙ sym same ∙ ap (λ all. spots_of all i) (append-nil x) ∙ cuts.after x i past within)
+        (sym (cuts.before (x ++ replicate (n + 1) delim) i (omega (arith, within, far delim unit n x))) ∙ sym same ∙ ap (λ all. spots_of all i) (append-nil x)
+        ∙ cuts.after x i past within)
 
 head_cuts : (delim : ℕ) (unit : Counted) (but_last : Bool) (n : ℕ) → Cuts (head_spots delim unit but_last n) (head_of delim unit but_last n)
 head_cuts delim unit but_last n = record {
@@ -144,7 +149,8 @@ tail_cuts delim unit from_nth n = record {
   late = λ k i. spot 0 (i - k) ∷ [];
   before = tail_nowhere delim unit from_nth n;
   after = λ x i past within. tail_there delim unit from_nth n x i past
-      ∙ spot_in 0 (i - length (tail_first delim unit from_nth n x)) (tail_of delim unit from_nth n x) [] (omega (arith, past, within, tail_long delim unit from_nth n x));
+      ∙ spot_in 0 (i - length (tail_first delim unit from_nth n x)) (tail_of delim unit from_nth n x) []
+      (omega (arith, past, within, tail_long delim unit from_nth n x));
   apart = λ k i is. some_spot (spot 0 (i - k)) [] (sym is);
 }
 
@@ -277,11 +283,13 @@ module _ {spots_of : List ℕ → ℕ → List Spot} {out_of : List ℕ → List
     | inr past ↦ (let one = one_spot (out_of x) (i - length (stretch.before x)) (subst (GoesTo at) (stretch.there x i past) is) in (past, one.0, one.1))
   ]
 
-  byte_at : (x : List ℕ) (i : ℕ) → length (stretch.before x) ≤ i → i - length (stretch.before x) < length (out_of x) → get_or (out_of x) (i - length (stretch.before x)) 0 ≡ get_or x i 0
+  byte_at : (x : List ℕ) (i : ℕ) → length (stretch.before x) ≤ i → i - length (stretch.before x) < length (out_of x)
+      → get_or (out_of x) (i - length (stretch.before x)) 0 ≡ get_or x i 0
   byte_at x i past less = sym (ap (λ those. get_or those i 0) (stretch.whole x) ∙ get_or-append_right (stretch.before x) (out_of x ++ stretch.rest x) i 0 past
       ∙ get_or_append_left (out_of x) (stretch.rest x) 0 (i - length (stretch.before x)) less)
 
-  filled : (x : List ℕ) (place offset : ℕ) → offset < length (output_at (only_out (out_of x)) place) → (i : ℕ) × (i < length x) × GoesTo (spot place offset) (spots_of x i)
+  filled : (x : List ℕ) (place offset : ℕ) → offset < length (output_at (only_out (out_of x)) place)
+      → (i : ℕ) × (i < length x) × GoesTo (spot place offset) (spots_of x i)
   filled x zero offset less =
       let here : length (stretch.before x) + offset - length (stretch.before x) ≡ offset = omega arith in
       let long = ap length (stretch.whole x) ∙ length-append (stretch.before x) (out_of x ++ stretch.rest x) in (
@@ -316,16 +324,19 @@ head_stretch delim unit but_last n = record {
 }
 
 pub head_placed : (delim : ℕ) (unit : Counted) (but_last : Bool) (n : ℕ) → ArePlaced (head_work delim unit but_last n) (head_spots delim unit but_last n)
-head_placed delim unit but_last n = let all = placed (head_stretch delim unit but_last n) in record { stands = all.stands; filled = all.filled; apart = all.apart }
+head_placed delim unit but_last n =
+    let all = placed (head_stretch delim unit but_last n) in record { stands = all.stands; filled = all.filled; apart = all.apart }
 
 tail_stretch : (delim : ℕ) (unit : Counted) (from_nth : Bool) (n : ℕ) → IsStretch (tail_spots delim unit from_nth n) (tail_of delim unit from_nth n)
 tail_stretch delim unit from_nth n = record {
   before = tail_first delim unit from_nth n;
   rest = λ x. [];
-  whole = λ x. sym (ap (λ those. tail_first delim unit from_nth n x ++ those) (append-nil (tail_of delim unit from_nth n x)) ∙ tail_together delim unit from_nth n);
+  whole = λ x. sym (ap (λ those. tail_first delim unit from_nth n x ++ those) (append-nil (tail_of delim unit from_nth n x))
+      ∙ tail_together delim unit from_nth n);
   nowhere = tail_nowhere delim unit from_nth n;
   there = tail_there delim unit from_nth n;
 }
 
 pub tail_placed : (delim : ℕ) (unit : Counted) (from_nth : Bool) (n : ℕ) → ArePlaced (tail_work delim unit from_nth n) (tail_spots delim unit from_nth n)
-tail_placed delim unit from_nth n = let all = placed (tail_stretch delim unit from_nth n) in record { stands = all.stands; filled = all.filled; apart = all.apart }
+tail_placed delim unit from_nth n =
+    let all = placed (tail_stretch delim unit from_nth n) in record { stands = all.stands; filled = all.filled; apart = all.apart }

@@ -46,7 +46,8 @@ pub front_past : (old : Front) {now : Front} {left : ℕ} (k : ℕ) (piece : Lis
     → record now { past = now.past + (length piece - k) } ≡ record old { left = left; past = old.past + length (after_of old.delim old.unit old.left piece) }
 front_past old {left} k piece is front =
     ap (λ (those : Front). record those { past = those.past + (length piece - k) }) is
-    ∙ ap (λ n. record old { left = left; past = old.past + n }) (sym (length-drop k piece) ∙ ap length (after_is_drop old.delim old.unit old.left k piece front))
+    ∙ ap (λ n. record old { left = left; past = old.past + n })
+    (sym (length-drop k piece) ∙ ap length (after_is_drop old.delim old.unit old.left k piece front))
 
 -- there are no more among the last than were asked for
 pub last_is_few : (delim : ℕ) (unit : Counted) (n : ℕ) (x : List ℕ) → size delim unit (last_of delim unit n x) ≤ n

@@ -105,7 +105,8 @@ goes_past : (delim : ℕ) (x piece used rest : List ℕ) → x ++ piece ≡ used
 goes_past delim x piece used rest is more = elim (cases_lt (length x) (length used)) [
   | inl past ↦ past
   | inr short ↦
-      let front : used ≡ take (length used) x = sym (take_at used rest (length used) refl) ∙ ap (take (length used)) (sym is) ∙ take-append-le (length used) x piece short in
+      let front : used ≡ take (length used) x = sym (take_at used rest (length used) refl) ∙ ap (take (length used)) (sym is)
+      ∙ take-append-le (length used) x piece short in
       absurd (omega (arith, more, ap (delimiters delim) front, delimiters-take-le delim (length used) x))
 ]
 

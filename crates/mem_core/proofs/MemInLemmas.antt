@@ -78,18 +78,22 @@ break_there state {slot} at {source} {new} within there is =
     ∙ ap (λ (b : Bool). if b then record state { sources = changed_at slot (cut at) state.sources } else record state { breaks = state.breaks ++ (slot, at) ∷ [] }) (sym (lt-ltb slot (length state.sources) within))
 
 -- one of the inputs that can be read is replaced by its change
-pub source_changes : {state : MemInState} {sources : List Source} {files : List Laid} {breaks : List (ℕ × ℕ)} (slot : ℕ) (change : Source → Source) {source new : Source}
-    → IsSeen sources files breaks state → IsTrue (is_readable state.sources slot) → source ≡ get_or sources slot source → new ≡ change source → set sources slot new ≡ changed_at slot change state.sources
+pub source_changes : {state : MemInState} {sources : List Source} {files : List Laid} {breaks : List (ℕ × ℕ)} (slot : ℕ)
+    (change : Source → Source) {source new : Source}
+    → IsSeen sources files breaks state → IsTrue (is_readable state.sources slot) → source ≡ get_or sources slot source → new ≡ change source
+    → set sources slot new ≡ changed_at slot change state.sources
 source_changes {state} {sources} slot change {source} {new} is can at changed =
     let same = ap (λ (those : MemInState). those.sources) is in
-    one_changes sources state.sources slot change source new same (readable_within sources slot (subst (λ those. is_readable those slot ≡ true) (sym same) can)) at changed
+    one_changes sources state.sources slot change source new same
+    (readable_within sources slot (subst (λ those. is_readable those slot ≡ true) (sym same) can)) at changed
 
 -- an input that is planned to break off is as if it were just opened
 still_open : (plans : List (ℕ × ℕ)) (slot : ℕ) (content : Content) → breaks_in plans slot (source_of content) ≡ source_of (breaks_in plans slot (source_of content)).left
 still_open [] slot content = refl
 still_open (plan ∷ plans) slot content =
     let IsOpen : Source → Type 0 = λ source. source ≡ source_of source.left in
-    cond_both (eqb plan.0 slot) _ _ IsOpen (λ _. cond_both (leb plan.1 (length content.bytes)) _ _ IsOpen (λ _. refl) (λ _. refl)) (λ _. still_open plans slot content)
+    cond_both (eqb plan.0 slot) _ _ IsOpen (λ _. cond_both (leb plan.1 (length content.bytes)) _ _ IsOpen (λ _. refl) (λ _. refl))
+    (λ _. still_open plans slot content)
 
 -- What an open finds, as the code has it: the new list, its last member and its number by their equations. First a name at which nothing lies.
 pub opened_nothing : {state : MemInState} {sources new : List Source} {files : List Laid} {breaks : List (ℕ × ℕ)} {name : List ℕ} {source : Source} {slot : ℕ}
@@ -107,7 +111,8 @@ pub opened_file : {state : MemInState} {sources new : List Source} {files : List
     → slot ≡ length sources → Opens true (laid_in state.files state.breaks) state.sources new name slot
 opened_file {sources} {breaks} {name} {bytes} made {source} {slot} is found same fresh planned added counts =
     let content : Content = record { bytes = bytes; breaks_off = false } in
-    let cut_so : source ≡ breaks_in breaks slot (source_of content) = planned ∙ ap (breaks_in breaks slot) (fresh ∙ ap (λ those. source_of (record { bytes = those; breaks_off = false })) same) in
+    let cut_so : source ≡ breaks_in breaks slot (source_of content) = planned
+    ∙ ap (breaks_in breaks slot) (fresh ∙ ap (λ those. source_of (record { bytes = those; breaks_off = false })) same) in
     record {
       number = counts ∙ ap (λ (those : MemInState). length those.sources) is;
       content = source.left;

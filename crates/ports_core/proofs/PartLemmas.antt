@@ -84,7 +84,8 @@ pub outputs_count : (told : Bool) (before : List Slot) (part : Part) (now : List
 outputs_count told before part now at =
     let all : length now ≡ length (with_written 0 (told_of told part.out) before) + length at.since = ap length at.slots ∙ length-append (with_written 0 (told_of told part.out) before) at.since in
     let front : length (with_written 0 (told_of told part.out) before) ≡ length before = length-changed_at 0 _ before in
-    let since : length at.since ≡ length part.files = sym (length-map at.since file_of) ∙ ap length at.files ∙ length-map part.files (told_file told) in omega arith
+    let since : length at.since ≡ length part.files = sym (length-map at.since file_of) ∙ ap length at.files
+    ∙ length-map part.files (told_file told) in omega arith
 
 -- no file is touched
 pub still_in_order : (files : List File) → InOrder files files files 0

@@ -51,10 +51,12 @@ module _ (one : ℕ) (change : Slot → Slot) (old : List Slot) {mid : List Slot
         still_there files both.1 are.2,
       )
 
-  still_has : (place : ℕ) (places : List ℕ) → eqb place one ≡ false → has_file (slot_at old place).state ≡ is_among place (one ∷ places) → has_file (slot_at mid place).state ≡ is_among place places
+  still_has : (place : ℕ) (places : List ℕ) → eqb place one ≡ false → has_file (slot_at old place).state ≡ is_among place (one ∷ places)
+      → has_file (slot_at mid place).state ≡ is_among place places
   still_has place places other has = ap (λ (slot : Slot). has_file slot.state) (elsewhere place (differs one other)) ∙ has ∙ among_rest place one places other
 
-  cleared_by : (places : List ℕ) (new : List Slot) (place : ℕ) → AreThere (one ∷ places) old → slot_at new one ≡ slot_at mid one → Cleared (slot_at old one) (change (slot_at old one))
+  cleared_by : (places : List ℕ) (new : List Slot) (place : ℕ) → AreThere (one ∷ places) old → slot_at new one ≡ slot_at mid one
+      → Cleared (slot_at old one) (change (slot_at old one))
       → (has_file (slot_at mid place).state ≡ is_among place places → Cleared (slot_at mid place) (slot_at new place))
       → has_file (slot_at old place).state ≡ is_among place (one ∷ places) → Cleared (slot_at old place) (slot_at new place)
   cleared_by places new place are after made rest has = by_place place one
@@ -63,9 +65,11 @@ module _ (one : ℕ) (change : Slot → Slot) (old : List Slot) {mid : List Slot
 
 -- One removal more, after those of other files
 
-tried_more : {files left : List ℕ} {old mid new : List Slot} (place : ℕ) (more : List ℕ) → Removes files old left mid → Removes (place ∷ []) mid more new → Removes (files ++ place ∷ []) old (left ++ more) new
+tried_more : {files left : List ℕ} {old mid new : List Slot} (place : ℕ) (more : List ℕ) → Removes files old left mid → Removes (place ∷ []) mid more new
+    → Removes (files ++ place ∷ []) old (left ++ more) new
 tried_more place more (all_tried slots) last = last
-tried_more {new} place more (goes one places left' old' mid' rest) last = goes one (places ++ place ∷ []) (left' ++ more) old' new (tried_more place more rest last)
+tried_more {new} place more (goes one places left' old' mid' rest) last = goes one (places ++ place ∷ []) (left' ++ more) old' new
+    (tried_more place more rest last)
 tried_more {new} place more (stays one places left' old' mid' rest) last = stays one (places ++ place ∷ []) (left' ++ more) old' new (tried_more place more rest last)
 
 -- the files before this place were tried, and the first `left` are those that couldn't be removed
@@ -80,8 +84,10 @@ pub none_swept : {files : List ℕ} {slots : List Slot} → AreThere files slots
 none_swept {slots} are = record { size = refl; few = omega arith; tried = all_tried slots; rest = refl; are = are }
 
 -- the next file was tried, and these are the numbers now
-one_tried : {files now next : List ℕ} {place left few : ℕ} {old mid new : List Slot} {file : ℕ} (change : Slot → Slot) → Sweeping files now place left old mid → place < length now → file ≡ get_or now place 0
-    → length next ≡ length now → few ≤ suc left → drop (suc place) next ≡ drop (suc place) now → Removes (take place files ++ file ∷ []) old (take few next) new → new ≡ changed_at file change mid
+one_tried : {files now next : List ℕ} {place left few : ℕ} {old mid new : List Slot} {file : ℕ} (change : Slot → Slot) → Sweeping files now place left old mid
+    → place < length now → file ≡ get_or now place 0
+    → length next ≡ length now → few ≤ suc left → drop (suc place) next ≡ drop (suc place) now
+    → Removes (take place files ++ file ∷ []) old (take few next) new → new ≡ changed_at file change mid
     → Sweeping files next (place + 1) few old new
 one_tried {files} {now} {next} {place} {few} {old} {mid} {new} {file} change so_far within file_is size fits rest tried is =
     let less : place < length files = omega (arith, within, so_far.size) in
@@ -101,7 +107,8 @@ one_tried {files} {now} {next} {place} {few} {old} {mid} {new} {file} change so_
 pub sweep_on : {files now : List ℕ} {place left file : ℕ} {old mid new : List Slot} (result : Result (Unit {0}) Fault) → Sweeping files now place left old mid → place < length now → file ≡ get_or now place 0 → is_ok result ≡ true → OnOk result (new ≡ changed_at file removes mid)
     → Sweeping files now (place + 1) left old new
 sweep_on {files} {now} {place} {left} {file} {old} {mid} {new} (Ok done) so_far within file_is ok gone =
-    one_tried removes so_far within file_is refl (omega arith) refl (subst (λ those. Removes (take place files ++ file ∷ []) old those new) (append-nil (take left now))
+    one_tried removes so_far within file_is refl (omega arith) refl
+    (subst (λ those. Removes (take place files ++ file ∷ []) old those new) (append-nil (take left now))
     (tried_more file [] so_far.tried (goes file [] [] mid new (subst (λ those. Removes [] those [] new) gone (all_tried new))))) gone
 sweep_on (Err f) so_far within file_is ok gone = absurd (false≢true ok)
 
@@ -127,9 +134,11 @@ same_size files left old new (stays place places left' old' new' rest) =
 pub others_same : {files left : List ℕ} {old new : List Slot} (place : ℕ) → Removes files old left new → is_among place files ≡ false → slot_at new place ≡ slot_at old place
 others_same place (all_tried slots) apart = refl
 others_same place (goes one places left' old' new' rest) apart =
-    let both = or_parts (eqb place one) (is_among place places) apart in others_same place rest both.1 ∙ elsewhere one removes old' refl place (differs one both.0)
+    let both = or_parts (eqb place one) (is_among place places) apart in others_same place rest both.1
+    ∙ elsewhere one removes old' refl place (differs one both.0)
 others_same place (stays one places left' old' new' rest) apart =
-    let both = or_parts (eqb place one) (is_among place places) apart in others_same place rest both.1 ∙ elsewhere one fails_so old' (changed_at-again one closes breaks old') place (differs one both.0)
+    let both = or_parts (eqb place one) (is_among place places) apart in others_same place rest both.1
+    ∙ elsewhere one fails_so old' (changed_at-again one closes breaks old') place (differs one both.0)
 
 -- those that are left are some of them
 pub left_apart : (files left : List ℕ) (old new : List Slot) (place : ℕ) → Removes files old left new → is_among place files ≡ false → is_among place left ≡ false
@@ -143,10 +152,12 @@ left_apart files left old new place (stays one places left' old' new' rest) apar
 pub each_cleared : {files left : List ℕ} {old new : List Slot} (place : ℕ) → Removes files old left new → AreThere files old → has_file (slot_at old place).state ≡ is_among place files → Cleared (slot_at old place) (slot_at new place)
 each_cleared place (all_tried slots) are has = none has
 each_cleared place (goes one places left' old' new' rest) are has =
-    cleared_by one removes old' refl places new' place are (others_same one rest are.1) (removed are.0.1) (each_cleared place rest (still_there one removes old' refl places are.1 are.2)) has
+    cleared_by one removes old' refl places new' place are (others_same one rest are.1) (removed are.0.1)
+    (each_cleared place rest (still_there one removes old' refl places are.1 are.2)) has
 each_cleared place (stays one places left' old' new' rest) are has =
     let is = changed_at-again one closes breaks old' in
-    cleared_by one fails_so old' is places new' place are (others_same one rest are.1) (stuck are.0.1) (each_cleared place rest (still_there one fails_so old' is places are.1 are.2)) has
+    cleared_by one fails_so old' is places new' place are (others_same one rest are.1) (stuck are.0.1)
+    (each_cleared place rest (still_there one fails_so old' is places are.1 are.2)) has
 
 -- and has a file just where that is left
 pub left_has : (files left : List ℕ) (old new : List Slot) (place : ℕ) → Removes files old left new → AreThere files old → has_file (slot_at old place).state ≡ is_among place files → has_file (slot_at new place).state ≡ is_among place left
@@ -154,16 +165,19 @@ left_has files left old new place (all_tried slots) are has = has
 left_has files left old new place (goes one places left' old' new' rest) are has = by_place place one
     (λ same. subst (λ at. has_file (slot_at new' at).state ≡ is_among at left') (sym same)
     (ap (λ (slot : Slot). has_file slot.state) (others_same one rest are.1 ∙ here one removes old' refl are.0) ∙ sym (left_apart places left' _ new' one rest are.1)))
-    (λ other. left_has places left' _ new' place rest (still_there one removes old' refl places are.1 are.2) (still_has one removes old' refl place places other has))
+    (λ other. left_has places left' _ new' place rest (still_there one removes old' refl places are.1 are.2)
+    (still_has one removes old' refl place places other has))
 left_has files left old new place (stays one places left' old' new' rest) are has =
     let is = changed_at-again one closes breaks old' in by_place place one
     (λ same. subst (λ at. has_file (slot_at new' at).state ≡ is_among at (one ∷ left')) (sym same)
     (ap (λ (slot : Slot). has_file slot.state) (others_same one rest are.1 ∙ here one fails_so old' is are.0) ∙ sym (ap (λ b. b || is_among one left') (eq-eqb one one refl))))
-    (λ other. left_has places left' _ new' place rest (still_there one fails_so old' is places are.1 are.2) (still_has one fails_so old' is place places other has) ∙ sym (among_rest place one left' other))
+    (λ other. left_has places left' _ new' place rest (still_there one fails_so old' is places are.1 are.2)
+    (still_has one fails_so old' is place places other has) ∙ sym (among_rest place one left' other))
 
 pub left_there : (files left : List ℕ) (old new : List Slot) → Removes files old left new → AreThere files old → AreThere left new
 left_there files left old new (all_tried slots) are = tt
-left_there files left old new (goes one places left' old' new' rest) are = left_there places left' _ new' rest (still_there one removes old' refl places are.1 are.2)
+left_there files left old new (goes one places left' old' new' rest) are = left_there places left' _ new' rest
+    (still_there one removes old' refl places are.1 are.2)
 left_there files left old new (stays one places left' old' new' rest) are =
     let is = changed_at-again one closes breaks old' in (
       (are.0.0, subst (λ (slot : Slot). IsTrue (has_file slot.state)) (sym (others_same one rest are.1 ∙ here one fails_so old' is are.0)) refl),

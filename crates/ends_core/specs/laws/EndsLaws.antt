@@ -55,11 +55,14 @@ pub after_of-append : (delim : ℕ) (unit : Counted) (n : ℕ) (x y : List ℕ)
 after_of-append delim unit n x y =
     append_cancel_left (first_of delim unit n x ++ first_of delim unit (n - measure delim unit x) y) _ _
     (ap (λ front. front ++ after_of delim unit n (x ++ y)) (sym (first_of-append delim unit n x y)) ∙ first_then_after delim unit n (x ++ y)
-    ∙ ap (λ z. z ++ y) (sym (first_then_after delim unit n x)) ∙ ap (λ z. (first_of delim unit n x ++ after_of delim unit n x) ++ z) (sym (first_then_after delim unit (n - measure delim unit x) y))
+    ∙ ap (λ z. z ++ y) (sym (first_then_after delim unit n x))
+    ∙ ap (λ z. (first_of delim unit n x ++ after_of delim unit n x) ++ z) (sym (first_then_after delim unit (n - measure delim unit x) y))
     ∙ swapped) where
       -- one of them is empty
-      swapped : (first_of delim unit n x ++ after_of delim unit n x) ++ (first_of delim unit (n - measure delim unit x) y ++ after_of delim unit (n - measure delim unit x) y)
-          ≡ (first_of delim unit n x ++ first_of delim unit (n - measure delim unit x) y) ++ (after_of delim unit n x ++ after_of delim unit (n - measure delim unit x) y)
+      swapped : (first_of delim unit n x ++ after_of delim unit n x)
+          ++ (first_of delim unit (n - measure delim unit x) y ++ after_of delim unit (n - measure delim unit x) y)
+          ≡ (first_of delim unit n x ++ first_of delim unit (n - measure delim unit x) y)
+          ++ (after_of delim unit n x ++ after_of delim unit (n - measure delim unit x) y)
       swapped = elim (cases_lt (measure delim unit x) n) [
         | inl short ↦
             let none : after_of delim unit n x ≡ [] = append_cancel_left x _ _
