@@ -1,24 +1,25 @@
--- What all continuations agree on, of heads and tails.
+-- What all continuations agree on, of heads and tails, and where the bytes of an input go.
 use Rattle.std.proofs.Common.{◌≡◌, ◌≢◌, ℕ, ◌+◌, ◌-◌, ◌<◌, ◌≤◌, zero, suc, List, [], ◌∷◌, ◌++◌, length, length-drop, drop, replicate, get_or, Bool, true, false, cond, inl, inr, refl, sym, ◌∙◌, ap, subst, arith, append_assoc, length-append}
 use Rattle.std.proofs.lemmas.Bool.{cases_lt, lt-ltb, le-ltb, eq-eqb, ne_eqb}
-use Rattle.std.proofs.lemmas.List.{append-nil, drop-append-le, length-replicate}
-use Rattle.std.proofs.Math.Seq.{drop-append_seam}
+use Rattle.std.proofs.lemmas.List.{append-nil, drop-append-le, length-replicate, get_or_append_left}
+use Rattle.std.proofs.Math.Seq.{drop-append_seam, get_or-append_right}
 use Rattle.seg_core.specs.Line.{joined, lines_of, delimiters, ends_with}
 use Rattle.seg_core.proofs.LinesOf.{lines_of-append, joined-lines_of}
 use Rattle.seg_core.proofs.LineCounts.{line_count-closed, ends_with-append}
 use Rattle.seg_core.proofs.EndLines.{last_lines-zero}
-use Rattle.ports_core.specs.Part.{IsBeginning, nothing}
-use Rattle.ports_core.specs.Agreed.{CanCome, IsAgreed, IsUndecided, spot, spots_from, output_at}
+use Rattle.ports_core.specs.Part.{IsBeginning, nothing, only_out}
+use Rattle.ports_core.specs.Agreed.{CanCome, IsAgreed, IsUndecided, Spot, spot, spots_from, output_at, GoesTo, ArePlaced}
 use Rattle.ports_core.proofs.AgreedLemmas.{none_comes, one_comes, copies_come, other, other_differs, other_comes, agreed_now, beginning_short, common, spot_in, spot_past, some_spot}
 use Rattle.seg_core.specs.declared.unit.Unit.{Unit as Counted}
 use Rattle.seg_core.specs.declared.unit.Unit.TheVariants.{Lines, Bytes}
-use Rattle.ends_core.specs.Ends.{size, measure, first_of, last_of, but_last_of, tail_of}
+use Rattle.ends_core.specs.Ends.{size, measure, first_of, last_of, but_last_of, head_of, tail_of, after_of}
 use Rattle.ends_core.specs.laws.EndsLaws.{measure-append, first_of-append, first_of-short, first_of-full, first_then_after, ends_together, but_last_of-append}
 use Rattle.ends_core.proofs.EndsLaws.{measure-delimiters, last_is_drop, last_is_small}
 use Rattle.ends_core.specs.Head.{head_work, head_waiting}
 use Rattle.ends_core.specs.Tail.{tail_work, tail_waiting}
 use Rattle.ends_core.specs.Place.{head_spots, skipped, tail_spots}
 use Rattle.ends_core.specs.laws.WorkLaws as law
+use Rattle.ports_core.specs.Work.{Work}
 
 -- Some continuations
 
@@ -44,53 +45,76 @@ far delim unit n x = elim (cases_lt (length x) (length (but_last_of delim unit n
 pub head_agreed : (delim : ℕ) (unit : Counted) (but_last : Bool) (n : ℕ) {x : List ℕ} → IsAgreed (head_work delim unit but_last n) x ((head_work delim unit but_last n).settled x)
 head_agreed delim unit but_last n {x} = agreed_now (head_work delim unit but_last n) x (common (head_work delim unit but_last n) (law.head_lawful delim unit but_last n) x) refl
 
+-- Where the bytes of an input go that is cut in two after its front: one before the cut goes to one place, and one after it to another.
+record Cuts (spots_of : List ℕ → ℕ → List Spot) (front_of : List ℕ → List ℕ) : Type 0 where
+  early : ℕ → List Spot
+  late : ℕ → ℕ → List Spot
+  before : (x : List ℕ) (i : ℕ) → i < length (front_of x) → spots_of x i ≡ early i
+  after : (x : List ℕ) (i : ℕ) → length (front_of x) ≤ i → i < length x → spots_of x i ≡ late (length (front_of x)) i
+  apart : (k i : ℕ) → early i ≢ late k i
+
 -- the first n of a text with fewer, which goes on, have all of it
 first_long : (delim : ℕ) (unit : Counted) (n : ℕ) (x y : List ℕ) → measure delim unit x < n → length x ≤ length (first_of delim unit n (x ++ y))
 first_long delim unit n x y short =
-    let is : first_of delim unit n (x ++ y) ≡ x ++ first_of delim unit (n - measure delim unit x) y = first_of-append delim unit n x y ∙ ap (λ front. front ++ first_of delim unit (n - measure delim unit x) y) (first_of-short delim unit n short) in
-    let long : length (first_of delim unit n (x ++ y)) ≡ length x + length (first_of delim unit (n - measure delim unit x) y) = ap length is ∙ length-append x (first_of delim unit (n - measure delim unit x) y) in
-    omega arith
+    let is = first_of-append delim unit n x y ∙ ap (λ front. front ++ first_of delim unit (n - measure delim unit x) y) (first_of-short delim unit n short) in
+    omega (arith, ap length is ∙ length-append x (first_of delim unit (n - measure delim unit x) y))
 
-first_same : (delim : ℕ) (unit : Counted) (n : ℕ) (x y z : List ℕ) → n ≤ measure delim unit x → first_of delim unit n (x ++ y) ≡ first_of delim unit n (x ++ z)
-first_same delim unit n x y z full = first_of-full delim unit n x y full ∙ sym (first_of-full delim unit n x z full)
+module _ {spots_of : List ℕ → ℕ → List Spot} (delim : ℕ) (unit : Counted) (n : ℕ) where
+  first_decided : Cuts spots_of (first_of delim unit n) → (x : List ℕ) (i : ℕ) → i < length x → (y z : List ℕ) → spots_of (x ++ y) i ≡ spots_of (x ++ z) i
+  first_decided cuts x i less y z = elim (cases_lt (measure delim unit x) n) [
+    | inl short ↦ cuts.before (x ++ y) i (omega (arith, less, first_long delim unit n x y short))
+        ∙ sym (cuts.before (x ++ z) i (omega (arith, less, first_long delim unit n x z short)))
+    | inr full ↦ elim (cases_lt i (length (first_of delim unit n x))) [
+      | inl within ↦ cuts.before (x ++ y) i (omega (arith, within, same y full)) ∙ sym (cuts.before (x ++ z) i (omega (arith, within, same z full)))
+      | inr past ↦ beyond y full past ∙ sym (beyond z full past)
+    ]
+  ] where
+    same : (w : List ℕ) → n ≤ measure delim unit x → length (first_of delim unit n (x ++ w)) ≡ length (first_of delim unit n x)
+    same w full = ap length (first_of-full delim unit n x w full)
 
-first_decided : (delim : ℕ) (unit : Counted) (n : ℕ) (x : List ℕ) (i : ℕ) → i < length x → (y z : List ℕ) → head_spots delim unit false n (x ++ y) i ≡ head_spots delim unit false n (x ++ z) i
-first_decided delim unit n x i less y z = elim (cases_lt (measure delim unit x) n) [
-  | inl short ↦ (let long = first_long delim unit n x y short in let also = first_long delim unit n x z short in
-      spot_in 0 i (first_of delim unit n (x ++ y)) [] (omega (arith, less, long)) ∙ sym (spot_in 0 i (first_of delim unit n (x ++ z)) [] (omega (arith, less, also))))
-  | inr full ↦ ap (λ front. spots_from 0 (front ∷ []) i) (first_same delim unit n x y z full)
-]
+    beyond : (w : List ℕ) → n ≤ measure delim unit x → length (first_of delim unit n x) ≤ i
+        → spots_of (x ++ w) i ≡ cuts.late (length (first_of delim unit n x)) i
+    beyond w full past = cuts.after (x ++ w) i (omega (arith, past, same w full)) (omega (arith, less, length-append x w))
+        ∙ ap (λ k. cuts.late k i) (same w full)
 
-before_stays : (delim : ℕ) (unit : Counted) (n : ℕ) (x y : List ℕ) → length (but_last_of delim unit n x) ≤ length (but_last_of delim unit n (x ++ y))
-before_stays delim unit n x y =
-    let sum : length (but_last_of delim unit n (x ++ y)) ≡ length (but_last_of delim unit n x) + length (but_last_of delim unit n (last_of delim unit n x ++ y))
-    = ap length (but_last_of-append delim unit n x y) ∙ length-append (but_last_of delim unit n x) (but_last_of delim unit n (last_of delim unit n x ++ y)) in
-    omega arith
+  first_undecided : Cuts spots_of (first_of delim unit n) → {x : List ℕ} → IsUndecided spots_of x []
+  first_undecided cuts {x} = record {
+    before = x;
+    are_last = sym (append-nil x);
+    differ = λ i past within. absurd (omega (arith, past, within));
+    decided = λ i less y z can also. first_decided cuts x i less y z;
+  }
 
-but_last_decided : (delim : ℕ) (unit : Counted) (n : ℕ) (x : List ℕ) (i : ℕ) → i < length (but_last_of delim unit n x) → (y : List ℕ) → head_spots delim unit true n (x ++ y) i ≡ spot 0 i ∷ []
-but_last_decided delim unit n x i less y = spot_in 0 i (but_last_of delim unit n (x ++ y)) [] (let more = before_stays delim unit n x y in omega (arith, less, more))
+  last_decided : Cuts spots_of (but_last_of delim unit n) → (x : List ℕ) (i : ℕ) → i < length (but_last_of delim unit n x) → (y : List ℕ)
+      → spots_of (x ++ y) i ≡ spots_of x i
+  last_decided cuts x i less y =
+      let more = ap length (but_last_of-append delim unit n x y) ∙ length-append (but_last_of delim unit n x) (but_last_of delim unit n (last_of delim unit n x ++ y)) in
+      cuts.before (x ++ y) i (omega (arith, less, more)) ∙ sym (cuts.before x i less)
 
-but_last_differ : (delim : ℕ) (unit : Counted) (n : ℕ) (x : List ℕ) (i : ℕ) → length (but_last_of delim unit n x) ≤ i → i < length x → head_spots delim unit true n (x ++ []) i ≢ head_spots delim unit true n (x ++ replicate (n + 1) delim) i
-but_last_differ delim unit n x i past within same =
-    let past_too : length (but_last_of delim unit n (x ++ [])) ≤ i = subst (λ all. length (but_last_of delim unit n all) ≤ i) (sym (append-nil x)) past in
-    let none : head_spots delim unit true n (x ++ []) i ≡ [] = spot_past 0 i (but_last_of delim unit n (x ++ [])) [] past_too in
-    let more = far delim unit n x in
-    let one : head_spots delim unit true n (x ++ replicate (n + 1) delim) i ≡ spot 0 i ∷ [] = spot_in 0 i (but_last_of delim unit n (x ++ replicate (n + 1) delim)) [] (omega (arith, within, more)) in
-    some_spot (spot 0 i) [] (sym one ∙ sym same ∙ none)
+  last_undecided : Cuts spots_of (but_last_of delim unit n) → delim < 256 → {x : List ℕ} → IsUndecided spots_of x (last_of delim unit n x)
+  last_undecided cuts byte {x} = record {
+    before = but_last_of delim unit n x;
+    are_last = sym (ends_together delim unit n x);
+    differ = λ i past within. ([], replicate (n + 1) delim, none_comes, copies_come (n + 1) delim byte, differ i past within);
+    decided = λ i less y z can also. last_decided cuts x i less y ∙ sym (last_decided cuts x i less z);
+  } where
+    differ : (i : ℕ) → length (but_last_of delim unit n x) ≤ i → i < length x → spots_of (x ++ []) i ≢ spots_of (x ++ replicate (n + 1) delim) i
+    differ i past within same = cuts.apart (length (but_last_of delim unit n x)) i
+        (sym (cuts.before (x ++ replicate (n + 1) delim) i (omega (arith, within, far delim unit n x))) ∙ sym same ∙ ap (λ all. spots_of all i) (append-nil x)
+        ∙ cuts.after x i past within)
+
+head_cuts : (delim : ℕ) (unit : Counted) (but_last : Bool) (n : ℕ) → Cuts (head_spots delim unit but_last n) (head_of delim unit but_last n)
+head_cuts delim unit but_last n = record {
+  early = λ i. spot 0 i ∷ [];
+  late = λ k i. [];
+  before = λ x i less. spot_in 0 i (head_of delim unit but_last n x) [] less;
+  after = λ x i past within. spot_past 0 i (head_of delim unit but_last n x) [] past;
+  apart = λ k i. some_spot (spot 0 i) [];
+}
 
 pub head_undecided : (delim : ℕ) → delim < 256 → (unit : Counted) (but_last : Bool) (n : ℕ) {x : List ℕ} → IsUndecided (head_spots delim unit but_last n) x (head_waiting delim unit but_last n x)
-head_undecided delim byte unit false n {x} = record {
-  before = x;
-  are_last = sym (append-nil x);
-  differ = λ i past within. absurd (omega (arith, past, within));
-  decided = λ i less y z can also. first_decided delim unit n x i less y z;
-}
-head_undecided delim byte unit true n {x} = record {
-  before = but_last_of delim unit n x;
-  are_last = sym (ends_together delim unit n x);
-  differ = λ i past within. ([], replicate (n + 1) delim, none_comes, copies_come (n + 1) delim byte, but_last_differ delim unit n x i past within);
-  decided = λ i less y z can also. but_last_decided delim unit n x i less y ∙ sym (but_last_decided delim unit n x i less z);
-}
+head_undecided delim byte unit false n = first_undecided delim unit n (head_cuts delim unit false n)
+head_undecided delim byte unit true n = last_undecided delim unit n (head_cuts delim unit true n) byte
 
 -- Tails: where a byte goes
 
@@ -102,67 +126,37 @@ pub tail_together : (delim : ℕ) (unit : Counted) (from_nth : Bool) (n : ℕ) {
 tail_together delim unit true n {x} = first_then_after delim unit (n - 1) x
 tail_together delim unit false n {x} = ends_together delim unit n x
 
-pub tail_long : (delim : ℕ) (unit : Counted) (from_nth : Bool) (n : ℕ) (x : List ℕ) → length x ≡ length (tail_first delim unit from_nth n x) + length (tail_of delim unit from_nth n x)
-tail_long delim unit from_nth n x = ap length (sym (tail_together delim unit from_nth n)) ∙ length-append (tail_first delim unit from_nth n x) (tail_of delim unit from_nth n x)
+module _ (delim : ℕ) (unit : Counted) (from_nth : Bool) (n : ℕ) (x : List ℕ) where
+  tail_long : length x ≡ length (tail_first delim unit from_nth n x) + length (tail_of delim unit from_nth n x)
+  tail_long = ap length (sym (tail_together delim unit from_nth n)) ∙ length-append (tail_first delim unit from_nth n x) (tail_of delim unit from_nth n x)
 
-pub skipped_is : (delim : ℕ) (unit : Counted) (from_nth : Bool) (n : ℕ) (x : List ℕ) → skipped delim unit from_nth n x ≡ length (tail_first delim unit from_nth n x)
-skipped_is delim unit from_nth n x = (let long = tail_long delim unit from_nth n x in omega (arith, long))
+  pub tail_nowhere : (i : ℕ) → i < length (tail_first delim unit from_nth n x) → tail_spots delim unit from_nth n x i ≡ []
+  tail_nowhere i less =
+      ap (λ before. cond before [] (spots_from 0 (tail_of delim unit from_nth n x ∷ []) (i - skipped delim unit from_nth n x)))
+      (lt-ltb i (skipped delim unit from_nth n x) (omega (arith, less, tail_long)))
 
-pub tail_nowhere : (delim : ℕ) (unit : Counted) (from_nth : Bool) (n : ℕ) (x : List ℕ) (i : ℕ) → i < skipped delim unit from_nth n x → tail_spots delim unit from_nth n x i ≡ []
-tail_nowhere delim unit from_nth n x i less =
-    ap (λ before. cond before [] (spots_from 0 (tail_of delim unit from_nth n x ∷ []) (i - skipped delim unit from_nth n x))) (lt-ltb i (skipped delim unit from_nth n x) less)
+  pub tail_there : (i : ℕ) → length (tail_first delim unit from_nth n x) ≤ i
+      → tail_spots delim unit from_nth n x i ≡ spots_from 0 (tail_of delim unit from_nth n x ∷ []) (i - length (tail_first delim unit from_nth n x))
+  tail_there i past =
+      let same : skipped delim unit from_nth n x ≡ length (tail_first delim unit from_nth n x) = omega (arith, tail_long) in
+      ap (λ before. cond before [] (spots_from 0 (tail_of delim unit from_nth n x ∷ []) (i - skipped delim unit from_nth n x)))
+      (le-ltb i (skipped delim unit from_nth n x) (omega (arith, past, same)))
+      ∙ ap (λ k. spots_from 0 (tail_of delim unit from_nth n x ∷ []) (i - k)) same
 
-pub tail_somewhere : (delim : ℕ) (unit : Counted) (from_nth : Bool) (n : ℕ) (x : List ℕ) (i : ℕ) → skipped delim unit from_nth n x ≤ i → i < length x → tail_spots delim unit from_nth n x i ≡ spot 0 (i - skipped delim unit from_nth n x) ∷ []
-tail_somewhere delim unit from_nth n x i past within =
-    ap (λ before. cond before [] (spots_from 0 (tail_of delim unit from_nth n x ∷ []) (i - skipped delim unit from_nth n x))) (le-ltb i (skipped delim unit from_nth n x) past)
-    ∙ spot_in 0 (i - skipped delim unit from_nth n x) (tail_of delim unit from_nth n x) [] (let long = tail_long delim unit from_nth n x in omega (arith, past, within, long))
-
-nth_decided : (delim : ℕ) (unit : Counted) (n : ℕ) (x : List ℕ) (i : ℕ) → i < length x → (y z : List ℕ) → tail_spots delim unit true n (x ++ y) i ≡ tail_spots delim unit true n (x ++ z) i
-nth_decided delim unit n x i less y z = elim (cases_lt (measure delim unit x) (n - 1)) [
-  | inl short ↦ early y short ∙ sym (early z short)
-  | inr full ↦ late full
-] where
-  early : (w : List ℕ) → measure delim unit x < n - 1 → tail_spots delim unit true n (x ++ w) i ≡ []
-  early w short = tail_nowhere delim unit true n (x ++ w) i
-      (let is = skipped_is delim unit true n (x ++ w) in let long : length x ≤ length (tail_first delim unit true n (x ++ w)) = first_long delim unit (n - 1) x w short in omega (arith, less, is, long))
-
-  within : (w : List ℕ) → i < length (x ++ w)
-  within w = (let long = length-append x w in omega (arith, less, long))
-
-  late : n - 1 ≤ measure delim unit x → tail_spots delim unit true n (x ++ y) i ≡ tail_spots delim unit true n (x ++ z) i
-  late full =
-      let same : skipped delim unit true n (x ++ y) ≡ skipped delim unit true n (x ++ z) = skipped_is delim unit true n (x ++ y) ∙ ap length (first_same delim unit (n - 1) x y z full) ∙ sym (skipped_is delim unit true n (x ++ z)) in
-      elim (cases_lt i (skipped delim unit true n (x ++ y))) [
-        | inl before ↦ tail_nowhere delim unit true n (x ++ y) i before ∙ sym (tail_nowhere delim unit true n (x ++ z) i (subst (λ at. i < at) same before))
-        | inr past ↦ tail_somewhere delim unit true n (x ++ y) i past (within y) ∙ ap (λ at. spot 0 (i - at) ∷ []) same ∙ sym (tail_somewhere delim unit true n (x ++ z) i (subst (λ at. at ≤ i) same past) (within z))
-      ]
-
-last_decided : (delim : ℕ) (unit : Counted) (n : ℕ) (x : List ℕ) (i : ℕ) → i < length (but_last_of delim unit n x) → (y : List ℕ) → tail_spots delim unit false n (x ++ y) i ≡ []
-last_decided delim unit n x i less y = tail_nowhere delim unit false n (x ++ y) i
-    (let is = skipped_is delim unit false n (x ++ y) in let more : length (but_last_of delim unit n x) ≤ length (tail_first delim unit false n (x ++ y)) = before_stays delim unit n x y in omega (arith, less, is, more))
-
-last_differ : (delim : ℕ) (unit : Counted) (n : ℕ) (x : List ℕ) (i : ℕ) → length (but_last_of delim unit n x) ≤ i → i < length x → tail_spots delim unit false n (x ++ []) i ≢ tail_spots delim unit false n (x ++ replicate (n + 1) delim) i
-last_differ delim unit n x i past within same =
-    let here : skipped delim unit false n x ≡ length (but_last_of delim unit n x) = skipped_is delim unit false n x in
-    let one : tail_spots delim unit false n (x ++ []) i ≡ spot 0 (i - skipped delim unit false n x) ∷ [] = ap (λ all. tail_spots delim unit false n all i) (append-nil x) ∙ tail_somewhere delim unit false n x i (omega (arith, here, past)) within in
-    let there : skipped delim unit false n (x ++ replicate (n + 1) delim) ≡ length (but_last_of delim unit n (x ++ replicate (n + 1) delim)) = skipped_is delim unit false n (x ++ replicate (n + 1) delim) in
-    let more = far delim unit n x in
-    let none : tail_spots delim unit false n (x ++ replicate (n + 1) delim) i ≡ [] = tail_nowhere delim unit false n (x ++ replicate (n + 1) delim) i (omega (arith, there, more, within)) in
-    some_spot (spot 0 (i - skipped delim unit false n x)) [] (sym one ∙ same ∙ none)
+tail_cuts : (delim : ℕ) (unit : Counted) (from_nth : Bool) (n : ℕ) → Cuts (tail_spots delim unit from_nth n) (tail_first delim unit from_nth n)
+tail_cuts delim unit from_nth n = record {
+  early = λ i. [];
+  late = λ k i. spot 0 (i - k) ∷ [];
+  before = tail_nowhere delim unit from_nth n;
+  after = λ x i past within. tail_there delim unit from_nth n x i past
+      ∙ spot_in 0 (i - length (tail_first delim unit from_nth n x)) (tail_of delim unit from_nth n x) []
+      (omega (arith, past, within, tail_long delim unit from_nth n x));
+  apart = λ k i is. some_spot (spot 0 (i - k)) [] (sym is);
+}
 
 pub tail_undecided : (delim : ℕ) → delim < 256 → (unit : Counted) (from_nth : Bool) (n : ℕ) {x : List ℕ} → IsUndecided (tail_spots delim unit from_nth n) x (tail_waiting delim unit from_nth n x)
-tail_undecided delim byte unit true n {x} = record {
-  before = x;
-  are_last = sym (append-nil x);
-  differ = λ i past within. absurd (omega (arith, past, within));
-  decided = λ i less y z can also. nth_decided delim unit n x i less y z;
-}
-tail_undecided delim byte unit false n {x} = record {
-  before = but_last_of delim unit n x;
-  are_last = sym (ends_together delim unit n x);
-  differ = λ i past within. ([], replicate (n + 1) delim, none_comes, copies_come (n + 1) delim byte, last_differ delim unit n x i past within);
-  decided = λ i less y z can also. last_decided delim unit n x i less y ∙ sym (last_decided delim unit n x i less z);
-}
+tail_undecided delim byte unit true n = first_undecided delim unit (n - 1) (tail_cuts delim unit true n)
+tail_undecided delim byte unit false n = last_undecided delim unit n (tail_cuts delim unit false n) byte
 
 -- Tails: two continuations of which the last n begin with other bytes
 
@@ -254,3 +248,95 @@ tail_agreed delim byte unit false n {x} = record {
   fewest = ([], none_comes, refl);
   longest = last_longest (apart byte n);
 }
+
+-- Spots are right: each of them writes one stretch of its input, and nothing else.
+
+one_spot : (bytes : List ℕ) (i : ℕ) {at : Spot} → GoesTo at (spots_from 0 (bytes ∷ []) i) → (i < length bytes) × (at ≡ spot 0 i)
+one_spot bytes i {at} goes = elim (cases_lt i (length bytes)) [
+  | inl less ↦ (less, only (subst (GoesTo at) (spot_in 0 i bytes [] less) goes))
+  | inr past ↦ absurd (subst (GoesTo at) (spot_past 0 i bytes [] past) goes)
+] where
+  only : GoesTo at (spot 0 i ∷ []) → at ≡ spot 0 i
+  only (inl is) = is
+  only (inr none) = absurd none
+
+-- the byte at a spot
+abbrev StandsThere : List ℕ → Spot → ℕ → Type 0
+StandsThere bytes at byte = (at.offset < length (output_at (only_out bytes) at.place)) × (get_or (output_at (only_out bytes) at.place) at.offset 0 ≡ byte)
+
+-- what is written stands in the input between what comes before it and what is left
+record IsStretch (spots_of : List ℕ → ℕ → List Spot) (out_of : List ℕ → List ℕ) : Type 0 where
+  before : List ℕ → List ℕ
+  rest : List ℕ → List ℕ
+  whole : (x : List ℕ) → x ≡ before x ++ (out_of x ++ rest x)
+  nowhere : (x : List ℕ) (i : ℕ) → i < length (before x) → spots_of x i ≡ []
+  there : (x : List ℕ) (i : ℕ) → length (before x) ≤ i → spots_of x i ≡ spots_from 0 (out_of x ∷ []) (i - length (before x))
+
+abbrev writes : (List ℕ → List ℕ) → Work
+writes out_of = record (head_work 0 Bytes false 0) { whole = λ x. only_out (out_of x) }
+
+module _ {spots_of : List ℕ → ℕ → List Spot} {out_of : List ℕ → List ℕ} (stretch : IsStretch spots_of out_of) where
+  goes : (x : List ℕ) (i : ℕ) {at : Spot} → GoesTo at (spots_of x i)
+      → (length (stretch.before x) ≤ i) × (i - length (stretch.before x) < length (out_of x)) × (at ≡ spot 0 (i - length (stretch.before x)))
+  goes x i {at} is = elim (cases_lt i (length (stretch.before x))) [
+    | inl early ↦ absurd (subst (GoesTo at) (stretch.nowhere x i early) is)
+    | inr past ↦ (let one = one_spot (out_of x) (i - length (stretch.before x)) (subst (GoesTo at) (stretch.there x i past) is) in (past, one.0, one.1))
+  ]
+
+  byte_at : (x : List ℕ) (i : ℕ) → length (stretch.before x) ≤ i → i - length (stretch.before x) < length (out_of x)
+      → get_or (out_of x) (i - length (stretch.before x)) 0 ≡ get_or x i 0
+  byte_at x i past less = sym (ap (λ those. get_or those i 0) (stretch.whole x) ∙ get_or-append_right (stretch.before x) (out_of x ++ stretch.rest x) i 0 past
+      ∙ get_or_append_left (out_of x) (stretch.rest x) 0 (i - length (stretch.before x)) less)
+
+  filled : (x : List ℕ) (place offset : ℕ) → offset < length (output_at (only_out (out_of x)) place)
+      → (i : ℕ) × (i < length x) × GoesTo (spot place offset) (spots_of x i)
+  filled x zero offset less =
+      let here : length (stretch.before x) + offset - length (stretch.before x) ≡ offset = omega arith in
+      let long = ap length (stretch.whole x) ∙ length-append (stretch.before x) (out_of x ++ stretch.rest x) in (
+        length (stretch.before x) + offset,
+        omega (arith, less, long, length-append (out_of x) (stretch.rest x)),
+        subst (GoesTo (spot 0 offset)) (sym (stretch.there x (length (stretch.before x) + offset) (omega arith)
+            ∙ ap (spots_from 0 (out_of x ∷ [])) here ∙ spot_in 0 offset (out_of x) [] less)) (inl refl),
+      )
+  filled x (suc place) offset less = absurd (omega (arith, less))
+
+  placed : ArePlaced (writes out_of) spots_of
+  placed = record {
+    stands = λ x i at less is. (let one = goes x i is in
+        subst (λ there. StandsThere (out_of x) there (get_or x i 0)) (sym one.2) (one.1, byte_at x i one.0 one.1));
+    filled = λ x at less. filled x at.place at.offset less;
+    apart = λ x i j at is also. (let one = goes x i is in let two = goes x j also in
+        let same : i - length (stretch.before x) ≡ j - length (stretch.before x) = ap (λ there. there.offset) (sym one.2 ∙ two.2) in
+        omega (arith, one.0, two.0, same));
+  }
+
+head_together : (delim : ℕ) (unit : Counted) (but_last : Bool) (n : ℕ) (x : List ℕ) → (rest : List ℕ) × (x ≡ head_of delim unit but_last n x ++ rest)
+head_together delim unit false n x = (after_of delim unit n x, sym (first_then_after delim unit n x))
+head_together delim unit true n x = (last_of delim unit n x, sym (ends_together delim unit n x))
+
+head_stretch : (delim : ℕ) (unit : Counted) (but_last : Bool) (n : ℕ) → IsStretch (head_spots delim unit but_last n) (head_of delim unit but_last n)
+head_stretch delim unit but_last n = record {
+  before = λ x. [];
+  rest = λ x. (head_together delim unit but_last n x).0;
+  whole = λ x. (head_together delim unit but_last n x).1;
+  nowhere = λ x i less. absurd (omega (arith, less));
+  there = λ x i past. ap (spots_from 0 (head_of delim unit but_last n x ∷ [])) (omega arith);
+}
+
+pub head_placed : (delim : ℕ) (unit : Counted) (but_last : Bool) (n : ℕ) → ArePlaced (head_work delim unit but_last n) (head_spots delim unit but_last n)
+head_placed delim unit but_last n =
+    let all = placed (head_stretch delim unit but_last n) in record { stands = all.stands; filled = all.filled; apart = all.apart }
+
+tail_stretch : (delim : ℕ) (unit : Counted) (from_nth : Bool) (n : ℕ) → IsStretch (tail_spots delim unit from_nth n) (tail_of delim unit from_nth n)
+tail_stretch delim unit from_nth n = record {
+  before = tail_first delim unit from_nth n;
+  rest = λ x. [];
+  whole = λ x. sym (ap (λ those. tail_first delim unit from_nth n x ++ those) (append-nil (tail_of delim unit from_nth n x))
+      ∙ tail_together delim unit from_nth n);
+  nowhere = tail_nowhere delim unit from_nth n;
+  there = tail_there delim unit from_nth n;
+}
+
+pub tail_placed : (delim : ℕ) (unit : Counted) (from_nth : Bool) (n : ℕ) → ArePlaced (tail_work delim unit from_nth n) (tail_spots delim unit from_nth n)
+tail_placed delim unit from_nth n =
+    let all = placed (tail_stretch delim unit from_nth n) in record { stands = all.stands; filled = all.filled; apart = all.apart }

@@ -41,15 +41,13 @@ but_last_is_take delim unit n x = sym (ap (take (length (but_last_of delim unit 
 pub after_is_drop : (delim : ℕ) (unit : Counted) (n k : ℕ) (x : List ℕ) → take k x ≡ first_of delim unit n x → drop k x ≡ after_of delim unit n x
 after_is_drop delim unit n k x front = append_cancel_left (first_of delim unit n x) _ _ (ap (λ z. z ++ drop k x) (sym front) ∙ take-append-drop k x ∙ sym (first_then_after delim unit n x))
 
-pub past_rest : (delim : ℕ) (unit : Counted) (n k : ℕ) (x : List ℕ) → take k x ≡ first_of delim unit n x → length x - k ≡ length (after_of delim unit n x)
-past_rest delim unit n k x front = sym (length-drop k x) ∙ ap length (after_is_drop delim unit n k x front)
-
 -- what came in after the first is counted
 pub front_past : (old : Front) {now : Front} {left : ℕ} (k : ℕ) (piece : List ℕ) → now ≡ record old { left = left } → take k piece ≡ first_of old.delim old.unit old.left piece
     → record now { past = now.past + (length piece - k) } ≡ record old { left = left; past = old.past + length (after_of old.delim old.unit old.left piece) }
 front_past old {left} k piece is front =
     ap (λ (those : Front). record those { past = those.past + (length piece - k) }) is
-    ∙ ap (λ n. record old { left = left; past = old.past + n }) (past_rest old.delim old.unit old.left k piece front)
+    ∙ ap (λ n. record old { left = left; past = old.past + n })
+    (sym (length-drop k piece) ∙ ap length (after_is_drop old.delim old.unit old.left k piece front))
 
 -- there are no more among the last than were asked for
 pub last_is_few : (delim : ℕ) (unit : Counted) (n : ℕ) (x : List ℕ) → size delim unit (last_of delim unit n x) ≤ n

@@ -1,29 +1,26 @@
 -- Lemmas on the stage of `head` and `tail`.
-use Rattle.std.proofs.Common.{◌≡◌, ℕ, ◌+◌, ◌-◌, ◌<◌, ◌≤◌, ◌==◌, ◌&&◌, not, List, [], ◌∷◌, ◌++◌, ◌⊎◌, length, Bool, true, false, IsTrue, Ok, Err, Result, OnOk, IfErr, nat_le, inl, inr, None, refl, sym, ◌∙◌, ap, subst, arith, length-append, ◌↔◌, replicate, lit<}
+use Rattle.std.proofs.Common.{◌≡◌, ℕ, ◌+◌, ◌-◌, ◌<◌, ◌≤◌, ◌==◌, ◌&&◌, not, List, [], ◌∷◌, ◌++◌, ◌⊎◌, length, Bool, true, false, IsTrue, Ok, Err, Result, OnOk, nat_le, inl, inr, None, refl, sym, ◌∙◌, ap, subst, arith, length-append, ◌↔◌, replicate, lit<}
 use Rattle.std.proofs.lemmas.Bool.{false≢true, leb-false}
 use Rattle.std.proofs.lemmas.Bool.Decides.{nat_tests}
 use Rattle.std.proofs.lemmas.List.{append-nil, nil_from_length}
 use Rattle.std.proofs.lemmas.List.Elements.{All-replicate}
 use Rattle.ports_core.specs.Slot.{Slot, is_writable, with_written, told_of}
 use Rattle.ports_core.specs.Source.{Source}
-use Rattle.ports_core.specs.Part.{only_out}
+use Rattle.ports_core.specs.Part.{OutputsAt, StoppedBetween, only_out}
+use Rattle.ports_core.proofs.PartLemmas.{out_more}
 use Rattle.ports_core.specs.Work.{on_output}
-use Rattle.ports_core.specs.Engine.{Loads, TakesIn, PutsOut, CutsOff, Finishes, EndsShort, EndsWith, EndsThere, IsMet}
+use Rattle.ports_core.specs.Engine.{Loads, TakesIn, PutsOut, CutsOff, Finishes, EndsShort, EndsWith, EndsThere, IsMet, cut}
 use Rattle.ports_core.specs.inner.Engine.{OwnsNone}
 use Rattle.ports_core.specs.declared.fault.Fault.{Fault}
-use Rattle.ports_core.specs.declared.fault.Fault.TheVariants as fault
 use Rattle.seg_core.specs.declared.unit.Unit.{Unit as Counted}
 use Rattle.seg_core.specs.declared.unit.Unit.TheVariants.{Bytes}
 use Rattle.ends_core.specs.declared.ends.Ends.{Ends}
 use Rattle.ends_core.specs.declared.ends.Ends.TheVariants.{First, ButLast, FromNth, Last}
-use Rattle.ends_core.specs.declared.kept.Kept.{Kept}
 use Rattle.ends_core.specs.Ends.{measure, first_of, after_of, last_of, but_last_of}
-use Rattle.ends_core.specs.Head.{head_work}
-use Rattle.ends_core.specs.Head.{IsDone}
-use Rattle.ends_core.specs.Stage.{Stretch, the_first, from_the_nth, the_last, keeps, work_in, front_in, stretch_of, delim_of, unit_of, count_of, left_of, waiting_of, waiting, past_in, past_of, may_lack, work, Holds}
+use Rattle.ends_core.specs.Head.{head_work, IsDone}
+use Rattle.ends_core.specs.Stage.{Stretch, the_first, from_the_nth, the_last, keeps, work_in, front_in, stretch_of, delim_of, unit_of, count_of, left_of, waiting_of, waiting, past_in, past_of, may_lack, work, Holds, is_done, all_but_last}
 use Rattle.ends_core.specs.inner.Stage.{is_last, due, due_at_end, left_waiting, is_full, unused_of, FullLacksNone, SameAsked}
-use Rattle.ends_core.specs.Stage.{is_done}
-use Rattle.ends_core.specs.Kept.{most_of, may_lack_of, delim_of as kept_delim, unit_of as kept_unit}
+use Rattle.ends_core.specs.Kept.{most_of, delim_of as kept_delim, unit_of as kept_unit}
 use Rattle.ends_core.specs.inner.Load.{Passes}
 use Rattle.ends_core.specs.inner.Stops.{Stops}
 use Rattle.ends_core.specs.laws.WorkLaws.{full_head}
@@ -32,6 +29,7 @@ use Rattle.ends_core.proofs.EndsLaws.{measure-delimiters, first_of-more, but_las
 use Rattle.ends_core.proofs.StopLemmas as stop
 use Rattle.ends_core.proofs.KeptLemmas.{full_once}
 use Rattle.ends_core.proofs.LoadLemmas.{last_none}
+use Rattle.ports_core.specs.Guard.{GuardState, HoldsIn}
 
 -- what is a function of what was asked for is the same where the same was asked for
 same_for : {A : Type 0} (f : Stretch → ℕ → Counted → ℕ → A) {old new : Ends} → SameAsked old new → f (stretch_of new) (delim_of new) (unit_of new) (count_of new) ≡ f (stretch_of old) (delim_of old) (unit_of old) (count_of old)
@@ -67,17 +65,22 @@ rest_out (Last kept) holds = ap only_out holds.waits
 rest_out ends {x} holds = ap only_out (append-nil ((work ends).settled x).out)
 
 pub puts_out : (told : Bool) (ends : Ends) (piece : List ℕ) {old new : List Slot} → new ≡ with_written 0 (told_of told (due ends piece)) old → PutsOut Holds OwnsNone work ends piece told old new
-puts_out told ends piece {old} wrote = stop.puts_out Holds OwnsNone work told piece (due ends piece) old (λ x holds. went_out ends piece holds) wrote
+puts_out told ends piece {old} {new} wrote before x at =
+    subst (λ part. OutputsAt told before part new) (went_out ends piece at.holds) (out_more told before _ old new (due ends piece) at.outputs wrote)
 
 pub cuts_off : (told : Bool) {lacks : Bool} (ends : Ends) (piece : List ℕ) {old new : List Slot} {f : Fault} → Stops told lacks (due ends piece) old new f → CutsOff Holds OwnsNone work ends piece told old new f
-cuts_off told ends piece stops = stop.cuts_off Holds OwnsNone work told piece (λ x holds. went_out ends piece holds) stops
+cuts_off told ends piece {new} {f} stops before x at =
+    cut (stop.unjudged told stops) (subst (λ part. StoppedBetween told before ((work ends).settled x) part f new) (went_out ends piece at.holds) (stop.between told at.outputs stops))
 
 pub finishes : (told : Bool) (ends : Ends) {old new : List Slot} → new ≡ with_written 0 (told_of told (due_at_end ends)) old → Finishes Holds OwnsNone work ends told old new
-finishes told ends {old} wrote =
-    stop.finishes Holds OwnsNone work told (due_at_end ends) old (λ x holds. rest_out ends holds) (always_well (stretch_of ends) (delim_of ends) (unit_of ends) (count_of ends)) wrote
+finishes told ends {old} {new} wrote before x at = (
+  always_well (stretch_of ends) (delim_of ends) (unit_of ends) (count_of ends) x,
+  subst (λ part. OutputsAt told before part new) (rest_out ends at.holds) (out_more told before _ old new (due_at_end ends) at.outputs wrote),
+)
 
 pub ends_short : (told : Bool) {lacks : Bool} (ends : Ends) {old new : List Slot} {f : Fault} → Stops told lacks (due_at_end ends) old new f → EndsShort Holds OwnsNone work ends told old new f
-ends_short told ends stops = stop.ends_short Holds OwnsNone work told (λ x holds. rest_out ends holds) stops
+ends_short told ends {new} {f} stops before x at =
+    cut (stop.unjudged told stops) (subst (λ part. StoppedBetween told before ((work ends).settled x) part f new) (rest_out ends at.holds) (stop.between told at.outputs stops))
 
 minus_both : (n a b : ℕ) → (n - a) - b ≡ n - (a + b)
 minus_both n a b = omega arith
@@ -172,12 +175,6 @@ end_met told ends {old} {new} {f} can stops =
     subst (λ means. IsMet means means.closing (Unit {0}) (EndsThere Holds work ends) old new f) (sym (on_means (stretch_of ends) (delim_of ends) (unit_of ends) (count_of ends)))
     (stop.met (on_output (keeps (stretch_of ends))) (on_output (keeps (stretch_of ends))).closing (Unit {0}) (EndsThere Holds work ends) told refl (λ never. absurd (false≢true never)) can stops)
 
--- where the last are kept, nothing is written before the end
-pub no_room : (told : Bool) (ends : Ends) (kept : Kept) (piece : List ℕ) (slots : List Slot) (result : Result (Unit {0}) Fault) → ends ≡ Last kept → IfErr result (λ f. (f ≡ fault.Memory) × (may_lack_of kept ≡ true))
-    → IfErr result (Stops told (may_lack ends) (due ends piece) slots slots)
-no_room told ends kept piece slots result is err =
-    subst (λ those. IfErr result (Stops told (may_lack those) (due those piece) slots slots)) (sym is) (stop.no_room_here told (may_lack_of kept) slots result err)
-
 -- what a call owes for its result, from what the call within it gave
 
 pub on_ok_each : {P P2 P3 Q : Type 0} (result : Result (Unit {0}) Fault) → (P → P2 → P3 → Q) → OnOk result P → OnOk result P2 → OnOk result P3 → OnOk result Q
@@ -192,14 +189,11 @@ waits_none the_first delim unit n = refl
 waits_none from_the_nth delim unit n = refl
 waits_none s delim unit n = last_none delim unit n
 
-last_within : (delim : ℕ) (unit : Counted) (n : ℕ) (x : List ℕ) → length (last_of delim unit n x) ≤ length x
-last_within delim unit n x = omega (arith, sym (length-append (but_last_of delim unit n x) (last_of delim unit n x)) ∙ ap length (ends_together delim unit n x))
-
 -- no more waits than came in
 pub waits_within : (s : Stretch) (delim : ℕ) (unit : Counted) (n : ℕ) (x : List ℕ) → length ((work_in s delim unit n).waiting x) ≤ length x
 waits_within the_first delim unit n x = omega arith
 waits_within from_the_nth delim unit n x = omega arith
-waits_within s delim unit n x = last_within delim unit n x
+waits_within s delim unit n x = omega (arith, sym (length-append (but_last_of delim unit n x) (last_of delim unit n x)) ∙ ap length (ends_together delim unit n x))
 
 -- only where the last are asked for is a front taken in, and of these nothing is written before the end
 
@@ -244,3 +238,17 @@ loads told slot count ends next old new fresh same left past others passes full 
       idle = settled_same (stretch_of ends) (delim_of ends) (unit_of ends) (count_of ends) none;
       going = goes_on (stretch_of ends) (delim_of ends) (unit_of ends) (count_of ends) none;
     }
+
+-- What waits in an engine that was fed a text.
+module _ (engine : GuardState Ends) (x : List ℕ) (holds : HoldsIn Holds engine x) where
+  pub head_waits : stretch_of engine.stage ≡ all_but_last → waiting_of engine.stage ≡ last_of (delim_of engine.stage) (unit_of engine.stage) (count_of engine.stage) x
+  head_waits is = holds.within.waits ∙ ap (λ s. (work_in s (delim_of engine.stage) (unit_of engine.stage) (count_of engine.stage)).waiting x) is
+
+  pub tail_waits : stretch_of engine.stage ≡ the_last → waiting_of engine.stage ≡ last_of (delim_of engine.stage) (unit_of engine.stage) (count_of engine.stage) x
+  tail_waits is = holds.within.waits ∙ ap (λ s. (work_in s (delim_of engine.stage) (unit_of engine.stage) (count_of engine.stage)).waiting x) is
+
+  pub loses_nothing : stretch_of engine.stage ≡ all_but_last → ((work engine.stage).settled x).out ++ waiting_of engine.stage ≡ x
+  loses_nothing is =
+      ap (λ held. ((work engine.stage).settled x).out ++ held) (head_waits is)
+      ∙ ap (λ s. ((work_in s (delim_of engine.stage) (unit_of engine.stage) (count_of engine.stage)).settled x).out ++ last_of (delim_of engine.stage) (unit_of engine.stage) (count_of engine.stage) x) is
+      ∙ ends_together (delim_of engine.stage) (unit_of engine.stage) (count_of engine.stage) x

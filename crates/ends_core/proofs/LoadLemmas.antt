@@ -96,14 +96,11 @@ seen_more told text place {size} {rest} within long shows there tells =
 pub holds_more : (told : Bool) {text : List ℕ} {left place size delim n : ℕ} {block held new : List ℕ} → HoldsFrom told text left place delim n held → size ≤ place → length block ≡ size → (told ≡ true → Shows text (place - size) block)
     → new ≡ last_lines delim n (block ++ held) → left - (place - size) ≤ length new → HoldsFrom told text left (place - size) delim n new
 holds_more told {text} {left} {place} {size} {delim} {n} {block} {held} {new} holds within long shows is enough =
-    let both = length-append block held in
-    let here = holds.within in
-    let there = holds.long in
-    let all : length (block ++ held) ≡ left - (place - size) = omega (arith, both, here, there, long, within) in
+    let all : length (block ++ held) ≡ left - (place - size) = omega (arith, length-append block held, holds.within, holds.long, long, within) in
     let lines : last_lines delim n (block ++ held) ≡ block ++ held = same_lines delim n (omega (arith, all, enough, ap length is)) in
     let same : new ≡ block ++ held = is ∙ lines in
     record {
-      within = omega (arith, here);
+      within = omega (arith, holds.within);
       long = ap length same ∙ all;
       there = λ tells. same ∙ seen_more told text place within long shows holds.there tells;
       last = is ∙ ap (last_lines delim n) (sym same);
@@ -113,12 +110,9 @@ holds_more told {text} {left} {place} {size} {delim} {n} {block} {held} {new} ho
 pub holds_last : (told : Bool) {text : List ℕ} {left place size delim n : ℕ} {block held new : List ℕ} → (told ≡ true → left ≡ length text) → HoldsFrom told text left place delim n held → size ≤ place → length block ≡ size → (told ≡ true → Shows text (place - size) block)
     → new ≡ last_lines delim n (block ++ held) → length new < left - (place - size) → HasSeen told text left (λ x. new ≡ last_lines delim n x)
 holds_last told {text} {left} {place} {size} {delim} {n} {block} {held} {new} known holds within long shows is shorter =
-    let both = length-append block held in
-    let here = holds.within in
-    let there = holds.long in
-    let all : length (block ++ held) ≡ left - (place - size) = omega (arith, both, here, there, long, within) in
+    let all : length (block ++ held) ≡ left - (place - size) = omega (arith, length-append block held, holds.within, holds.long, long, within) in
     let more : n < line_count delim (block ++ held) = more_lines delim n (block ++ held) (omega (arith, all, shorter, ap length is)) in
-    seen_from told text left (place - size) delim Lines n (block ++ held) new known (omega (arith, here)) all (seen_more told text place within long shows holds.there)
+    seen_from told text left (place - size) delim Lines n (block ++ held) new known (omega (arith, holds.within)) all (seen_more told text place within long shows holds.there)
     (is ∙ sym (last_after delim Lines n (front_of told (place - size) text) (block ++ held) more))
 
 -- a window over bytes holds what stands between two places
@@ -129,13 +123,11 @@ pub record HoldsBetween (told : Bool) (text : List ℕ) (from place : ℕ) (held
 
 pub between_more : (told : Bool) {text : List ℕ} {from place size : ℕ} {block held new : List ℕ} → HoldsBetween told text from place held → length block ≡ size → (told ≡ true → Shows text place block) → new ≡ held ++ block → HoldsBetween told text from (place + size) new
 between_more told {text} {from} {place} {size} {block} {held} holds long shows is =
-    let here = holds.within in
-    let there = holds.long in
-    let all : place - from + size ≡ place + size - from = omega (arith, here) in
-    let at : from + (place - from) ≡ place = omega (arith, here) in
+    let all : place - from + size ≡ place + size - from = omega (arith, holds.within) in
+    let at : from + (place - from) ≡ place = omega (arith, holds.within) in
     record {
-      within = omega (arith, here);
-      long = ap length is ∙ length-append held block ∙ omega (arith, there, long, all);
+      within = omega (arith, holds.within);
+      long = ap length is ∙ length-append held block ∙ omega (arith, holds.long, long, all);
       there = λ tells. is ∙ ap (λ those. those ++ block) (holds.there tells)
           ∙ ap (λ those. take (place - from) (drop from text) ++ those) (shows tells ∙ ap (λ k. take k (drop place text)) long ∙ ap (λ k. take size (drop k text)) (sym at) ∙ ap (take size) (sym (drop-drop (place - from) from text)))
           ∙ sym (take-add (place - from) size (drop from text)) ∙ ap (λ k. take k (drop from text)) all;
@@ -144,12 +136,10 @@ between_more told {text} {from} {place} {size} {block} {held} holds long shows i
 -- once it holds all from there on, these are the last bytes
 pub between_last : (told : Bool) (text : List ℕ) (left place n : ℕ) (held : List ℕ) → (told ≡ true → left ≡ length text) → HoldsBetween told text (left - n) place held → place ≡ left → HasSeen told text left (λ x. held ≡ last_of 0 Bytes n x)
 between_last told text left place n held known holds is =
-    let there = holds.long in
-    let long : length held ≡ left - (left - n) = omega (arith, there, is) in
+    let long : length held ≡ left - (left - n) = omega (arith, holds.long, is) in
     let front = front_of told (left - n) text in
     let before = front-long told {place = left - n} text (λ tells. omega (arith, known tells)) in
-    let both = length-append front held in
-    let past : length (front ++ held) - n ≡ length front = omega (arith, both, before, long) in
+    let past : length (front ++ held) - n ≡ length front = omega (arith, length-append front held, before, long) in
     seen_from told text left (left - n) 0 Bytes n held held known (omega arith) long
     (λ tells. holds.there tells ∙ take_all (place - (left - n)) (drop (left - n) text) (omega (arith, length-drop (left - n) text, known tells, is)))
     (sym (ap (λ k. drop k (front ++ held)) past ∙ drop_at front held (length front) refl))

@@ -1,14 +1,12 @@
--- What a stage owes that writes some bytes with a piece, whatever stage it is.
-use Rattle.std.proofs.Common.{◌≡◌, ℕ, ◌+◌, ◌<◌, ◌≤◌, List, [], ◌++◌, length, take, Bool, true, false, Ok, Err, Result, None, IfErr, IsTrue, refl, sym, ◌∙◌, ap, subst, arith, length-append}
-use Rattle.std.proofs.lemmas.Bool.{false≢true}
+-- How bytes are written to standard output one after another, and how that stops.
+use Rattle.std.proofs.Common.{◌≡◌, ℕ, ◌+◌, ◌<◌, ◌≤◌, List, [], ◌++◌, length, take, Bool, true, false, Ok, Err, Result, IfErr, IsTrue, refl, sym, ◌∙◌, ap, subst, arith, length-append}
 use Rattle.std.proofs.lemmas.List.{take-append-le}
 use Rattle.std.proofs.Math.Seq.{take-append-add}
 use Rattle.ports_core.specs.Slot.{Slot, slot_at, is_writable, with_written, with_broken, told_of}
 use Rattle.ports_core.specs.Write.{BrokeAfter}
 use Rattle.ports_core.specs.Part.{Part, OutputsAt, StoppedBetween}
-use Rattle.ports_core.specs.Work.{Work, Means, Needs}
-use Rattle.ports_core.specs.Engine.{PutsOut, CutsOff, IsMet, Finishes, EndsShort, is_verdict}
-use Rattle.ports_core.specs.Engine as engine
+use Rattle.ports_core.specs.Work.{Means, Needs}
+use Rattle.ports_core.specs.Engine.{IsMet, is_verdict}
 use Rattle.ports_core.specs.declared.fault.Fault.{Fault}
 use Rattle.ports_core.specs.declared.fault.Fault.TheVariants as fault
 use Rattle.ports_core.proofs.WriteLemmas.{told_of-append, told_of-nil, with_written-append, writable-written}
@@ -31,28 +29,15 @@ writable_still told old bytes can wrote = subst (λ those. is_writable those 0 �
 -- the output broke in a later write
 pub broke_later : (told : Bool) (old mid new : List Slot) (first then past : List ℕ) (n : ℕ) → mid ≡ with_written 0 (told_of told first) old → BrokeAfter told mid new 0 then n → BrokeAfter told old new 0 (first ++ (then ++ past)) (length first + n)
 broke_later told old mid new first then past n one cut = record {
-  within = let short : n < length then = cut.within in
-      let long : length (first ++ (then ++ past)) ≡ length first + length (then ++ past) = length-append first (then ++ past) in
-      let more : length (then ++ past) ≡ length then + length past = length-append then past in omega arith;
+  within = omega (arith, cut.within, length-append first (then ++ past), length-append then past);
   slots = cut.slots ∙ ap (with_broken 0) (written_both told old mid (with_written 0 (told_of told (take n then)) mid) first (take n then) one refl
       ∙ ap (λ bytes. with_written 0 (told_of told bytes) old) (sym (taken first n then past (let short : n < length then = cut.within in omega arith))));
 } where
   taken : (first : List ℕ) (n : ℕ) (then past : List ℕ) → n ≤ length then → take (length first + n) (first ++ (then ++ past)) ≡ first ++ take n then
   taken first n then past within = take-append-add first (then ++ past) n ∙ ap (λ z. first ++ z) (take-append-le n then past within)
 
--- what stops a write of some bytes stops a write of more
-pub stops_later : (told lacks : Bool) (old mid new : List Slot) (first then past : List ℕ) (fault : Fault) → mid ≡ with_written 0 (told_of told first) old → Stops told false then mid new fault → Stops told lacks (first ++ (then ++ past)) old new fault
-stops_later told lacks old mid new first then past _ one (broke n cut) = broke (length first + n) (broke_later told old mid new first then past n one cut)
-stops_later told lacks old mid new first then past _ one (no_room never wrote) = absurd (false≢true never)
-
--- where the bytes are the next that are settled
-pub puts_out : {E : Type 0} (Holds : E → List ℕ → Type 0) (Owns : E → ℕ → List Slot → Type 0) (work : E → Work) (told : Bool) {e : E} (piece bytes : List ℕ) (old : List Slot) {new : List Slot}
-    → ((x : List ℕ) → Holds e x → record ((work e).settled x) { out = ((work e).settled x).out ++ bytes } ≡ (work e).settled (x ++ piece))
-    → new ≡ with_written 0 (told_of told bytes) old → PutsOut Holds Owns work e piece told old new
-puts_out Holds Owns work told piece bytes old {new} next wrote before x at =
-    subst (λ part. OutputsAt told before part new) (next x at.holds) (out_more told before _ old new bytes at.outputs wrote)
-
-between : (told : Bool) {lacks : Bool} {before : List Slot} {part : Part} {bytes : List ℕ} {old new : List Slot} {fault : Fault} → OutputsAt told before part old → Stops told lacks bytes old new fault → StoppedBetween told before part (record part { out = part.out ++ bytes }) fault new
+-- where a stop leaves the outputs
+pub between : (told : Bool) {lacks : Bool} {before : List Slot} {part : Part} {bytes : List ℕ} {old new : List Slot} {fault : Fault} → OutputsAt told before part old → Stops told lacks bytes old new fault → StoppedBetween told before part (record part { out = part.out ++ bytes }) fault new
 between told {before} {part} {bytes} {old} {new} at (broke n broken) = out_cut told before part old new bytes n at broken
 between told {before} {part} {bytes} {old} {new} at (no_room keeping wrote) = record {
   part = record part { out = part.out ++ bytes };
@@ -66,27 +51,9 @@ between told {before} {part} {bytes} {old} {new} at (no_room keeping wrote) = re
   from = tt;
 }
 
-unjudged : (told : Bool) {lacks : Bool} {bytes : List ℕ} {old new : List Slot} {fault : Fault} → Stops told lacks bytes old new fault → is_verdict fault ≡ false
+pub unjudged : (told : Bool) {lacks : Bool} {bytes : List ℕ} {old new : List Slot} {fault : Fault} → Stops told lacks bytes old new fault → is_verdict fault ≡ false
 unjudged told (broke n broken) = refl
 unjudged told (no_room keeping wrote) = refl
-
-pub cuts_off : {E : Type 0} (Holds : E → List ℕ → Type 0) (Owns : E → ℕ → List Slot → Type 0) (work : E → Work) (told : Bool) {lacks : Bool} {e : E} (piece : List ℕ) {bytes : List ℕ} {old new : List Slot} {fault : Fault}
-    → ((x : List ℕ) → Holds e x → record ((work e).settled x) { out = ((work e).settled x).out ++ bytes } ≡ (work e).settled (x ++ piece))
-    → Stops told lacks bytes old new fault → CutsOff Holds Owns work e piece told old new fault
-cuts_off Holds Owns work told {e} piece {new} {fault} next stops before x at =
-    engine.cut (unjudged told stops) (subst (λ part. StoppedBetween told before ((work e).settled x) part fault new) (next x at.holds) (between told at.outputs stops))
-
-pub finishes : {E : Type 0} (Holds : E → List ℕ → Type 0) (Owns : E → ℕ → List Slot → Type 0) (work : E → Work) (told : Bool) {e : E} (bytes : List ℕ) (old : List Slot) {new : List Slot}
-    → ((x : List ℕ) → Holds e x → record ((work e).settled x) { out = ((work e).settled x).out ++ bytes } ≡ (work e).whole x)
-    → ((x : List ℕ) → (work e).verdict x ≡ None) → new ≡ with_written 0 (told_of told bytes) old → Finishes Holds Owns work e told old new
-finishes Holds Owns work told bytes old {new} next well wrote before x at =
-    (well x, subst (λ part. OutputsAt told before part new) (next x at.holds) (out_more told before _ old new bytes at.outputs wrote))
-
-pub ends_short : {E : Type 0} (Holds : E → List ℕ → Type 0) (Owns : E → ℕ → List Slot → Type 0) (work : E → Work) (told : Bool) {lacks : Bool} {e : E} {bytes : List ℕ} {old new : List Slot} {fault : Fault}
-    → ((x : List ℕ) → Holds e x → record ((work e).settled x) { out = ((work e).settled x).out ++ bytes } ≡ (work e).whole x)
-    → Stops told lacks bytes old new fault → EndsShort Holds Owns work e told old new fault
-ends_short Holds Owns work told {e} {new} {fault} next stops before x at =
-    engine.cut (unjudged told stops) (subst (λ part. StoppedBetween told before ((work e).settled x) part fault new) (next x at.holds) (between told at.outputs stops))
 
 -- why it stopped
 pub met : (means : Means) (needs : Needs) (Lacks : Type 0) (Ends : Fault → Type 0) (told : Bool) {lacks : Bool} {bytes : List ℕ} {old new : List Slot} {fault : Fault} → means.output ≡ true → (lacks ≡ true → (needs.memory ≡ true) × Lacks)

@@ -1,7 +1,6 @@
 -- Lemmas on what of its input a head uses.
-use Rattle.std.proofs.Common.{◌≡◌, ℕ, zero, suc, ◌+◌, ◌-◌, ◌<◌, ◌≤◌, true, false, List, [], ◌∷◌, ◌++◌, ◌⊎◌, length, take, drop, nat_le, inl, inr, refl, sym, ◌∙◌, ap, subst, arith, length-append}
-use Rattle.std.proofs.lemmas.Bool.{cases_lt, le-leb, leb-true, leb-false}
-use Rattle.std.proofs.lemmas.Bool.Decides.{nat_tests}
+use Rattle.std.proofs.Common.{◌≡◌, ℕ, zero, suc, ◌+◌, ◌-◌, ◌<◌, ◌≤◌, true, false, List, [], ◌∷◌, ◌++◌, ◌⊎◌, length, take, drop, inl, inr, refl, sym, ◌∙◌, ap, subst, arith, length-append}
+use Rattle.std.proofs.lemmas.Bool.{cases_lt, le-leb, lt-leb, leb-true, leb-false}
 use Rattle.std.proofs.lemmas.List.{append-nil, append_cancel_left, nil_from_length, take-append-drop, take-append-le, take_at, length-drop, length-take}
 use Rattle.ports_core.specs.Work.{IsNeeded, IsSpare}
 use Rattle.ports_core.specs.Engine.{MayGet}
@@ -12,7 +11,7 @@ use Rattle.seg_core.proofs.FirstLines.{delimiters-first_lines}
 use Rattle.seg_core.specs.declared.unit.Unit.{Unit as Counted}
 use Rattle.seg_core.specs.declared.unit.Unit.TheVariants.{Lines, Bytes}
 use Rattle.ends_core.specs.declared.ends.Ends.{Ends}
-use Rattle.ends_core.specs.declared.ends.Ends.TheVariants.{First, ButLast, FromNth, Last}
+use Rattle.ends_core.specs.declared.ends.Ends.TheVariants.{First}
 use Rattle.ends_core.specs.Ends.{measure, first_of, after_of}
 use Rattle.ends_core.specs.Head.{head_work, ahead_of}
 use Rattle.ends_core.specs.Stage.{Holds, past_of, work}
@@ -22,9 +21,6 @@ use Rattle.ends_core.specs.laws.WorkLaws.{lawful}
 use Rattle.ends_core.proofs.EndsLaws.{first_of-more, first_of-nil}
 use Rattle.ends_core.proofs.EndsLemmas.{past_after}
 use Rattle.ends_core.proofs.LoadLemmas.{after-past}
-
-not_le : (n m : ℕ) → m < n → nat_le n m ≡ false
-not_le n m less = grind (arith, nat_tests)
 
 first_within : (delim : ℕ) (unit : Counted) (n : ℕ) (x : List ℕ) → length (first_of delim unit n x) ≤ length x
 first_within delim unit n x = omega (arith, sym (length-append (first_of delim unit n x) (after_of delim unit n x)) ∙ ap length (first_then_after delim unit n x))
@@ -51,17 +47,14 @@ needed_by delim unit n (suc k) {used} long again = inr (
   drop k used,
   sym (take-append-drop k used),
   omega (arith, length-drop k used, long),
-  not_le n (measure delim unit (take k used)) (last_needed delim unit n long again),
+  lt-leb n (measure delim unit (take k used)) (last_needed delim unit n long again),
 )
-
--- the first n of the first n are these
-first_again : (delim : ℕ) (unit : Counted) (n : ℕ) (x : List ℕ) → n ≤ measure delim unit (first_of delim unit n x) → first_of delim unit n (first_of delim unit n x) ≡ first_of delim unit n x
-first_again delim unit n x full = sym (first_of-full delim unit n (first_of delim unit n x) (after_of delim unit n x) full) ∙ ap (first_of delim unit n) (first_then_after delim unit n x)
 
 first_needed : (delim : ℕ) (unit : Counted) (n : ℕ) (x : List ℕ) → IsNeeded (head_work delim unit false n).is_complete 1 (first_of delim unit n x)
 first_needed delim unit n x = elim (cases_lt (measure delim unit (first_of delim unit n x)) n) [
-  | inl short ↦ inr (first_of delim unit n x, [], sym (append-nil (first_of delim unit n x)), omega arith, not_le n (measure delim unit (first_of delim unit n x)) short)
-  | inr full ↦ needed_by delim unit n (length (first_of delim unit n x)) refl (first_again delim unit n x full)
+  | inl short ↦ inr (first_of delim unit n x, [], sym (append-nil (first_of delim unit n x)), omega arith, lt-leb n (measure delim unit (first_of delim unit n x)) short)
+  | inr full ↦ needed_by delim unit n (length (first_of delim unit n x)) refl
+      (sym (first_of-full delim unit n (first_of delim unit n x) (after_of delim unit n x) full) ∙ ap (first_of delim unit n) (first_then_after delim unit n x))
 ]
 
 first_enough : (delim : ℕ) (unit : Counted) (n : ℕ) (x : List ℕ) → (after_of delim unit n x ≡ []) ⊎ ((head_work delim unit false n).is_complete (first_of delim unit n x) ≡ true)
@@ -103,21 +96,17 @@ rest_left delim unit n used {rest} needed enough =
 
 pub spare_here : (ends : Ends) {x : List ℕ} → Holds ends x → IsSpare (work ends) x (past_of ends)
 spare_here (First count front) {x} holds = subst (IsSpare (head_work front.delim front.unit false count) x) (sym (holds.past ∙ past_after front.delim front.unit count x)) (first_used front.delim front.unit count)
-spare_here (ButLast kept) {x} holds = all_used (work (ButLast kept)) x refl
-spare_here (FromNth count front) {x} holds = all_used (work (FromNth count front)) x refl
-spare_here (Last kept) {x} holds = all_used (work (Last kept)) x refl
+spare_here ends {x} holds = all_used (work ends) x refl
 
 -- a text that goes on from x, cut in two where more stands before the cut than in x: the cut is after x, and what is before
 -- it and after x has no more delimiters than bytes
-
-front_at : (a b : List ℕ) {c : List ℕ} (d : List ℕ) → a ++ b ≡ c ++ d → length c ≤ length a → c ≡ take (length c) a
-front_at a b {c} d is short = sym (take_at c d (length c) refl) ∙ ap (take (length c)) (sym is) ∙ take-append-le (length c) a b short
 
 goes_past : (delim : ℕ) (x piece used rest : List ℕ) → x ++ piece ≡ used ++ rest → delimiters delim x < delimiters delim used → length x < length used
 goes_past delim x piece used rest is more = elim (cases_lt (length x) (length used)) [
   | inl past ↦ past
   | inr short ↦
-      let front = front_at x piece rest is short in
+      let front : used ≡ take (length used) x = sym (take_at used rest (length used) refl) ∙ ap (take (length used)) (sym is)
+      ∙ take-append-le (length used) x piece short in
       absurd (omega (arith, more, ap (delimiters delim) front, delimiters-take-le delim (length used) x))
 ]
 

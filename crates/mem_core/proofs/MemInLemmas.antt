@@ -1,13 +1,13 @@
 -- Lemmas on inputs in memory: how far one was read, where it breaks off, and what opening one finds.
-use Rattle.std.proofs.Common.{◌≡◌, ℕ, ◌+◌, ◌-◌, ◌<◌, ◌≤◌, max, Bool, true, false, List, [], ◌∷◌, ◌++◌, Some, None, length, take, drop, get_or, set, eqb, refl, sym, ◌∙◌, ap, subst, arith, length-take, length-drop, take-take, drop-drop, take-add}
+use Rattle.std.proofs.Common.{◌≡◌, ℕ, ◌+◌, ◌-◌, ◌<◌, ◌≤◌, max, Bool, true, false, IsTrue, List, [], ◌∷◌, ◌++◌, Some, None, length, take, drop, get_or, set, eqb, refl, sym, ◌∙◌, ap, subst, arith, length-take, length-drop, take-take, drop-drop, take-add}
 use Rattle.std.specs.Prelude.{if◌then◌else◌}
 use Rattle.std.proofs.lemmas.List.{drop-take, take-append-drop}
-use Rattle.std.proofs.lemmas.Bool.{le-leb, lt-ltb}
+use Rattle.std.proofs.lemmas.Bool.{cond_both, le-leb, lt-ltb}
 use Rattle.std.proofs.Math.Dec.{leb}
 use Rattle.ports_core.specs.Slot.{changed_at}
-use Rattle.ports_core.specs.Source.{Content, Opens, OpensNothing, Source, broke, cut, gets_back, gives, missing, no_room, skips, source_of}
+use Rattle.ports_core.specs.Source.{Content, Opens, OpensNothing, Source, broke, cut, gets_back, gives, is_readable, missing, no_room, skips, source_of}
 use Rattle.ports_core.specs.declared.fault.Fault.TheVariants as fault
-use Rattle.ports_core.proofs.SourceLemmas.{one_changes}
+use Rattle.ports_core.proofs.SourceLemmas.{one_changes, readable_within}
 use Rattle.mem_core.specs.MemInState.{MemInState, Laid, laid_at, laid_in, breaks_in, content_of, with_break}
 
 -- the input that an input in memory is seen as
@@ -77,62 +77,49 @@ break_there state {slot} at {source} {new} within there is =
     ap (λ sources. record state { sources = sources }) (one_changes state.sources state.sources slot (cut at) source new refl within there is)
     ∙ ap (λ (b : Bool). if b then record state { sources = changed_at slot (cut at) state.sources } else record state { breaks = state.breaks ++ (slot, at) ∷ [] }) (sym (lt-ltb slot (length state.sources) within))
 
--- a name at which nothing lies
-pub finds_nothing : (state : MemInState) (sources : List Source) (files : List Laid) (breaks : List (ℕ × ℕ)) {name : List ℕ}
-    → IsSeen sources files breaks state → laid_at files name ≡ None
-    → OpensNothing true (laid_in state.files state.breaks) state.sources (sources ++ missing ∷ []) name (fault.Open (length sources))
-finds_nothing state sources files breaks {name} is none =
-    broke (length sources) (ap (λ (those : MemInState). length those.sources) is)
-    (λ told. ap (content_of state.breaks (length sources)) (ap (λ (those : MemInState). laid_at those.files name) (sym is) ∙ none))
-    (ap (λ (those : MemInState). those.sources ++ missing ∷ []) is)
+-- one of the inputs that can be read is replaced by its change
+pub source_changes : {state : MemInState} {sources : List Source} {files : List Laid} {breaks : List (ℕ × ℕ)} (slot : ℕ)
+    (change : Source → Source) {source new : Source}
+    → IsSeen sources files breaks state → IsTrue (is_readable state.sources slot) → source ≡ get_or sources slot source → new ≡ change source
+    → set sources slot new ≡ changed_at slot change state.sources
+source_changes {state} {sources} slot change {source} {new} is can at changed =
+    let same = ap (λ (those : MemInState). those.sources) is in
+    one_changes sources state.sources slot change source new same
+    (readable_within sources slot (subst (λ those. is_readable those slot ≡ true) (sym same) can)) at changed
 
 -- an input that is planned to break off is as if it were just opened
-cut_open : (within : Bool) (at : ℕ) (content : Content) → (if within then record (source_of content) { left = record { bytes = take at content.bytes; breaks_off = true } } else source_of content) ≡ source_of (if within then record (source_of content) { left = record { bytes = take at content.bytes; breaks_off = true } } else source_of content).left
-cut_open true at content = refl
-cut_open false at content = refl
-
-either_open : (here : Bool) (one other : Source) → one ≡ source_of one.left → other ≡ source_of other.left → (if here then one else other) ≡ source_of (if here then one else other).left
-either_open true one other first second = first
-either_open false one other first second = second
-
 still_open : (plans : List (ℕ × ℕ)) (slot : ℕ) (content : Content) → breaks_in plans slot (source_of content) ≡ source_of (breaks_in plans slot (source_of content)).left
 still_open [] slot content = refl
 still_open (plan ∷ plans) slot content =
-    either_open (eqb plan.0 slot) (cut plan.1 (source_of content)) (breaks_in plans slot (source_of content)) (cut_open (leb plan.1 (length content.bytes)) plan.1 content) (still_open plans slot content)
+    let IsOpen : Source → Type 0 = λ source. source ≡ source_of source.left in
+    cond_both (eqb plan.0 slot) _ _ IsOpen (λ _. cond_both (leb plan.1 (length content.bytes)) _ _ IsOpen (λ _. refl) (λ _. refl))
+    (λ _. still_open plans slot content)
 
--- a name at which a file lies
-pub finds_file : (state : MemInState) (sources : List Source) (files : List Laid) (breaks : List (ℕ × ℕ)) {name bytes : List ℕ} {source : Source}
-    → IsSeen sources files breaks state → laid_at files name ≡ Some bytes
-    → source ≡ breaks_in breaks (length sources) (source_of (record { bytes = bytes; breaks_off = false }))
-    → Opens true (laid_in state.files state.breaks) state.sources (sources ++ source ∷ []) name (length sources)
-finds_file state sources files breaks {name} {bytes} {source} is found planned =
-    record {
-      number = ap (λ (those : MemInState). length those.sources) is;
-      content = source.left;
-      lies = λ told. ap (λ (those : MemInState). laid_in those.files those.breaks (length sources) name) (sym is) ∙ ap (content_of breaks (length sources)) found ∙ ap (λ (made : Source). Some made.left) (sym planned);
-      sources = ap (λ (those : MemInState). those.sources ++ source ∷ []) is
-          ∙ ap (λ made. state.sources ++ made ∷ []) (planned ∙ still_open breaks (length sources) (record { bytes = bytes; breaks_off = false }) ∙ ap (λ (made : Source). source_of made.left) (sym planned));
-    }
-
--- the same, as the code has it: the new list, its last member and its number by their equations
-
+-- What an open finds, as the code has it: the new list, its last member and its number by their equations. First a name at which nothing lies.
 pub opened_nothing : {state : MemInState} {sources new : List Source} {files : List Laid} {breaks : List (ℕ × ℕ)} {name : List ℕ} {source : Source} {slot : ℕ}
     → IsSeen sources files breaks state → laid_at files name ≡ None → new ≡ sources ++ source ∷ [] → source ≡ missing
     → slot ≡ length sources → OpensNothing true (laid_in state.files state.breaks) state.sources new name (fault.Open slot)
-opened_nothing {state} {sources} {new} {files} {breaks} {name} is none added lacks counts =
-    subst (λ number. OpensNothing true (laid_in state.files state.breaks) state.sources new name (fault.Open number)) (sym counts)
-    (subst (λ those. OpensNothing true (laid_in state.files state.breaks) state.sources those name (fault.Open (length sources))) (sym (added ∙ ap (λ last. sources ++ last ∷ []) lacks))
-    (finds_nothing state sources files breaks is none))
+opened_nothing {state} {sources} {name} {slot} is none added lacks counts =
+    broke slot (counts ∙ ap (λ (those : MemInState). length those.sources) is)
+    (λ told. ap (content_of state.breaks slot) (ap (λ (those : MemInState). laid_at those.files name) (sym is) ∙ none))
+    (added ∙ ap (λ last. sources ++ last ∷ []) lacks ∙ ap (λ (those : MemInState). those.sources ++ missing ∷ []) is)
 
+-- a name at which a file lies
 pub opened_file : {state : MemInState} {sources new : List Source} {files : List Laid} {breaks : List (ℕ × ℕ)} {name bytes held : List ℕ} (made : Source) {source : Source} {slot : ℕ}
     → IsSeen sources files breaks state → laid_at files name ≡ Some bytes → held ≡ bytes
     → made ≡ source_of (record { bytes = held; breaks_off = false }) → source ≡ breaks_in breaks slot made → new ≡ sources ++ source ∷ []
     → slot ≡ length sources → Opens true (laid_in state.files state.breaks) state.sources new name slot
-opened_file {state} {sources} {new} {files} {breaks} {name} {bytes} made is found same fresh planned added counts =
-    subst (λ number. Opens true (laid_in state.files state.breaks) state.sources new name number) (sym counts)
-    (subst (λ those. Opens true (laid_in state.files state.breaks) state.sources those name (length sources)) (sym added)
-    (finds_file state sources files breaks is found (planned ∙ ap (λ number. breaks_in breaks number made) counts
-    ∙ ap (breaks_in breaks (length sources)) (fresh ∙ ap (λ those. source_of (record { bytes = those; breaks_off = false })) same))))
+opened_file {sources} {breaks} {name} {bytes} made {source} {slot} is found same fresh planned added counts =
+    let content : Content = record { bytes = bytes; breaks_off = false } in
+    let cut_so : source ≡ breaks_in breaks slot (source_of content) = planned
+    ∙ ap (breaks_in breaks slot) (fresh ∙ ap (λ those. source_of (record { bytes = those; breaks_off = false })) same) in
+    record {
+      number = counts ∙ ap (λ (those : MemInState). length those.sources) is;
+      content = source.left;
+      lies = λ told. ap (λ (those : MemInState). laid_in those.files those.breaks slot name) (sym is) ∙ ap (content_of breaks slot) found ∙ ap (λ (made : Source). Some made.left) (sym cut_so);
+      sources = added ∙ ap (λ made. sources ++ made ∷ []) (cut_so ∙ still_open breaks slot content ∙ ap (λ (made : Source). source_of made.left) (sym cut_so))
+          ∙ ap (λ (those : MemInState). those.sources ++ source_of source.left ∷ []) is;
+    }
 
 pub kept_all : {state : MemInState} {sources new : List Source} {files : List Laid} {breaks : List (ℕ × ℕ)} {name : List ℕ}
     → IsSeen sources files breaks state → new ≡ sources → OpensNothing true (laid_in state.files state.breaks) state.sources new name fault.Memory

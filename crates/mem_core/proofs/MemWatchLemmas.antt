@@ -70,36 +70,37 @@ latest_seen worlds zero is = ap seen_in (sym is)
 latest_seen worlds (suc n) is = latest-last (seen_by worlds n) _
 
 -- what is so of the files of the last turn is so of the last look
-pub now_seen : {watch : MemWatchState} {worlds : List World} (turns : ℕ) {names : List Watched} {world : World} → record { worlds = worlds; turns = turns; watched = names } ≡ watch
-    → world_at worlds 0 ≡ empty_world → world ≡ world_at worlds turns → seen_in world ≡ latest (seen watch)
-now_seen {worlds} turns is empty now = ap seen_in now ∙ sym (latest_seen worlds turns empty) ∙ ap (λ (those : MemWatchState). latest (seen those)) is
+module _ {watch : MemWatchState} {worlds : List World} (turns : ℕ) {names : List Watched} {world : World}
+    (is : record { worlds = worlds; turns = turns; watched = names } ≡ watch) (empty : world_at worlds 0 ≡ empty_world) (now : world ≡ world_at worlds turns) where
+  now_seen : seen_in world ≡ latest (seen watch)
+  now_seen = ap seen_in now ∙ sym (latest_seen worlds turns empty) ∙ ap (λ (those : MemWatchState). latest (seen those)) is
 
-pub finds_now : {watch : MemWatchState} {worlds : List World} (turns place : ℕ) {names : List Watched} {world : World} {item : Watched} {found : Option Seen} → record { worlds = worlds; turns = turns; watched = names } ≡ watch
-    → world_at worlds 0 ≡ empty_world → world ≡ world_at worlds turns → place < length names → item ≡ get_or names place item
-    → Finds (seen_in world) item.name found → Finds (latest (seen watch)) (watched_at watch.watched place).name found
-finds_now {watch} turns place {names} {world} {item} {found} is empty now within at finds =
-    subst (λ snapshot. Finds snapshot (watched_at watch.watched place).name found) (now_seen turns is empty now)
-    (subst (λ (those : Watched). Finds (seen_in world) those.name found) (name_there names place item within at ∙ ap (λ (those : MemWatchState). watched_at those.watched place) is) finds)
+  item_is : (place : ℕ) {item : Watched} → place < length names → item ≡ get_or names place item → item ≡ watched_at watch.watched place
+  item_is place {item} within at = name_there names place item within at ∙ ap (λ (those : MemWatchState). watched_at those.watched place) is
 
-pub reopens_now : {watch : MemWatchState} {worlds : List World} (turns : ℕ) {place : ℕ} {names : List Watched} {world : World} {item new : Watched} {file : Option ℕ} {is_there : Bool} → record { worlds = worlds; turns = turns; watched = names } ≡ watch
-    → world_at worlds 0 ≡ empty_world → world ≡ world_at worlds turns → place < length names → item ≡ get_or names place item
-    → file ≡ led_to world.links item.name → new ≡ opens file item → is_there ≡ is_some file
-    → Reopens true (latest (seen watch)) watch.watched (set names place new) place is_there
-reopens_now {watch} turns {place} {names} {item} {new} {file} is empty now within at leads changed found = record {
-  file = file;
-  found = sym found;
-  names = name_changes names watch.watched place (opens file) item new (ap (λ (those : MemWatchState). those.watched) is) within at changed;
-  leads = λ told. leads ∙ ap (λ (snapshot : Snapshot). snapshot.leads item.name) (now_seen turns is empty now)
-      ∙ ap (λ (those : Watched). (latest (seen watch)).leads those.name) (name_there names place item within at ∙ ap (λ (those : MemWatchState). watched_at those.watched place) is);
-}
+  pub finds_now : (place : ℕ) {item : Watched} {found : Option Seen} → place < length names → item ≡ get_or names place item
+      → Finds (seen_in world) item.name found → Finds (latest (seen watch)) (watched_at watch.watched place).name found
+  finds_now place {found} within at finds =
+      subst (λ snapshot. Finds snapshot (watched_at watch.watched place).name found) now_seen
+      (subst (λ (those : Watched). Finds (seen_in world) those.name found) (item_is place within at) finds)
 
-pub opened_now : {watch : MemWatchState} {worlds : List World} (turns place : ℕ) {file : ℕ} {names : List Watched} {world : World} {item : Watched} → record { worlds = worlds; turns = turns; watched = names } ≡ watch
-    → world_at worlds 0 ≡ empty_world → world ≡ world_at worlds turns → place < length names → item ≡ get_or names place item → item.opened ≡ Some file
-    → held_in world.files file ≡ open_contents (latest (seen watch)) (watched_at watch.watched place)
-opened_now {watch} turns place {file} {names} {item} is empty now within at opened =
-    ap (λ (snapshot : Snapshot). snapshot.holds file) (now_seen turns is empty now)
-    ∙ sym (ap (λ those. open_contents (latest (seen watch)) (record item { opened = those })) opened)
-    ∙ ap (open_contents (latest (seen watch))) (name_there names place item within at ∙ ap (λ (those : MemWatchState). watched_at those.watched place) is)
+  pub reopens_now : (place : ℕ) {item new : Watched} {file : Option ℕ} {is_there : Bool} → place < length names → item ≡ get_or names place item
+      → file ≡ led_to world.links item.name → new ≡ opens file item → is_there ≡ is_some file
+      → Reopens true (latest (seen watch)) watch.watched (set names place new) place is_there
+  reopens_now place {item} {new} {file} within at leads changed found = record {
+    file = file;
+    found = sym found;
+    names = name_changes names watch.watched place (opens file) item new (ap (λ (those : MemWatchState). those.watched) is) within at changed;
+    leads = λ told. leads ∙ ap (λ (snapshot : Snapshot). snapshot.leads item.name) now_seen
+        ∙ ap (λ (those : Watched). (latest (seen watch)).leads those.name) (item_is place within at);
+  }
+
+  pub opened_now : (place : ℕ) {file : ℕ} {item : Watched} → place < length names → item ≡ get_or names place item → item.opened ≡ Some file
+      → held_in world.files file ≡ open_contents (latest (seen watch)) (watched_at watch.watched place)
+  opened_now place {file} {item} within at opened =
+      ap (λ (snapshot : Snapshot). snapshot.holds file) now_seen
+      ∙ sym (ap (λ those. open_contents (latest (seen watch)) (record item { opened = those })) opened)
+      ∙ ap (open_contents (latest (seen watch))) (item_is place within at)
 
 pub turned : {watch : MemWatchState} {worlds : List World} (new : List World) (turns : ℕ) {n : ℕ} {names : List Watched} → record { worlds = worlds; turns = turns; watched = names } ≡ watch → SameWorlds new worlds → n ≡ turns + 1
     → seen_by new n ≡ seen watch ++ shows watch (length (seen watch)) ∷ []

@@ -2,7 +2,8 @@ ghost use Rattle.std.specs.Prelude.{◌≡◌, ◌<◌, ◌≤◌, ◌-◌, ◌^
 ghost use Rattle.watch_core.specs.Edits.{empty_world, seen_in};
 ghost use Rattle.watch_core.specs.Snapshot.{latest};
 ghost use Rattle.mem_core.specs.MemWatchState.{MemWatchState, edit_of, no_looks, seen, shows, with_look, world_at};
-ghost use Rattle.watch_core.specs.Watched.{Finds, GaveFrom, Watched, added, breaks, is_readable, open_contents, opens, watched_at};
+ghost use Rattle.ports_core.specs.Slot.{changed_at};
+ghost use Rattle.watch_core.specs.Watched.{Finds, GaveFrom, Watched, added, breaks, is_readable, is_watchable, open_contents, opens, watched_at};
 
 use crate::Edit;
 use crate::failing::fails;
@@ -138,6 +139,14 @@ impl MemWatch {
         }
     }
 
+    /// Breaks a name off by this fault.
+    fn break_off(&mut self, place: usize, fault: Fault)
+        requires { IsTrue (is_watchable self.old.watched place) }
+        ensures { self.new ≡ record self.old { watched = changed_at place (breaks fault) self.old.watched } }
+    {
+        self.names[place].break_off(fault);
+    }
+
     /// Makes one of the calls of `look`, `reopen`, `open_len` and `read_at` fail, counted from here on; the next call has the
     /// number 1.
     pub fn fail_at(&mut self, call: u64)
@@ -255,7 +264,7 @@ impl Watch for MemWatch {
         let world = world_in(&self.worlds, self.turns);
         let found = find(world, self.names[place].name.as_str());
         if fails(&mut self.failing_in) || !fits(found) {
-            self.names[place].break_off(Fault::Open(place));
+            self.break_off(place, Fault::Open(place));
             return Err(Fault::Open(place));
         }
         Ok(found)
@@ -263,7 +272,7 @@ impl Watch for MemWatch {
 
     fn reopen(&mut self, place: usize) -> Result<bool, Fault> {
         if fails(&mut self.failing_in) {
-            self.names[place].break_off(Fault::Open(place));
+            self.break_off(place, Fault::Open(place));
             return Err(Fault::Open(place));
         }
         let world = world_in(&self.worlds, self.turns);
@@ -281,7 +290,7 @@ impl Watch for MemWatch {
     fn open_len(&mut self, place: usize) -> Result<u64, Fault> {
         let len = self.open_bytes(place).len() as u64;
         if fails(&mut self.failing_in) || len > MOST_BYTES {
-            self.names[place].break_off(Fault::Read(place));
+            self.break_off(place, Fault::Read(place));
             return Err(Fault::Read(place));
         }
         Ok(len)
@@ -289,7 +298,7 @@ impl Watch for MemWatch {
 
     fn read_at(&mut self, place: usize, from: u64, buffer: &mut [u8]) -> Result<usize, Fault> {
         if fails(&mut self.failing_in) {
-            self.names[place].break_off(Fault::Read(place));
+            self.break_off(place, Fault::Read(place));
             return Err(Fault::Read(place));
         }
         Ok(read_from(self.open_bytes(place), from, buffer))

@@ -28,9 +28,6 @@ module _ {S : Type 0} (Met : S → Fault → Type 0) (state guard : GuardState S
   caused_end (Ok u) why = tt
   caused_end (Err f) why = caused f why
 
-too_many : (n most : ℕ) → (n < most → ⊥) → most ≤ n
-too_many n most many = omega (arith, many)
-
 -- a piece is too long for what came in
 pub is_long : {S : Type 0} {state guard : GuardState S} (size : ℕ) {most : ℕ} → state ≡ guard → (state.fed + size < most → ⊥) → most ≤ guard.fed + size
-is_long {state} size {most} is many = subst (λ (those : GuardState _). most ≤ those.fed + size) is (too_many (state.fed + size) most many)
+is_long {state} size {most} is many = subst (λ (those : GuardState _). most ≤ those.fed + size) is (omega (arith, many))

@@ -1,11 +1,11 @@
 -- Lemmas on what reads leave of the inputs of a run.
-use Rattle.std.proofs.Common.{◌≡◌, ℕ, ◌≤◌, max, zero, suc, Bool, true, false, not, ◌&&◌, IsTrue, List, [], ◌∷◌, ◌++◌, length, take, drop, slice_index_or, arith, append_assoc, refl, sym, ◌∙◌, ap, subst}
+use Rattle.std.proofs.Common.{◌≡◌, ℕ, ◌≤◌, zero, suc, Bool, true, false, not, ◌&&◌, IsTrue, List, [], ◌∷◌, ◌++◌, length, take, drop, slice_index_or, arith, append_assoc, refl, sym, ◌∙◌, ap, subst}
 use Rattle.std.proofs.lemmas.List.{append-nil, take-append-drop}
 use Rattle.std.proofs.lemmas.Bool.{false≢true, and_parts, not-true}
 use Rattle.ports_core.specs.Inputs.{AsksAtMost, BreaksOnly, KeepsOthers, OfContent}
 use Rattle.ports_core.specs.Slot.{changed_at}
 use Rattle.ports_core.specs.Source.{Content, Source, source_at, source_of, is_readable, gives, fails, without, Gave, BrokeOff, IsFresh}
-use Rattle.ports_core.proofs.SlotLemmas.{changed_there, length-changed_at}
+use Rattle.ports_core.proofs.SlotLemmas.{changed_there, elsewhere, length-changed_at}
 use Rattle.ports_core.proofs.SourceLemmas.{readable_within}
 
 -- what was read of the input with this number so far, and what is left of it
@@ -19,10 +19,7 @@ nothing_read slot sources = record { bytes = refl; breaks_off = refl }
 -- a change of one input
 
 pub changed_elsewhere : {X : Type 0} (default : X) (place other : ℕ) (change : X → X) (xs : List X) → (other ≡ place → ⊥) → slice_index_or (changed_at place change xs) other default ≡ slice_index_or xs other default
-changed_elsewhere default place other change [] differs = refl
-changed_elsewhere default zero zero change (x ∷ xs) differs = absurd (differs refl)
-changed_elsewhere default (suc place) (suc other) change (x ∷ xs) differs = changed_elsewhere default place other change xs (λ same. differs (ap suc same))
-changed_elsewhere default place other change xs differs = refl
+changed_elsewhere = elsewhere
 
 pub keeps_others : (slot : ℕ) (change : Source → Source) (old new : List Source) → new ≡ changed_at slot change old → KeepsOthers slot old new
 keeps_others slot change old new is = record {
@@ -81,15 +78,12 @@ pub read_none_more : (content : Content) (x : List ℕ) (slot : ℕ) (sources ne
 read_none_more content x slot sources new size n read can none is =
     read.bytes ∙ ap (λ (left : Content). x ++ left.bytes) (sym (ap (λ (source : Source). source.left) (changed_source slot (gives size n) sources new can is) ∙ ap (λ k. without k (source_at sources slot).left) none))
 
-greater : (a b most : ℕ) → a ≤ most → b ≤ most → max a b ≤ most
-greater a b most first second = omega (arith, first, second)
-
 -- no read asked for more
 pub asked_again : (slot size most n : ℕ) (sources new : List Source) → IsTrue (is_readable sources slot) → new ≡ changed_at slot (gives size n) sources → size ≤ most → (source_at sources slot).asked ≤ most → (source_at new slot).asked ≤ most
-asked_again slot size most n sources new can is within so_far = subst (λ asked. asked ≤ most) (sym (ap (λ (source : Source). source.asked) (changed_source slot (gives size n) sources new can is))) (greater (source_at sources slot).asked size most so_far within)
+asked_again slot size most n sources new can is within so_far = subst (λ asked. asked ≤ most) (sym (ap (λ (source : Source). source.asked) (changed_source slot (gives size n) sources new can is))) (omega (arith, so_far, within))
 
 pub asked_at_end : (slot size most : ℕ) (sources new : List Source) → IsTrue (is_readable sources slot) → new ≡ changed_at slot (fails size) sources → size ≤ most → (source_at sources slot).asked ≤ most → (source_at new slot).asked ≤ most
-asked_at_end slot size most sources new can is within so_far = subst (λ asked. asked ≤ most) (sym (ap (λ (source : Source). source.asked) (changed_source slot (fails size) sources new can is))) (greater (source_at sources slot).asked size most so_far within)
+asked_at_end slot size most sources new can is within so_far = subst (λ asked. asked ≤ most) (sym (ap (λ (source : Source). source.asked) (changed_source slot (fails size) sources new can is))) (omega (arith, so_far, within))
 
 pub broken_now : (slot size : ℕ) (sources new : List Source) → IsTrue (is_readable sources slot) → new ≡ changed_at slot (fails size) sources → (source_at new slot).is_broken ≡ true
 broken_now slot size sources new can is = ap (λ (source : Source). source.is_broken) (changed_source slot (fails size) sources new can is)

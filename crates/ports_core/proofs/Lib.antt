@@ -10,7 +10,6 @@ pub mod SpareLemmas
 pub mod InputsLemmas
 pub mod TextLemmas
 pub mod WriteLemmas
-pub mod NameLemmas
 pub mod CounterLemmas
 pub mod OrderLemmas
 pub mod DirInLemmas
@@ -18,5 +17,4 @@ pub mod DirOutLemmas
 pub mod MessageLemmas
 pub mod SlotSteps
 pub mod AgreedLemmas
-pub mod OneAgreed
 pub mod Runs

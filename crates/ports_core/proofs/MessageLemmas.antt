@@ -1,5 +1,5 @@
 -- Lemmas on messages.
-use Rattle.std.proofs.Common.{◌≡◌, ℕ, Bool, false, List, [], ◌∷◌, ◌++◌, take, Result, Ok, Err, OnOk, IfErr, inl, inr, refl, sym, ◌∙◌, ap, subst}
+use Rattle.std.proofs.Common.{◌≡◌, ℕ, Bool, false, List, [], ◌∷◌, ◌++◌, take, Result, Ok, Err, OnOk, IfErr, ◌⊎◌, refl, sym, ◌∙◌, ap, subst}
 use Rattle.ports_core.specs.Slot.{Slot, slot_at, with_written, with_broken, adds, breaks, told_of}
 use Rattle.ports_core.specs.Write.{BrokeAfter}
 use Rattle.ports_core.specs.Text.{message_of}
@@ -13,15 +13,10 @@ prints_on told {text} (Ok u) sound out broke output error since is = (adds (told
 prints_on told {text} (Err at) sound out broke output error since is =
     (breaks (adds (told_of told (take at.written text)) error), cut (sym (ap (λ slots. (slot_at slots 1).is_broken) is) ∙ sound) at.written broke.within refl, broke.slots ∙ ap (λ slots. with_broken 1 (with_written 1 (told_of told (take at.written text)) slots)) is)
 
-pub says_on : (told : Bool) {tool : Tool} {text said : List ℕ} {old new : List Slot} → said ≡ text → PrintsOn told said old new → SaysOn told tool text old new
-says_on told {said} is prints output error since shape =
+pub says_on : (told : Bool) {tool : Tool} (text : List ℕ) {said : List ℕ} {old new : List Slot} → (said ≡ text) ⊎ (said ≡ message_of tool Memory []) → PrintsOn told said old new → SaysOn told tool text old new
+says_on told text {said} is prints output error since shape =
     let printed = prints output error since shape in
-    (printed.0, record { said = said; is = inl is; printed = printed.1 }, printed.2)
-
-pub says_memory_on : (told : Bool) {tool : Tool} (text : List ℕ) {said : List ℕ} {old new : List Slot} → said ≡ message_of tool Memory [] → PrintsOn told said old new → SaysOn told tool text old new
-says_memory_on told text {said} is prints output error since shape =
-    let printed = prints output error since shape in
-    (printed.0, record { said = said; is = inr is; printed = printed.1 }, printed.2)
+    (printed.0, record { said = said; is = is; printed = printed.1 }, printed.2)
 
 -- one text more after others
 pub says_more : (told : Bool) (tool : Tool) (texts : List (List ℕ)) (text : List ℕ) (old mid new : Slot) → SaysAll told tool texts old mid → Says told tool text mid new → SaysAll told tool (texts ++ text ∷ []) old new

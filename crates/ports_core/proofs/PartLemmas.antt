@@ -1,5 +1,5 @@
 -- Lemmas on what outputs have got.
-use Rattle.std.proofs.Common.{◌≡◌, ℕ, ◌+◌, ◌<◌, ◌≤◌, zero, suc, List, [], ◌∷◌, ◌++◌, length, map, take, drop, Bool, true, false, IsTrue, ◌⊎◌, inl, inr, refl, sym, ◌∙◌, ap, subst, arith, append_assoc, length-append}
+use Rattle.std.proofs.Common.{◌≡◌, ℕ, ◌+◌, ◌<◌, ◌≤◌, zero, suc, List, [], ◌∷◌, ◌++◌, length, take, drop, Bool, true, false, IsTrue, ◌⊎◌, inl, inr, refl, sym, ◌∙◌, ap, subst, arith, append_assoc, length-append}
 use Rattle.std.proofs.Math.Seq.{take-length, take-append_seam}
 use Rattle.std.proofs.lemmas.List.{append-nil, take-append-drop, drop_all, length-map}
 use Rattle.std.proofs.lemmas.Bool.{false≢true, and_parts, not-true}
@@ -79,15 +79,13 @@ nothing_out told before standard = record {
   files = refl;
 }
 
-count_of : (change : File → File) (slots : List Slot) (files : List File) → map file_of slots ≡ map change files → length files ≡ length slots
-count_of change slots files is = sym (length-map files change) ∙ ap length (sym is) ∙ length-map slots file_of
-
 -- how many slots there are
 pub outputs_count : (told : Bool) (before : List Slot) (part : Part) (now : List Slot) → OutputsAt told before part now → length now ≡ length before + length part.files
 outputs_count told before part now at =
     let all : length now ≡ length (with_written 0 (told_of told part.out) before) + length at.since = ap length at.slots ∙ length-append (with_written 0 (told_of told part.out) before) at.since in
     let front : length (with_written 0 (told_of told part.out) before) ≡ length before = length-changed_at 0 _ before in
-    let since : length at.since ≡ length part.files = sym (count_of (told_file told) at.since part.files at.files) in omega arith
+    let since : length at.since ≡ length part.files = sym (length-map at.since file_of) ∙ ap length at.files
+    ∙ length-map part.files (told_file told) in omega arith
 
 -- no file is touched
 pub still_in_order : (files : List File) → InOrder files files files 0

@@ -1,6 +1,7 @@
 -- Slots as they are opened, written and closed, and as they break.
 use Rattle.std.proofs.Common.{◌≡◌, ℕ, ◌+◌, ◌<◌, ◌≤◌, zero, suc, not, ◌&&◌, List, [], ◌∷◌, ◌++◌, length, take, Bool, true, false, IsTrue, refl, sym, ◌∙◌, ap, arith, length-append}
 use Rattle.std.proofs.lemmas.Bool.{false≢true}
+use Rattle.std.proofs.Math.Seq.{get_or-append_seam}
 use Rattle.std.proofs.lemmas.List.{get_or_past, get_or_append_left}
 use Rattle.ports_core.specs.Slot.{Slot, Rose, is_open, has_file, can_write, no_slot, slot_at, changed_at, opened, unopened, adds, closes, breaks, with_written, with_broken, told_of, is_writable}
 use Rattle.ports_core.specs.inner.Slot.{KeepsBroken}
@@ -69,16 +70,11 @@ close_rose slot old new can within is = (
 )
 
 pub at_end : (slots : List Slot) (one : Slot) → slot_at (slots ++ one ∷ []) (length slots) ≡ one
-at_end [] one = refl
-at_end (slot ∷ slots) one = at_end slots one
-
-past_end : (slots : List Slot) → (slot_at slots (length slots)).is_broken ≡ false
-past_end [] = refl
-past_end (slot ∷ slots) = past_end slots
+at_end slots one = get_or-append_seam slots one [] no_slot
 
 pub open_rose : (slot : ℕ) (kept : List ℕ) (old new : List Slot) → slot ≡ length old → new ≡ old ++ unopened kept ∷ [] → Rose slot old new
 open_rose slot kept old new number is = (
-  ap (λ n. (slot_at old n).is_broken) number ∙ past_end old,
+  ap (λ n. (slot_at old n).is_broken) number ∙ ap (λ (one : Slot). one.is_broken) (get_or_past old (length old) no_slot (omega arith)),
   ap (λ those. (slot_at those slot).is_broken) is ∙ ap (λ n. (slot_at (old ++ unopened kept ∷ []) n).is_broken) number ∙ ap (λ (one : Slot). one.is_broken) (at_end old (unopened kept)),
 )
 

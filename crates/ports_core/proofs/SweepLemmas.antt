@@ -1,6 +1,7 @@
 -- Lemmas on removing many files.
 use Rattle.std.proofs.Common.{◌≡◌, ℕ, ◌+◌, ◌<◌, ◌≤◌, zero, suc, eqb, eqb-true, eq-eqb, Bool, true, false, ◌||◌, List, [], ◌∷◌, ◌++◌, length, get_or, set, take, drop, Result, Ok, Err, is_ok, OnOk, IfErr, IsTrue, refl, sym, ◌∙◌, ap, subst, arith, length-set, take-suc, take-suc-set, drop-cons, drop-set-lt}
 use Rattle.std.proofs.lemmas.Bool.{false≢true, or_parts}
+use Rattle.std.proofs.lemmas.List.{append-nil}
 use Rattle.ports_core.specs.Slot.{Slot, has_file, slot_at, changed_at, with_broken, removes, closes, breaks, is_removable}
 use Rattle.ports_core.specs.Swept.{Cleared, SweptFrom, removed, stuck, none, is_among, AreThere, Removes, all_tried, goes, stays}
 use Rattle.ports_core.specs.declared.fault.Fault.{Fault}
@@ -29,26 +30,47 @@ there place change [] has = absurd (false≢true has)
 there zero change (slot ∷ slots) has = refl
 there (suc place) change (slot ∷ slots) has = there place change slots has
 
-still_there : (files : List ℕ) (place : ℕ) (change : Slot → Slot) (slots : List Slot) → is_among place files ≡ false → AreThere files slots → AreThere files (changed_at place change slots)
-still_there [] place change slots apart are = tt
-still_there (one ∷ files) place change slots apart are =
-    let both = or_parts (eqb place one) (is_among place files) apart in (
-      (are.0.0, subst (λ (slot : Slot). IsTrue (has_file slot.state)) (sym (slot_at-elsewhere place one change slots (λ same. differs one both.0 (sym same)))) are.0.1),
-      are.1,
-      still_there files place change slots both.1 are.2,
-    )
+-- the slot of a file whose removal failed
+abbrev fails_so : Slot → Slot
+fails_so slot = breaks (closes slot)
+
+-- one file was tried: its slot was changed, and no other
+module _ (one : ℕ) (change : Slot → Slot) (old : List Slot) {mid : List Slot} (is : mid ≡ changed_at one change old) where
+  elsewhere : (place : ℕ) → (place ≡ one → ⊥) → slot_at mid place ≡ slot_at old place
+  elsewhere place other = ap (λ those. slot_at those place) is ∙ slot_at-elsewhere one place change old other
+
+  here : is_removable old one → slot_at mid one ≡ change (slot_at old one)
+  here can = ap (λ those. slot_at those one) is ∙ there one change old can.1
+
+  still_there : (files : List ℕ) → is_among one files ≡ false → AreThere files old → AreThere files mid
+  still_there [] apart are = tt
+  still_there (place ∷ files) apart are =
+      let both = or_parts (eqb one place) (is_among one files) apart in (
+        (are.0.0, subst (λ (slot : Slot). IsTrue (has_file slot.state)) (sym (elsewhere place (λ same. differs place both.0 (sym same)))) are.0.1),
+        are.1,
+        still_there files both.1 are.2,
+      )
+
+  still_has : (place : ℕ) (places : List ℕ) → eqb place one ≡ false → has_file (slot_at old place).state ≡ is_among place (one ∷ places)
+      → has_file (slot_at mid place).state ≡ is_among place places
+  still_has place places other has = ap (λ (slot : Slot). has_file slot.state) (elsewhere place (differs one other)) ∙ has ∙ among_rest place one places other
+
+  cleared_by : (places : List ℕ) (new : List Slot) (place : ℕ) → AreThere (one ∷ places) old → slot_at new one ≡ slot_at mid one
+      → Cleared (slot_at old one) (change (slot_at old one))
+      → (has_file (slot_at mid place).state ≡ is_among place places → Cleared (slot_at mid place) (slot_at new place))
+      → has_file (slot_at old place).state ≡ is_among place (one ∷ places) → Cleared (slot_at old place) (slot_at new place)
+  cleared_by places new place are after made rest has = by_place place one
+      (λ same. subst (λ at. Cleared (slot_at old at) (slot_at new at)) (sym same) (subst (Cleared (slot_at old one)) (sym (after ∙ here are.0)) made))
+      (λ other. subst (λ slot. Cleared slot (slot_at new place)) (elsewhere place (differs one other)) (rest (still_has place places other has)))
 
 -- One removal more, after those of other files
 
-pub gone_more : {files left : List ℕ} {old mid new : List Slot} (place : ℕ) → Removes files old left mid → new ≡ changed_at place removes mid → Removes (files ++ place ∷ []) old left new
-gone_more {new} place (all_tried slots) is = goes place [] [] slots new (subst (λ those. Removes [] those [] new) is (all_tried new))
-gone_more {new} place (goes one places left' old' mid' rest) is = goes one (places ++ place ∷ []) left' old' new (gone_more place rest is)
-gone_more {new} place (stays one places left' old' mid' rest) is = stays one (places ++ place ∷ []) left' old' new (gone_more place rest is)
-
-pub left_more : {files left : List ℕ} {old mid new : List Slot} (place : ℕ) → Removes files old left mid → new ≡ with_broken place (changed_at place closes mid) → Removes (files ++ place ∷ []) old (left ++ place ∷ []) new
-left_more {new} place (all_tried slots) is = stays place [] [] slots new (subst (λ those. Removes [] those [] new) is (all_tried new))
-left_more {new} place (goes one places left' old' mid' rest) is = goes one (places ++ place ∷ []) (left' ++ place ∷ []) old' new (left_more place rest is)
-left_more {new} place (stays one places left' old' mid' rest) is = stays one (places ++ place ∷ []) (left' ++ place ∷ []) old' new (left_more place rest is)
+tried_more : {files left : List ℕ} {old mid new : List Slot} (place : ℕ) (more : List ℕ) → Removes files old left mid → Removes (place ∷ []) mid more new
+    → Removes (files ++ place ∷ []) old (left ++ more) new
+tried_more place more (all_tried slots) last = last
+tried_more {new} place more (goes one places left' old' mid' rest) last = goes one (places ++ place ∷ []) (left' ++ more) old' new
+    (tried_more place more rest last)
+tried_more {new} place more (stays one places left' old' mid' rest) last = stays one (places ++ place ∷ []) (left' ++ more) old' new (tried_more place more rest last)
 
 -- the files before this place were tried, and the first `left` are those that couldn't be removed
 pub record Sweeping (files now : List ℕ) (place left : ℕ) (old slots : List Slot) : Type 0 where
@@ -61,63 +83,45 @@ pub record Sweeping (files now : List ℕ) (place left : ℕ) (old slots : List 
 pub none_swept : {files : List ℕ} {slots : List Slot} → AreThere files slots → Sweeping files files 0 0 slots slots
 none_swept {slots} are = record { size = refl; few = omega arith; tried = all_tried slots; rest = refl; are = are }
 
--- the file at the next place
-pub next_is : {files now : List ℕ} {place left : ℕ} {old slots : List Slot} (default : ℕ) → Sweeping files now place left old slots → place < length now → (get_or now place default ≡ get_or files place default) × is_removable slots (get_or now place default)
-next_is {files} {now} {place} {slots} default so_far within =
-    let size = so_far.size in
-    let front = sym (drop-cons now place default within) ∙ so_far.rest ∙ drop-cons files place default (omega (arith, within, size)) in
-    let same : get_or now place default ≡ get_or files place default = ap (λ those. get_or those 0 default) front in
-    (same, subst (is_removable slots) (sym same) (subst (λ those. AreThere those slots) (drop-cons files place default (omega (arith, within, size))) so_far.are).0)
-
-rest_there : (files : List ℕ) (place : ℕ) (slots : List Slot) → place < length files → AreThere (drop place files) slots → (is_among (get_or files place 0) (drop (suc place) files) ≡ false) × AreThere (drop (suc place) files) slots
-rest_there files place slots within are = let those = subst (λ rest. AreThere rest slots) (drop-cons files place 0 within) are in (those.1, those.2)
-
-rest_next : (files now : List ℕ) (place : ℕ) → drop place now ≡ drop place files → place < length now → place < length files → drop (suc place) now ≡ drop (suc place) files
-rest_next files now place is within less = ap (drop 1) (sym (drop-cons now place 0 within) ∙ is ∙ drop-cons files place 0 less)
-
-pub one_gone : {files now : List ℕ} {place left : ℕ} {old mid new : List Slot} {file : ℕ} → Sweeping files now place left old mid → place < length now → file ≡ get_or now place 0 → new ≡ changed_at file removes mid → Sweeping files now (suc place) left old new
-one_gone {files} {now} {place} {left} {old} {mid} {new} {file} so_far within file_is is =
-    let size = so_far.size in
-    let less : place < length files = omega (arith, within, size) in
-    let few = so_far.few in
-    let same = file_is ∙ (next_is 0 so_far within).0 in
-    let after = rest_there files place mid less so_far.are in record {
-      size = size;
-      few = omega (arith, few);
-      tried = subst (λ those. Removes those old (take left now) new) (ap (λ one. take place files ++ one ∷ []) same ∙ sym (take-suc files place 0 less)) (gone_more file so_far.tried is);
-      rest = rest_next files now place so_far.rest within less;
-      are = subst (AreThere (drop (suc place) files)) (sym is) (still_there (drop (suc place) files) file removes mid (subst (λ one. is_among one (drop (suc place) files) ≡ false) (sym same) after.0) after.1);
-    }
-
-pub one_left : {files now next : List ℕ} {place left : ℕ} {old mid new : List Slot} {file : ℕ} → Sweeping files now place left old mid → place < length now → file ≡ get_or now place 0 → next ≡ set now left file → new ≡ with_broken file (changed_at file closes mid)
-    → Sweeping files next (suc place) (suc left) old new
-one_left {files} {now} {next} {place} {left} {old} {mid} {new} {file} so_far within file_is next_is' is =
-    let size = so_far.size in
-    let less : place < length files = omega (arith, within, size) in
-    let few = so_far.few in
-    let same = file_is ∙ (next_is 0 so_far within).0 in
-    let after = rest_there files place mid less so_far.are in record {
-      size = ap length next_is' ∙ length-set now left file ∙ size;
-      few = omega (arith, few);
-      tried = subst (λ those. Removes those old (take (suc left) next) new) (ap (λ one. take place files ++ one ∷ []) same ∙ sym (take-suc files place 0 less))
-          (subst (λ those. Removes (take place files ++ file ∷ []) old those new) (sym (ap (take (suc left)) next_is' ∙ take-suc-set now left file (omega (arith, few, within)))) (left_more file so_far.tried is));
-      rest = ap (drop (suc place)) next_is' ∙ drop-set-lt (suc place) now left file (omega (arith, few)) ∙ rest_next files now place so_far.rest within less;
-      are = subst (AreThere (drop (suc place) files)) (sym (is ∙ changed_at-again file closes breaks mid)) (still_there (drop (suc place) files) file (λ slot. breaks (closes slot)) mid (subst (λ one. is_among one (drop (suc place) files) ≡ false) (sym same) after.0) after.1);
-    }
+-- the next file was tried, and these are the numbers now
+one_tried : {files now next : List ℕ} {place left few : ℕ} {old mid new : List Slot} {file : ℕ} (change : Slot → Slot) → Sweeping files now place left old mid
+    → place < length now → file ≡ get_or now place 0
+    → length next ≡ length now → few ≤ suc left → drop (suc place) next ≡ drop (suc place) now
+    → Removes (take place files ++ file ∷ []) old (take few next) new → new ≡ changed_at file change mid
+    → Sweeping files next (place + 1) few old new
+one_tried {files} {now} {next} {place} {few} {old} {mid} {new} {file} change so_far within file_is size fits rest tried is =
+    let less : place < length files = omega (arith, within, so_far.size) in
+    let front = sym (drop-cons now place 0 within) ∙ so_far.rest ∙ drop-cons files place 0 less in
+    let same : file ≡ get_or files place 0 = file_is ∙ ap (λ those. get_or those 0 0) front in
+    let are = subst (λ those. AreThere those mid) (drop-cons files place 0 less) so_far.are in
+    subst (λ n. Sweeping files next n few old new) (let e : suc place ≡ place + 1 = omega arith in e)
+    (record {
+      size = size ∙ so_far.size;
+      few = omega (arith, fits, so_far.few);
+      tried = subst (λ those. Removes those old (take few next) new) (ap (λ one. take place files ++ one ∷ []) same ∙ sym (take-suc files place 0 less)) tried;
+      rest = rest ∙ ap (drop 1) front;
+      are = still_there file change mid is (drop (suc place) files) (subst (λ one. is_among one (drop (suc place) files) ≡ false) (sym same) are.1) are.2;
+    })
 
 -- the same by what the removal returned
 pub sweep_on : {files now : List ℕ} {place left file : ℕ} {old mid new : List Slot} (result : Result (Unit {0}) Fault) → Sweeping files now place left old mid → place < length now → file ≡ get_or now place 0 → is_ok result ≡ true → OnOk result (new ≡ changed_at file removes mid)
     → Sweeping files now (place + 1) left old new
-sweep_on {files} {now} {place} {left} {old} {new} (Ok done) so_far within file_is ok gone =
-    subst (λ n. Sweeping files now n left old new) (let e : suc place ≡ place + 1 = omega arith in e) (one_gone so_far within file_is gone)
+sweep_on {files} {now} {place} {left} {file} {old} {mid} {new} (Ok done) so_far within file_is ok gone =
+    one_tried removes so_far within file_is refl (omega arith) refl
+    (subst (λ those. Removes (take place files ++ file ∷ []) old those new) (append-nil (take left now))
+    (tried_more file [] so_far.tried (goes file [] [] mid new (subst (λ those. Removes [] those [] new) gone (all_tried new))))) gone
 sweep_on (Err f) so_far within file_is ok gone = absurd (false≢true ok)
 
 pub sweep_past : {files now : List ℕ} {place left file : ℕ} {old mid new : List Slot} (result : Result (Unit {0}) Fault) → Sweeping files now place left old mid → place < length now → file ≡ get_or now place 0 → is_ok result ≡ false
     → IfErr result (λ f. (f ≡ fault.Write file) × (new ≡ with_broken file (changed_at file closes mid))) → Sweeping files (set now left file) (place + 1) (left + 1) old new
 sweep_past (Ok done) so_far within file_is failed stuck_so = absurd (false≢true (sym failed))
-sweep_past {files} {now} {place} {left} {file} {old} {new} (Err f) so_far within file_is failed stuck_so =
-    subst (λ n. Sweeping files (set now left file) n (left + 1) old new) (let e : suc place ≡ place + 1 = omega arith in e)
-    (subst (λ n. Sweeping files (set now left file) (suc place) n old new) (let e : suc left ≡ left + 1 = omega arith in e) (one_left so_far within file_is refl stuck_so.1))
+sweep_past {files} {now} {place} {left} {file} {old} {mid} {new} (Err f) so_far within file_is failed stuck_so =
+    let few = so_far.few in
+    subst (λ n. Sweeping files (set now left file) (place + 1) n old new) (let e : suc left ≡ left + 1 = omega arith in e)
+    (one_tried fails_so so_far within file_is (length-set now left file) (omega arith) (drop-set-lt (suc place) now left file (omega (arith, few)))
+    (subst (λ those. Removes (take place files ++ file ∷ []) old those new) (sym (take-suc-set now left file (omega (arith, few, within))))
+    (tried_more file (file ∷ []) so_far.tried (stays file [] [] mid new (subst (λ those. Removes [] those [] new) stuck_so.1 (all_tried new)))))
+    (stuck_so.1 ∙ changed_at-again file closes breaks mid))
 
 -- What was removed, slot by slot
 
@@ -127,18 +131,14 @@ same_size files left old new (goes place places left' old' new' rest) = same_siz
 same_size files left old new (stays place places left' old' new' rest) =
     same_size places left' (with_broken place (changed_at place closes old')) new' rest ∙ length-changed_at place breaks (changed_at place closes old') ∙ length-changed_at place closes old'
 
-elsewhere : (place one : ℕ) (change : Slot → Slot) (slots : List Slot) → eqb place one ≡ false → slot_at (changed_at one change slots) place ≡ slot_at slots place
-elsewhere place one change slots is = slot_at-elsewhere one place change slots (λ same. differs one is same)
-
-stuck_at : (place one : ℕ) (slots : List Slot) → eqb place one ≡ false → slot_at (with_broken one (changed_at one closes slots)) place ≡ slot_at slots place
-stuck_at place one slots is = elsewhere place one breaks (changed_at one closes slots) is ∙ elsewhere place one closes slots is
-
 pub others_same : {files left : List ℕ} {old new : List Slot} (place : ℕ) → Removes files old left new → is_among place files ≡ false → slot_at new place ≡ slot_at old place
 others_same place (all_tried slots) apart = refl
 others_same place (goes one places left' old' new' rest) apart =
-    let both = or_parts (eqb place one) (is_among place places) apart in others_same place rest both.1 ∙ elsewhere place one removes old' both.0
+    let both = or_parts (eqb place one) (is_among place places) apart in others_same place rest both.1
+    ∙ elsewhere one removes old' refl place (differs one both.0)
 others_same place (stays one places left' old' new' rest) apart =
-    let both = or_parts (eqb place one) (is_among place places) apart in others_same place rest both.1 ∙ stuck_at place one old' both.0
+    let both = or_parts (eqb place one) (is_among place places) apart in others_same place rest both.1
+    ∙ elsewhere one fails_so old' (changed_at-again one closes breaks old') place (differs one both.0)
 
 -- those that are left are some of them
 pub left_apart : (files left : List ℕ) (old new : List Slot) (place : ℕ) → Removes files old left new → is_among place files ≡ false → is_among place left ≡ false
@@ -148,52 +148,42 @@ left_apart files left old new place (stays one places left' old' new' rest) apar
     let both = or_parts (eqb place one) (is_among place places) apart in
     ap (λ b. b || is_among place left') both.0 ∙ left_apart places left' (with_broken one (changed_at one closes old')) new' place rest both.1
 
-gone_at : (one : ℕ) (slots : List Slot) → is_removable slots one → slot_at (changed_at one removes slots) one ≡ removes (slot_at slots one)
-gone_at one slots can = there one removes slots can.1
-
-stuck_here : (one : ℕ) (slots : List Slot) → is_removable slots one → slot_at (with_broken one (changed_at one closes slots)) one ≡ breaks (closes (slot_at slots one))
-stuck_here one slots can = ap (λ those. slot_at those one) (changed_at-again one closes breaks slots) ∙ there one (λ slot. breaks (closes slot)) slots can.1
-
-after_gone : (one : ℕ) (places : List ℕ) (slots : List Slot) → AreThere (one ∷ places) slots → AreThere places (changed_at one removes slots)
-after_gone one places slots are = still_there places one removes slots are.1 are.2
-
-after_stuck : (one : ℕ) (places : List ℕ) (slots : List Slot) → AreThere (one ∷ places) slots → AreThere places (with_broken one (changed_at one closes slots))
-after_stuck one places slots are = still_there places one breaks (changed_at one closes slots) are.1 (still_there places one closes slots are.1 are.2)
-
 -- each slot whose file was among them is cleared away
 pub each_cleared : {files left : List ℕ} {old new : List Slot} (place : ℕ) → Removes files old left new → AreThere files old → has_file (slot_at old place).state ≡ is_among place files → Cleared (slot_at old place) (slot_at new place)
 each_cleared place (all_tried slots) are has = none has
-each_cleared place (goes one places left' old' new' rest) are has = by_place place one
-    (λ same. subst (λ at. Cleared (slot_at old' at) (slot_at new' at)) (sym same)
-    (subst (Cleared (slot_at old' one)) (sym (others_same one rest are.1 ∙ gone_at one old' are.0)) (removed are.0.1)))
-    (λ other. subst (λ slot. Cleared slot (slot_at new' place)) (elsewhere place one removes old' other)
-    (each_cleared place rest (after_gone one places old' are) (ap (λ (slot : Slot). has_file slot.state) (elsewhere place one removes old' other) ∙ has ∙ among_rest place one places other)))
-each_cleared place (stays one places left' old' new' rest) are has = by_place place one
-    (λ same. subst (λ at. Cleared (slot_at old' at) (slot_at new' at)) (sym same)
-    (subst (Cleared (slot_at old' one)) (sym (others_same one rest are.1 ∙ stuck_here one old' are.0)) (stuck are.0.1)))
-    (λ other. subst (λ slot. Cleared slot (slot_at new' place)) (stuck_at place one old' other)
-    (each_cleared place rest (after_stuck one places old' are) (ap (λ (slot : Slot). has_file slot.state) (stuck_at place one old' other) ∙ has ∙ among_rest place one places other)))
+each_cleared place (goes one places left' old' new' rest) are has =
+    cleared_by one removes old' refl places new' place are (others_same one rest are.1) (removed are.0.1)
+    (each_cleared place rest (still_there one removes old' refl places are.1 are.2)) has
+each_cleared place (stays one places left' old' new' rest) are has =
+    let is = changed_at-again one closes breaks old' in
+    cleared_by one fails_so old' is places new' place are (others_same one rest are.1) (stuck are.0.1)
+    (each_cleared place rest (still_there one fails_so old' is places are.1 are.2)) has
 
 -- and has a file just where that is left
 pub left_has : (files left : List ℕ) (old new : List Slot) (place : ℕ) → Removes files old left new → AreThere files old → has_file (slot_at old place).state ≡ is_among place files → has_file (slot_at new place).state ≡ is_among place left
 left_has files left old new place (all_tried slots) are has = has
 left_has files left old new place (goes one places left' old' new' rest) are has = by_place place one
     (λ same. subst (λ at. has_file (slot_at new' at).state ≡ is_among at left') (sym same)
-    (ap (λ (slot : Slot). has_file slot.state) (others_same one rest are.1 ∙ gone_at one old' are.0) ∙ sym (left_apart places left' (changed_at one removes old') new' one rest are.1)))
-    (λ other. left_has places left' (changed_at one removes old') new' place rest (after_gone one places old' are) (ap (λ (slot : Slot). has_file slot.state) (elsewhere place one removes old' other) ∙ has ∙ among_rest place one places other))
-left_has files left old new place (stays one places left' old' new' rest) are has = by_place place one
+    (ap (λ (slot : Slot). has_file slot.state) (others_same one rest are.1 ∙ here one removes old' refl are.0) ∙ sym (left_apart places left' _ new' one rest are.1)))
+    (λ other. left_has places left' _ new' place rest (still_there one removes old' refl places are.1 are.2)
+    (still_has one removes old' refl place places other has))
+left_has files left old new place (stays one places left' old' new' rest) are has =
+    let is = changed_at-again one closes breaks old' in by_place place one
     (λ same. subst (λ at. has_file (slot_at new' at).state ≡ is_among at (one ∷ left')) (sym same)
-    (ap (λ (slot : Slot). has_file slot.state) (others_same one rest are.1 ∙ stuck_here one old' are.0) ∙ sym (ap (λ b. b || is_among one left') (eq-eqb one one refl))))
-    (λ other. left_has places left' (with_broken one (changed_at one closes old')) new' place rest (after_stuck one places old' are) (ap (λ (slot : Slot). has_file slot.state) (stuck_at place one old' other) ∙ has ∙ among_rest place one places other) ∙ sym (among_rest place one left' other))
+    (ap (λ (slot : Slot). has_file slot.state) (others_same one rest are.1 ∙ here one fails_so old' is are.0) ∙ sym (ap (λ b. b || is_among one left') (eq-eqb one one refl))))
+    (λ other. left_has places left' _ new' place rest (still_there one fails_so old' is places are.1 are.2)
+    (still_has one fails_so old' is place places other has) ∙ sym (among_rest place one left' other))
 
 pub left_there : (files left : List ℕ) (old new : List Slot) → Removes files old left new → AreThere files old → AreThere left new
 left_there files left old new (all_tried slots) are = tt
-left_there files left old new (goes one places left' old' new' rest) are = left_there places left' (changed_at one removes old') new' rest (after_gone one places old' are)
-left_there files left old new (stays one places left' old' new' rest) are = (
-  (are.0.0, subst (λ (slot : Slot). IsTrue (has_file slot.state)) (sym (others_same one rest are.1 ∙ stuck_here one old' are.0)) refl),
-  left_apart places left' (with_broken one (changed_at one closes old')) new' one rest are.1,
-  left_there places left' (with_broken one (changed_at one closes old')) new' rest (after_stuck one places old' are),
-)
+left_there files left old new (goes one places left' old' new' rest) are = left_there places left' _ new' rest
+    (still_there one removes old' refl places are.1 are.2)
+left_there files left old new (stays one places left' old' new' rest) are =
+    let is = changed_at-again one closes breaks old' in (
+      (are.0.0, subst (λ (slot : Slot). IsTrue (has_file slot.state)) (sym (others_same one rest are.1 ∙ here one fails_so old' is are.0)) refl),
+      left_apart places left' _ new' one rest are.1,
+      left_there places left' _ new' rest (still_there one fails_so old' is places are.1 are.2),
+    )
 
 -- all files from a place on, where these are just the ones removed
 pub all_cleared : (first : ℕ) (files left : List ℕ) (old new : List Slot) → Removes files old left new → AreThere files old → ((place : ℕ) → is_among place files ≡ true → first ≤ place) → ((place : ℕ) → first ≤ place → has_file (slot_at old place).state ≡ is_among place files)

@@ -34,19 +34,14 @@ one_given which rows letter {choice} number kind of_number value {meant} named l
     ap (λ test. onward (spelled rows (value ∷ []) 2) (if test then valued number of_number 1 1 (letter ∷ []) else mixed rows 1 (45 ∷ letter ∷ []))) is
     ∙ value_after_letter rows letter choice kind value meant [] 1 (record { named = named; ascii = grind (arith, nat_tests); no_hyphen = grind (arith, nat_tests) }) reads)
 
--- a hyphen and digits, as the only word after a tool's name
-pub one_number : (which : Tool) (rows : List OptionRow) (choice : Choice) (kind : Kind) (digits : List ℕ) {meant : Meant} → is_number digits ≡ true → value_in kind digits ≡ Ok meant
-    → then_check (spelled rows ((45 ∷ digits) ∷ []) 1 (First choice kind)) (settings_for which) ≡ settings_for which (one_option choice meant 1)
-one_number which rows choice kind digits is reads =
-    ap (λ given. then_check given (settings_for which)) (
-    ap (λ test. onward (spelled rows [] 2) (if test then valued choice kind 1 1 digits else mixed rows 1 (45 ∷ digits))) is
-    ∙ ap (λ value. onward (spelled rows [] 2) (said choice 1 1 value)) reads)
-
--- both ask for the same
+-- a hyphen and digits, as the only word after a tool's name, ask for the same
 pub same_number : (which : Tool) (rows : List OptionRow) (letter : ℕ) {choice : Choice} (kind : Kind) (digits : List ℕ) {meant : Meant}
     → option_named rows (codes "-" ++ letter ∷ []) ≡ Some (choice, takes.Value kind) → nat_lt letter 128 ≡ true → (letter == 45) ≡ false
     → is_number (letter ∷ []) ≡ false → is_number digits ≡ true → value_in kind digits ≡ Ok meant
     → then_check (spelled rows ((45 ∷ digits) ∷ []) 1 (First choice kind)) (settings_for which)
     ≡ then_check (spelled rows ((45 ∷ letter ∷ []) ∷ digits ∷ []) 1 (First choice kind)) (settings_for which)
 same_number which rows letter {choice} kind digits named low other no_digit is reads =
-    one_number which rows choice kind digits is reads ∙ sym (one_given which rows letter choice kind kind digits named low other no_digit reads)
+    ap (λ given. then_check given (settings_for which)) (
+    ap (λ test. onward (spelled rows [] 2) (if test then valued choice kind 1 1 digits else mixed rows 1 (45 ∷ digits))) is
+    ∙ ap (λ value. onward (spelled rows [] 2) (said choice 1 1 value)) reads)
+    ∙ sym (one_given which rows letter choice kind kind digits named low other no_digit reads)

@@ -95,7 +95,8 @@ append-sets old choice value = refl
 
 -- what an option without a value asks is so where it is given
 
-either_fixed : {A : Type 0} (one rest : Bool) (fixed other : A) → (if rest then fixed else (if one then fixed else other)) ≡ (if one || rest then fixed else other)
+either_fixed : {A : Type 0} (one rest : Bool) (fixed other : A)
+    → (if rest then fixed else (if one then fixed else other)) ≡ (if one || rest then fixed else other)
 either_fixed true true fixed other = refl
 either_fixed one rest fixed other = refl
 

@@ -2,7 +2,6 @@ pub mod AskedLemmas
 pub mod CalledLemmas
 pub mod ChoiceLemmas
 pub mod CsplitLemmas
-pub mod FaultLemmas
 pub mod LimitLemmas
 pub mod MeaningLemmas
 pub mod SpellingLemmas

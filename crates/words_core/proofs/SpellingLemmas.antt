@@ -10,7 +10,7 @@ use Rattle.words_core.specs.declared.table.Kind.{Kind}
 use Rattle.words_core.specs.declared.spelling.State.{State}
 use Rattle.words_core.specs.declared.spelling.State.TheVariants.{Awaiting}
 use Rattle.words_core.specs.Table.{OptionRow}
-use Rattle.words_core.specs.Given.{Given, GivenOption, GivenOperand, nothing, joined}
+use Rattle.words_core.specs.Given.{Given, nothing, joined}
 use Rattle.words_core.specs.Spelling.{Meaning, before, given_before, onward, meaning_of, spelled, ended, Reads}
 
 -- what is so of both is so of either
@@ -20,14 +20,8 @@ either P false one other first second = second
 
 -- what is given first, and what is given after it
 
-pub joined-assoc : (a b c : Given) → joined a (joined b c) ≡ joined (joined a b) c
-joined-assoc a b c =
-    let with_options : List GivenOption → Given = λ options. record { options = options; operands = a.operands ++ (b.operands ++ c.operands) } in
-    let with_operands : List GivenOperand → Given = λ operands. record { options = (a.options ++ b.options) ++ c.options; operands = operands } in
-    ap with_options (sym (append_assoc a.options b.options c.options)) ∙ ap with_operands (sym (append_assoc a.operands b.operands c.operands))
-
 pub given_before-joined : (front given : Given) (meant : Result Given Fault) → given_before front (given_before given meant) ≡ given_before (joined front given) meant
-given_before-joined front given (Ok more) = ap (λ all. Ok all) (joined-assoc front given more)
+given_before-joined front given (Ok more) = simp append_assoc
 given_before-joined front given (Err fault) = refl
 
 -- what a word gives comes after what was given before it
@@ -58,13 +52,11 @@ one_more rows none left place state front whole some is spells =
     sym (went_on front (spelled rows (map (λ word. word.now) (take (length left - 1) (drop 1 left))) (place + 1)) (meaning_of rows state place (get_or left 0 none).now) is)
     ∙ ap (λ words. given_before front (spelled rows words place state)) (sym (front_and_rest none left some)) ∙ spells
 
-at_end : (rows : List OptionRow) (left : List (Bor (List ℕ))) (place : ℕ) (state : State) (given : Given) (whole : Result Given Fault) → length left < 1
-    → given_before given (spelled rows (map (λ word. word.now) left) place state) ≡ whole → whole ≡ given_before given (ended state)
-at_end rows left place state given whole none spells = sym spells ∙ ap (λ words. given_before given (spelled rows words place state)) (none_left left none)
-
 pub lacks_value : (rows : List OptionRow) (left : List (Bor (List ℕ))) (place : ℕ) {state : State} (given : Given) (whole : Result Given Fault) (choice : Choice) (kind : Kind) (option : ℕ) → length left < 1
     → given_before given (spelled rows (map (λ word. word.now) left) place state) ≡ whole → state ≡ Awaiting choice kind option → Reads whole (Err (Usage MissingValue option))
-lacks_value rows left place {state} given whole choice kind option none spells is = inr (at_end rows left place state given whole none spells ∙ ap (λ those. given_before given (ended those)) is)
+lacks_value rows left place {state} given whole choice kind option none spells is =
+    inr (sym spells ∙ ap (λ words. given_before given (spelled rows words place state)) (none_left left none)
+    ∙ ap (λ those. given_before given (ended those)) is)
 
 pub given_before-nothing : {given : Given} {meant : Result Given Fault} → given ≡ nothing → given_before given meant ≡ meant
 given_before-nothing {meant} none = ap (λ front. given_before front meant) none ∙ same meant where

@@ -52,7 +52,8 @@ pub value_attached : (rows : List OptionRow) (letter : ℕ) (choice : Choice) (k
     → Gives rows ((45 ∷ letter ∷ value) ∷ words) place choice meant (spelled rows words (place + 1) Reading)
 value_attached rows letter choice kind [] meant words place is some reads = absurd (some refl)
 value_attached rows letter choice kind (byte ∷ value) meant words place is some reads =
-    ap (onward (spelled rows words (place + 1))) (by_its_letter rows letter (byte ∷ value) place is.ascii is.no_hyphen is.named ∙ ap (said choice place place) reads)
+    ap (onward (spelled rows words (place + 1)))
+    (by_its_letter rows letter (byte ∷ value) place is.ascii is.no_hyphen is.named ∙ ap (said choice place place) reads)
 
 -- the next word
 

@@ -18,10 +18,6 @@ texts words = map (λ word. word.now) words
 abbrev pub after_first : List (Bor (List ℕ)) → List (List ℕ)
 after_first words = texts (take (length words - 1) (drop 1 words))
 
--- what is returned where this is meant
-abbrev pub Settles : Result Settings Fault → Result Settings Fault → Type 0
-Settles meant result = IfOk result (λ settings. meant ≡ Ok settings) × IfErr result (IsRefused HasBadOperands meant)
-
 pub names_none : (words : List (Bor (List ℕ))) → length words < 1 → settings_of (texts words) ≡ Err (Usage MissingTool 0)
 names_none words none = ap settings_of (none_left words none)
 
@@ -42,7 +38,7 @@ refused words none {row} some are named (inr is) = inr (inl (asked words none so
 pub returned : (words : List (Bor (List ℕ))) (none : Bor (List ℕ)) {rows : List ToolRow} {row : ToolRow} {given : Given} (result : Result Settings Fault)
     → 1 ≤ length words → rows ≡ tools → Some row ≡ row_named rows (get_or words 0 none).now → given_by row (after_first words) ≡ Ok given
     → IfOk result (λ settings. settings_for row.tool given ≡ Ok settings) → IfErr result (IsRefused HasBadOperands (settings_for row.tool given))
-    → Settles (settings_of (texts words)) result
+    → IfOk result (λ settings. settings_of (texts words) ≡ Ok settings) × IfErr result (IsRefused HasBadOperands (settings_of (texts words)))
 returned words none {row} {given} result some are named read is bad =
     let same : settings_for row.tool given ≡ settings_of (texts words)
     = sym (asked words none some are named ∙ ap (λ given. then_check given (settings_for row.tool)) read) in

@@ -6,13 +6,11 @@ use Rattle.ends_core.specs.declared.ends.Ends.{Ends}
 use Rattle.ends_core.specs.declared.ends.Ends.TheVariants.{First, ButLast, FromNth, Last}
 use Rattle.ends_core.specs.Ends.{first_of, after_of, last_of, but_last_of}
 use Rattle.ends_core.specs.Kept.{held_of, most_of, delim_of as kept_delim, unit_of as kept_unit}
-use Rattle.ends_core.specs.Stage.{Stretch, the_first, all_but_last, from_the_nth, the_last, stretch_of, unit_of, delim_of, count_of, waiting_of, may_lack}
+use Rattle.ends_core.specs.Stage.{Stretch, the_last, stretch_of, unit_of, delim_of, count_of, waiting_of, may_lack}
 
 abbrev pub is_last : Stretch → Bool
-is_last the_first = false
-is_last all_but_last = false
-is_last from_the_nth = false
 is_last the_last = true
+is_last stretch = false
 
 -- if bytes are kept and as many wait as are to be kept, no memory can be wanting
 abbrev pub FullLacksNone : Ends → Type 0
@@ -28,9 +26,7 @@ due (Last kept) piece = []
 -- what of a piece comes in after a head
 abbrev pub unused_of : Ends → List ℕ → List ℕ
 unused_of (First count front) piece = after_of front.delim front.unit front.left piece
-unused_of (ButLast kept) piece = []
-unused_of (FromNth count front) piece = []
-unused_of (Last kept) piece = []
+unused_of ends piece = []
 
 -- how many bytes a piece may have where this many lines or bytes are still to come
 abbrev pub piece_for : Counted → ℕ → ℕ
@@ -40,30 +36,23 @@ piece_for Bytes left = left
 -- how many bytes the next piece may have
 abbrev pub wanted_by : Ends → ℕ
 wanted_by (First count front) = piece_for front.unit front.left
-wanted_by (ButLast kept) = 2 ^ 64 - 1
-wanted_by (FromNth count front) = 2 ^ 64 - 1
-wanted_by (Last kept) = 2 ^ 64 - 1
+wanted_by ends = 2 ^ 64 - 1
 
 -- what waits after the piece
 abbrev pub left_waiting : Ends → List ℕ → List ℕ
-left_waiting (First count front) piece = []
 left_waiting (ButLast kept) piece = last_of (kept_delim kept) (kept_unit kept) (most_of kept) (held_of kept ++ piece)
-left_waiting (FromNth count front) piece = []
 left_waiting (Last kept) piece = last_of (kept_delim kept) (kept_unit kept) (most_of kept) (held_of kept ++ piece)
+left_waiting ends piece = []
 
 -- what is written at the end
 abbrev pub due_at_end : Ends → List ℕ
-due_at_end (First count front) = []
-due_at_end (ButLast kept) = []
-due_at_end (FromNth count front) = []
 due_at_end (Last kept) = held_of kept
+due_at_end ends = []
 
 -- nothing more is to come
 abbrev pub is_full : Ends → Bool
 is_full (First count front) = front.left == 0
-is_full (ButLast kept) = false
-is_full (FromNth count front) = false
-is_full (Last kept) = false
+is_full ends = false
 
 -- both were asked for the same
 pub record SameAsked (old new : Ends) : Type 0 where

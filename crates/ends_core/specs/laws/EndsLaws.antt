@@ -52,37 +52,26 @@ first_then_after delim Bytes n x = take-append-drop n x
 -- what stands after the first of a text that goes on
 pub after_of-append : (delim : ℕ) (unit : Counted) (n : ℕ) (x y : List ℕ)
     → after_of delim unit n (x ++ y) ≡ after_of delim unit n x ++ after_of delim unit (n - measure delim unit x) y
-after_of-append delim unit n x y = elim (cases_lt (measure delim unit x) n) [
-  | inl short ↦ after_short short
-  | inr full ↦ after_full full
-] where
-  together : first_of delim unit n (x ++ y) ++ after_of delim unit n (x ++ y) ≡ x ++ y
-  together = first_then_after delim unit n (x ++ y)
-
-  split : first_of delim unit n (x ++ y) ++ after_of delim unit n (x ++ y) ≡ first_of delim unit n x ++ (after_of delim unit n x ++ y)
-  split = first_then_after delim unit n (x ++ y) ∙ ap (λ z. z ++ y) (sym (first_then_after delim unit n x))
-      ∙ append_assoc (first_of delim unit n x) (after_of delim unit n x) y
-
-  after_full : n ≤ measure delim unit x → after_of delim unit n (x ++ y) ≡ after_of delim unit n x ++ after_of delim unit (n - measure delim unit x) y
-  after_full full =
-      let none : n - measure delim unit x ≡ 0 = omega arith in
-      let all : after_of delim unit 0 y ≡ y =
-      sym (ap (λ z. z ++ after_of delim unit 0 y) (first_of-zero delim unit y)) ∙ first_then_after delim unit 0 y in
-      append_cancel_left (first_of delim unit n x) _ _ (ap (λ z. z ++ after_of delim unit n (x ++ y)) (sym (first_of-full delim unit n x y full)) ∙ split)
-      ∙ ap (λ z. after_of delim unit n x ++ z) (sym all) ∙ ap (λ left. after_of delim unit n x ++ after_of delim unit left y) (sym none)
-
-  after_short : measure delim unit x < n → after_of delim unit n (x ++ y) ≡ after_of delim unit n x ++ after_of delim unit (n - measure delim unit x) y
-  after_short short =
-      let nothing : after_of delim unit n x ≡ [] =
-      append_cancel_left x _ _ (ap (λ z. z ++ after_of delim unit n x) (sym (first_of-short delim unit n short))
-      ∙ first_then_after delim unit n x ∙ sym (append-nil x)) in
-      let front : first_of delim unit n (x ++ y) ≡ x ++ first_of delim unit (n - measure delim unit x) y =
-      first_of-append delim unit n x y ∙ ap (λ z. z ++ first_of delim unit (n - measure delim unit x) y) (first_of-short delim unit n short) in
-      append_cancel_left (first_of delim unit n (x ++ y)) _ _ (first_then_after delim unit n (x ++ y)
-      ∙ ap (λ z. x ++ z) (sym (first_then_after delim unit (n - measure delim unit x) y))
-      ∙ sym (append_assoc x (first_of delim unit (n - measure delim unit x) y) (after_of delim unit (n - measure delim unit x) y))
-      ∙ ap (λ z. z ++ after_of delim unit (n - measure delim unit x) y) (sym front))
-      ∙ ap (λ z. z ++ after_of delim unit (n - measure delim unit x) y) (sym nothing)
+after_of-append delim unit n x y =
+    append_cancel_left (first_of delim unit n x ++ first_of delim unit (n - measure delim unit x) y) _ _
+    (ap (λ front. front ++ after_of delim unit n (x ++ y)) (sym (first_of-append delim unit n x y)) ∙ first_then_after delim unit n (x ++ y)
+    ∙ ap (λ z. z ++ y) (sym (first_then_after delim unit n x))
+    ∙ ap (λ z. (first_of delim unit n x ++ after_of delim unit n x) ++ z) (sym (first_then_after delim unit (n - measure delim unit x) y))
+    ∙ swapped) where
+      -- one of them is empty
+      swapped : (first_of delim unit n x ++ after_of delim unit n x)
+          ++ (first_of delim unit (n - measure delim unit x) y ++ after_of delim unit (n - measure delim unit x) y)
+          ≡ (first_of delim unit n x ++ first_of delim unit (n - measure delim unit x) y)
+          ++ (after_of delim unit n x ++ after_of delim unit (n - measure delim unit x) y)
+      swapped = elim (cases_lt (measure delim unit x) n) [
+        | inl short ↦
+            let none : after_of delim unit n x ≡ [] = append_cancel_left x _ _
+            (ap (λ z. z ++ after_of delim unit n x) (sym (first_of-short delim unit n short)) ∙ first_then_after delim unit n x ∙ sym (append-nil x)) in
+            simp (none, append-nil, append_assoc)
+        | inr full ↦
+            let none : first_of delim unit (n - measure delim unit x) y ≡ [] = ap (λ k. first_of delim unit k y) (omega arith) ∙ first_of-zero delim unit y in
+            simp (none, append-nil, append_assoc)
+      ]
 
 -- what stands before the last of a text, and these, are the text
 pub ends_together : (delim : ℕ) (unit : Counted) (n : ℕ) (x : List ℕ) → but_last_of delim unit n x ++ last_of delim unit n x ≡ x

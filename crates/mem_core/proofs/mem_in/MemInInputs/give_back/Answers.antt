@@ -1,11 +1,6 @@
-use Rattle.std.proofs.Common.{◌≡◌, true, ap, sym, subst}
-use Rattle.ports_core.specs.Source.{gets_back, is_readable}
-use Rattle.mem_core.specs.MemInState.{MemInState}
-use Rattle.ports_core.proofs.SourceLemmas.{one_changes, readable_within}
+use Rattle.ports_core.specs.Source.{gets_back}
+use Rattle.mem_core.proofs.MemInLemmas.{source_changes}
 use Rattle.mem_core.proofs.mem_in.MemInInputs.give_back.Goals as goal
 
 pub returns-clause-rest : goal.returns-clause-rest
-returns-clause-rest c =
-    one_changes _ _ c.args.slot (gets_back c.args.count) _ _ (ap (λ (those : MemInState). those.sources) c.self.view_is)
-    (readable_within _ c.args.slot (subst (λ (those : MemInState). is_readable those.sources c.args.slot ≡ true) (sym c.self.view_is) c.requires.input))
-    c.index_mut.ensures.value c.give_back.ensures
+returns-clause-rest c = source_changes c.args.slot (gets_back c.args.count) c.self.view_is c.requires.input c.index_mut.ensures.value c.give_back.ensures

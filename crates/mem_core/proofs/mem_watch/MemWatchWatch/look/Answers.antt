@@ -1,27 +1,18 @@
-use Rattle.std.proofs.Common.{refl, ap, subst, ◌∙◌, arith}
+use Rattle.std.proofs.Common.{ap, subst, ◌∙◌, arith}
 use Rattle.std.proofs.lemmas.Grind.{common_steps}
 use Rattle.mem_core.specs.MemWatchState.{MemWatchState, world_at}
-use Rattle.ports_core.specs.declared.fault.Fault.TheVariants.{Open}
-use Rattle.watch_core.specs.Watched.{Watched, Finds, breaks}
+use Rattle.watch_core.specs.Watched.{Watched, Finds}
 use Rattle.watch_core.specs.Edits.{seen_in}
-use Rattle.watch_core.proofs.NameLemmas.{name_changes, names_within}
+use Rattle.watch_core.proofs.NameLemmas.{names_within}
 use Rattle.mem_core.proofs.MemWatchLemmas.{finds_now}
 use Rattle.mem_core.proofs.mem_watch.MemWatchWatch.look.Goals as goal
-
-pub index_mut-requires : goal.index_mut-requires
-index_mut-requires c = grind (arith, common_steps)
-
-pub returns-then-fails-clause-err : goal.returns-then-fails-clause-err
-returns-then-fails-clause-err c =
-    let names = ap (λ (those : MemWatchState). those.watched) c.self.view_is in
-    (refl, name_changes _ _ c.args.place (breaks (Open c.args.place)) _ _ names (names_within _ _ c.args.place names c.requires) c.index_mut.ensures.value c.break_off.ensures)
 
 pub index-requires : goal.index-requires
 index-requires c = grind (arith, common_steps)
 
 pub returns-clause-ok : goal.returns-clause-ok
 returns-clause-ok c told =
-    finds_now c.self.inside.turns c.args.place c.self.view_is
-    c.self.invariant.1 (c.world_in-world.ensures ∙ ap (λ worlds. world_at worlds c.self.inside.turns) c.deref.ensures.value)
+    finds_now c.self.inside.turns c.self.view_is
+    c.self.invariant.1 (c.world_in-world.ensures ∙ ap (λ worlds. world_at worlds c.self.inside.turns) c.deref.ensures.value) c.args.place
     (names_within _ _ c.args.place (ap (λ (those : MemWatchState). those.watched) c.self.view_is) c.requires) c.index.ensures
     (subst (λ name. Finds (seen_in c.world_in-world.result.now) name c.find-found.result) (c.as_str.ensures.value ∙ ap (λ (those : Watched). those.name) c.behind-self.view_is) c.find-found.ensures)
