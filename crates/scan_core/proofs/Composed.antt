@@ -4,8 +4,8 @@ use Rattle.std.proofs.lemmas.List.{length-append}
 use Rattle.bre_core.specs.Match.{Parts}
 use Rattle.scan_core.specs.declared.node.Node.{Node}
 use Rattle.scan_core.specs.declared.node.Node.TheVariants.{Choose, Back}
-use Rattle.scan_core.specs.Code.{At, Leads, Goes, Walks, Path, maybe, starred}
-use Rattle.scan_core.specs.inner.Sets.{FitsIn, IsCode}
+use Rattle.scan_core.specs.Code.{At, Leads, Walks, Path, maybe, starred}
+use Rattle.scan_core.specs.inner.Sets.{FitsIn}
 use Rattle.scan_core.proofs.Walks.{at_at, at-right, at-split, leads_unshift, walk-left, walk-right, walk_on, path_on, Exact, in_second, through, ended, fits_led, fits_moved}
 
 pub exact_by : {code : List Node} (line : List ℕ) (Kind Other : ℕ → ℕ → Type 0) → Exact code line Kind → ((from to : ℕ) → Kind from to → Other from to) → ((from to : ℕ) → Other from to → Kind from to) → Exact code line Other

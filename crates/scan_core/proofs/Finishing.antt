@@ -1,8 +1,6 @@
 -- Items that are complete, and what waits for them.
-use Rattle.std.proofs.Common.{◌≡◌, ℕ, ◌+◌, ◌≤◌, List, [], ◌∷◌, ◌++◌, length, reverse, Option, Some, None, sym, ap, ◌∙◌, subst, arith, length-append}
+use Rattle.std.proofs.Common.{◌≡◌, List, [], ◌∷◌, ◌++◌, reverse, None, sym, ap, ◌∙◌, subst}
 use Rattle.std.proofs.lemmas.List.{reverse-append, reverse-reverse}
-use Rattle.bre_core.specs.Flat.{IsBounded}
-use Rattle.bre_core.specs.declared.token.Token.TheVariants.{Repeat}
 use Rattle.bre_core.proofs.Lists.{no_end, same_end}
 use Rattle.scan_core.specs.declared.compile.Compiling.{Compiling}
 use Rattle.scan_core.specs.declared.compile.Pending.{Pending}

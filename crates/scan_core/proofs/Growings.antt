@@ -1,14 +1,11 @@
 -- Sets of numbers as words that grow by what a node leads to.
-use Rattle.std.proofs.Common.{◌≡◌, ◌⊎◌, inl, inr, refl, ℕ, ◌+◌, Bool, List, sym, ◌∙◌, subst, arith}
-use Rattle.std.proofs.lemmas.Bool.{cases_lt}
+use Rattle.std.proofs.Common.{◌≡◌, ◌⊎◌, ℕ, Bool, List, ◌∙◌}
 use Rattle.scan_core.specs.declared.node.Node.{Node}
-use Rattle.scan_core.specs.declared.node.Node.TheVariants.{Choose}
-use Rattle.scan_core.specs.Code.{At}
-use Rattle.scan_core.specs.inner.Sets.{LeadsOn, Flows}
+use Rattle.scan_core.specs.inner.Sets.{Flows}
 use Rattle.scan_core.specs.declared.way.Way.{Way}
 use Rattle.scan_core.specs.inner.Ways.{IsWay, Opens}
 use Rattle.scan_core.specs.inner.Words.{Grows}
-use Rattle.scan_core.proofs.Enterings.{flows_of, exact_as, exact_twice}
+use Rattle.scan_core.proofs.Enterings.{exact_as, exact_twice}
 use Rattle.scan_core.proofs.Bits.{goes_both, grows_none}
 
 pub grows_by : (Added Other : ℕ → Type 0) {old new : List ℕ} {before on : ℕ} → Grows Added old new before on → ((n : ℕ) → Added n → Other n) → ((n : ℕ) → Other n → Added n) → Grows Other old new before on

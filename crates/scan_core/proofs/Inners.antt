@@ -1,5 +1,5 @@
 -- The sets of the places along a line, and a table of them.
-use Rattle.std.proofs.Common.{◌≡◌, ◌⊎◌, ◌↔◌, inl, inr, ℕ, zero, suc, ◌+◌, ◌*◌, ◌-◌, ◌<◌, ◌≤◌, Bool, true, false, IsTrue, List, length, get_or, slice_index, refl, sym, ap, ◌∙◌, subst, arith}
+use Rattle.std.proofs.Common.{◌≡◌, ◌⊎◌, ◌↔◌, inl, inr, ℕ, zero, suc, ◌+◌, ◌*◌, ◌-◌, ◌<◌, ◌≤◌, Bool, true, false, List, length, get_or, slice_index, refl, sym, ap, ◌∙◌, subst, arith}
 use Rattle.std.proofs.lemmas.Bool.{cases_eq, false≢true}
 use Rattle.scan_core.specs.declared.node.Node.{Node}
 use Rattle.scan_core.specs.declared.table.Table.{Table}
@@ -7,7 +7,7 @@ use Rattle.scan_core.specs.declared.table.State.{State}
 use Rattle.std.proofs.Math.Nat.{mul-le-mul, mul-suc}
 use Rattle.std.proofs.lemmas.List.{get_or_default}
 use Rattle.scan_core.specs.Code.{Entered, weight}
-use Rattle.scan_core.specs.Counted.{AreSteps, EndsIn, HasStepsBefore, IsStepCount, set_at}
+use Rattle.scan_core.specs.Counted.{set_at}
 use Rattle.scan_core.specs.Sets.{IsMarked, positions_among}
 use Rattle.scan_core.specs.inner.Sets.{Flows, FlowsOn, Passes}
 use Rattle.scan_core.specs.inner.Table.{Next, Inner, InSets, entry, IsState, no_state, IsTableOf, Walked, IsCounted}

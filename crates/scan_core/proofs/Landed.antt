@@ -10,16 +10,13 @@ use mir.Val.{bool_byte}
 use Rattle.scan_core.specs.declared.hops.Hop.{Hop}
 use Rattle.scan_core.specs.declared.landing.Landing.{Landing}
 use Rattle.scan_core.specs.declared.node.Node.{Node}
-use Rattle.scan_core.specs.declared.node.Node.TheVariants.{Choose, Back}
-use Rattle.scan_core.specs.Code.{At}
 use Rattle.scan_core.specs.inner.Hops.{AreHops, IsHop, no_hop}
-use Rattle.scan_core.specs.inner.Landings.{AreLandings, Ends, HasLanded, IsLanding, IsOther, Lands, no_landing}
+use Rattle.scan_core.specs.inner.Landings.{AreLandings, Ends, IsLanding, IsOther, Lands, no_landing}
 use Rattle.scan_core.specs.inner.Sets.{Flows, FlowsOn}
 use Rattle.scan_core.specs.inner.Words.{Adds, IsIn, width}
-use Rattle.scan_core.proofs.Enterings.{flows_of}
 use Rattle.scan_core.proofs.Hoppings.{one_of, none_of}
 use Rattle.scan_core.proofs.Each.{each_more, each_to}
-use Rattle.scan_core.proofs.Visitings.{adds_both, adds_none, is_in_word}
+use Rattle.scan_core.proofs.Visitings.{adds_both, is_in_word}
 
 pub enters_if : (words : List ℕ) {new : List ℕ} (number : ℕ) (holds : Bool) → number < 64 * length words → new ≡ set words (number / 64) (bit_or (get_or words (number / 64) 0) (bool_byte holds * 2 ^ (number % 64) % 2 ^ 64))
     → (other : ℕ) → IsIn new other ↔ (IsIn words other ⊎ (IsTrue holds × (other ≡ number)))

@@ -13,11 +13,10 @@ use Rattle.scan_core.specs.declared.needle.Needle.{Needle}
 use Rattle.scan_core.specs.declared.needle.Needle.TheVariants.{Byte, Text}
 use Rattle.scan_core.specs.declared.node.Node.{Node}
 use Rattle.scan_core.specs.declared.node.Node.TheVariants.{Take, First, Last, Choose, Back}
-use Rattle.scan_core.specs.declared.rarest.Rarest.{Rarest}
 use Rattle.scan_core.specs.Clear.{IsClear}
 use Rattle.scan_core.specs.Code.{At, Leads, Walks, code_of, IsOrdered}
 use Rattle.scan_core.specs.Counted.{EndsIn}
-use Rattle.scan_core.specs.inner.Needles.{is_among, AreBytes, IsNeedle, LacksBefore, IsPassed, IsRarest, TakesOnly, IsLiteral}
+use Rattle.scan_core.specs.inner.Needles.{is_among, AreBytes, IsNeedle, LacksBefore, IsPassed, TakesOnly, IsLiteral}
 use Rattle.scan_core.proofs.Codes.{contained}
 use Rattle.scan_core.proofs.Enterings.{at_once, at_least}
 use Rattle.scan_core.proofs.Walks.{at_at}

@@ -10,7 +10,7 @@ use Rattle.scan_core.specs.declared.node.Node.TheVariants.{Take}
 use Rattle.scan_core.specs.declared.table.State.{State}
 use Rattle.scan_core.specs.declared.table.Table.{Table}
 use Rattle.scan_core.specs.inner.Base.{IsBase}
-use Rattle.scan_core.specs.inner.Built.{AreAlike, Built, IsBuilding, IsFilling, IsOpen, LeadsTo, Led}
+use Rattle.scan_core.specs.inner.Built.{AreAlike, Built, IsFilling, IsOpen, LeadsTo, Led}
 use Rattle.scan_core.specs.inner.Each.{AreEach}
 use Rattle.scan_core.specs.Code.{At}
 use Rattle.scan_core.specs.Counted.{set_at}

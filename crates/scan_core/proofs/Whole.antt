@@ -1,5 +1,5 @@
 -- The code of a pattern and the search for its end, together.
-use Rattle.std.proofs.Common.{◌≡◌, ◌↔◌, ℕ, ◌+◌, ◌*◌, ◌<◌, ◌≤◌, Bool, IsTrue, List, [], length, refl, ap, arith}
+use Rattle.std.proofs.Common.{◌≡◌, ◌↔◌, ℕ, ◌+◌, ◌*◌, ◌<◌, ◌≤◌, Bool, IsTrue, List, [], length, ap, arith}
 use Rattle.bre_core.specs.Pattern.{Pattern, positions_of}
 use Rattle.bre_core.specs.Match.{Contains}
 use Rattle.bre_core.specs.Search.{contains}
@@ -8,7 +8,6 @@ use Rattle.scan_core.specs.Code.{code_of, IsOrdered, weight}
 use Rattle.scan_core.specs.Counted.{EndsIn}
 use Rattle.scan_core.specs.inner.Sets.{IsCode}
 use Rattle.scan_core.proofs.Codes.{code_exact, contained}
-use Rattle.scan_core.proofs.Along.{flow_goes}
 use Rattle.scan_core.proofs.Weights.{weight_is, length_most}
 
 pub is_code : (pattern : Pattern) → IsOrdered pattern → IsCode (code_of pattern)

@@ -1,4 +1,4 @@
-use Rattle.std.proofs.Common.{◌≡◌, ◌-◌, reverse, drop, length, sym, ap, ◌∙◌, subst, arith}
+use Rattle.std.proofs.Common.{◌≡◌, ◌-◌, reverse, drop, length, ap, ◌∙◌, subst, arith}
 use Rattle.bre_core.specs.Flat.{AreBounded}
 use Rattle.bre_core.specs.Steps.{Steps}
 use Rattle.scan_core.specs.inner.Compiling.{Takes, depth_in}

@@ -1,4 +1,4 @@
-use Rattle.std.proofs.Common.{length, sym, ap, ◌∙◌, subst}
+use Rattle.std.proofs.Common.{ap, ◌∙◌, subst}
 use Rattle.scan_core.specs.inner.Compiling.{Finishes}
 use Rattle.scan_core.proofs.Finishing.{finish_more, finish_ends}
 use Rattle.scan_core.proofs.compile.Compiling.finish.Goals as goal
