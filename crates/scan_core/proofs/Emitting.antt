@@ -86,20 +86,6 @@ exact_out {nodes} before code {start} {size} {low} {high} b n s same some t e =
     none : 0 ≡ high - low
     none = omega (arith, same)
 
--- the first optional copy
-pub optional_first : {nodes new : List Node} (before code : List Node) {start : ℕ} → length before ≡ start → nodes ≡ before ++ reverse code → new ≡ nodes ++ Choose (length nodes - start + 1) ∷ [] → new ≡ before ++ reverse (up_to 1 code)
-optional_first {nodes} before code {start} b n e =
-    e ∙ ap (λ l. l ++ Choose (length nodes - start + 1) ∷ []) n ∙ ap (λ k. (before ++ reverse code) ++ Choose k ∷ []) skip
-    ∙ append_assoc before (reverse code) (Choose (length (code ++ []) + 1) ∷ [])
-    ∙ ap (λ l. before ++ (reverse l ++ Choose (length (code ++ []) + 1) ∷ [])) (sym (append-nil code))
-    ∙ ap (λ l. before ++ l) (sym (reverse-cons (Choose (length (code ++ []) + 1)) (code ++ [])))
-  where
-    skip : length nodes - start + 1 ≡ length (code ++ []) + 1
-    skip =
-        let s = counted_item before code b n in
-        let a = length-append code [] in
-        omega (arith, s, a)
-
 -- one more optional copy
 pub optional_more : {nodes now middle new : List Node} (more before code : List Node) {start size : ℕ} (count : ℕ) → length before ≡ start → nodes ≡ before ++ reverse code → size ≡ length nodes - start → now ≡ nodes ++ more
     → now ≡ before ++ reverse (up_to count code) → middle ≡ now ++ stretch start size now → new ≡ middle ++ Choose (length middle - start + 1) ∷ [] → new ≡ before ++ reverse (up_to (count + 1) code)

@@ -2,7 +2,7 @@ use Rattle.std.proofs.Common.{◌-◌, ◌∷◌, [], length, ap, arith, length-
 use Rattle.std.proofs.lemmas.Grind.{common_steps}
 use Rattle.std.proofs.lemmas.Result.{on_ok_weaker}
 use Rattle.scan_core.specs.declared.node.Node.TheVariants.{Choose}
-use Rattle.scan_core.proofs.Emitting.{exact_out, optional_first, optional_more, bounded_out, grown_on}
+use Rattle.scan_core.proofs.Emitting.{exact_out, optional_more, bounded_out, grown_on}
 use Rattle.scan_core.proofs.emit.write_bounded.Goals as goal
 
 pub returns-then-low-high-clause-ok : goal.returns-then-low-high-clause-ok
@@ -17,10 +17,7 @@ copy-requires c =
     omega (arith, e, l, c.requires, c.len.ensures)
 
 pub loop-more-init : goal.loop-more-init
-loop-more-init c = record {
-  grown = (Choose _ ∷ [], c.in_ok-choose.ensures.ok);
-  written = λ before code b n. optional_first before code b n c.in_ok-choose.ensures.ok;
-}
+loop-more-init c = grind (arith, common_steps)
 
 pub loop-more-preserved : goal.loop-more-preserved
 loop-more-preserved c = let g = c.loop-more.invariant.grown in record {

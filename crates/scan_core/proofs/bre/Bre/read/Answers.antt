@@ -35,23 +35,6 @@ build-requires-clause-code c = subst IsCode (sym (c.as_slice-nodes.ensures.value
 pub needle_of-requires : goal.needle_of-requires
 needle_of-requires c = subst IsCode (sym (c.as_slice-nodes.ensures.value ∙ c.in_ok-code.ensures.ok)) (is_code _ c.in_ok-code.ensures.order)
 
-pub invariant_of-result : goal.invariant_of-result
-invariant_of-result c =
-    let bre = c.in_ok-expression.expression in
-    let e = c.as_slice-nodes.ensures.value in
-    subst (λ code. (code ≡ code_of bre) × IsOrdered bre × (positions_of bre ≤ 65535) × IsMasks code c.in_ok-masks.masks × IfSome c.in_ok-table.table (IsTable code)
-    × IfSome c.in_ok-shifts.shifts (IsShiftTable code) × AreClosures code c.in_ok-closures.closures × IsBase code c.in_ok-base.base × IfSome c.in_ok-needle.needle (IsNeedle code)) e (
-      e ∙ c.in_ok-code.ensures.ok,
-      c.in_ok-code.ensures.order,
-      c.in_ok-expression.ensures.size,
-      c.in_ok-masks.ensures.ok,
-      c.in_ok-table.ensures.ok,
-      c.in_ok-shifts.ensures.ok,
-      c.in_ok-closures.ensures.ok,
-      c.in_ok-base.ensures.ok,
-      c.in_ok-needle.ensures.ok,
-    )
-
 pub returns-in_err-shifts : goal.returns-in_err-shifts
 returns-in_err-shifts c =
     let p = err_from_is_err_and c.from_residual-in_err-shifts.result c.from_residual-in_err-shifts.ensures.1 in
