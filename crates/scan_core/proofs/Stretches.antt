@@ -6,15 +6,6 @@ use Rattle.scan_core.specs.declared.node.Node.{Node}
 use Rattle.scan_core.specs.Code.{copies}
 use Rattle.scan_core.specs.inner.Backwards.{stretch}
 
--- one node more of a stretch
-pub stretch_more : (old : List Node) {now new : List Node} (from k : ℕ) {node : Node} → now ≡ old ++ take k (drop from old) → from + k < length old → node ≡ get_or now (from + k) node → new ≡ now ++ node ∷ []
-    → new ≡ old ++ take (k + 1) (drop from old)
-stretch_more old from k {node} e h is m =
-    let here : node ≡ get_or (drop from old) k node = is ∙ ap (λ l. get_or l (from + k) node) e ∙ get_or_append_left old (take k (drop from old)) node (from + k) h ∙ sym (get_or-drop from old k node) in
-    let size = length-drop from old in
-    let more : take (k + 1) (drop from old) ≡ take k (drop from old) ++ node ∷ [] = take_more (drop from old) k node (omega (arith, size, h)) ∙ ap (λ n. take k (drop from old) ++ n ∷ []) (sym here) in
-    m ∙ ap (λ l. l ++ node ∷ []) e ∙ append_assoc old (take k (drop from old)) (node ∷ []) ∙ ap (λ l. old ++ l) (sym more)
-
 -- a stretch stays where nodes are written after it
 pub stretch_stays : (from size : ℕ) (old more : List Node) → from + size ≤ length old → stretch from size (old ++ more) ≡ stretch from size old
 stretch_stays from size old more h =

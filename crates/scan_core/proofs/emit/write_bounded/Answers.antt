@@ -10,11 +10,7 @@ returns-then-low-high-clause-ok c = on_ok_weaker c.copy_times.result
     (λ e before code b o some n. exact_out before code {size = c.len.result - c.args.start} {times = c.saturating_sub.result} b n (omega (arith, c.len.ensures)) c.if-low-high.true some (omega arith) e) c.copy_times.ensures.ok
 
 pub copy-requires : goal.copy-requires
-copy-requires c =
-    let g = c.loop-more.invariant.grown in
-    let e = ap length g.1 in
-    let l = length-append c.args.nodes.now.items g.0 in
-    omega (arith, e, l, c.requires, c.len.ensures)
+copy-requires c = grind (arith, common_steps)
 
 pub loop-more-init : goal.loop-more-init
 loop-more-init c = grind (arith, common_steps)
@@ -27,11 +23,7 @@ loop-more-preserved c = let g = c.loop-more.invariant.grown in record {
 }
 
 pub copy_times-requires-2 : goal.copy_times-requires-2
-copy_times-requires-2 c =
-    let g = c.loop-more.invariant.grown in
-    let e = ap length g.1 in
-    let l = length-append c.args.nodes.now.items g.0 in
-    omega (arith, e, l, c.requires, c.len.ensures)
+copy_times-requires-2 c = grind (arith, common_steps)
 
 pub returns-clause-ok : goal.returns-clause-ok
 returns-clause-ok c = let g = c.loop-more.invariant.grown in on_ok_weaker c.copy_times-2.result
