@@ -3,7 +3,6 @@ use Rattle.std.proofs.lemmas.Result.{err_from_is_err_and}
 use Rattle.bre_core.specs.declared.fault.BreFault.{BreFault}
 use Rattle.bre_core.specs.declared.fault.BreFault.TheVariants.{Memory, TooLarge}
 use Rattle.bre_core.specs.Pattern.{Pattern, positions_of}
-use Rattle.std.proofs.lemmas.Grind.{common_steps}
 use Rattle.scan_core.specs.Code.{code_of, IsOrdered}
 use Rattle.scan_core.specs.inner.Base.{IsBase}
 use Rattle.scan_core.specs.inner.Closures.{AreClosures}
@@ -37,7 +36,11 @@ pub needle_of-requires : goal.needle_of-requires
 needle_of-requires c = subst IsCode (sym (c.as_slice-nodes.ensures.value ∙ c.in_ok-code.ensures.ok)) (is_code _ c.in_ok-code.ensures.order)
 
 pub returns-in_err-shifts : goal.returns-in_err-shifts
-returns-in_err-shifts c = grind (arith, common_steps)
+returns-in_err-shifts c =
+    let p = err_from_is_err_and c.from_residual-in_err-shifts.result c.from_residual-in_err-shifts.ensures.1 in
+    rw (p.1, p.2, c.in_err-shifts.ensures.err) (record { reads = tt; groups = tt; size = tt; refused = λ h. absurd h; large = λ e. absurd (other_fault e) })
 
 pub returns-in_err-needle : goal.returns-in_err-needle
-returns-in_err-needle c = grind (arith, common_steps)
+returns-in_err-needle c =
+    let p = err_from_is_err_and c.from_residual-in_err-needle.result c.from_residual-in_err-needle.ensures.1 in
+    rw (p.1, p.2, c.in_err-needle.ensures.err) (record { reads = tt; groups = tt; size = tt; refused = λ h. absurd h; large = λ e. absurd (other_fault e) })
