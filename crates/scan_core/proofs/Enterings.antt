@@ -1,4 +1,4 @@
--- Sets of nodes that grow.
+-- The nodes at the numbers of a code, and what they lead to.
 use Rattle.std.proofs.Common.{◌≡◌, ◌⊎◌, inl, inr, ℕ, zero, suc, ◌+◌, ◌<◌, ◌≤◌, Bool, true, false, IsTrue, List, [], ◌∷◌, length, get_or, refl, sym, ◌∙◌, subst, arith, ◌↔◌}
 use Rattle.std.proofs.lemmas.Bool.{false≢true}
 use Rattle.bre_core.specs.Match.{Parts}
