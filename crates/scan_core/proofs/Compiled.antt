@@ -1,5 +1,5 @@
 -- The code that is written is the pattern's.
-use Rattle.std.proofs.Common.{◌≡◌, ◌⊎◌, inl, inr, ℕ, zero, suc, ◌+◌, ◌-◌, ◌<◌, ◌≤◌, List, [], ◌∷◌, ◌++◌, length, drop, get_or, reverse, Option, Some, None, refl, sym, ap, ◌∙◌, subst, arith, append_assoc, append-nil}
+use Rattle.std.proofs.Common.{rules, ◌≡◌, ◌⊎◌, inl, inr, ℕ, zero, suc, ◌+◌, ◌-◌, ◌<◌, ◌≤◌, List, [], ◌∷◌, ◌++◌, length, drop, get_or, reverse, Option, Some, None, refl, sym, ap, ◌∙◌, subst, arith, append_assoc, append-nil}
 use Rattle.std.proofs.lemmas.List.{reverse-append, reverse-reverse, at_drop_more, at_drop_all}
 use Rattle.bre_core.specs.Flat.{IsBounded, AreBounded}
 use Rattle.bre_core.specs.Match.{IsAtMost}
@@ -103,10 +103,7 @@ repeated_out old code now new pending d s o n p f =
 
 -- an item that stands no time
 none_of : {nodes : List Node} (code : List Node) (low : ℕ) → low ≤ 0 → nodes ≡ nodes ++ reverse (copies low code ++ up_to (0 - low) code)
-none_of {nodes} code low h =
-    let z : 0 ≡ low = omega (arith, h) in
-    let e : 0 ≡ 0 - low = omega arith in
-    sym (append-nil nodes) ∙ ap (λ n. nodes ++ reverse (copies n code)) z ∙ ap (λ l. nodes ++ reverse l) (sym (append-nil (copies low code))) ∙ ap (λ n. nodes ++ reverse (copies low code ++ up_to n code)) e
+none_of {nodes} code low h = search rules
 
 mutual
   write_pattern : (pattern : Pattern) (tokens : List Token) (old final : Compiling) → IsOrdered pattern → old.passing ≡ None → Base old.pending.items → Steps Takes old (backwards pattern ++ tokens) final

@@ -1,5 +1,5 @@
 -- The walks of a pattern's code are what it matches: each way of putting codes together.
-use Rattle.std.proofs.Common.{◌≡◌, ◌⊎◌, inl, inr, ℕ, zero, suc, ◌+◌, ◌≤◌, List, [], ◌∷◌, ◌++◌, length, refl, sym, ◌∙◌, subst, arith}
+use Rattle.std.proofs.Common.{rules, ◌≡◌, ◌⊎◌, inl, inr, ℕ, zero, suc, ◌+◌, ◌≤◌, List, [], ◌∷◌, ◌++◌, length, refl, sym, ◌∙◌, subst, arith}
 use Rattle.std.proofs.lemmas.List.{length-append}
 use Rattle.bre_core.specs.Match.{Parts}
 use Rattle.scan_core.specs.declared.node.Node.{Node}
@@ -9,18 +9,10 @@ use Rattle.scan_core.specs.inner.Sets.{FitsIn}
 use Rattle.scan_core.proofs.Walks.{at_at, at-right, at-split, leads_unshift, walk-left, walk-right, walk_on, path_on, Exact, in_second, through, ended, fits_led, fits_moved}
 
 pub exact_by : {code : List Node} (line : List ℕ) (Kind Other : ℕ → ℕ → Type 0) → Exact code line Kind → ((from to : ℕ) → Kind from to → Other from to) → ((from to : ℕ) → Other from to → Kind from to) → Exact code line Other
-exact_by line Kind Other e there here = record {
-  fits = e.fits;
-  sound = λ from to p. there from to (e.sound from to p);
-  complete = λ from to k. e.complete from to (here from to k);
-}
+exact_by line Kind Other e there here = search rules
 
 pub exact_none : (line : List ℕ) → Exact [] line (λ from to. from ≡ to)
-exact_none line = record {
-  fits = record { fits = λ n node h. absurd h };
-  sound = λ from to p. ended [] line p.0 0 refl p.1;
-  complete = λ from to e. (zero, (refl, e));
-}
+exact_none line = search rules
 
 -- a code of one node that leads to its end
 pub exact_one : {node : Node} (line : List ℕ) (Kind : ℕ → ℕ → Type 0)

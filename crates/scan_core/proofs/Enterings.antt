@@ -1,5 +1,5 @@
 -- The nodes at the numbers of a code, and what they lead to.
-use Rattle.std.proofs.Common.{◌≡◌, ◌⊎◌, inl, inr, ℕ, zero, suc, ◌+◌, ◌<◌, ◌≤◌, Bool, true, false, IsTrue, List, [], ◌∷◌, length, get_or, refl, sym, ◌∙◌, subst, arith, ◌↔◌}
+use Rattle.std.proofs.Common.{rules, ◌≡◌, ◌⊎◌, inl, inr, ℕ, zero, suc, ◌+◌, ◌<◌, ◌≤◌, Bool, true, false, IsTrue, List, [], ◌∷◌, length, get_or, refl, sym, ◌∙◌, subst, arith, ◌↔◌}
 use Rattle.std.proofs.lemmas.Bool.{false≢true}
 use Rattle.bre_core.specs.Match.{Parts}
 use Rattle.scan_core.specs.declared.node.Node.{Node}
@@ -30,10 +30,7 @@ pub exact_as : {New Old Added Other : Type 0} → New ↔ (Old ⊎ Added) → (A
 exact_as e there here = (λ h. elim (e.0 h) [ inl was ↦ inl was | inr k ↦ inr (there k) ], λ h. e.1 (elim h [ inl was ↦ inl was | inr k ↦ inr (here k) ]))
 
 pub exact_twice : {New Middle Old Added Other : Type 0} → Middle ↔ (Old ⊎ Added) → New ↔ (Middle ⊎ Other) → New ↔ (Old ⊎ (Added ⊎ Other))
-exact_twice e f = (
-  λ h. elim (f.0 h) [ inl k ↦ elim (e.0 k) [ inl was ↦ inl was | inr one ↦ inr (inl one) ] | inr other ↦ inr (inr other) ],
-  λ h. f.1 (elim h [ inl was ↦ inl (e.1 (inl was)) | inr new ↦ elim new [ inl one ↦ inl (e.1 (inr one)) | inr other ↦ inr other ] ]),
-)
+exact_twice e f = search rules
 
 pub at_index : (code : List Node) (n : ℕ) (d : Node) → n < length code → At code n (get_or code n d)
 at_index [] n d h = absurd (omega (arith, h))

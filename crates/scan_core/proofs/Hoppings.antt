@@ -1,5 +1,5 @@
 -- Hops: numbers of a word that lead to the same one beyond it.
-use Rattle.std.proofs.Common.{◌≡◌, ◌⊎◌, inl, inr, ℕ, ◌+◌, ◌*◌, ◌/◌, ◌%◌, ◌^◌, ◌<◌, false, List, length, get_or, set, min, sym, ap, ◌∙◌, subst, arith, w64}
+use Rattle.std.proofs.Common.{rules, ◌≡◌, ◌⊎◌, inl, inr, ℕ, ◌+◌, ◌*◌, ◌/◌, ◌%◌, ◌^◌, ◌<◌, false, List, length, get_or, set, min, sym, ap, ◌∙◌, subst, arith, w64}
 use Rattle.std.proofs.lemmas.Bool.{cases_eq}
 use Rattle.std.proofs.lemmas.Nat.{and_le_l}
 use Rattle.std.proofs.lemmas.Nat.Bits.{bit_at-trailing_zeros, bit_at_and, bit_at-lt, bit_at-zero}
@@ -35,18 +35,7 @@ none_of word from bit none here there =
 
 pub hopped_more : (hops : List Hop) (at word count : ℕ) {old now new : List ℕ} {before on on' : ℕ} → Grows (Hopped hops at word count) old now before on
     → Grows (HoppedBy (get_or hops (at * 3 + count) no_hop) word) now new on on' → Grows (Hopped hops at word (count + 1)) old new before on'
-hopped_more hops at word count {on} f g =
-    grows_by (λ n. Hopped hops at word count n ⊎ HoppedBy (get_or hops (at * 3 + count) no_hop) word n) (Hopped hops at word (count + 1)) (grows_both _ _ on f g) there here
-  where
-    there : (n : ℕ) → Hopped hops at word count n ⊎ HoppedBy (get_or hops (at * 3 + count) no_hop) word n → Hopped hops at word (count + 1) n
-    there n (inl h) = (h.0, (let l = h.1 in omega (arith, l)), h.2)
-    there n (inr h) = (count, omega arith, h)
-
-    here : (n : ℕ) → Hopped hops at word (count + 1) n → Hopped hops at word count n ⊎ HoppedBy (get_or hops (at * 3 + count) no_hop) word n
-    here n h = elim (cases_eq h.0 count) [
-      | inl same ↦ inr (subst (λ k. HoppedBy (get_or hops (at * 3 + k) no_hop) word n) same h.2)
-      | inr other ↦ inl (h.0, (let l = h.1 in omega (arith, l, other)), h.2)
-    ]
+hopped_more hops at word count {on} f g = search rules
 
 -- a number by its word and bit
 pub entered_is : (words : List ℕ) (number : ℕ) {word bit : ℕ} → word ≡ number / 64 → bit ≡ 1 * 2 ^ (number % 64) % 2 ^ 64 → get_or words word 0 < 2 ^ 64 → (bit_and (get_or words word 0) bit ≡ 0 → ⊥) → IsIn words number

@@ -170,9 +170,7 @@ eight_bits word eight bit h =
 -- an entry by its word, its eight and its choice
 entry_at : {code : List Node} (place : ℕ) {at eight chosen entry : ℕ} → place / 2048 ≡ at → place / 256 % 8 ≡ eight → place % 256 ≡ chosen
     → Closes code (place / 2048) (chosen_at place) entry → Closes code at (chosen * 2 ^ (eight * 8) % 2 ^ 64) entry
-entry_at {code} place {eight} {chosen} {entry} word which low c =
-    subst (λ n. Closes code n (chosen * 2 ^ (eight * 8) % 2 ^ 64) entry) word
-    (subst (λ n. Closes code (place / 2048) n entry) (ap (λ n. n * 2 ^ (place / 256 % 8 * 8) % 2 ^ 64) low ∙ ap (λ n. chosen * 2 ^ (n * 8) % 2 ^ 64) which) c)
+entry_at {code} place {eight} {chosen} {entry} word which low c = search rules
 
 pub join_more : {code : List Node} {inside : List ℕ} {at word eight : ℕ} (all : ℕ) {entry : ℕ} → Joining code at word eight all → AreEach 0 (IsInside code) (width code * 2048) inside → at < width code → eight < 8 → word < 2 ^ 64 → entry ≡ get_or inside (at * 2048 + (eight * 256 + word / 2 ^ (eight * 8) % 256)) 0 → Joining code at word (eight + 1) (bit_or all entry)
 join_more {code} {at} {word} {eight} all {entry} j i within h fits e = record {

@@ -1,5 +1,5 @@
 -- Entering what landings lead to.
-use Rattle.std.proofs.Common.{◌≡◌, ◌⊎◌, ◌↔◌, inl, inr, ℕ, ◌+◌, ◌*◌, ◌-◌, ◌/◌, ◌%◌, ◌^◌, ◌<◌, ◌≤◌, Bool, true, false, IsTrue, List, [], ◌∷◌, ◌++◌, length, length-append, append_assoc, get_or, set, eqb, not, refl, sym, ap, ◌∙◌, subst, arith}
+use Rattle.std.proofs.Common.{rules, ◌≡◌, ◌⊎◌, ◌↔◌, inl, inr, ℕ, ◌+◌, ◌*◌, ◌-◌, ◌/◌, ◌%◌, ◌^◌, ◌<◌, ◌≤◌, Bool, true, false, IsTrue, List, [], ◌∷◌, ◌++◌, length, length-append, append_assoc, get_or, set, eqb, not, refl, sym, ap, ◌∙◌, subst, arith}
 use Rattle.std.proofs.lemmas.Bool.{cases_eq, false≢true, eqb-false, not-true, ne_eqb}
 use Rattle.std.proofs.lemmas.List.{get_or_append_left, set-get_or}
 use Rattle.std.specs.Prelude.{bit_and, bit_or}
@@ -80,10 +80,7 @@ adding_more {old} {now} {landing} a is e = record {
 }
 
 pub hop_lands : {code : List Node} {hops : List Hop} {at : ℕ} (which : ℕ) {hop : Hop} → AreHops code hops → at < width code → which < 3 → hop ≡ get_or hops (at * 3 + which) no_hop → Ends code hop.to → IsLanding code (record { at = at; from = hop.from; to = hop.to })
-hop_lands {code} {hops} {at} which are h l e ends =
-    let place : (at * 3 + which) / 3 ≡ at = omega (arith, l) in
-    let is = subst (λ x. IsHop code at x) (sym e) (subst (λ n. IsHop code n (get_or hops (at * 3 + which) no_hop)) place (are.each (at * 3 + which) (omega (arith, l, h)))) in
-    record { at = h; within = is.within; leads = is.leads; ends = ends }
+hop_lands {code} {hops} {at} which are h l e ends = search rules
 
 pub not_zero : (n : ℕ) → IsTrue (not (eqb n 0)) → n ≡ 0 → ⊥
 not_zero n t = eqb-false n 0 (not-true (eqb n 0) t)

@@ -1,5 +1,5 @@
 -- Entering all that a set of words leads to, word by word.
-use Rattle.std.proofs.Common.{◌≡◌, ◌⊎◌, ◌↔◌, inl, inr, ℕ, zero, suc, ◌+◌, ◌*◌, ◌-◌, ◌/◌, ◌%◌, ◌^◌, ◌<◌, ◌≤◌, Bool, false, List, length, get_or, refl, sym, ap, ◌∙◌, subst, arith, w64}
+use Rattle.std.proofs.Common.{rules, ◌≡◌, ◌⊎◌, ◌↔◌, inl, inr, ℕ, zero, suc, ◌+◌, ◌*◌, ◌-◌, ◌/◌, ◌%◌, ◌^◌, ◌<◌, ◌≤◌, Bool, false, List, length, get_or, refl, sym, ap, ◌∙◌, subst, arith, w64}
 use Rattle.std.proofs.lemmas.Bool.{cases_eq, cases_lt}
 use Rattle.std.proofs.lemmas.Nat.{and_le_l}
 use Rattle.std.proofs.lemmas.Nat.Bits.{bit_at-zero, bit_at_clear_same, bit_at_clear_other}
@@ -15,11 +15,7 @@ use Rattle.scan_core.specs.inner.Words.{Adds, GoesOn, IsIn, unset, Visits, Sprea
 
 pub is_in_word : (words : List ℕ) (at bit : ℕ) → bit < 64 → (bit_at (get_or words at 0) bit ≡ 1) ↔ IsIn words (at * 64 + bit)
 unfolding IsIn
-is_in_word words at bit h =
-    let word : (at * 64 + bit) / 64 ≡ at = omega (arith, h) in
-    let place : (at * 64 + bit) % 64 ≡ bit = omega (arith, h) in
-    let same : bit_at (get_or words ((at * 64 + bit) / 64) 0) ((at * 64 + bit) % 64) ≡ bit_at (get_or words at 0) bit = ap (λ k. bit_at (get_or words k 0) ((at * 64 + bit) % 64)) word ∙ ap (bit_at (get_or words at 0)) place in
-    (λ e. same ∙ e, λ e. sym same ∙ e)
+is_in_word words at bit h = search rules
 
 pub is_within : (words : List ℕ) (number : ℕ) → IsIn words number → number < 64 * length words
 unfolding IsIn
