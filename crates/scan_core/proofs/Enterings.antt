@@ -25,13 +25,6 @@ positions_most code [] = omega arith
 positions_most [] (mark ∷ marks) = let w = weight_if_most mark 1 in omega (arith, w)
 positions_most (node ∷ code) (mark ∷ marks) = let w = weight_if_most mark (weight_of node) in let r = positions_most code marks in omega (arith, w, r)
 
--- what is new, in other words, and after a second time
-pub exact_as : {New Old Added Other : Type 0} → New ↔ (Old ⊎ Added) → (Added → Other) → (Other → Added) → New ↔ (Old ⊎ Other)
-exact_as e there here = (λ h. elim (e.0 h) [ inl was ↦ inl was | inr k ↦ inr (there k) ], λ h. e.1 (elim h [ inl was ↦ inl was | inr k ↦ inr (here k) ]))
-
-pub exact_twice : {New Middle Old Added Other : Type 0} → Middle ↔ (Old ⊎ Added) → New ↔ (Middle ⊎ Other) → New ↔ (Old ⊎ (Added ⊎ Other))
-exact_twice e f = search rules
-
 pub at_index : (code : List Node) (n : ℕ) (d : Node) → n < length code → At code n (get_or code n d)
 at_index [] n d h = absurd (omega (arith, h))
 at_index (x ∷ code) zero d h = refl

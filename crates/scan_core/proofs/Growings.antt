@@ -5,7 +5,6 @@ use Rattle.scan_core.specs.inner.Sets.{Flows}
 use Rattle.scan_core.specs.declared.way.Way.{Way}
 use Rattle.scan_core.specs.inner.Ways.{IsWay, Opens}
 use Rattle.scan_core.specs.inner.Words.{Grows}
-use Rattle.scan_core.proofs.Enterings.{exact_as, exact_twice}
 use Rattle.scan_core.proofs.Bits.{goes_both, grows_none}
 
 pub grows_by : (Added Other : ℕ → Type 0) {old new : List ℕ} {before on : ℕ} → Grows Added old new before on → ((n : ℕ) → Added n → Other n) → ((n : ℕ) → Other n → Added n) → Grows Other old new before on
