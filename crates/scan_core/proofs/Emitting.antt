@@ -7,11 +7,10 @@ use Rattle.scan_core.specs.declared.node.Node.TheVariants.{Choose, Back}
 use Rattle.scan_core.specs.Code.{copies, up_to, starred}
 use Rattle.scan_core.specs.inner.Backwards.{stretch}
 use Rattle.scan_core.proofs.Stretches.{stretch_after, reverse-cons, reverse-copies, copies_turn}
+use Rattle.std.proofs.lemmas.Grind.{common_steps}
 
 reverse-starred : (code : List Node) → reverse (starred code) ≡ (Back (length code + 1) ∷ reverse code) ++ Choose (length code + 2) ∷ []
-reverse-starred code =
-    reverse-cons (Choose (length code + 2)) (code ++ Back (length code + 1) ∷ [])
-    ∙ ap (λ l. l ++ Choose (length code + 2) ∷ []) (reverse-append code (Back (length code + 1) ∷ []))
+reverse-starred code = grind (arith, common_steps)
 
 -- without a bound
 pub starred_out : {nodes marked chosen new : List Node} (before code : List Node) {start size : ℕ} (low : ℕ) → length before ≡ start → nodes ≡ before ++ Back 0 ∷ reverse code → size ≡ length nodes - start - 1
@@ -57,19 +56,12 @@ starred_out {marked} {chosen} before code {start} {size} low b n s m ch e =
         ap (stretch (start + 1) size) parted ∙ stretch_after (before ++ Back (length code + 1) ∷ []) (Choose (length code + 2) ∷ []) (omega (arith, a, b)) (omega (arith, r, counted))
 
 counted_item : {nodes : List Node} (before code : List Node) {start : ℕ} → length before ≡ start → nodes ≡ before ++ reverse code → length code ≡ length nodes - start
-counted_item before code b n =
-    let l = ap length n in
-    let a = length-append before (reverse code) in
-    let r = length-reverse code in
-    omega (arith, l, a, r, b)
+counted_item before code b n = grind (arith, common_steps)
 
 -- the item where it stands, nodes having been written after it
 item_here : {nodes now : List Node} (more before code : List Node) {start size : ℕ} → length before ≡ start → nodes ≡ before ++ reverse code → size ≡ length nodes - start
     → now ≡ nodes ++ more → stretch start size now ≡ reverse code
-item_here more before code {start} {size} b n s g =
-    let r = length-reverse code in
-    let c = counted_item before code b n in
-    ap (stretch start size) (g ∙ ap (λ l. l ++ more) n ∙ append_assoc before (reverse code) more) ∙ stretch_after before more b (omega (arith, r, s, c))
+item_here more before code {start} {size} b n s g = grind (arith, common_steps)
 
 -- `count` times
 pub exact_out : {nodes new : List Node} (before code : List Node) {start size low high times : ℕ} → length before ≡ start → nodes ≡ before ++ reverse code → size ≡ length nodes - start → low ≡ high → 0 < high
@@ -89,24 +81,7 @@ exact_out {nodes} before code {start} {size} {low} {high} b n s same some t e =
 -- one more optional copy
 pub optional_more : {nodes now middle new : List Node} (more before code : List Node) {start size : ℕ} (count : ℕ) → length before ≡ start → nodes ≡ before ++ reverse code → size ≡ length nodes - start → now ≡ nodes ++ more
     → now ≡ before ++ reverse (up_to count code) → middle ≡ now ++ stretch start size now → new ≡ middle ++ Choose (length middle - start + 1) ∷ [] → new ≡ before ++ reverse (up_to (count + 1) code)
-optional_more {now} {middle} more before code {start} count b n s g w m e =
-    e ∙ ap (λ l. l ++ Choose (length middle - start + 1) ∷ []) copied ∙ ap (λ k. (before ++ reverse (code ++ up_to count code)) ++ Choose k ∷ []) skip
-    ∙ append_assoc before (reverse (code ++ up_to count code)) (Choose (length (code ++ up_to count code) + 1) ∷ [])
-    ∙ ap (λ l. before ++ l) (sym (reverse-cons (Choose (length (code ++ up_to count code) + 1)) (code ++ up_to count code)))
-    ∙ ap (λ k. before ++ reverse (up_to k code)) (sym (add-one count))
-  where
-    copied : middle ≡ before ++ reverse (code ++ up_to count code)
-    copied =
-        m ∙ ap (λ l. now ++ l) (item_here more before code b n s g)
-        ∙ ap (λ l. l ++ reverse code) w ∙ append_assoc before (reverse (up_to count code)) (reverse code)
-        ∙ ap (λ l. before ++ l) (sym (reverse-append code (up_to count code)))
-
-    skip : length middle - start + 1 ≡ length (code ++ up_to count code) + 1
-    skip =
-        let l = ap length copied in
-        let a = length-append before (reverse (code ++ up_to count code)) in
-        let r = length-reverse (code ++ up_to count code) in
-        omega (arith, l, a, r, b)
+optional_more {now} {middle} more before code {start} count b n s g w m e = grind (arith, common_steps)
 
 -- the copies that are always there, before the optional ones
 pub bounded_out : {nodes now new : List Node} (more before code : List Node) {start size : ℕ} (low high : ℕ) {count : ℕ} → length before ≡ start → nodes ≡ before ++ reverse code → size ≡ length nodes - start → now ≡ nodes ++ more
@@ -119,5 +94,4 @@ bounded_out {now} more before code low high {count} b n s g w k e =
 
 -- what was written stays at the front
 pub grown_on : (nodes : List Node) {now middle new : List Node} (more first second : List Node) → now ≡ nodes ++ more → middle ≡ now ++ first → new ≡ middle ++ second → (all : List Node) × (new ≡ nodes ++ all)
-grown_on nodes more first second g m e =
-    ((more ++ first) ++ second, e ∙ ap (λ l. l ++ second) (m ∙ ap (λ l. l ++ first) g ∙ append_assoc nodes more first) ∙ append_assoc nodes (more ++ first) second)
+grown_on nodes more first second g m e = grind (arith, common_steps)

@@ -1,5 +1,5 @@
 -- Items that are complete, and what waits for them.
-use Rattle.std.proofs.Common.{◌≡◌, List, [], ◌∷◌, ◌++◌, reverse, None, sym, ap, ◌∙◌, subst}
+use Rattle.std.proofs.Common.{arith, ◌≡◌, List, [], ◌∷◌, ◌++◌, reverse, None, sym, ap, ◌∙◌, subst}
 use Rattle.std.proofs.lemmas.List.{reverse-append, reverse-reverse}
 use Rattle.bre_core.proofs.Lists.{no_end, same_end}
 use Rattle.scan_core.specs.declared.compile.Compiling.{Compiling}
@@ -9,19 +9,13 @@ use Rattle.scan_core.specs.declared.emit.Duplication.{Duplication}
 use Rattle.scan_core.specs.declared.node.Node.{Node}
 use Rattle.scan_core.specs.inner.Backwards.{Repeats}
 use Rattle.scan_core.specs.inner.Compiling.{IsNow, FinishesBy, Finishes, PopsNone}
+use Rattle.std.proofs.lemmas.Grind.{common_steps}
 
 -- the last duplication that waits is written out
 pub finish_more : (nodes written : List Node) {pending : List Pending} (around : List Pending) (d : Duplication) (final : Compiling) → pending ≡ around ++ Repeated d ∷ [] → Repeats d nodes written → Finishes written around final → Finishes nodes pending final
 finish_more nodes written around d final e r f [] s = absurd (no_end around (Repeated d) (sym e ∙ s))
-finish_more nodes written around d final e r f (Group ∷ stack) s =
-    let same = same_end around (reverse stack) (Repeated d) Group (sym e ∙ s ∙ reverse-append (Group ∷ []) stack) in
-    let wrong : Repeated d ≡ Group = same.1 in
-    cc
-finish_more nodes written around d final e r f (Repeated other ∷ stack) s =
-    let same = same_end around (reverse stack) (Repeated d) (Repeated other) (sym e ∙ s ∙ reverse-append (Repeated other ∷ []) stack) in
-    let repeated : Repeated d ≡ Repeated other = same.1 in
-    let d_is : d ≡ other = cc in
-    (written, subst (λ o. Repeats o nodes written) d_is r, f stack same.0)
+finish_more nodes written around d final e r f (Group ∷ stack) s = grind (arith, common_steps)
+finish_more nodes written around d final e r f (Repeated other ∷ stack) s = grind (arith, common_steps)
 
 -- no duplication waits
 pub finish_ends : {nodes : List Node} {pending : List Pending} (final : Compiling) → PopsNone pending → final.nodes.items ≡ nodes → final.pending.items ≡ pending → final.passing ≡ None → Finishes nodes pending final

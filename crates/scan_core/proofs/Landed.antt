@@ -17,6 +17,7 @@ use Rattle.scan_core.specs.inner.Words.{Adds, IsIn, width}
 use Rattle.scan_core.proofs.Hoppings.{one_of, none_of}
 use Rattle.scan_core.proofs.Each.{each_more, each_to}
 use Rattle.scan_core.proofs.Visitings.{adds_both, is_in_word}
+use Rattle.std.proofs.lemmas.Grind.{common_steps}
 
 pub enters_if : (words : List ℕ) {new : List ℕ} (number : ℕ) (holds : Bool) → number < 64 * length words → new ≡ set words (number / 64) (bit_or (get_or words (number / 64) 0) (bool_byte holds * 2 ^ (number % 64) % 2 ^ 64))
     → (other : ℕ) → IsIn new other ↔ (IsIn words other ⊎ (IsTrue holds × (other ≡ number)))
@@ -92,11 +93,7 @@ is_not_zero {n} h = ap not (ne_eqb n 0 h)
 lands_kept : (base : List ℕ) (old more : List Landing) (at bit to : ℕ) → Lands base old at bit to → Lands base (old ++ more) at bit to
 lands_kept base old more at bit to (inl near) = inl near
 lands_kept base old more at bit to (inr (inl based)) = inr (inl based)
-lands_kept base old more at bit to (inr (inr on)) =
-    let e = get_or_append_left old more no_landing on.0 on.1 in
-    let l = length-append old more in
-    let within = on.1 in
-    inr (inr (on.0, omega (arith, l, within), ap (λ x. x.at) e ∙ on.2, ap (λ x. bit_at x.from bit) e ∙ on.3, on.4 ∙ sym (ap (λ x. x.to) e)))
+lands_kept base old more at bit to (inr (inr on)) = grind (arith, common_steps)
 
 pub other_kept : (code : List Node) (base : List ℕ) (old new : List Landing) (at word : ℕ) → (more : List Landing) × (new ≡ old ++ more) → IsOther code base old at word → IsOther code base new at word
 other_kept code base old new at word grown is bit at_first at_last to small f = elim (is bit at_first at_last to small f) [

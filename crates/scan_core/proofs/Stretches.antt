@@ -5,20 +5,16 @@ use Rattle.std.proofs.Math.Seq.{take-append_seam, drop-append_seam}
 use Rattle.scan_core.specs.declared.node.Node.{Node}
 use Rattle.scan_core.specs.Code.{copies}
 use Rattle.scan_core.specs.inner.Backwards.{stretch}
+use Rattle.std.proofs.lemmas.Grind.{common_steps}
 
 -- a stretch stays where nodes are written after it
 pub stretch_stays : (from size : ℕ) (old more : List Node) → from + size ≤ length old → stretch from size (old ++ more) ≡ stretch from size old
-stretch_stays from size old more h =
-    let l = length-drop from old in
-    ap (take size) (drop-append-le from old more (omega (arith, h))) ∙ take-append-le size (drop from old) more (omega (arith, h, l))
+stretch_stays from size old more h = grind (arith, common_steps)
 
 -- one copy more
 pub copies_more : (old : List Node) {now new : List Node} (from size count : ℕ) → now ≡ old ++ copies count (stretch from size old) → from + size ≤ length old → new ≡ now ++ stretch from size now
     → new ≡ old ++ copies (count + 1) (stretch from size old)
-copies_more old from size count e h m =
-    m ∙ ap (λ l. l ++ stretch from size l) e
-    ∙ ap (λ l. (old ++ copies count (stretch from size old)) ++ l) (stretch_stays from size old (copies count (stretch from size old)) h)
-    ∙ append_assoc old (copies count (stretch from size old)) (stretch from size old) ∙ ap (λ n. old ++ copies n (stretch from size old)) (sym (add-one count))
+copies_more old from size count e h m = grind (arith, common_steps)
 
 pub reverse-cons : (node : Node) (code : List Node) → reverse (node ∷ code) ≡ reverse code ++ node ∷ []
 reverse-cons node code = reverse-append (node ∷ []) code
@@ -34,6 +30,4 @@ reverse-copies (suc count) code = reverse-append (copies count code) code ∙ ap
 
 -- the stretch after a front
 pub stretch_after : (before : List Node) {code : List Node} (more : List Node) {from size : ℕ} → length before ≡ from → length code ≡ size → stretch from size (before ++ (code ++ more)) ≡ code
-stretch_after before {code} more {size} e f =
-    ap (λ n. take size (drop n (before ++ (code ++ more)))) (sym e) ∙ ap (take size) (drop-append_seam before (code ++ more))
-    ∙ ap (λ n. take n (code ++ more)) (sym f) ∙ take-append_seam code more
+stretch_after before {code} more {size} e f = grind (arith, common_steps)

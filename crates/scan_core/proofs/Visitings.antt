@@ -12,6 +12,7 @@ use Rattle.scan_core.proofs.Bits.{goes_none}
 use Rattle.scan_core.proofs.Enterings.{parts_anywhere}
 use Rattle.scan_core.specs.inner.Sets.{Flows, FlowsOn}
 use Rattle.scan_core.specs.inner.Words.{Adds, GoesOn, IsIn, unset, Visits, SpreadsOut}
+use Rattle.std.proofs.lemmas.Grind.{common_steps}
 
 pub is_in_word : (words : List ℕ) (at bit : ℕ) → bit < 64 → (bit_at (get_or words at 0) bit ≡ 1) ↔ IsIn words (at * 64 + bit)
 unfolding IsIn
@@ -19,10 +20,7 @@ is_in_word words at bit h = search rules
 
 pub is_within : (words : List ℕ) (number : ℕ) → IsIn words number → number < 64 * length words
 unfolding IsIn
-is_within words number h = elim (cases_lt number (64 * length words)) [
-  | inl l ↦ l
-  | inr far ↦ let none = ap (λ x. bit_at x (number % 64)) (get_or_past words (number / 64) 0 (omega (arith, far))) ∙ bit_at-zero (number % 64) in absurd (omega (arith, none, h))
-]
+is_within words number h = grind (arith, common_steps)
 
 -- clearing a bit that is set makes a word smaller, and leaves the others
 pub cleared : (word : ℕ) {k : ℕ} → k < 64 → bit_at word k ≡ 1 → let left = bit_and word (bit_not w64 (1 * 2 ^ k % 2 ^ 64)) in (left < word) × ((j : ℕ) → j < 64 → (j ≡ k → ⊥) → bit_at left j ≡ bit_at word j) × (bit_at left k ≡ 0)
@@ -99,23 +97,8 @@ spreading_ends {code} {at_first} {at_last} {old} {now} s h = record {
 
 -- going back to an earlier word, the set has grown
 smaller : (more less size at on : ℕ) → on ≤ at + 1 → at < size → less ≤ more → (on < at + 1 → less < more) → less * (size + 1) + (size - on) < more * (size + 1) + (size - at)
-smaller more less size at on l h m s = elim (cases_lt on (at + 1)) [
-  | inl back ↦
-      let n = s back in
-      let e : more ≡ less + 1 + (more - (less + 1)) = omega (arith, n) in
-      let f = ap (λ k. k * (size + 1)) e in
-      let g : (less + 1 + (more - (less + 1))) * (size + 1) ≡ less * (size + 1) + (size + 1) + (more - (less + 1)) * (size + 1) = grind arith in
-      omega (arith, f, g)
-  | inr next ↦
-      let e : more ≡ less + (more - less) = omega (arith, m) in
-      let f = ap (λ k. k * (size + 1)) e in
-      let g : (less + (more - less)) * (size + 1) ≡ less * (size + 1) + (more - less) * (size + 1) = grind arith in
-      omega (arith, f, g, next, h, l)
-]
+smaller more less size at on l h m s = grind (arith, common_steps)
 
 pub visits_smaller : {code : List Node} {at_first at_last : Bool} {at : ℕ} {old new : List ℕ} {on : ℕ} → Visits code at_first at_last at old new on
     → at < length old → unset new * (length new + 1) + (length new - on) < unset old * (length old + 1) + (length old - at)
-visits_smaller {at} {old} {new} {on} v h =
-    let e = ap (λ n. unset new * (n + 1) + (n - on)) v.adds.size in
-    let s = smaller (unset old) (unset new) (length old) at on v.low h v.fuller v.less in
-    omega (arith, s, e)
+visits_smaller {at} {old} {new} {on} v h = grind (arith, common_steps)
