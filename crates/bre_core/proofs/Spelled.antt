@@ -23,18 +23,9 @@ use Rattle.bre_core.proofs.Tokens.{bracket_decided}
 
 -- WHAT IS SPELLED IS READ
 
-inner_plain : (text : List ℕ) → (begins_with 46 text || begins_with 61 text || begins_with 58 text) ≡ false → inner_at text ≡ Some (Point 91, text)
-inner_plain [] e = refl
-inner_plain (mark ∷ text) e = search rules
-
 element_read : (spelling : Spelling) {text : List ℕ} → is_opening spelling text ≡ false → element_at (byte_before spelling text) ≡ Some (Point (byte_of spelling), text)
 element_read (symbol byte) e = refl
 element_read (plain byte) {text} e = search rules
-
--- before a `-`
-no_opening : (spelling : Spelling) (text : List ℕ) → is_opening spelling (45 ∷ text) ≡ false
-no_opening (plain byte) text = and_right (eqb byte 91) _ refl
-no_opening (symbol byte) text = refl
 
 named_read : (name : Class) {text : List ℕ} → element_at (part_before (class name) text) ≡ Some (Named name, text)
 named_read Upper = refl
@@ -142,11 +133,6 @@ name_found (byte ∷ text) {name} {rest} e = go (cases_Bool (eqb byte 58 && begi
     go (inr later) more =
         let found = mapped {B = List ℕ × List ℕ} (λ f. (byte ∷ f.0, f.1)) (name_at text) (sym (cond-false _ _ _ later) ∙ e) in
         ap (λ t. byte ∷ t) (more found.0.0 found.0.1 found.1) ∙ ap (λ p. p.0 ++ (58 ∷ 93 ∷ p.1)) found.2
-
--- a name that is tried
-tried : {name : List ℕ} (one : Class) {others : Option Class} {found : Class} → (others ≡ Some found → name ≡ name_of found)
-    → cond (bytes_eq name (name_of one)) (Some one) others ≡ Some found → name ≡ name_of found
-tried {name} one {found} more e = search rules
 
 class_is : {name : List ℕ} {found : Class} → class_named name ≡ Some found → name ≡ name_of found
 class_is = search rules

@@ -6,7 +6,7 @@ use Rattle.scan_core.specs.declared.node.Node.{Node}
 use Rattle.scan_core.specs.declared.node.Node.TheVariants.{Choose, Back}
 use Rattle.scan_core.specs.Code.{copies, up_to, starred}
 use Rattle.scan_core.specs.inner.Backwards.{stretch}
-use Rattle.scan_core.proofs.Stretches.{stretch_after, reverse-cons, reverse-copies, copies_turn}
+use Rattle.scan_core.proofs.Stretches.{stretch_after, reverse-copies, copies_turn}
 use Rattle.std.proofs.lemmas.Grind.{common_steps}
 
 reverse-starred : (code : List Node) → reverse (starred code) ≡ (Back (length code + 1) ∷ reverse code) ++ Choose (length code + 2) ∷ []
@@ -54,9 +54,6 @@ starred_out {marked} {chosen} before code {start} {size} low b n s m ch e =
         let a = length-append before (Back (length code + 1) ∷ []) in
         let r = length-reverse code in
         ap (stretch (start + 1) size) parted ∙ stretch_after (before ++ Back (length code + 1) ∷ []) (Choose (length code + 2) ∷ []) (omega (arith, a, b)) (omega (arith, r, counted))
-
-counted_item : {nodes : List Node} (before code : List Node) {start : ℕ} → length before ≡ start → nodes ≡ before ++ reverse code → length code ≡ length nodes - start
-counted_item before code b n = grind (arith, common_steps)
 
 -- the item where it stands, nodes having been written after it
 item_here : {nodes now : List Node} (more before code : List Node) {start size : ℕ} → length before ≡ start → nodes ≡ before ++ reverse code → size ≡ length nodes - start

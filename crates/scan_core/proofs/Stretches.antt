@@ -7,17 +7,10 @@ use Rattle.scan_core.specs.Code.{copies}
 use Rattle.scan_core.specs.inner.Backwards.{stretch}
 use Rattle.std.proofs.lemmas.Grind.{common_steps}
 
--- a stretch stays where nodes are written after it
-pub stretch_stays : (from size : ℕ) (old more : List Node) → from + size ≤ length old → stretch from size (old ++ more) ≡ stretch from size old
-stretch_stays from size old more h = grind (arith, common_steps)
-
 -- one copy more
 pub copies_more : (old : List Node) {now new : List Node} (from size count : ℕ) → now ≡ old ++ copies count (stretch from size old) → from + size ≤ length old → new ≡ now ++ stretch from size now
     → new ≡ old ++ copies (count + 1) (stretch from size old)
 copies_more old from size count e h m = grind (arith, common_steps)
-
-pub reverse-cons : (node : Node) (code : List Node) → reverse (node ∷ code) ≡ reverse code ++ node ∷ []
-reverse-cons node code = reverse-append (node ∷ []) code
 
 -- a copy may stand on either side of the others
 pub copies_turn : (count : ℕ) (code : List Node) → code ++ copies count code ≡ copies count code ++ code

@@ -95,10 +95,6 @@ spreading_ends {code} {at_first} {at_last} {old} {now} s h = record {
         let l = is_within now p.0 before in
         s.closed p.0 number (omega (arith, l, h)) before p.2
 
--- going back to an earlier word, the set has grown
-smaller : (more less size at on : ℕ) → on ≤ at + 1 → at < size → less ≤ more → (on < at + 1 → less < more) → less * (size + 1) + (size - on) < more * (size + 1) + (size - at)
-smaller more less size at on l h m s = grind (arith, common_steps)
-
 pub visits_smaller : {code : List Node} {at_first at_last : Bool} {at : ℕ} {old new : List ℕ} {on : ℕ} → Visits code at_first at_last at old new on
     → at < length old → unset new * (length new + 1) + (length new - on) < unset old * (length old + 1) + (length old - at)
 visits_smaller {at} {old} {new} {on} v h = grind (arith, common_steps)
