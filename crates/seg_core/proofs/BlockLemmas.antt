@@ -1,5 +1,5 @@
 -- A text in blocks.
-use Rattle.std.proofs.Common.{◌≡◌, ℕ, zero, suc, ◌+◌, ◌-◌, ◌^◌, ◌<◌, ◌≤◌, List, [], ◌∷◌, ◌++◌, length, take, drop, get_or, set, refl, sym, ap, subst, ◌∙◌, arith, drop-cons, add-one}
+use Rattle.std.proofs.Common.{rules, ◌≡◌, ℕ, zero, suc, ◌+◌, ◌-◌, ◌^◌, ◌<◌, ◌≤◌, List, [], ◌∷◌, ◌++◌, length, take, drop, get_or, set, refl, sym, ap, subst, ◌∙◌, arith, drop-cons, add-one}
 use Rattle.std.proofs.lemmas.List.{append-nil, append_assoc, length-append, length-drop, drop-drop, take-append-drop, take_at, drop_at}
 use Rattle.std.proofs.lemmas.List.Elements.{All-get_or, All-set, All-cons, All-take, All-drop}
 use Rattle.std.proofs.Math.Seq.{drop-append-add, take-append-add}
@@ -206,4 +206,4 @@ split_counted delim near far is split = is ∙ ap (delimiters delim) split ∙ d
 -- all of a text is in blocks
 pub none_left : {held : List ℕ} (left : List ℕ) {text : List ℕ} → length left ≡ 0 → held ++ left ≡ text → held ≡ text
 none_left {held} [] none whole = sym (append-nil held) ∙ whole
-none_left (byte ∷ left) none whole = absurd (omega arith)
+none_left (byte ∷ left) none whole = search rules
