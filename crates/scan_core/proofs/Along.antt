@@ -1,6 +1,6 @@
 -- The sets of entered nodes along a line, place by place.
-use Rattle.std.proofs.Common.{rules, ◌≡◌, ◌⊎◌, ◌↔◌, inl, inr, ℕ, zero, suc, ◌+◌, ◌*◌, ◌-◌, ◌<◌, ◌≤◌, Bool, true, false, IsTrue, List, [], ◌∷◌, ◌++◌, length, slice_index, refl, sym, ap, ◌∙◌, subst, arith}
-use Rattle.std.proofs.lemmas.Bool.{cases_eq, false≢true, eqb-true, eq-eqb}
+use Rattle.std.proofs.Common.{rules, ◌≡◌, ◌⊎◌, ◌↔◌, inl, inr, ℕ, zero, suc, ◌+◌, ◌*◌, ◌<◌, ◌≤◌, Bool, true, false, IsTrue, List, [], ◌∷◌, ◌++◌, length, slice_index, refl, sym, subst, arith}
+use Rattle.std.proofs.lemmas.Bool.{cases_eq}
 use Rattle.bre_core.specs.ByteSet.{has}
 use Rattle.bre_core.specs.Match.{Parts}
 use Rattle.scan_core.specs.declared.node.Node.{Node}
@@ -10,7 +10,7 @@ use Rattle.std.proofs.Common.{length-append}
 use Rattle.std.proofs.lemmas.List.{get_or_push, get_or_append_left}
 use Rattle.scan_core.specs.Sets.{positions_among}
 use Rattle.scan_core.specs.Counted.{positions_in_all, AreSteps}
-use Rattle.scan_core.specs.Code.{At, Leads, Goes, Walks, Entered, weight}
+use Rattle.scan_core.specs.Code.{Leads, Goes, Walks, Entered, weight}
 use Rattle.scan_core.specs.Sets.{IsMarked}
 use Rattle.scan_core.specs.Table.{IsOutcome}
 use Rattle.scan_core.specs.inner.Table.{IsCounted}

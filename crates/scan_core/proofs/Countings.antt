@@ -4,7 +4,7 @@ use Rattle.std.proofs.lemmas.Bool.{cases_lt, cases_eq}
 use Rattle.std.specs.Prelude.{◌==◌, bit_and, count_ones}
 use Rattle.std.specs.Int.Count.{ones_step}
 use Rattle.std.specs.Int.{bit_at}
-use Rattle.std.proofs.lemmas.Nat.{and_le_l, and_shr, ones_le_self}
+use Rattle.std.proofs.lemmas.Nat.{and_shr}
 use Rattle.std.proofs.lemmas.Nat.Bits.{bit_at_and, bit_at_lowest, bit_at-suc, bit_at-lt, bit_at-zero}
 use Rattle.scan_core.specs.declared.masks.Kind.TheVariants.{Counts}
 use Rattle.scan_core.specs.declared.node.Node.{Node}

@@ -1,5 +1,5 @@
 -- An item that stands last, written out as often as a duplication asks for.
-use Rattle.std.proofs.Common.{◌≡◌, ℕ, suc, ◌+◌, ◌-◌, ◌<◌, List, [], ◌∷◌, ◌++◌, length, set, reverse, sym, ap, ◌∙◌, arith, append_assoc, append-nil, add-one, length-append}
+use Rattle.std.proofs.Common.{◌≡◌, ℕ, suc, ◌+◌, ◌-◌, ◌<◌, List, [], ◌∷◌, ◌++◌, length, set, reverse, sym, ap, ◌∙◌, arith, append_assoc, append-nil, length-append}
 use Rattle.std.proofs.lemmas.List.{reverse-append, length-reverse}
 use Rattle.std.proofs.Math.Seq.{set-append_seam}
 use Rattle.scan_core.specs.declared.node.Node.{Node}

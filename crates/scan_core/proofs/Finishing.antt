@@ -1,7 +1,7 @@
 -- Items that are complete, and what waits for them.
 use Rattle.std.proofs.Common.{arith, ◌≡◌, List, [], ◌∷◌, ◌++◌, reverse, None, sym, ap, ◌∙◌, subst}
 use Rattle.std.proofs.lemmas.List.{reverse-append, reverse-reverse}
-use Rattle.bre_core.proofs.Lists.{no_end, same_end}
+use Rattle.bre_core.proofs.Lists.{no_end}
 use Rattle.scan_core.specs.declared.compile.Compiling.{Compiling}
 use Rattle.scan_core.specs.declared.compile.Pending.{Pending}
 use Rattle.scan_core.specs.declared.compile.Pending.TheVariants.{Group, Repeated}

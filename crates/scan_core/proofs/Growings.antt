@@ -1,11 +1,11 @@
 -- Sets of numbers as words that grow by what a node leads to.
-use Rattle.std.proofs.Common.{rules, ◌≡◌, ◌⊎◌, ℕ, Bool, List, ◌∙◌}
+use Rattle.std.proofs.Common.{rules, ◌≡◌, ◌⊎◌, ℕ, Bool, List}
 use Rattle.scan_core.specs.declared.node.Node.{Node}
 use Rattle.scan_core.specs.inner.Sets.{Flows}
 use Rattle.scan_core.specs.declared.way.Way.{Way}
 use Rattle.scan_core.specs.inner.Ways.{IsWay, Opens}
 use Rattle.scan_core.specs.inner.Words.{Grows}
-use Rattle.scan_core.proofs.Bits.{goes_both, grows_none}
+use Rattle.scan_core.proofs.Bits.{grows_none}
 
 pub grows_by : (Added Other : ℕ → Type 0) {old new : List ℕ} {before on : ℕ} → Grows Added old new before on → ((n : ℕ) → Added n → Other n) → ((n : ℕ) → Other n → Added n) → Grows Other old new before on
 grows_by Added Other g there here = search rules

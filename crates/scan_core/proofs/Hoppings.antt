@@ -1,17 +1,14 @@
 -- Hops: numbers of a word that lead to the same one beyond it.
-use Rattle.std.proofs.Common.{rules, ◌≡◌, ◌⊎◌, inl, inr, ℕ, ◌+◌, ◌*◌, ◌/◌, ◌%◌, ◌^◌, ◌<◌, false, List, length, get_or, set, min, sym, ap, ◌∙◌, subst, arith, w64}
-use Rattle.std.proofs.lemmas.Bool.{cases_eq}
+use Rattle.std.proofs.Common.{rules, ◌≡◌, ℕ, ◌+◌, ◌*◌, ◌/◌, ◌%◌, ◌^◌, ◌<◌, List, length, get_or, set, min, sym, ap, ◌∙◌, subst, arith, w64}
 use Rattle.std.proofs.lemmas.Nat.{and_le_l}
 use Rattle.std.proofs.lemmas.Nat.Bits.{bit_at-trailing_zeros, bit_at_and, bit_at-lt, bit_at-zero}
 use Rattle.std.specs.Prelude.{bit_and, bit_or}
 use Rattle.std.specs.Int.{bit_at, trailing_zeros}
 use Rattle.scan_core.specs.declared.hops.Hop.{Hop}
-use Rattle.scan_core.specs.declared.node.Node.{Node}
 use Rattle.scan_core.specs.inner.Hops.{Hopped, HoppedBy, no_hop}
-use Rattle.scan_core.specs.inner.Sets.{Flows}
 use Rattle.scan_core.specs.inner.Words.{IsIn, Grows}
-use Rattle.scan_core.proofs.Bits.{grows_one, grows_none}
-use Rattle.scan_core.proofs.Growings.{grows_by, grows_both}
+use Rattle.scan_core.proofs.Bits.{grows_one}
+use Rattle.scan_core.proofs.Growings.{grows_by}
 use Rattle.scan_core.proofs.Insides.{bit_is}
 use Rattle.scan_core.proofs.Visitings.{is_in_word}
 

@@ -1,5 +1,4 @@
 use Rattle.std.proofs.Common.{◌≡◌, [], ◌*◌, length, sym, subst, arith}
-use Rattle.std.proofs.lemmas.Result.{err_from_is_err_and}
 use Rattle.std.proofs.lemmas.Grind.{common_steps}
 use Rattle.scan_core.specs.inner.Built.{Built, IsBuilding, IsOpen}
 use Rattle.scan_core.specs.inner.Each.{AreEach}

@@ -1,7 +1,5 @@
-use Rattle.std.proofs.Common.{length, ap, arith, length-append}
+use Rattle.std.proofs.Common.{arith}
 use Rattle.std.proofs.lemmas.Grind.{common_steps}
-use Rattle.scan_core.specs.Code.{copies}
-use Rattle.scan_core.specs.inner.Backwards.{stretch}
 use Rattle.scan_core.proofs.Stretches.{copies_more}
 use Rattle.scan_core.proofs.emit.copy_times.Goals as goal
 

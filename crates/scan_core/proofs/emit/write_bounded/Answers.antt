@@ -1,7 +1,6 @@
-use Rattle.std.proofs.Common.{◌-◌, ◌∷◌, [], length, ap, arith, length-append}
+use Rattle.std.proofs.Common.{◌-◌, arith}
 use Rattle.std.proofs.lemmas.Grind.{common_steps}
 use Rattle.std.proofs.lemmas.Result.{on_ok_weaker}
-use Rattle.scan_core.specs.declared.node.Node.TheVariants.{Choose}
 use Rattle.scan_core.proofs.Emitting.{exact_out, optional_more, bounded_out, grown_on}
 use Rattle.scan_core.proofs.emit.write_bounded.Goals as goal
 

@@ -1,16 +1,9 @@
-use Rattle.std.proofs.Common.{◌≡◌, ◌≤◌, IfSome, Ok, Err, IsErrOf, length, sym, ap, ◌∙◌, subst, arith}
+use Rattle.std.proofs.Common.{Ok, Err, IsErrOf, length, sym, ap, ◌∙◌, subst, arith}
 use Rattle.std.proofs.lemmas.Result.{err_from_is_err_and}
 use Rattle.bre_core.specs.declared.fault.BreFault.{BreFault}
 use Rattle.bre_core.specs.declared.fault.BreFault.TheVariants.{Memory, TooLarge}
-use Rattle.bre_core.specs.Pattern.{Pattern, positions_of}
-use Rattle.scan_core.specs.Code.{code_of, IsOrdered}
-use Rattle.scan_core.specs.inner.Base.{IsBase}
-use Rattle.scan_core.specs.inner.Closures.{AreClosures}
-use Rattle.scan_core.specs.inner.Needles.{IsNeedle}
+use Rattle.bre_core.specs.Pattern.{Pattern}
 use Rattle.scan_core.specs.inner.Sets.{IsCode}
-use Rattle.scan_core.specs.inner.Shifts.{IsShiftTable}
-use Rattle.scan_core.specs.inner.Table.{IsTable}
-use Rattle.scan_core.specs.inner.Words.{IsMasks}
 use Rattle.scan_core.proofs.Whole.{is_code, enough_room}
 use Rattle.scan_core.proofs.bre.Bre.read.Goals as goal
 
