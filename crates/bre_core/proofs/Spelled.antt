@@ -1,13 +1,11 @@
 -- A text is read as a bracket list where it is spelled as one, and only there.
-use Rattle.std.proofs.Common.{rules, ◌≡◌, ◌≢◌, ◌⊎◌, inl, inr, ℕ, ◌≤◌, Bool, true, false, not, ◌&&◌, ◌||◌, eqb, cond, List, [], ◌∷◌, ◌++◌, map, drop, Option, Some, refl, sym, ap, ◌∙◌, subst}
+use Rattle.std.proofs.Common.{rules, ◌≡◌, ◌≢◌, ◌⊎◌, inl, inr, ℕ, ◌≤◌, Bool, true, false, ◌&&◌, eqb, List, [], ◌∷◌, ◌++◌, map, drop, Option, Some, refl, sym, ap, ◌∙◌, subst}
 use Rattle.std.specs.Prelude.{option_and_then, nat_le}
-use Rattle.std.specs.Str.{bytes_eq}
 use Rattle.std.specs.List.{list_all}
-use Rattle.std.proofs.lemmas.Bool.{cond-true, cond-false, cases_Bool, and_parts, and_left, and_right, and_cases, or_parts, or_from, not-true, not_from_false, eqb-true, leb-true, le-leb, false≢true, both_ways}
+use Rattle.std.proofs.lemmas.Bool.{cond-true, cond-false, cases_Bool, and_parts, and_left, or_from, eqb-true, leb-true, false≢true}
 use Rattle.std.proofs.lemmas.Option.{none-some, same_Some, cond_some, option_and_then_some}
-use Rattle.std.proofs.lemmas.Slice.Eq.{bytes_eq-Decides}
 use Rattle.bre_core.specs.declared.class.Class.{Class}
-use Rattle.bre_core.specs.declared.class.Class.TheVariants.{Upper, Lower, Alpha, Digit, Alnum, Xdigit, Blank, Space, Cntrl, Graph, Print, Punct}
+use Rattle.bre_core.specs.declared.class.Class.TheVariants.{Upper}
 use Rattle.bre_core.specs.declared.member.Element.{Element}
 use Rattle.bre_core.specs.declared.member.Element.TheVariants.{Point, Same, Named}
 use Rattle.bre_core.specs.declared.member.Member.{Member}

@@ -1,9 +1,9 @@
 -- Delimiters that are counted from the end of a text.
-use Rattle.std.proofs.Common.{◌≡◌, ℕ, ◌+◌, ◌-◌, ◌<◌, ◌≤◌, Bool, true, false, cond, eqb, List, [], ◌∷◌, ◌++◌, length, take, drop, get_or, refl, sym, ap, ◌∙◌, arith, drop-cons, add-one}
+use Rattle.std.proofs.Common.{◌≡◌, ℕ, ◌+◌, ◌-◌, ◌<◌, ◌≤◌, Bool, true, false, cond, eqb, List, [], ◌∷◌, length, take, drop, get_or, refl, sym, ap, ◌∙◌, arith}
 use Rattle.std.proofs.lemmas.List.{take_more, drop-drop}
 use mir.Val.{bool_byte}
 use Rattle.seg_core.specs.Line.{delimiters, ends_with, BeginsAt}
-use Rattle.seg_core.proofs.Delimiters.{delimiters-append, delimiters-take-drop}
+use Rattle.seg_core.proofs.Delimiters.{delimiters-take-drop}
 use Rattle.seg_core.proofs.LineCounts.{ends_with-append}
 
 as_number : (is_delim : Bool) → bool_byte is_delim ≡ cond is_delim (0 + 1) 0

@@ -2,14 +2,13 @@
 use Rattle.std.proofs.Common.{rules, ◌≡◌, ℕ, suc, ◌+◌, ◌-◌, ◌*◌, ◌^◌, ◌<◌, ◌≤◌, ◌⊎◌, min, Bool, true, false, cond, leb, ltb, ◌&&◌, List, [], ◌∷◌, Option, Ok, Err, length, take, drop, refl, sym, ap, ◌∙◌, arith}
 use Rattle.std.specs.List.{prefix_len, list_all}
 use Rattle.std.specs.Char.{is_ascii_digit}
-use Rattle.std.proofs.lemmas.Bool.{eq-eqb, ne_eqb, le-leb, lt-leb, lt-ltb, and_from, and_right}
+use Rattle.std.proofs.lemmas.Bool.{le-leb, lt-leb, lt-ltb, and_from, and_right}
 use Rattle.std.proofs.lemmas.List.{take_all, take_rest}
-use Rattle.std.proofs.lemmas.List.Folds.{length-prefix_len, list_all_at}
+use Rattle.std.proofs.lemmas.List.Folds.{list_all_at}
 use Rattle.std.proofs.lemmas.List.Sums.{prefix_len-le-length, prefix_len_stops}
-use Rattle.std.proofs.Math.Nat.{mul-le-mul_left, mul-le-mul_right}
 use Rattle.seg_core.specs.declared.count.Sign.{Sign}
 use Rattle.seg_core.specs.declared.count.CountFault.TheVariants.{NoDigits, TooLarge}
-use Rattle.seg_core.specs.Count.{value_of, factor_of, leading_digits, greatest, sign_of, after_sign, sized, scaled, unsigned, count_of, digits_of}
+use Rattle.seg_core.specs.Count.{value_of, factor_of, greatest, sign_of, after_sign, sized, scaled, unsigned, count_of, digits_of}
 
 pub count_of-parts : (text : List ℕ) {sign : Sign} {rest : List ℕ} → sign ≡ sign_of text → rest ≡ after_sign text → count_of text ≡ unsigned sign rest
 unfolding count_of

@@ -1,7 +1,7 @@
 use Rattle.std.proofs.Common.{◌+◌, ◌∙◌, length, sym, ap, subst, arith}
 use Rattle.std.specs.Simd.Lanes.{Each1, zip2}
 use Rattle.std.proofs.lemmas.List.{take_rest, length-drop}
-use Rattle.std.proofs.lemmas.Simd.{Each1-replicate, sum-zip2}
+use Rattle.std.proofs.lemmas.Simd.{sum-zip2}
 use Rattle.seg_core.specs.declared.line.TheConstants.{STEP}
 use Rattle.seg_core.specs.Line.{delimiters}
 use Rattle.seg_core.proofs.Delimiters.{delimiters-take-drop, delimiters-le-length}

@@ -1,7 +1,5 @@
-use Rattle.std.proofs.Common.{sym, subst, arith}
+use Rattle.std.proofs.Common.{arith}
 use Rattle.std.proofs.lemmas.Grind.{common_steps}
-use Rattle.std.proofs.lemmas.List.Elements.{All-append}
-use Rattle.seg_core.specs.Blocks.{HasCount, HaveCounts}
 use Rattle.seg_core.proofs.Delimiters.{delimiters-le-length}
 use Rattle.seg_core.proofs.BlockLemmas.{extended, split_counted}
 use Rattle.seg_core.proofs.line_blocks.extend.Goals as goal

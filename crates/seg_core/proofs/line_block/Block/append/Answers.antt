@@ -1,6 +1,5 @@
 use Rattle.std.proofs.Common.{arith}
 use Rattle.std.proofs.lemmas.Grind.{common_steps}
-use Rattle.std.proofs.lemmas.List.{length-drop}
 use Rattle.seg_core.proofs.BlockLemmas.{block_grows}
 use Rattle.seg_core.proofs.line_block.Block.append.Goals as goal
 
