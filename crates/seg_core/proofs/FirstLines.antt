@@ -7,6 +7,7 @@ use Rattle.seg_core.specs.Line.{AreLines, joined, lines_of, line_count, delimite
 use Rattle.seg_core.proofs.Delimiters.{delimiters-take-le}
 use Rattle.seg_core.proofs.LinesOf.{joined-lines_of, lines_of-joined, AreLines-lines_of}
 use Rattle.seg_core.proofs.LineCounts.{line_count_near, line_count-le-length}
+use Rattle.std.proofs.lemmas.Grind.{common_steps}
 
 pub first_lines-nil : (delim n : ℕ) → first_lines delim n [] ≡ []
 first_lines-nil delim zero = refl
@@ -35,9 +36,7 @@ append_step delim false n x y here there = there
 
 -- the first lines of a text that goes on: those of the text so far, and as many of what follows as are missing
 pub first_lines-append : (delim n : ℕ) (x y : List ℕ) → first_lines delim n (x ++ y) ≡ first_lines delim n x ++ first_lines delim (n - delimiters delim x) y
-first_lines-append delim n [] y =
-    let same : n - 0 ≡ n = omega arith in
-    sym (ap (λ x. x ++ first_lines delim (n - 0) y) (first_lines-nil delim n) ∙ ap (λ k. first_lines delim k y) same)
+first_lines-append delim n [] y = grind (arith, common_steps)
 first_lines-append delim zero (byte ∷ x) y = search rules
 first_lines-append delim (suc n) (byte ∷ x) y =
     first_lines-cons delim byte n (x ++ y)
