@@ -1,5 +1,5 @@
 -- A text is read as an interval where it is spelled as one, and only there.
-use Rattle.std.proofs.Common.{◌≡◌, ◌≢◌, ◌↔◌, ◌⊎◌, inl, inr, ℕ, ◌+◌, ◌-◌, ◌*◌, ◌≤◌, true, false, ◌&&◌, eqb, cond, List, [], ◌∷◌, ◌++◌, drop, Option, Some, None, refl, sym, ap, ◌∙◌, subst, arith, append_assoc}
+use Rattle.std.proofs.Common.{rules, ◌≡◌, ◌≢◌, ◌↔◌, ◌⊎◌, inl, inr, ℕ, ◌+◌, ◌-◌, ◌*◌, ◌≤◌, true, false, cond, List, [], ◌∷◌, ◌++◌, drop, Option, Some, None, refl, sym, ap, ◌∙◌, subst, arith, append_assoc}
 use Rattle.std.specs.Prelude.{fold, option_map, option_and_then, nat_le}
 use Rattle.std.specs.List.{list_all}
 use Rattle.std.proofs.lemmas.Bool.{cond-true, cond-false, cond_both, cases_Bool, and_parts, and_from, eqb-true, leb-true, le-leb, false≢true}
@@ -70,13 +70,7 @@ number_found {text} number {rest} e =
     front_some text number tests.0 found.1 (omega (arith, within, ap (λ f. f.0) found.1))
 
 closed : (text : List ℕ) {rest : List ℕ} → after_close text ≡ Some rest → text ≡ close rest
-closed (byte ∷ brace ∷ text) {rest} e =
-    let inner = cond_some (eqb byte 92 && eqb brace 125) text rest e in
-    let tests = and_parts (eqb byte 92) (eqb brace 125) inner.0 in
-    let f : byte ≡ 92 = eqb-true byte 92 tests.0 in
-    let g : brace ≡ 125 = eqb-true brace 125 tests.1 in
-    let h : text ≡ rest = inner.1 in
-    cc (f, g, h)
+closed (byte ∷ brace ∷ text) {rest} e = search rules
 closed text e = absurd (none-some _ e)
 
 -- bounds that are spelled are read

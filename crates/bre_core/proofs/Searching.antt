@@ -1,5 +1,5 @@
 -- The truth value says what is contained.
-use Rattle.std.proofs.Common.{◌≡◌, ◌⊎◌, ◌↔◌, inl, inr, ℕ, zero, suc, ◌+◌, ◌<◌, ◌≤◌, Bool, true, false, leb, ◌&&◌, List, length, Option, Some, None, refl, sym, ap, ◌∙◌, subst, arith}
+use Rattle.std.proofs.Common.{rules, ◌≡◌, ◌⊎◌, ◌↔◌, inl, inr, ℕ, zero, suc, ◌+◌, ◌<◌, ◌≤◌, Bool, true, false, leb, ◌&&◌, List, length, Option, Some, None, refl, sym, ap, ◌∙◌, subst, arith}
 use Rattle.std.specs.Prelude.{IsTrue}
 use Rattle.std.proofs.lemmas.Bool.{cases_eq, cases_lt, false≢true, or_cases, or_left, or_right, and_parts, and_from, eqb-true, eq-eqb, leb-true, le-leb, lt-ltb}
 use borrow.Author.Tests.{ltb-true}
@@ -34,11 +34,7 @@ parts_forward Kind f zero from to p = omega (arith, p)
 parts_forward Kind f (suc count) from to p = let one = parts_forward Kind f count from p.0 p.1 in let other = f p.0 to p.2 in omega (arith, one, other)
 
 parts_tell : {test : ℕ → ℕ → Bool} (Kind : ℕ → ℕ → Type 0) → Tells test Kind → (count : ℕ) → Tells (has_parts test count) (Parts Kind count)
-parts_tell Kind t zero = record {
-  yes = λ from to e. eqb-true from to e;
-  no = λ from to e. eq-eqb from to e;
-  forward = λ from to e. parts_forward Kind t.forward 0 from to e;
-}
+parts_tell Kind t zero = search rules
 parts_tell {test} Kind t (suc count) = let before = parts_tell Kind t count in record {
   yes = λ from to e.
       let found = any_found (suc to) (λ middle. has_parts test count from middle && test middle to) e in
@@ -142,4 +138,4 @@ contains_tells pattern line = let t = tells pattern line in (
 pub one_truth : (a b : Bool) (Fact : Type 0) → IsTrue a ↔ Fact → IsTrue b ↔ Fact → a ≡ b
 one_truth true false Fact f g = sym (g.1 (f.0 refl))
 one_truth false true Fact f g = f.1 (g.0 refl)
-one_truth a b Fact f g = refl
+one_truth a b Fact f g = search rules

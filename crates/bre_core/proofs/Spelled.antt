@@ -1,13 +1,11 @@
 -- A text is read as a bracket list where it is spelled as one, and only there.
-use Rattle.std.proofs.Common.{◌≡◌, ◌≢◌, ◌⊎◌, inl, inr, ℕ, ◌≤◌, Bool, true, false, not, ◌&&◌, ◌||◌, eqb, cond, List, [], ◌∷◌, ◌++◌, map, drop, Option, Some, refl, sym, ap, ◌∙◌, subst}
+use Rattle.std.proofs.Common.{rules, ◌≡◌, ◌≢◌, ◌⊎◌, inl, inr, ℕ, ◌≤◌, Bool, true, false, ◌&&◌, eqb, List, [], ◌∷◌, ◌++◌, map, drop, Option, Some, refl, sym, ap, ◌∙◌, subst}
 use Rattle.std.specs.Prelude.{option_and_then, nat_le}
-use Rattle.std.specs.Str.{bytes_eq}
 use Rattle.std.specs.List.{list_all}
-use Rattle.std.proofs.lemmas.Bool.{cond-true, cond-false, cases_Bool, and_parts, and_left, and_right, and_cases, or_parts, or_from, not-true, not_from_false, eqb-true, leb-true, le-leb, false≢true, both_ways}
+use Rattle.std.proofs.lemmas.Bool.{cond-true, cond-false, cases_Bool, and_parts, and_left, or_from, eqb-true, leb-true, false≢true}
 use Rattle.std.proofs.lemmas.Option.{none-some, same_Some, cond_some, option_and_then_some}
-use Rattle.std.proofs.lemmas.Slice.Eq.{bytes_eq-Decides}
 use Rattle.bre_core.specs.declared.class.Class.{Class}
-use Rattle.bre_core.specs.declared.class.Class.TheVariants.{Upper, Lower, Alpha, Digit, Alnum, Xdigit, Blank, Space, Cntrl, Graph, Print, Punct}
+use Rattle.bre_core.specs.declared.class.Class.TheVariants.{Upper}
 use Rattle.bre_core.specs.declared.member.Element.{Element}
 use Rattle.bre_core.specs.declared.member.Element.TheVariants.{Point, Same, Named}
 use Rattle.bre_core.specs.declared.member.Member.{Member}
@@ -23,27 +21,9 @@ use Rattle.bre_core.proofs.Tokens.{bracket_decided}
 
 -- WHAT IS SPELLED IS READ
 
-inner_plain : (text : List ℕ) → (begins_with 46 text || begins_with 61 text || begins_with 58 text) ≡ false → inner_at text ≡ Some (Point 91, text)
-inner_plain [] e = refl
-inner_plain (mark ∷ text) e =
-    let two = or_parts (eqb mark 46 || eqb mark 61) (eqb mark 58) e in
-    let one = or_parts (eqb mark 46) (eqb mark 61) two.0 in
-    cond-false _ _ _ one.0 ∙ cond-false _ _ _ one.1 ∙ cond-false _ _ _ two.1
-
 element_read : (spelling : Spelling) {text : List ℕ} → is_opening spelling text ≡ false → element_at (byte_before spelling text) ≡ Some (Point (byte_of spelling), text)
 element_read (symbol byte) e = refl
-element_read (plain byte) {text} e = go (cases_Bool (eqb byte 91)) (and_cases (eqb byte 91) (begins_with 46 text || begins_with 61 text || begins_with 58 text) e)
-  where
-    go : (eqb byte 91 ≡ true) ⊎ (eqb byte 91 ≡ false) → (eqb byte 91 ≡ false) ⊎ ((begins_with 46 text || begins_with 61 text || begins_with 58 text) ≡ false)
-        → element_at (byte ∷ text) ≡ Some (Point byte, text)
-    go (inr other) h = cond-false _ _ _ other
-    go (inl bracket) (inl other) = absurd (both_ways (eqb byte 91) other bracket)
-    go (inl bracket) (inr itself) = cond-true _ _ _ bracket ∙ inner_plain text itself ∙ ap (λ b. Some (Point b, text)) (sym (eqb-true byte 91 bracket))
-
--- before a `-`
-no_opening : (spelling : Spelling) (text : List ℕ) → is_opening spelling (45 ∷ text) ≡ false
-no_opening (plain byte) text = and_right (eqb byte 91) _ refl
-no_opening (symbol byte) text = refl
+element_read (plain byte) {text} e = search rules
 
 named_read : (name : Class) {text : List ℕ} → element_at (part_before (class name) text) ≡ Some (Named name, text)
 named_read Upper = refl
@@ -51,10 +31,7 @@ named_read name = refl
 
 part_read : (part : Part) {text : List ℕ} → IsItself part text → option_and_then (λ found. member_from found.0 found.1) (element_at (part_before part text)) ≡ Some (member_of part, text)
 part_read (single spelling) itself = ap (option_and_then (λ found. member_from found.0 found.1)) (element_read spelling itself.0) ∙ cond-false _ _ _ itself.1
-part_read (range low high) {text} itself =
-    ap (option_and_then (λ found. member_from found.0 found.1)) (element_read low (no_opening low (byte_before high text)))
-    ∙ cond-true _ _ _ (not_from_false _ itself.2) ∙ ap (option_and_then (λ found. range_to (byte_of low) found.0 found.1)) (element_read high itself.1)
-    ∙ cond-true _ _ _ (le-leb _ _ itself.0)
+part_read (range low high) {text} itself = search rules
 part_read (equivalents byte) itself = refl
 part_read (class name) itself = ap (option_and_then (λ found. member_from found.0 found.1)) (named_read name)
 
@@ -138,14 +115,7 @@ ElementIs (Same byte) text rest = text ≡ part_before (equivalents byte) rest
 ElementIs (Named name) text rest = text ≡ part_before (class name) rest
 
 enclosed_found : {mark : ℕ} (text : List ℕ) {byte : ℕ} {rest : List ℕ} → enclosed mark text ≡ Some (byte, rest) → text ≡ byte ∷ mark ∷ 93 ∷ rest
-enclosed_found {mark} (first ∷ second ∷ third ∷ text) {byte} {rest} e =
-    let found = cond_some (eqb second mark && eqb third 93) (first, text) (byte, rest) e in
-    let tests = and_parts (eqb second mark) (eqb third 93) found.0 in
-    let f : first ≡ byte = ap (λ p. p.0) found.1 in
-    let g : second ≡ mark = eqb-true second mark tests.0 in
-    let h : third ≡ 93 = eqb-true third 93 tests.1 in
-    let k : text ≡ rest = ap (λ p. p.1) found.1 in
-    cc (f, g, h, k)
+enclosed_found {mark} (first ∷ second ∷ third ∷ text) {byte} {rest} e = search rules
 enclosed_found text e = absurd (none-some _ e)
 
 name_found : (text : List ℕ) {name rest : List ℕ} → name_at text ≡ Some (name, rest) → text ≡ name ++ (58 ∷ 93 ∷ rest)
@@ -162,19 +132,8 @@ name_found (byte ∷ text) {name} {rest} e = go (cases_Bool (eqb byte 58 && begi
         let found = mapped {B = List ℕ × List ℕ} (λ f. (byte ∷ f.0, f.1)) (name_at text) (sym (cond-false _ _ _ later) ∙ e) in
         ap (λ t. byte ∷ t) (more found.0.0 found.0.1 found.1) ∙ ap (λ p. p.0 ++ (58 ∷ 93 ∷ p.1)) found.2
 
--- a name that is tried
-tried : {name : List ℕ} (one : Class) {others : Option Class} {found : Class} → (others ≡ Some found → name ≡ name_of found)
-    → cond (bytes_eq name (name_of one)) (Some one) others ≡ Some found → name ≡ name_of found
-tried {name} one {found} more e = go (cases_Bool (bytes_eq name (name_of one)))
-  where
-    go : (bytes_eq name (name_of one) ≡ true) ⊎ (bytes_eq name (name_of one) ≡ false) → name ≡ name_of found
-    go (inl same) = (bytes_eq-Decides name (name_of one)).0 same ∙ ap name_of (same_Some _ _ (sym (cond-true _ _ _ same) ∙ e))
-    go (inr other) = more (sym (cond-false _ _ _ other) ∙ e)
-
 class_is : {name : List ℕ} {found : Class} → class_named name ≡ Some found → name ≡ name_of found
-class_is =
-    tried Upper (tried Lower (tried Alpha (tried Digit (tried Alnum (tried Xdigit (tried Blank (tried Space (tried Cntrl (tried Graph (tried Print
-    (tried Punct (λ e. absurd (none-some _ e)))))))))))))
+class_is = search rules
 
 class_found : {text : List ℕ} {name : Class} {rest : List ℕ} → class_at text ≡ Some (name, rest) → text ≡ name_of name ++ (58 ∷ 93 ∷ rest)
 class_found {text} {name} {rest} e =
@@ -231,9 +190,7 @@ record Spells (text : List ℕ) (member : Member) (rest : List ℕ) : Type 0 whe
 
 dash_inside : (text : List ℕ) → is_dash_inside text ≡ true → (text ≡ 45 ∷ drop 1 text) × (begins_with 93 (drop 1 text) ≡ false)
 dash_inside [] e = absurd (false≢true e)
-dash_inside (byte ∷ text) e =
-    let tests = and_parts (eqb byte 45) (not (begins_with 93 text)) e in
-    (ap (λ b. b ∷ text) (eqb-true byte 45 tests.0), not-true (begins_with 93 text) tests.1)
+dash_inside (byte ∷ text) e = search rules
 
 range_found : {text : List ℕ} (low : Spelling) (after : List ℕ) (element : Element) {member : Member} (left : List ℕ) {rest : List ℕ}
     → text ≡ byte_before low (45 ∷ after) → begins_with 93 after ≡ false → ElementIs element after left → range_to (byte_of low) element left ≡ Some (member, rest) → Spells text member rest
@@ -280,10 +237,7 @@ from_found {text} (Point byte) after {member} {rest} is e = go (cases_Bool (is_d
 
 may_begin : (first : Bool) (text : List ℕ) {found : Member × List ℕ} → member_at first text ≡ Some found → MayBegin first text
 may_begin true text e = tt
-may_begin false text e = elim (cases_Bool (begins_with 93 text || is_dash_inside text)) [
-  | inl closes ↦ absurd (none-some _ (sym (cond-true _ _ _ closes) ∙ e))
-  | inr goes ↦ or_parts _ _ goes
-]
+may_begin false text e = search rules
 
 member_found : (first : Bool) {text : List ℕ} {member : Member} {rest : List ℕ} → member_at first text ≡ Some (member, rest) → Spells text member rest
 member_found first {text} {member} {rest} e =
@@ -312,10 +266,7 @@ members_found first {text} (member ∷ members) end way =
 
 -- the first place doesn't follow a member
 has_parts : (text : List ℕ) {members : List Member} (parts : List Part) (end : List ℕ) → Steps ReadsMember (true, text) members (false, end) → members ≡ map member_of parts → parts ≢ []
-has_parts text {members} parts end way same none =
-    let e : members ≡ [] = same ∙ ap (map member_of) none in
-    let stays = subst (λ ms. Steps ReadsMember (true, text) ms (false, end)) e way in
-    false≢true (sym (ap (λ s. s.0) stays))
+has_parts text {members} parts end way same none = search rules
 
 -- a text that is read is spelled by the rules
 pub list_found : (text : List ℕ) (set : List Bool) (rest : List ℕ) (found : IsBracket text set rest) → IsSpelled text found.members set rest

@@ -1,6 +1,6 @@
 -- The sets of entered nodes along a line, place by place.
-use Rattle.std.proofs.Common.{◌≡◌, ◌⊎◌, ◌↔◌, inl, inr, ℕ, zero, suc, ◌+◌, ◌*◌, ◌-◌, ◌<◌, ◌≤◌, Bool, true, false, IsTrue, List, [], ◌∷◌, ◌++◌, length, slice_index, refl, sym, ap, ◌∙◌, subst, arith}
-use Rattle.std.proofs.lemmas.Bool.{cases_eq, false≢true, eqb-true, eq-eqb}
+use Rattle.std.proofs.Common.{rules, ◌≡◌, ◌⊎◌, ◌↔◌, inl, inr, ℕ, zero, suc, ◌+◌, ◌*◌, ◌<◌, ◌≤◌, Bool, true, false, IsTrue, List, [], ◌∷◌, ◌++◌, length, slice_index, refl, sym, subst, arith}
+use Rattle.std.proofs.lemmas.Bool.{cases_eq}
 use Rattle.bre_core.specs.ByteSet.{has}
 use Rattle.bre_core.specs.Match.{Parts}
 use Rattle.scan_core.specs.declared.node.Node.{Node}
@@ -10,7 +10,7 @@ use Rattle.std.proofs.Common.{length-append}
 use Rattle.std.proofs.lemmas.List.{get_or_push, get_or_append_left}
 use Rattle.scan_core.specs.Sets.{positions_among}
 use Rattle.scan_core.specs.Counted.{positions_in_all, AreSteps}
-use Rattle.scan_core.specs.Code.{At, Leads, Goes, Walks, Entered, weight}
+use Rattle.scan_core.specs.Code.{Leads, Goes, Walks, Entered, weight}
 use Rattle.scan_core.specs.Sets.{IsMarked}
 use Rattle.scan_core.specs.Table.{IsOutcome}
 use Rattle.scan_core.specs.inner.Table.{IsCounted}
@@ -88,11 +88,7 @@ closes_exact code line {place} {at_first} {at_last} Old Now p came o number = (�
         arrive e.2.0 0 e.0 number l e.2.1 (e.0, e.1, (0, (refl, refl))) (λ q. (o 0).1 (0, inr refl, (0, refl)))
 
 pub inner : (line : List ℕ) {place : ℕ} {at_first : Bool} → place < length line → at_first ≡ (place == 0) → IsPlace line place at_first false
-inner line {place} h f = record {
-  within = omega (arith, h);
-  first = (λ t. eqb-true place 0 (sym f ∙ t), λ e. f ∙ eq-eqb place 0 e);
-  last = (λ t. absurd (false≢true t), λ e. absurd (omega (arith, e, h)));
-}
+inner line {place} h f = search rules
 
 -- one place more is counted
 more_positions : (code : List Node) (sets : List (List Bool)) (set : List Bool) → positions_in_all code (sets ++ set ∷ []) ≡ positions_in_all code sets + positions_among code set
@@ -112,44 +108,22 @@ one_counted {code} line {place} set a x e = record {
 }
 
 pub final : (line : List ℕ) {place : ℕ} {at_first : Bool} → place ≡ length line → at_first ≡ (length line == 0) → IsPlace line place at_first true
-final line h f = record {
-  within = omega (arith, h);
-  first = (λ t. h ∙ eqb-true (length line) 0 (sym f ∙ t), λ e. f ∙ eq-eqb (length line) 0 (sym h ∙ e));
-  last = (λ t. h, λ e. refl);
-}
+final line h f = search rules
 
 -- what a byte leads to from all that was entered at a place
 pub came_exact : (code : List Node) (line : List ℕ) (place : ℕ) {byte : ℕ} (Now : ℕ → Type 0) → ((number : ℕ) → Now number ↔ Entered code line number place) → place < length line → byte ≡ slice_index line place
     → (number : ℕ) → ((from : ℕ) × Now from × Passes code byte from number) ↔ Came code line (suc place) number
-came_exact code line place Now a h e number = (
-  λ k. (place, omega arith, k.0, (a k.0).0 k.1, (Take k.2.0, k.2.1, (k.2.3, omega arith, h, subst (λ b. IsTrue (has k.2.0 b)) e k.2.2))),
-  λ c. elim (leads_place c.4.0 line c.2 c.0 number (suc place) c.4.2) [
-    | inl s ↦ let q = c.1 in absurd (omega (arith, s, q))
-    | inr s ↦
-        let same : c.0 ≡ place = omega (arith, s.0) in
-        let there = subst (λ n. Entered code line c.2 n) same c.3 in
-        let takes = subst (λ b. IsTrue (has s.1 b)) (ap (λ n. slice_index line n) same ∙ sym e) s.4 in
-        (c.2, (a c.2).1 there, (s.1, subst (At code c.2) s.2 c.4.1, takes, s.5))
-  ],
-)
+came_exact code line place Now a h e number = search rules
 
 -- one place more
 pub steps_more : (place steps count size : ℕ) → steps ≤ place * size → count ≤ size → steps + count ≤ (place + 1) * size
 steps_more place steps count size h k = let e : (place + 1) * size ≡ place * size + size = grind arith in omega (arith, h, k, e)
 
 pub steps_wider : (place most steps size : ℕ) → steps ≤ place * size → place ≤ most → steps ≤ most * size
-steps_wider place most steps size h k =
-    let e : most ≡ place + (most - place) = omega (arith, k) in
-    let f : (place + (most - place)) * size ≡ place * size + (most - place) * size = grind arith in
-    let g = ap (λ n. n * size) e in
-    omega (arith, h, f, g)
+steps_wider place most steps size h k = search rules
 
 pub counted_starts : (code : List Node) (line : List ℕ) → IsCounted code line 0 0
-counted_starts code line = record {
-  none = λ before h. absurd (omega (arith, h));
-  counted = record { sets = []; all = refl; exact = λ place number h. absurd (omega (arith, h)); total = refl };
-  bound = omega arith;
-}
+counted_starts code line = search rules
 
 pub counted_more : {code : List Node} {line : List ℕ} {place steps : ℕ} (set : List Bool) → IsCounted code line place steps → ((number : ℕ) → IsMarked set number ↔ Entered code line number place)
     → (IsMarked set (length code) → ⊥) → IsCounted code line (place + 1) (steps + positions_among code set)
@@ -165,12 +139,7 @@ counted_more {code} {line} {place} {steps} set s here never = record {
 -- the end is entered at a place
 pub counted_found : {code : List Node} {line : List ℕ} {place steps all : ℕ} → IsCounted code line place steps → place ≤ length line → Entered code line (length code) place → steps ≤ all
     → all ≤ (length line + 1) * (weight code + 1) → IsOutcome code line (record { found = true; steps = all })
-counted_found {place} {steps} s within ends least most = record {
-  exact = (λ t. (place, within, ends), λ e. refl);
-  counted = λ f. absurd (false≢true (sym f));
-  least = λ t. record { place = place; within = within; ends = ends; first = s.none; before = steps; counted = s.counted; least = least };
-  bound = most;
-}
+counted_found {place} {steps} s within ends least most = search rules
 
 -- the line's end
 pub counted_ends : {code : List Node} {line : List ℕ} {place steps : ℕ} {found : Bool} (set : List Bool) → IsCounted code line place steps → ((number : ℕ) → IsMarked set number ↔ Entered code line number place)

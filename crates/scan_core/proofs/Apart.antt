@@ -1,5 +1,5 @@
 -- Closing each word by itself, before the landings are followed.
-use Rattle.std.proofs.Common.{◌≡◌, ◌⊎◌, inl, inr, ℕ, suc, ◌+◌, ◌*◌, ◌/◌, ◌%◌, ◌<◌, ◌≤◌, Bool, false, List, length, get_or, set, refl, sym, ap, ◌∙◌, subst, arith}
+use Rattle.std.proofs.Common.{◌≡◌, ◌⊎◌, inl, inr, ℕ, ◌+◌, ◌*◌, ◌/◌, ◌%◌, ◌<◌, ◌≤◌, Bool, false, List, length, get_or, set, refl, sym, ap, ◌∙◌, subst, arith}
 use Rattle.std.proofs.lemmas.Bool.{cases_lt}
 use Rattle.std.proofs.lemmas.List.{get_or-set_same}
 use Rattle.std.proofs.lemmas.Nat.{le_or_l}
@@ -12,11 +12,11 @@ use Rattle.scan_core.specs.declared.node.Node.{Node}
 use Rattle.scan_core.specs.inner.Base.{IsBase}
 use Rattle.scan_core.specs.inner.Closures.{Closes}
 use Rattle.scan_core.specs.inner.Landings.{ClosesWords, HasLanded, Lands, LandsOn}
-use Rattle.scan_core.specs.inner.Sets.{Flows, FlowsOn}
+use Rattle.scan_core.specs.inner.Sets.{Flows}
 use Rattle.scan_core.specs.inner.Words.{Adds, IsIn, SpreadsOut, width}
 use Rattle.scan_core.proofs.Closings.{Closed, close_word}
 use Rattle.scan_core.proofs.Insides.{right_bit}
-use Rattle.scan_core.proofs.Visitings.{adds_anywhere, adds_both, adds_none, flows_join, is_in_word, is_within, spreading_ends}
+use Rattle.scan_core.proofs.Visitings.{adds_anywhere, adds_both, flows_join, is_in_word, is_within, spreading_ends}
 
 -- the first words were closed
 pub record Apart (code : List Node) (landings : List Landing) (old now : List ℕ) (count over : ℕ) : Type 0 where

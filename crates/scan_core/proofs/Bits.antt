@@ -1,6 +1,6 @@
 -- Bits of words, and sets that grow by a number.
-use Rattle.std.proofs.Common.{◌≡◌, ◌⊎◌, ◌↔◌, inl, inr, ℕ, zero, suc, ◌*◌, ◌/◌, ◌%◌, ◌^◌, ◌<◌, ◌≤◌, true, false, IsTrue, not, List, [], ◌∷◌, length, get_or, set, eqb, refl, sym, ap, ◌∙◌, subst, arith, eq-eqb, eqb-true, w64, min, ◌+◌, Bool}
-use Rattle.std.proofs.lemmas.Bool.{cases_eq, cases_lt, false≢true}
+use Rattle.std.proofs.Common.{rules, ◌≡◌, ◌⊎◌, ◌↔◌, inl, inr, ℕ, zero, suc, ◌*◌, ◌/◌, ◌%◌, ◌^◌, ◌<◌, ◌≤◌, true, false, IsTrue, not, List, [], ◌∷◌, length, get_or, set, eqb, refl, sym, ap, ◌∙◌, subst, arith, eq-eqb, eqb-true, w64, min, ◌+◌, Bool}
+use Rattle.std.proofs.lemmas.Bool.{cases_eq, false≢true}
 use Rattle.std.specs.Int.Bits.{or_zero_r}
 use mir.Val.{bool_byte}
 use Rattle.std.proofs.lemmas.List.{get_or-set_same, get_or-set_other, length-set, set-get_or}
@@ -115,15 +115,7 @@ pub goes_none : (words : List ℕ) (before : ℕ) → GoesOn words words before 
 goes_none words before = record { low = omega arith; under = λ number l h. h; fuller = omega arith; less = λ l. absurd (omega (arith, l)) }
 
 pub goes_both : {old middle new : List ℕ} {before between on : ℕ} → GoesOn old middle before between → GoesOn middle new between on → GoesOn old new before on
-goes_both {between} {on} f g = record {
-  low = omega (arith, f.low, g.low);
-  under = λ number l h. let w = g.low in f.under number (omega (arith, l, w)) (g.under number l h);
-  fuller = omega (arith, f.fuller, g.fuller);
-  less = λ l. elim (cases_lt on between) [
-    | inl lower ↦ let s = g.less lower in let r = f.fuller in omega (arith, s, r)
-    | inr same ↦ let s = f.less (omega (arith, l, same)) in let r = g.fuller in omega (arith, s, r)
-  ];
-}
+goes_both {between} {on} f g = search rules
 
 pub grows_none : (Added : ℕ → Type 0) {words : List ℕ} {on : ℕ} → ((number : ℕ) → Added number → IsIn words number) → Grows Added words words on on
 grows_none Added {words} {on} within = record { size = refl; exact = λ number. (λ h. inl h, elim [ inl h ↦ h | inr h ↦ within number h ]); goes = goes_none words on }

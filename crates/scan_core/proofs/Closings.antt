@@ -1,12 +1,12 @@
 -- Entering what the numbers of a word lead to, by closures and then by those that lead out of it.
 use Rattle.std.proofs.Common.{◌≡◌, ◌⊎◌, inl, inr, ℕ, zero, suc, ◌+◌, ◌*◌, ◌/◌, ◌%◌, ◌^◌, ◌<◌, ◌≤◌, Bool, false, List, [], ◌∷◌, length, get_or, set, refl, sym, ap, ◌∙◌, subst, arith, w64}
-use Rattle.std.proofs.lemmas.Bool.{cases_eq, cases_lt}
+use Rattle.std.proofs.lemmas.Bool.{cases_eq}
 use Rattle.std.proofs.lemmas.List.{get_or-set_same, length-set, get_or_default}
 use Rattle.std.proofs.lemmas.Nat.{and_le_l, le_or_l}
 use Rattle.std.proofs.lemmas.Nat.Bits.{bit_at_and, bit_at-lt, bit_at-zero, bit_at-trailing_zeros}
 use Rattle.std.specs.Prelude.{bit_and, bit_or}
 use Rattle.std.specs.Int.{bit_at, bit_not, trailing_zeros}
-use Rattle.scan_core.proofs.Enterings.{flow_anywhere, parts_anywhere}
+use Rattle.scan_core.proofs.Enterings.{flow_anywhere}
 use Rattle.scan_core.specs.declared.base.Base.{Base}
 use Rattle.scan_core.specs.declared.node.Node.{Node}
 use Rattle.scan_core.specs.inner.Base.{IsBase}
@@ -18,6 +18,7 @@ use Rattle.scan_core.specs.inner.Sets.{Flows, FlowsOn}
 use Rattle.scan_core.specs.inner.Words.{Adds, IsIn, unset, Grows, Visits, width}
 use Rattle.scan_core.proofs.Insides.{fresh_bit, left_bit, right_bit, either_bit}
 use Rattle.scan_core.proofs.Bits.{goes_both}
+use Rattle.scan_core.proofs.Hoppings.{none_of, one_of}
 use Rattle.scan_core.proofs.Passings.{set_elsewhere}
 use Rattle.scan_core.proofs.Visitings.{Visiting, adds_anywhere, adds_both, adds_none, is_in_word}
 
@@ -134,9 +135,9 @@ close_more {code} {at_first} {at_last} {at} leaves {left} {mask} bit {old} close
         subst (λ n. Flows code at_first at_last (n + k) to → Stays code (n + k) to ⊎ Flows code at_first at_last (at * 64 + bit) to) e (p.others k at_first at_last to s peer) f
 
 -- what the hops of a word lead to
-pub close_hops : {code : List Node} {hops : List Hop} {at_first at_last : Bool} {at pending left : ℕ} {old now new : List ℕ} {on on' : ℕ} → AreHops code hops → at < width code → Visiting code at_first at_last at pending left old now on → Grows (Hopped hops at (get_or old at 0) 3) now new on on'
+pub close_hops : {code : List Node} {hops : List Hop} {at_first at_last : Bool} {at pending left : ℕ} {old now new : List ℕ} {on on' : ℕ} → AreHops code hops → at < width code → get_or old at 0 < 2 ^ 64 → Visiting code at_first at_last at pending left old now on → Grows (Hopped hops at (get_or old at 0) 3) now new on on'
     → Visiting code at_first at_last at pending left old new on'
-close_hops {code} {hops} {at_first} {at_last} {at} {old} are inside v g =
+close_hops {code} {hops} {at_first} {at_last} {at} {old} are inside fits v g =
     visit_more (Hopped hops at (get_or old at 0) 3) v g from v.within
     (λ k s h. elim (v.rest k s h) [ inl waits ↦ inl waits | inr led ↦ inr (λ to f. (g.exact to).1 (inl (led to f))) ])
   where
@@ -144,13 +145,13 @@ close_hops {code} {hops} {at_first} {at_last} {at} {old} are inside v g =
     from number h =
         let place : (at * 3 + h.0) / 3 ≡ at = (let l = h.1 in omega (arith, l)) in
         let hop = are.each (at * 3 + h.0) (let l = h.1 in omega (arith, l, inside)) in
-        let flow = hop.leads h.2 h.3 h.5 in
-        let here = subst (λ n. Flows code false false (n * 64 + h.2) (get_or hops (at * 3 + h.0) no_hop).to) place flow in
-        (at * 64 + h.2, (is_in_word old at h.2 h.3).0 h.4, flow_anywhere code at_first at_last (at * 64 + h.2) number (subst (Flows code false false (at * 64 + h.2)) (sym h.6) here))
+        let one = one_of (get_or old at 0) (get_or hops (at * 3 + h.0) no_hop).from fits h.2.0 in
+        let here = subst (λ n. Flows code false false (n * 64 + one.0) (get_or hops (at * 3 + h.0) no_hop).to) place (hop.leads one.0 one.1 one.3) in
+        (at * 64 + one.0, (is_in_word old at one.0 one.1).0 one.2, flow_anywhere code at_first at_last (at * 64 + one.0) number (subst (Flows code false false (at * 64 + one.0)) (sym h.2.1) here))
 
-pub close_ends : {code : List Node} {hops : List Hop} {at_first at_last : Bool} {at left : ℕ} (leaves : ℕ) {start old now new : List ℕ} {on on' : ℕ} → Closed code at start old → Visiting code at_first at_last at (bit_and (get_or old at 0) leaves) left old now on → left ≡ 0 → IsLeaving code hops at leaves → AreHops code hops → at < width code
+pub close_ends : {code : List Node} {hops : List Hop} {at_first at_last : Bool} {at left : ℕ} (leaves : ℕ) {start old now new : List ℕ} {on on' : ℕ} → Closed code at start old → Visiting code at_first at_last at (bit_and (get_or old at 0) leaves) left old now on → left ≡ 0 → IsLeaving code hops at leaves → AreHops code hops → at < width code → get_or old at 0 < 2 ^ 64
     → Grows (Hopped hops at (get_or old at 0) 3) now new on on' → Visits code at_first at_last at start new on'
-close_ends {code} {at_first} {at_last} {at} {left} leaves {start} {old} {new} {on'} c w e leaving are inside g = record {
+close_ends {code} {hops} {at_first} {at_last} {at} {left} leaves {start} {old} {new} {on'} c w e leaving are inside fits g = record {
   adds = adds_both (adds_anywhere at_first at_last c.adds) v.adds;
   low = v.goes.low;
   under = λ number l below h. c.under number below (v.goes.under number l h);
@@ -160,7 +161,7 @@ close_ends {code} {at_first} {at_last} {at} {left} leaves {start} {old} {new} {o
 }
   where
     v : Visiting code at_first at_last at (bit_and (get_or old at 0) leaves) left old new on'
-    v = close_hops are inside w g
+    v = close_hops are inside fits w g
 
     all : (from to : ℕ) → from / 64 ≡ at → IsIn old from → Flows code at_first at_last from to → IsIn new to
     all from to here h f =
@@ -176,7 +177,7 @@ close_ends {code} {at_first} {at_last} {at} {left} leaves {start} {old} {new} {o
               ]
           | inr more ↦ elim more [
             | inl stays ↦ v.adds.kept to (c.closed (at * 64 + from % 64) to (omega arith) ((is_in_word old at (from % 64) (omega arith)).0 one) stays)
-            | inr hop ↦ (g.exact to).1 (inr (hop.0, hop.1, from % 64, omega arith, one, hop.2, hop.3))
+            | inr hop ↦ (g.exact to).1 (inr (hop.0, hop.1, (λ none. none_of (get_or old at 0) (get_or hops (at * 3 + hop.0) no_hop).from (from % 64) none one hop.2, hop.3)))
           ]
         ]
 

@@ -8,6 +8,7 @@ use Rattle.scan_core.specs.Code.{up_to, copies, tail_of, code_of, code_of_item, 
 use Rattle.scan_core.proofs.Walks.{Exact}
 use Rattle.scan_core.proofs.Composed.{exact_by, exact_none, exact_one, exact_both, exact_maybe, exact_starred, parts_first, parts_next, Often}
 use Rattle.bre_core.proofs.Matching.{stays}
+use Rattle.std.proofs.lemmas.Grind.{common_steps}
 
 abbrev pub AtMost : (ℕ → ℕ → Type 0) → ℕ → ℕ → ℕ → Type 0
 AtMost Kind most from to = (count : ℕ) × (count ≤ most) × Parts Kind count from to
@@ -33,9 +34,7 @@ exact_up_to line Kind e (suc most) =
     here (suc count) from to h p = let q = parts_next Kind count from to p in inr (q.0, q.1, (count, omega (arith, h), q.2))
 
 pub parts_join : (Kind : ℕ → ℕ → Type 0) (first second from middle to : ℕ) → Parts Kind first from middle → Parts Kind second middle to → Parts Kind (first + second) from to
-parts_join Kind first zero from middle to r s =
-    let e : first ≡ first + zero = omega arith in
-    subst (λ c. Parts Kind c from to) e (subst (λ m. Parts Kind first from m) s r)
+parts_join Kind first zero from middle to r s = grind (arith, common_steps)
 parts_join Kind first (suc second) from middle to r s =
     let e : suc (first + second) ≡ first + suc second = omega arith in
     let longer : Parts Kind (suc (first + second)) from to = (s.0, parts_join Kind first second from middle s.0 r s.1, s.2) in

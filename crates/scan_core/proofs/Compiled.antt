@@ -1,5 +1,5 @@
 -- The code that is written is the pattern's.
-use Rattle.std.proofs.Common.{◌≡◌, ◌⊎◌, inl, inr, ℕ, zero, suc, ◌+◌, ◌-◌, ◌<◌, ◌≤◌, List, [], ◌∷◌, ◌++◌, length, drop, get_or, reverse, Option, Some, None, refl, sym, ap, ◌∙◌, subst, arith, append_assoc, append-nil}
+use Rattle.std.proofs.Common.{rules, ◌≡◌, ◌⊎◌, inl, inr, ℕ, zero, suc, ◌+◌, ◌-◌, ◌<◌, ◌≤◌, List, [], ◌∷◌, ◌++◌, length, drop, get_or, reverse, Option, Some, None, refl, sym, ap, ◌∙◌, subst, arith, append_assoc, append-nil}
 use Rattle.std.proofs.lemmas.List.{reverse-append, reverse-reverse, at_drop_more, at_drop_all}
 use Rattle.bre_core.specs.Flat.{IsBounded, AreBounded}
 use Rattle.bre_core.specs.Match.{IsAtMost}
@@ -13,7 +13,7 @@ use Rattle.scan_core.specs.declared.compile.Pending.TheVariants.{Group, Repeated
 use Rattle.scan_core.specs.declared.emit.Duplication.{Duplication}
 use Rattle.scan_core.specs.declared.node.Node.{Node}
 use Rattle.scan_core.specs.declared.node.Node.TheVariants.{Back}
-use Rattle.scan_core.specs.inner.Backwards.{begun}
+use Rattle.scan_core.specs.inner.Backwards.{AreInOrder, begun}
 use Rattle.scan_core.specs.Code.{code_of, code_of_item, IsOrdered, IsOrderedItem, copies, tail_of, up_to}
 use Rattle.scan_core.specs.inner.Compiling.{IsNow, Finishes, Begins, Closes, Writes, Passes, PassesLeaf, TakesIn, Takes}
 use Rattle.bre_core.proofs.Chains.{Steps-push}
@@ -94,19 +94,16 @@ mutual
       (inner.0, passed_from depth old s.0 inner.0 stays.nodes stays.pending inner.1, inner.2)
 
 -- a duplication's item was written out
-repeated_out : (old code : List Node) (now new : Compiling) (pending : List Pending) (d : Duplication) → d.start ≡ length old
+repeated_out : (old code : List Node) (now new : Compiling) (pending : List Pending) (d : Duplication) → d.start ≡ length old → AreInOrder d.low d.high
     → now.nodes.items ++ reverse code ≡ old ++ begun d.high (reverse code) → now.pending.items ≡ pending ++ Repeated d ∷ []
     → Finishes (now.nodes.items ++ reverse code) now.pending.items new → Finishes (old ++ reverse (copies d.low code ++ tail_of code d.low d.high)) pending new
-repeated_out old code now new pending d s n p f =
+repeated_out old code now new pending d s o n p f =
     let out = finished_repeated (now.nodes.items ++ reverse code) pending d new f p in
-    subst (λ l. Finishes l pending new) (out.1 old code (sym s) n) out.2
+    subst (λ l. Finishes l pending new) (out.1 old code (sym s) o n) out.2
 
 -- an item that stands no time
 none_of : {nodes : List Node} (code : List Node) (low : ℕ) → low ≤ 0 → nodes ≡ nodes ++ reverse (copies low code ++ up_to (0 - low) code)
-none_of {nodes} code low h =
-    let z : 0 ≡ low = omega (arith, h) in
-    let e : 0 ≡ 0 - low = omega arith in
-    sym (append-nil nodes) ∙ ap (λ n. nodes ++ reverse (copies n code)) z ∙ ap (λ l. nodes ++ reverse l) (sym (append-nil (copies low code))) ∙ ap (λ n. nodes ++ reverse (copies low code ++ up_to n code)) e
+none_of {nodes} code low h = search rules
 
 mutual
   write_pattern : (pattern : Pattern) (tokens : List Token) (old final : Compiling) → IsOrdered pattern → old.passing ≡ None → Base old.pending.items → Steps Takes old (backwards pattern ++ tokens) final
@@ -143,7 +140,7 @@ mutual
       let inner = write_item item tokens s.0 final o.0 begins.passing s.2 in
       let nodes = ap (λ l. l ++ reverse (code_of_item item)) begins.nodes ∙ append_assoc old.nodes.items (Back 0 ∷ []) (reverse (code_of_item item)) in
       let d : Duplication = record { start = length old.nodes.items; low = low; high = None } in
-      (inner.0, repeated_out old.nodes.items (code_of_item item) s.0 inner.0 old.pending.items d refl nodes begins.pending inner.1, inner.2)
+      (inner.0, repeated_out old.nodes.items (code_of_item item) s.0 inner.0 old.pending.items d refl tt nodes begins.pending inner.1, inner.2)
   write_item (repeat item low (Some zero)) tokens old final o e s =
       let begins : Begins low (Some zero) old s.0 = takes_writing old s.0 (Repeat low (Some zero)) e s.1 in
       let inner = pass_item item tokens 0 s.0 final begins.passing s.2 in
@@ -153,7 +150,7 @@ mutual
       let inner = write_item item tokens s.0 final o.0 begins.passing s.2 in
       let nodes = ap (λ l. l ++ reverse (code_of_item item)) begins.nodes in
       let d : Duplication = record { start = length old.nodes.items; low = low; high = Some (suc high) } in
-      (inner.0, repeated_out old.nodes.items (code_of_item item) s.0 inner.0 old.pending.items d refl nodes begins.pending inner.1, inner.2)
+      (inner.0, repeated_out old.nodes.items (code_of_item item) s.0 inner.0 old.pending.items d refl (o.1, omega arith) nodes begins.pending inner.1, inner.2)
 
 -- the bounds of a tree's duplications are in order where those of its tokens are
 bounded_parts : (one other : List Token) → AreBounded (one ++ other) → AreBounded one × AreBounded other
@@ -197,8 +194,3 @@ way_more tokens {place} before {token} first now new e h is s t =
     let rest : drop before tokens ≡ token ∷ drop (before + 1) tokens = at_drop_more (λ ts. ts) tokens before token h ∙ ap (λ k. k ∷ drop (before + 1) tokens) (sym is) in
     let all : reverse (drop before tokens) ≡ reverse (drop place tokens) ++ token ∷ [] = ap reverse rest ∙ reverse-append (token ∷ []) (drop (before + 1) tokens) ∙ ap (λ n. reverse (drop n tokens) ++ token ∷ []) (sym e) in
     subst (λ l. Steps Takes first l new) (sym all) (Steps-push Takes first now new (reverse (drop place tokens)) token s t)
-
-pub bounded_at : (tokens : List Token) (place : ℕ) {token : Token} → AreBounded tokens → place < length tokens → token ≡ get_or tokens place token → IsBounded token
-bounded_at [] place b h e = absurd (omega arith)
-bounded_at (first ∷ tokens) zero b h e = subst IsBounded (sym e) b.0
-bounded_at (first ∷ tokens) (suc place) b h e = bounded_at tokens place b.1 (omega arith) e

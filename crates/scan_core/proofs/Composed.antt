@@ -1,26 +1,19 @@
 -- The walks of a pattern's code are what it matches: each way of putting codes together.
-use Rattle.std.proofs.Common.{◌≡◌, ◌⊎◌, inl, inr, ℕ, zero, suc, ◌+◌, ◌≤◌, List, [], ◌∷◌, ◌++◌, length, refl, sym, ◌∙◌, subst, arith}
+use Rattle.std.proofs.Common.{rules, ◌≡◌, ◌⊎◌, inl, inr, ℕ, zero, suc, ◌+◌, ◌≤◌, List, [], ◌∷◌, ◌++◌, length, refl, sym, ◌∙◌, subst, arith}
 use Rattle.std.proofs.lemmas.List.{length-append}
 use Rattle.bre_core.specs.Match.{Parts}
 use Rattle.scan_core.specs.declared.node.Node.{Node}
 use Rattle.scan_core.specs.declared.node.Node.TheVariants.{Choose, Back}
-use Rattle.scan_core.specs.Code.{At, Leads, Goes, Walks, Path, maybe, starred}
-use Rattle.scan_core.specs.inner.Sets.{FitsIn, IsCode}
+use Rattle.scan_core.specs.Code.{At, Leads, Walks, Path, maybe, starred}
+use Rattle.scan_core.specs.inner.Sets.{FitsIn}
 use Rattle.scan_core.proofs.Walks.{at_at, at-right, at-split, leads_unshift, walk-left, walk-right, walk_on, path_on, Exact, in_second, through, ended, fits_led, fits_moved}
+use Rattle.std.proofs.lemmas.Grind.{common_steps}
 
 pub exact_by : {code : List Node} (line : List ℕ) (Kind Other : ℕ → ℕ → Type 0) → Exact code line Kind → ((from to : ℕ) → Kind from to → Other from to) → ((from to : ℕ) → Other from to → Kind from to) → Exact code line Other
-exact_by line Kind Other e there here = record {
-  fits = e.fits;
-  sound = λ from to p. there from to (e.sound from to p);
-  complete = λ from to k. e.complete from to (here from to k);
-}
+exact_by line Kind Other e there here = search rules
 
 pub exact_none : (line : List ℕ) → Exact [] line (λ from to. from ≡ to)
-exact_none line = record {
-  fits = record { fits = λ n node h. absurd h };
-  sound = λ from to p. ended [] line p.0 0 refl p.1;
-  complete = λ from to e. (zero, (refl, e));
-}
+exact_none line = search rules
 
 -- a code of one node that leads to its end
 pub exact_one : {node : Node} (line : List ℕ) (Kind : ℕ → ℕ → Type 0)
@@ -138,10 +131,7 @@ star_at {code} line Kind e {count} {k} {place} stop ih h at' place' (inr (zero, 
 star_at line Kind e stop ih h at' place' (inr (suc j, far, last)) led w = absurd last
 
 star_holds : {code : List Node} (line : List ℕ) (Kind : ℕ → ℕ → Type 0) → Exact code line Kind → (count : ℕ) → StarHolds code line Kind count
-star_holds line Kind e zero = record {
-  whole = λ place stop w. absurd (omega (arith, w.0));
-  within = λ at k place stop q h w. absurd (omega (arith, w.0, q, h));
-}
+star_holds line Kind e zero = grind (arith, common_steps)
 star_holds {code} line Kind e (suc count) = let ih = star_holds line Kind e count in record {
   whole = λ place stop w. let led : ((w.0 ≡ 0 + 1) ⊎ (w.0 ≡ 0 + (length code + 2))) × (w.1 ≡ place) = subst (λ m. Leads m line 0 place w.0 w.1) w.2.1 w.2.2 in
       star_begun line Kind e stop ih led.0 led.1 w.3;

@@ -4,13 +4,14 @@ use Rattle.std.proofs.lemmas.Bool.{cases_lt, cases_eq}
 use Rattle.std.specs.Prelude.{◌==◌, bit_and, count_ones}
 use Rattle.std.specs.Int.Count.{ones_step}
 use Rattle.std.specs.Int.{bit_at}
-use Rattle.std.proofs.lemmas.Nat.{and_le_l, and_shr, ones_le_self}
+use Rattle.std.proofs.lemmas.Nat.{and_shr}
 use Rattle.std.proofs.lemmas.Nat.Bits.{bit_at_and, bit_at_lowest, bit_at-suc, bit_at-lt, bit_at-zero}
 use Rattle.scan_core.specs.declared.masks.Kind.TheVariants.{Counts}
 use Rattle.scan_core.specs.declared.node.Node.{Node}
 use Rattle.scan_core.specs.Sets.{IsMarked, weight_if, positions_among}
 use Rattle.scan_core.proofs.Enterings.{weight_most}
 use Rattle.scan_core.specs.inner.Words.{IsIn, IsMask, bits, counted_at, flags_of, width}
+use Rattle.std.proofs.lemmas.Grind.{common_steps}
 
 -- the weights of the marked numbers
 abbrev sum_of : (ℕ → ℕ) → List Bool → ℕ
@@ -19,10 +20,7 @@ sum_of weight (mark ∷ marks) = weight_if mark (weight 0) + sum_of (λ n. weigh
 
 sum_same : (one other : ℕ → ℕ) → ((n : ℕ) → one n ≡ other n) → (marks : List Bool) → sum_of one marks ≡ sum_of other marks
 sum_same one other e [] = refl
-sum_same one other e (mark ∷ marks) =
-    let h = ap (weight_if mark) (e 0) in
-    let r = sum_same (λ n. one (suc n)) (λ n. other (suc n)) (λ n. e (suc n)) marks in
-    omega (arith, h, r)
+sum_same one other e (mark ∷ marks) = grind (arith, common_steps)
 
 sum_none : (marks : List Bool) → sum_of (λ n. 0) marks ≡ 0
 sum_none [] = refl
@@ -46,11 +44,7 @@ weight_bit word counts e =
 sum_bits : (count : ℕ) (weight : ℕ → ℕ) (word counts : ℕ) (rest : List Bool) → word < 2 ^ count → ((bit : ℕ) → bit < count → bit_at counts bit ≡ weight bit)
     → sum_of weight (bits count word ++ rest) ≡ count_ones (bit_and word counts) + sum_of (λ n. weight (count + n)) rest
 unfolding bits
-sum_bits zero weight word counts rest small exact =
-    let none = and_le_l word counts in
-    let few = ones_le_self (bit_and word counts) in
-    let same : sum_of weight rest ≡ sum_of (λ n. weight (0 + n)) rest = sum_same weight (λ n. weight (0 + n)) (λ n. ap weight (omega arith)) rest in
-    omega (arith, none, few, small, same)
+sum_bits zero weight word counts rest small exact = grind (arith, common_steps)
 sum_bits (suc count) weight word counts rest small exact =
     let half : word / 2 < 2 ^ count = halved count word small in
     let r = sum_bits count (λ n. weight (suc n)) (word / 2) (counts / 2) rest half (λ bit l. sym (bit_at-suc counts bit) ∙ exact (suc bit) (omega (arith, l))) in

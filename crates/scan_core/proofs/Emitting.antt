@@ -1,17 +1,16 @@
 -- An item that stands last, written out as often as a duplication asks for.
-use Rattle.std.proofs.Common.{◌≡◌, ℕ, suc, ◌+◌, ◌-◌, ◌<◌, List, [], ◌∷◌, ◌++◌, length, set, reverse, sym, ap, ◌∙◌, arith, append_assoc, append-nil, add-one, length-append}
+use Rattle.std.proofs.Common.{◌≡◌, ℕ, suc, ◌+◌, ◌-◌, ◌<◌, List, [], ◌∷◌, ◌++◌, length, set, reverse, sym, ap, ◌∙◌, arith, append_assoc, append-nil, length-append}
 use Rattle.std.proofs.lemmas.List.{reverse-append, length-reverse}
 use Rattle.std.proofs.Math.Seq.{set-append_seam}
 use Rattle.scan_core.specs.declared.node.Node.{Node}
 use Rattle.scan_core.specs.declared.node.Node.TheVariants.{Choose, Back}
 use Rattle.scan_core.specs.Code.{copies, up_to, starred}
 use Rattle.scan_core.specs.inner.Backwards.{stretch}
-use Rattle.scan_core.proofs.Stretches.{stretch_after, reverse-cons, reverse-copies, copies_turn}
+use Rattle.scan_core.proofs.Stretches.{stretch_after, reverse-copies, copies_turn}
+use Rattle.std.proofs.lemmas.Grind.{common_steps}
 
 reverse-starred : (code : List Node) → reverse (starred code) ≡ (Back (length code + 1) ∷ reverse code) ++ Choose (length code + 2) ∷ []
-reverse-starred code =
-    reverse-cons (Choose (length code + 2)) (code ++ Back (length code + 1) ∷ [])
-    ∙ ap (λ l. l ++ Choose (length code + 2) ∷ []) (reverse-append code (Back (length code + 1) ∷ []))
+reverse-starred code = grind (arith, common_steps)
 
 -- without a bound
 pub starred_out : {nodes marked chosen new : List Node} (before code : List Node) {start size : ℕ} (low : ℕ) → length before ≡ start → nodes ≡ before ++ Back 0 ∷ reverse code → size ≡ length nodes - start - 1
@@ -56,26 +55,16 @@ starred_out {marked} {chosen} before code {start} {size} low b n s m ch e =
         let r = length-reverse code in
         ap (stretch (start + 1) size) parted ∙ stretch_after (before ++ Back (length code + 1) ∷ []) (Choose (length code + 2) ∷ []) (omega (arith, a, b)) (omega (arith, r, counted))
 
-counted_item : {nodes : List Node} (before code : List Node) {start : ℕ} → length before ≡ start → nodes ≡ before ++ reverse code → length code ≡ length nodes - start
-counted_item before code b n =
-    let l = ap length n in
-    let a = length-append before (reverse code) in
-    let r = length-reverse code in
-    omega (arith, l, a, r, b)
-
 -- the item where it stands, nodes having been written after it
 item_here : {nodes now : List Node} (more before code : List Node) {start size : ℕ} → length before ≡ start → nodes ≡ before ++ reverse code → size ≡ length nodes - start
     → now ≡ nodes ++ more → stretch start size now ≡ reverse code
-item_here more before code {start} {size} b n s g =
-    let r = length-reverse code in
-    let c = counted_item before code b n in
-    ap (stretch start size) (g ∙ ap (λ l. l ++ more) n ∙ append_assoc before (reverse code) more) ∙ stretch_after before more b (omega (arith, r, s, c))
+item_here more before code {start} {size} b n s g = grind (arith, common_steps)
 
 -- `count` times
-pub exact_out : {nodes new : List Node} (before code : List Node) {start size low high : ℕ} → length before ≡ start → nodes ≡ before ++ reverse code → size ≡ length nodes - start → low ≡ high → 0 < high
-    → new ≡ nodes ++ copies (low - 1) (stretch start size nodes) → new ≡ before ++ reverse (copies low code ++ up_to (high - low) code)
-exact_out {nodes} before code {low} {high} b n s same some e =
-    e ∙ ap (λ l. nodes ++ copies (low - 1) l) (item_here [] before code b n s (sym (append-nil nodes))) ∙ ap (λ l. l ++ copies (low - 1) (reverse code)) n
+pub exact_out : {nodes new : List Node} (before code : List Node) {start size low high times : ℕ} → length before ≡ start → nodes ≡ before ++ reverse code → size ≡ length nodes - start → low ≡ high → 0 < high
+    → times ≡ low - 1 → new ≡ nodes ++ copies times (stretch start size nodes) → new ≡ before ++ reverse (copies low code ++ up_to (high - low) code)
+exact_out {nodes} before code {start} {size} {low} {high} b n s same some t e =
+    e ∙ ap (λ k. nodes ++ copies k (stretch start size nodes)) t ∙ ap (λ l. nodes ++ copies (low - 1) l) (item_here [] before code b n s (sym (append-nil nodes))) ∙ ap (λ l. l ++ copies (low - 1) (reverse code)) n
     ∙ append_assoc before (reverse code) (copies (low - 1) (reverse code)) ∙ ap (λ l. before ++ l) (copies_turn (low - 1) (reverse code))
     ∙ ap (λ k. before ++ copies k (reverse code)) one ∙ ap (λ l. before ++ l) (sym (reverse-copies low code))
     ∙ ap (λ l. before ++ reverse l) (sym (append-nil (copies low code))) ∙ ap (λ k. before ++ reverse (copies low code ++ up_to k code)) none
@@ -86,41 +75,10 @@ exact_out {nodes} before code {low} {high} b n s same some e =
     none : 0 ≡ high - low
     none = omega (arith, same)
 
--- the first optional copy
-pub optional_first : {nodes new : List Node} (before code : List Node) {start : ℕ} → length before ≡ start → nodes ≡ before ++ reverse code → new ≡ nodes ++ Choose (length nodes - start + 1) ∷ [] → new ≡ before ++ reverse (up_to 1 code)
-optional_first {nodes} before code {start} b n e =
-    e ∙ ap (λ l. l ++ Choose (length nodes - start + 1) ∷ []) n ∙ ap (λ k. (before ++ reverse code) ++ Choose k ∷ []) skip
-    ∙ append_assoc before (reverse code) (Choose (length (code ++ []) + 1) ∷ [])
-    ∙ ap (λ l. before ++ (reverse l ++ Choose (length (code ++ []) + 1) ∷ [])) (sym (append-nil code))
-    ∙ ap (λ l. before ++ l) (sym (reverse-cons (Choose (length (code ++ []) + 1)) (code ++ [])))
-  where
-    skip : length nodes - start + 1 ≡ length (code ++ []) + 1
-    skip =
-        let s = counted_item before code b n in
-        let a = length-append code [] in
-        omega (arith, s, a)
-
 -- one more optional copy
 pub optional_more : {nodes now middle new : List Node} (more before code : List Node) {start size : ℕ} (count : ℕ) → length before ≡ start → nodes ≡ before ++ reverse code → size ≡ length nodes - start → now ≡ nodes ++ more
     → now ≡ before ++ reverse (up_to count code) → middle ≡ now ++ stretch start size now → new ≡ middle ++ Choose (length middle - start + 1) ∷ [] → new ≡ before ++ reverse (up_to (count + 1) code)
-optional_more {now} {middle} more before code {start} count b n s g w m e =
-    e ∙ ap (λ l. l ++ Choose (length middle - start + 1) ∷ []) copied ∙ ap (λ k. (before ++ reverse (code ++ up_to count code)) ++ Choose k ∷ []) skip
-    ∙ append_assoc before (reverse (code ++ up_to count code)) (Choose (length (code ++ up_to count code) + 1) ∷ [])
-    ∙ ap (λ l. before ++ l) (sym (reverse-cons (Choose (length (code ++ up_to count code) + 1)) (code ++ up_to count code)))
-    ∙ ap (λ k. before ++ reverse (up_to k code)) (sym (add-one count))
-  where
-    copied : middle ≡ before ++ reverse (code ++ up_to count code)
-    copied =
-        m ∙ ap (λ l. now ++ l) (item_here more before code b n s g)
-        ∙ ap (λ l. l ++ reverse code) w ∙ append_assoc before (reverse (up_to count code)) (reverse code)
-        ∙ ap (λ l. before ++ l) (sym (reverse-append code (up_to count code)))
-
-    skip : length middle - start + 1 ≡ length (code ++ up_to count code) + 1
-    skip =
-        let l = ap length copied in
-        let a = length-append before (reverse (code ++ up_to count code)) in
-        let r = length-reverse (code ++ up_to count code) in
-        omega (arith, l, a, r, b)
+optional_more {now} {middle} more before code {start} count b n s g w m e = grind (arith, common_steps)
 
 -- the copies that are always there, before the optional ones
 pub bounded_out : {nodes now new : List Node} (more before code : List Node) {start size : ℕ} (low high : ℕ) {count : ℕ} → length before ≡ start → nodes ≡ before ++ reverse code → size ≡ length nodes - start → now ≡ nodes ++ more
@@ -133,5 +91,4 @@ bounded_out {now} more before code low high {count} b n s g w k e =
 
 -- what was written stays at the front
 pub grown_on : (nodes : List Node) {now middle new : List Node} (more first second : List Node) → now ≡ nodes ++ more → middle ≡ now ++ first → new ≡ middle ++ second → (all : List Node) × (new ≡ nodes ++ all)
-grown_on nodes more first second g m e =
-    ((more ++ first) ++ second, e ∙ ap (λ l. l ++ second) (m ∙ ap (λ l. l ++ first) g ∙ append_assoc nodes more first) ∙ append_assoc nodes (more ++ first) second)
+grown_on nodes more first second g m e = grind (arith, common_steps)

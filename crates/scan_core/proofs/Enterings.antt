@@ -1,11 +1,10 @@
--- Sets of nodes that grow.
-use Rattle.std.proofs.Common.{◌≡◌, ◌⊎◌, inl, inr, ℕ, zero, suc, ◌+◌, ◌<◌, ◌≤◌, Bool, true, false, IsTrue, List, [], ◌∷◌, length, get_or, set, refl, sym, ap, ◌∙◌, subst, arith, ◌↔◌}
-use Rattle.std.proofs.lemmas.Bool.{cases_eq, false≢true, cases_lt}
-use Rattle.std.proofs.lemmas.List.{get_or-set_same, get_or-set_other, length-set, get_or_past}
+-- The nodes at the numbers of a code, and what they lead to.
+use Rattle.std.proofs.Common.{◌≡◌, ◌⊎◌, inl, inr, ℕ, zero, suc, ◌+◌, ◌<◌, ◌≤◌, Bool, true, false, IsTrue, List, [], ◌∷◌, length, get_or, refl, sym, ◌∙◌, subst, arith}
+use Rattle.std.proofs.lemmas.Bool.{false≢true}
 use Rattle.bre_core.specs.Match.{Parts}
 use Rattle.scan_core.specs.declared.node.Node.{Node}
 use Rattle.scan_core.specs.Code.{At, weight_of, weight}
-use Rattle.scan_core.specs.Sets.{IsMarked, weight_if, positions_among}
+use Rattle.scan_core.specs.Sets.{weight_if, positions_among}
 use Rattle.scan_core.specs.inner.Sets.{LeadsOn, Flows, IsCode, Passes}
 use Rattle.bre_core.specs.ByteSet.{has}
 use Rattle.scan_core.specs.declared.node.Node.TheVariants.{Take, First, Last, Choose, Back}
@@ -25,16 +24,6 @@ pub positions_most : (code : List Node) (marks : List Bool) → positions_among 
 positions_most code [] = omega arith
 positions_most [] (mark ∷ marks) = let w = weight_if_most mark 1 in omega (arith, w)
 positions_most (node ∷ code) (mark ∷ marks) = let w = weight_if_most mark (weight_of node) in let r = positions_most code marks in omega (arith, w, r)
-
--- what is new, in other words, and after a second time
-pub exact_as : {New Old Added Other : Type 0} → New ↔ (Old ⊎ Added) → (Added → Other) → (Other → Added) → New ↔ (Old ⊎ Other)
-exact_as e there here = (λ h. elim (e.0 h) [ inl was ↦ inl was | inr k ↦ inr (there k) ], λ h. e.1 (elim h [ inl was ↦ inl was | inr k ↦ inr (here k) ]))
-
-pub exact_twice : {New Middle Old Added Other : Type 0} → Middle ↔ (Old ⊎ Added) → New ↔ (Middle ⊎ Other) → New ↔ (Old ⊎ (Added ⊎ Other))
-exact_twice e f = (
-  λ h. elim (f.0 h) [ inl k ↦ elim (e.0 k) [ inl was ↦ inl was | inr one ↦ inr (inl one) ] | inr other ↦ inr (inr other) ],
-  λ h. f.1 (elim h [ inl was ↦ inl (e.1 (inl was)) | inr new ↦ elim new [ inl one ↦ inl (e.1 (inr one)) | inr other ↦ inr other ] ]),
-)
 
 pub at_index : (code : List Node) (n : ℕ) (d : Node) → n < length code → At code n (get_or code n d)
 at_index [] n d h = absurd (omega (arith, h))

@@ -1,29 +1,17 @@
 -- Sets of numbers as words that grow by what a node leads to.
-use Rattle.std.proofs.Common.{◌≡◌, ◌⊎◌, inl, inr, refl, ℕ, ◌+◌, Bool, List, sym, ◌∙◌, subst, arith}
-use Rattle.std.proofs.lemmas.Bool.{cases_lt}
+use Rattle.std.proofs.Common.{rules, ◌≡◌, ◌⊎◌, ℕ, Bool, List}
 use Rattle.scan_core.specs.declared.node.Node.{Node}
-use Rattle.scan_core.specs.declared.node.Node.TheVariants.{Choose}
-use Rattle.scan_core.specs.Code.{At}
-use Rattle.scan_core.specs.inner.Sets.{LeadsOn, Flows}
+use Rattle.scan_core.specs.inner.Sets.{Flows}
 use Rattle.scan_core.specs.declared.way.Way.{Way}
 use Rattle.scan_core.specs.inner.Ways.{IsWay, Opens}
 use Rattle.scan_core.specs.inner.Words.{Grows}
-use Rattle.scan_core.proofs.Enterings.{flows_of, exact_as, exact_twice}
-use Rattle.scan_core.proofs.Bits.{goes_both, grows_none}
+use Rattle.scan_core.proofs.Bits.{grows_none}
 
 pub grows_by : (Added Other : ℕ → Type 0) {old new : List ℕ} {before on : ℕ} → Grows Added old new before on → ((n : ℕ) → Added n → Other n) → ((n : ℕ) → Other n → Added n) → Grows Other old new before on
-grows_by Added Other g there here = record {
-  size = g.size;
-  exact = λ number. exact_as (g.exact number) (there number) (here number);
-  goes = g.goes;
-}
+grows_by Added Other g there here = search rules
 
 pub grows_both : (Added Other : ℕ → Type 0) {old middle new : List ℕ} {before : ℕ} (between : ℕ) {on : ℕ} → Grows Added old middle before between → Grows Other middle new between on → Grows (λ n. Added n ⊎ Other n) old new before on
-grows_both Added Other between {on} f g = record {
-  size = g.size ∙ f.size;
-  exact = λ number. exact_twice (f.exact number) (g.exact number);
-  goes = goes_both f.goes g.goes;
-}
+grows_both Added Other between {on} f g = search rules
 
 -- a node that leads nowhere at this place, and one that leads to two numbers
 pub grows_closed : {code : List Node} {number : ℕ} {way : Way} {at_first at_last : Bool} {words : List ℕ} {on : ℕ} → IsWay code number way → (Opens way.when at_first at_last → ⊥)

@@ -1,23 +1,16 @@
 -- Hops: numbers of a word that lead to the same one beyond it.
-use Rattle.std.proofs.Common.{◌≡◌, ◌⊎◌, inl, inr, ℕ, ◌+◌, ◌*◌, ◌/◌, ◌%◌, ◌^◌, ◌<◌, false, List, length, get_or, set, min, sym, refl, ap, ◌∙◌, subst, arith, w64}
-use Rattle.std.proofs.lemmas.Bool.{cases_eq}
+use Rattle.std.proofs.Common.{rules, ◌≡◌, ℕ, ◌+◌, ◌*◌, ◌/◌, ◌%◌, ◌^◌, ◌<◌, List, length, get_or, set, min, sym, ap, ◌∙◌, subst, arith, w64}
 use Rattle.std.proofs.lemmas.Nat.{and_le_l}
-use Rattle.std.proofs.lemmas.Nat.Bits.{bit_at-trailing_zeros, bit_at_and, bit_at-lt, bit_at-zero, bit_at_set_other}
+use Rattle.std.proofs.lemmas.Nat.Bits.{bit_at-trailing_zeros, bit_at_and, bit_at-lt, bit_at-zero}
 use Rattle.std.specs.Prelude.{bit_and, bit_or}
 use Rattle.std.specs.Int.{bit_at, trailing_zeros}
 use Rattle.scan_core.specs.declared.hops.Hop.{Hop}
-use Rattle.scan_core.specs.declared.node.Node.{Node}
-use Rattle.scan_core.specs.inner.Hops.{Hopped, no_hop}
-use Rattle.scan_core.specs.inner.Sets.{Flows}
+use Rattle.scan_core.specs.inner.Hops.{Hopped, HoppedBy, no_hop}
 use Rattle.scan_core.specs.inner.Words.{IsIn, Grows}
-use Rattle.scan_core.proofs.Bits.{grows_one, grows_none}
-use Rattle.scan_core.proofs.Growings.{grows_by, grows_both}
+use Rattle.scan_core.proofs.Bits.{grows_one}
+use Rattle.scan_core.proofs.Growings.{grows_by}
 use Rattle.scan_core.proofs.Insides.{bit_is}
 use Rattle.scan_core.proofs.Visitings.{is_in_word}
-
--- no number leads anywhere
-pub none_leads : (code : List Node) (at to bit : ℕ) → bit_at 0 bit ≡ 1 → Flows code false false (at * 64 + bit) to
-none_leads code at to bit is = let z = bit_at-zero bit in absurd (omega (arith, z, is))
 
 -- some of a word's numbers are those of a hop, or none
 pub one_of : (word from : ℕ) → word < 2 ^ 64 → (bit_and word from ≡ 0 → ⊥) → (bit : ℕ) × (bit < 64) × (bit_at word bit ≡ 1) × (bit_at from bit ≡ 1)
@@ -37,30 +30,9 @@ none_of word from bit none here there =
     let z = ap (λ w. bit_at w bit) none ∙ bit_at-zero bit in
     omega (arith, e, z, here, there)
 
-pub hopped_more : (hops : List Hop) (at word count : ℕ) {old now new : List ℕ} {before on on' : ℕ} → word < 2 ^ 64 → (bit_and word (get_or hops (at * 3 + count) no_hop).from ≡ 0 → ⊥) → Grows (Hopped hops at word count) old now before on → Grows (λ other. other ≡ (get_or hops (at * 3 + count) no_hop).to) now new on on'
-    → Grows (Hopped hops at word (count + 1)) old new before on'
-hopped_more hops at word count {on} fits some f g =
-    grows_by (λ n. Hopped hops at word count n ⊎ (n ≡ (get_or hops (at * 3 + count) no_hop).to)) (Hopped hops at word (count + 1)) (grows_both (Hopped hops at word count) (λ other. other ≡ (get_or hops (at * 3 + count) no_hop).to) on f g) there here
-  where
-    there : (n : ℕ) → Hopped hops at word count n ⊎ (n ≡ (get_or hops (at * 3 + count) no_hop).to) → Hopped hops at word (count + 1) n
-    there n (inl h) = (h.0, (let l = h.1 in omega (arith, l)), h.2, h.3, h.4, h.5, h.6)
-    there n (inr h) = let one = one_of word (get_or hops (at * 3 + count) no_hop).from fits some in (count, omega arith, one.0, one.1, one.2, one.3, h)
-
-    here : (n : ℕ) → Hopped hops at word (count + 1) n → Hopped hops at word count n ⊎ (n ≡ (get_or hops (at * 3 + count) no_hop).to)
-    here n h = elim (cases_eq h.0 count) [
-      | inl same ↦ inr (h.6 ∙ ap (λ k. (get_or hops (at * 3 + k) no_hop).to) same)
-      | inr other ↦ inl (h.0, (let l = h.1 in omega (arith, l, other)), h.2, h.3, h.4, h.5, h.6)
-    ]
-
-pub hopped_skip : (hops : List Hop) (at word count : ℕ) {old now : List ℕ} {before on : ℕ} → bit_and word (get_or hops (at * 3 + count) no_hop).from ≡ 0 → Grows (Hopped hops at word count) old now before on → Grows (Hopped hops at word (count + 1)) old now before on
-hopped_skip hops at word count none f = grows_by (Hopped hops at word count) (Hopped hops at word (count + 1)) f
-    (λ n h. (h.0, (let l = h.1 in omega (arith, l)), h.2, h.3, h.4, h.5, h.6)) here
-  where
-    here : (n : ℕ) → Hopped hops at word (count + 1) n → Hopped hops at word count n
-    here n h = elim (cases_eq h.0 count) [
-      | inl same ↦ absurd (none_of word (get_or hops (at * 3 + count) no_hop).from h.2 none h.4 (ap (λ k. bit_at (get_or hops (at * 3 + k) no_hop).from h.2) (sym same) ∙ h.5))
-      | inr other ↦ (h.0, (let l = h.1 in omega (arith, l, other)), h.2, h.3, h.4, h.5, h.6)
-    ]
+pub hopped_more : (hops : List Hop) (at word count : ℕ) {old now new : List ℕ} {before on on' : ℕ} → Grows (Hopped hops at word count) old now before on
+    → Grows (HoppedBy (get_or hops (at * 3 + count) no_hop) word) now new on on' → Grows (Hopped hops at word (count + 1)) old new before on'
+hopped_more hops at word count {on} f g = search rules
 
 -- a number by its word and bit
 pub entered_is : (words : List ℕ) (number : ℕ) {word bit : ℕ} → word ≡ number / 64 → bit ≡ 1 * 2 ^ (number % 64) % 2 ^ 64 → get_or words word 0 < 2 ^ 64 → (bit_and (get_or words word 0) bit ≡ 0 → ⊥) → IsIn words number
@@ -76,11 +48,10 @@ absent_is words number {word} {bit} ew eb none h =
     let two = ap (λ x. bit_at x (number % 64)) eb ∙ (bit_is number (number % 64) (sym ew) (omega arith)).1 same in
     none_of (get_or words word 0) bit (number % 64) none one two
 
-pub follow_new : {old new : List ℕ} (number : ℕ) {word bit before on : ℕ} → number < 64 * length old → word ≡ number / 64 → bit ≡ 1 * 2 ^ (number % 64) % 2 ^ 64 → get_or old word 0 < 2 ^ 64 → bit_and (get_or old word 0) bit ≡ 0 → new ≡ set old word (bit_or (get_or old word 0) bit) → on ≡ min before word
-    → Grows (λ other. other ≡ number) old new before on
-follow_new {old} number {word} {bit} {before} h ew eb fits none en eo =
-    grows_one number h (absent_is old number ew eb none) (ap (λ k. get_or old k 0) ew) fits
-    (en ∙ ap (λ k. set old k (bit_or (get_or old word 0) bit)) ew ∙ ap (λ x. set old (number / 64) (bit_or (get_or old word 0) x)) eb) (eo ∙ ap (min before) ew)
-
-pub follow_old : {words : List ℕ} (number : ℕ) {word bit on : ℕ} → word ≡ number / 64 → bit ≡ 1 * 2 ^ (number % 64) % 2 ^ 64 → get_or words word 0 < 2 ^ 64 → (bit_and (get_or words word 0) bit ≡ 0 → ⊥) → Grows (λ other. other ≡ number) words words on on
-follow_old {words} number ew eb fits some = grows_none (λ other. other ≡ number) (λ other e. subst (IsIn words) (sym e) (entered_is words number ew eb fits some))
+pub follow_new : {old new : List ℕ} (hop : Hop) (numbers : ℕ) {before on : ℕ} → hop.to < 64 * length old → hop.word ≡ hop.to / 64 → hop.bit ≡ 1 * 2 ^ (hop.to % 64) % 2 ^ 64
+    → get_or old hop.word 0 < 2 ^ 64 → (bit_and numbers hop.from ≡ 0 → ⊥) → bit_and (get_or old hop.word 0) hop.bit ≡ 0 → new ≡ set old hop.word (bit_or (get_or old hop.word 0) hop.bit)
+    → on ≡ min before hop.word → Grows (HoppedBy hop numbers) old new before on
+follow_new {old} hop numbers {before} h ew eb fits some none en eo =
+    grows_by (λ other. other ≡ hop.to) (HoppedBy hop numbers) (grows_one hop.to h (absent_is old hop.to ew eb none) (ap (λ k. get_or old k 0) ew) fits
+    (en ∙ ap (λ k. set old k (bit_or (get_or old hop.word 0) hop.bit)) ew ∙ ap (λ x. set old (hop.to / 64) (bit_or (get_or old hop.word 0) x)) eb) (eo ∙ ap (min before) ew))
+    (λ n e. (some, e)) (λ n led. led.1)

@@ -1,5 +1,5 @@
 -- The sets of the places along a line, and a table of them.
-use Rattle.std.proofs.Common.{◌≡◌, ◌⊎◌, ◌↔◌, inl, inr, ℕ, zero, suc, ◌+◌, ◌*◌, ◌-◌, ◌<◌, ◌≤◌, Bool, true, false, IsTrue, List, length, get_or, slice_index, refl, sym, ap, ◌∙◌, subst, arith}
+use Rattle.std.proofs.Common.{rules, ◌≡◌, ◌⊎◌, ◌↔◌, inl, inr, ℕ, zero, suc, ◌+◌, ◌*◌, ◌-◌, ◌<◌, ◌≤◌, Bool, true, false, List, length, get_or, slice_index, refl, sym, ap, ◌∙◌, subst, arith}
 use Rattle.std.proofs.lemmas.Bool.{cases_eq, false≢true}
 use Rattle.scan_core.specs.declared.node.Node.{Node}
 use Rattle.scan_core.specs.declared.table.Table.{Table}
@@ -7,7 +7,7 @@ use Rattle.scan_core.specs.declared.table.State.{State}
 use Rattle.std.proofs.Math.Nat.{mul-le-mul, mul-suc}
 use Rattle.std.proofs.lemmas.List.{get_or_default}
 use Rattle.scan_core.specs.Code.{Entered, weight}
-use Rattle.scan_core.specs.Counted.{AreSteps, EndsIn, HasStepsBefore, IsStepCount, set_at}
+use Rattle.scan_core.specs.Counted.{set_at}
 use Rattle.scan_core.specs.Sets.{IsMarked, positions_among}
 use Rattle.scan_core.specs.inner.Sets.{Flows, FlowsOn, Passes}
 use Rattle.scan_core.specs.inner.Table.{Next, Inner, InSets, entry, IsState, no_state, IsTableOf, Walked, IsCounted}
@@ -77,11 +77,7 @@ walked_more {code} {sets} {table} line {place} {state} {steps} {steps'} t w h b 
 
 walked_stay : {code : List Node} {sets : List (List Bool)} {table : Table} (line : List ℕ) (more : ℕ) {place state steps : ℕ} → IsTableOf code sets table → Walked code sets line place state steps → place + more ≤ length line → ((k : ℕ) → k < length line → slice_index line k < 256)
     → ((k : ℕ) → place ≤ k → k < place + more → entry table.rows.items state (slice_index line k) ≡ state) → Walked code sets line (place + more) state (steps + positions_among code (set_at sets state) * more)
-walked_stay {code} {sets} line zero {place} {state} {steps} t w h b s =
-    let e : place ≡ place + 0 = omega arith in
-    let z : positions_among code (set_at sets state) * 0 ≡ 0 = grind arith in
-    let q : steps ≡ steps + positions_among code (set_at sets state) * 0 = omega (arith, z) in
-    subst (λ p. Walked code sets line p state (steps + positions_among code (set_at sets state) * 0)) e (subst (λ n. Walked code sets line place state n) q w)
+walked_stay {code} {sets} line zero {place} {state} {steps} t w h b s = search rules
 walked_stay {code} {sets} line (suc more) {place} {state} {steps} t w h b s =
     let before = walked_stay line more t w (omega (arith, h)) b (λ k l u. s k l (omega (arith, u))) in
     let m = t.most in

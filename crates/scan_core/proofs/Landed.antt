@@ -1,7 +1,7 @@
 -- Entering what landings lead to.
-use Rattle.std.proofs.Common.{◌≡◌, ◌⊎◌, ◌↔◌, inl, inr, ℕ, ◌+◌, ◌*◌, ◌-◌, ◌/◌, ◌%◌, ◌^◌, ◌<◌, ◌≤◌, Bool, true, false, IsTrue, List, [], ◌∷◌, ◌++◌, length, length-append, append_assoc, get_or, set, eqb, not, refl, sym, ap, ◌∙◌, subst, arith}
+use Rattle.std.proofs.Common.{rules, ◌≡◌, ◌⊎◌, ◌↔◌, inl, inr, ℕ, ◌+◌, ◌*◌, ◌-◌, ◌/◌, ◌%◌, ◌^◌, ◌<◌, ◌≤◌, Bool, true, false, IsTrue, List, [], ◌∷◌, ◌++◌, length, length-append, append_assoc, get_or, set, eqb, not, refl, sym, ap, ◌∙◌, subst, arith}
 use Rattle.std.proofs.lemmas.Bool.{cases_eq, false≢true, eqb-false, not-true, ne_eqb}
-use Rattle.std.proofs.lemmas.List.{get_or_append_left, set-get_or}
+use Rattle.std.proofs.lemmas.List.{set-get_or}
 use Rattle.std.specs.Prelude.{bit_and, bit_or}
 use Rattle.std.specs.Int.{bit_at}
 use Rattle.std.specs.Int.Bits.{or_zero_r}
@@ -10,16 +10,14 @@ use mir.Val.{bool_byte}
 use Rattle.scan_core.specs.declared.hops.Hop.{Hop}
 use Rattle.scan_core.specs.declared.landing.Landing.{Landing}
 use Rattle.scan_core.specs.declared.node.Node.{Node}
-use Rattle.scan_core.specs.declared.node.Node.TheVariants.{Choose, Back}
-use Rattle.scan_core.specs.Code.{At}
-use Rattle.scan_core.specs.inner.Hops.{AreHops, IsHop, no_hop}
-use Rattle.scan_core.specs.inner.Landings.{AreLandings, Ends, HasLanded, IsLanding, IsOther, Lands, no_landing}
+use Rattle.scan_core.specs.inner.Hops.{AreHops, no_hop}
+use Rattle.scan_core.specs.inner.Landings.{AreLandings, Ends, IsLanding, IsOther, Lands, no_landing}
 use Rattle.scan_core.specs.inner.Sets.{Flows, FlowsOn}
 use Rattle.scan_core.specs.inner.Words.{Adds, IsIn, width}
-use Rattle.scan_core.proofs.Enterings.{flows_of}
 use Rattle.scan_core.proofs.Hoppings.{one_of, none_of}
 use Rattle.scan_core.proofs.Each.{each_more, each_to}
-use Rattle.scan_core.proofs.Visitings.{adds_both, adds_none, is_in_word}
+use Rattle.scan_core.proofs.Visitings.{adds_both, is_in_word}
+use Rattle.std.proofs.lemmas.Grind.{common_steps}
 
 pub enters_if : (words : List ℕ) {new : List ℕ} (number : ℕ) (holds : Bool) → number < 64 * length words → new ≡ set words (number / 64) (bit_or (get_or words (number / 64) 0) (bool_byte holds * 2 ^ (number % 64) % 2 ^ 64))
     → (other : ℕ) → IsIn new other ↔ (IsIn words other ⊎ (IsTrue holds × (other ≡ number)))
@@ -83,10 +81,7 @@ adding_more {old} {now} {landing} a is e = record {
 }
 
 pub hop_lands : {code : List Node} {hops : List Hop} {at : ℕ} (which : ℕ) {hop : Hop} → AreHops code hops → at < width code → which < 3 → hop ≡ get_or hops (at * 3 + which) no_hop → Ends code hop.to → IsLanding code (record { at = at; from = hop.from; to = hop.to })
-hop_lands {code} {hops} {at} which are h l e ends =
-    let place : (at * 3 + which) / 3 ≡ at = omega (arith, l) in
-    let is = subst (λ x. IsHop code at x) (sym e) (subst (λ n. IsHop code n (get_or hops (at * 3 + which) no_hop)) place (are.each (at * 3 + which) (omega (arith, l, h)))) in
-    record { at = h; within = is.within; leads = is.leads; ends = ends }
+hop_lands {code} {hops} {at} which are h l e ends = search rules
 
 pub not_zero : (n : ℕ) → IsTrue (not (eqb n 0)) → n ≡ 0 → ⊥
 not_zero n t = eqb-false n 0 (not-true (eqb n 0) t)
@@ -98,11 +93,7 @@ is_not_zero {n} h = ap not (ne_eqb n 0 h)
 lands_kept : (base : List ℕ) (old more : List Landing) (at bit to : ℕ) → Lands base old at bit to → Lands base (old ++ more) at bit to
 lands_kept base old more at bit to (inl near) = inl near
 lands_kept base old more at bit to (inr (inl based)) = inr (inl based)
-lands_kept base old more at bit to (inr (inr on)) =
-    let e = get_or_append_left old more no_landing on.0 on.1 in
-    let l = length-append old more in
-    let within = on.1 in
-    inr (inr (on.0, omega (arith, l, within), ap (λ x. x.at) e ∙ on.2, ap (λ x. bit_at x.from bit) e ∙ on.3, on.4 ∙ sym (ap (λ x. x.to) e)))
+lands_kept base old more at bit to (inr (inr on)) = grind (arith, common_steps)
 
 pub other_kept : (code : List Node) (base : List ℕ) (old new : List Landing) (at word : ℕ) → (more : List Landing) × (new ≡ old ++ more) → IsOther code base old at word → IsOther code base new at word
 other_kept code base old new at word grown is bit at_first at_last to small f = elim (is bit at_first at_last to small f) [

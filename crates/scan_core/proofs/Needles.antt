@@ -1,7 +1,7 @@
 -- What each line with a match has, and where a text lacks it.
 use Rattle.std.proofs.Common.{◌≡◌, inl, inr, ℕ, zero, suc, ◌+◌, ◌-◌, ◌<◌, ◌≤◌, Bool, true, false, IsTrue, List, [], ◌∷◌, ◌++◌, length, slice_index, refl, sym, ap, ◌∙◌, subst, arith, length-append}
 use Rattle.std.proofs.lemmas.Bool.{cases_eq}
-use Rattle.std.proofs.lemmas.List.{get_or_append_left, get_or-append-add}
+use Rattle.std.proofs.lemmas.List.{get_or_append_left}
 use Rattle.std.proofs.Math.Seq.{get_or-append_seam}
 use Rattle.memchr.specs.Find.{Nowhere, Passes, OccursAt}
 use Rattle.bre_core.specs.ByteSet.{has}
@@ -13,14 +13,14 @@ use Rattle.scan_core.specs.declared.needle.Needle.{Needle}
 use Rattle.scan_core.specs.declared.needle.Needle.TheVariants.{Byte, Text}
 use Rattle.scan_core.specs.declared.node.Node.{Node}
 use Rattle.scan_core.specs.declared.node.Node.TheVariants.{Take, First, Last, Choose, Back}
-use Rattle.scan_core.specs.declared.rarest.Rarest.{Rarest}
 use Rattle.scan_core.specs.Clear.{IsClear}
 use Rattle.scan_core.specs.Code.{At, Leads, Walks, code_of, IsOrdered}
 use Rattle.scan_core.specs.Counted.{EndsIn}
-use Rattle.scan_core.specs.inner.Needles.{is_among, AreBytes, IsNeedle, LacksBefore, IsPassed, IsRarest, TakesOnly, IsLiteral}
+use Rattle.scan_core.specs.inner.Needles.{is_among, AreBytes, IsNeedle, LacksBefore, IsPassed, TakesOnly, IsLiteral}
 use Rattle.scan_core.proofs.Codes.{contained}
 use Rattle.scan_core.proofs.Enterings.{at_once, at_least}
 use Rattle.scan_core.proofs.Walks.{at_at}
+use Rattle.std.proofs.lemmas.Grind.{common_steps}
 
 -- Each walk to the end comes by a node beyond which no choice leads.
 
@@ -28,10 +28,7 @@ step_near : (code : List Node) (line : List ℕ) (number : ℕ) (node : Node) {a
 step_near code line number (Take bytes) place place' passed here led low = omega (arith, led.0, low)
 step_near code line number First place place' passed here led low = omega (arith, led.0, low)
 step_near code line number Last place place' passed here led low = omega (arith, led.0, low)
-step_near code line number (Choose skip) {at} place place' passed here led low = elim led.0 [
-  | inl next ↦ omega (arith, next, low)
-  | inr far ↦ let near = passed at skip low here in omega (arith, far, near)
-]
+step_near code line number (Choose skip) {at} place place' passed here led low = grind (arith, common_steps)
 step_near code line number (Back by) place place' passed here led low = omega (arith, led.0, low)
 
 come_by : (code : List Node) (line : List ℕ) (number : ℕ) → IsPassed code number → (count at place to stop : ℕ) → Walks code line count at place to stop → at ≤ number → number < to → (there : ℕ) × (rest : ℕ) × Walks code line rest number there to stop
@@ -117,9 +114,7 @@ is_text_needle code number {text} passed literal same some line are ends = (
 -- Stretches of a text
 
 pub part_at : (before part after : List ℕ) (k : ℕ) → k < length part → slice_index (before ++ part ++ after) (length before + k) ≡ slice_index part k
-part_at before part after k within =
-    let both : length (before ++ part) ≡ length before + length part = length-append before part in
-    get_or_append_left (before ++ part) after _ (length before + k) (omega (arith, both, within)) ∙ get_or-append-add before part k _
+part_at before part after k within = grind (arith, common_steps)
 
 pub lacks_byte : (few : FewBytes) (text : List ℕ) (place : ℕ) → Nowhere (Passes (is_among few) text) 0 place → LacksBefore (Byte few) text place
 lacks_byte few text place none before part after all ends has =

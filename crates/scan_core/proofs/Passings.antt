@@ -1,5 +1,5 @@
 -- A step of a set of words over a byte, word by word.
-use Rattle.std.proofs.Common.{◌≡◌, ◌⊎◌, ◌↔◌, inl, inr, ℕ, zero, suc, ◌+◌, ◌*◌, ◌/◌, ◌%◌, ◌^◌, ◌<◌, ◌≤◌, List, length, get_or, set, min, refl, sym, ap, ◌∙◌, subst, arith}
+use Rattle.std.proofs.Common.{rules, ◌≡◌, ◌⊎◌, ◌↔◌, inl, inr, ℕ, zero, suc, ◌+◌, ◌*◌, ◌/◌, ◌%◌, ◌^◌, ◌<◌, ◌≤◌, List, length, get_or, set, min, sym, ap, ◌∙◌, subst, arith}
 use Rattle.std.proofs.lemmas.Bool.{cases_lt}
 use Rattle.std.proofs.lemmas.List.{get_or-set_same, get_or-set_other, length-set}
 use Rattle.std.proofs.lemmas.Nat.Bits.{bit_at_and, bit_at_or, bit_at_lowest, bit_at-suc, bit_at-zero, bit_at_above, bit_at_cat_low}
@@ -68,9 +68,7 @@ kept_bit code words takes byte from at bit m within small = (
 
 pub set_elsewhere : (words : List ℕ) {at : ℕ} (word number : ℕ) → (number / 64 ≡ at → ⊥) → IsIn (set words at word) number ↔ IsIn words number
 unfolding IsIn
-set_elsewhere words {at} word number differs =
-    let e = ap (λ x. bit_at x (number % 64)) (get_or-set_other words at (number / 64) word 0 differs) in
-    (λ k. sym e ∙ k, λ k. e ∙ k)
+set_elsewhere words {at} word number differs = search rules
 
 -- the first words hold what the byte leads to
 pub record Passing (code : List Node) (byte : ℕ) (base old now : List ℕ) (at carry : ℕ) : Type 0 where

@@ -1,18 +1,17 @@
 -- A search by sets of words, place by place.
-use Rattle.std.proofs.Common.{◌≡◌, ◌⊎◌, ◌↔◌, inl, inr, ℕ, suc, ◌+◌, ◌*◌, ◌<◌, ◌≤◌, Bool, true, false, IsTrue, List, length, slice_index, refl, sym, ap, ◌∙◌, subst, arith}
-use Rattle.std.proofs.lemmas.Bool.{cases_eq, false≢true}
+use Rattle.std.proofs.Common.{◌≡◌, ◌⊎◌, ◌↔◌, inl, inr, ℕ, suc, ◌+◌, ◌*◌, ◌<◌, ◌≤◌, Bool, true, false, IsTrue, List, length, slice_index, refl, sym, ◌∙◌, subst, arith}
+use Rattle.std.proofs.lemmas.Bool.{false≢true}
 use Rattle.std.proofs.Math.Nat.{mul-le-mul}
 use Rattle.scan_core.specs.declared.base.Base.{Base}
 use Rattle.scan_core.specs.declared.node.Node.{Node}
 use Rattle.scan_core.specs.inner.Base.{IsBase}
 use Rattle.scan_core.specs.Code.{Entered, weight}
-use Rattle.scan_core.specs.Counted.{AreSteps}
 use Rattle.scan_core.specs.Sets.{IsMarked, positions_among}
 use Rattle.scan_core.specs.inner.Sets.{FlowsOn, Passes, Came}
 use Rattle.scan_core.specs.Table.{IsOutcome}
 use Rattle.scan_core.specs.inner.Table.{IsCounted}
 use Rattle.scan_core.specs.inner.Words.{IsIn, width, flags_of, SpreadsOut}
-use Rattle.scan_core.proofs.Along.{IsPlace, closes_exact, came_exact, counted_starts, counted_more, counted_found, counted_ends, steps_more, steps_wider}
+use Rattle.scan_core.proofs.Along.{IsPlace, closes_exact, came_exact, counted_more, counted_found, counted_ends, steps_more, steps_wider}
 use Rattle.scan_core.proofs.Countings.{flags_are}
 use Rattle.scan_core.proofs.Enterings.{positions_most, parts_anywhere, weight_length}
 use Rattle.scan_core.proofs.Visitings.{flows_join}

@@ -1,6 +1,6 @@
 -- A table of few states as words.
-use Rattle.std.proofs.Common.{◌≡◌, inl, inr, ℕ, zero, suc, ◌+◌, ◌*◌, ◌-◌, ◌/◌, ◌%◌, ◌^◌, ◌<◌, ◌≤◌, Bool, true, List, length, get_or, slice_index, refl, sym, ap, ◌∙◌, subst, arith}
-use Rattle.std.proofs.lemmas.Bool.{cases_lt, false≢true}
+use Rattle.std.proofs.Common.{rules, ◌≡◌, inl, inr, ℕ, zero, suc, ◌+◌, ◌*◌, ◌-◌, ◌/◌, ◌%◌, ◌^◌, ◌<◌, ◌≤◌, Bool, true, List, length, get_or, slice_index, refl, sym, ap, ◌∙◌, subst, arith}
+use Rattle.std.proofs.lemmas.Bool.{cases_lt}
 use Rattle.std.proofs.lemmas.Nat.{pow-add, shr-shr, shr_high}
 use Rattle.std.proofs.Math.Nat.{pow-le-pow_right}
 use Rattle.std.proofs.lemmas.List.{get_or_default}
@@ -13,7 +13,7 @@ use Rattle.scan_core.specs.Counted.{set_at, HasStepsBefore}
 use Rattle.scan_core.specs.inner.Shifts.{AreLight, IsAt, IsComplete, IsOffset, IsReached, IsShiftTable, IsShifted, IsStateAt, IsWeight, six_bits}
 use Rattle.scan_core.specs.Table.{IsFound, IsOutcome}
 use Rattle.scan_core.specs.inner.Table.{IsTable, IsTableOf, Walked, entry, no_state}
-use Rattle.scan_core.proofs.Along.{steps_more, steps_wider}
+use Rattle.scan_core.proofs.Along.{steps_more}
 use Rattle.scan_core.proofs.Enterings.{positions_most, weight_length}
 use Rattle.scan_core.proofs.Inners.{walked_starts, walk_stops, walk_next, walk_run, walk_ends, fixed_stays, bound_fits}
 
@@ -106,13 +106,7 @@ more_steps line added has = record { place = has.place; within = has.within; end
 
 state_over : {code : List Node} {table : Table} (line : List ℕ) {place state steps : ℕ} (added : ℕ) → IsTable code table → IsStateAt code table line place state steps → place < length line → HasStepsBefore code line (steps + added) → added ≤ weight code + 1
     → IsStateAt code table line (place + 1) (length table.states.items) (steps + added)
-state_over {code} line {place} {steps} added t a h e w = record {
-  within = omega (arith, h);
-  known = omega arith;
-  going = λ l. absurd (omega (arith, l));
-  over = λ q. e;
-  bound = steps_more place steps added (weight code + 1) a.bound w;
-}
+state_over {code} line {place} {steps} added t a h e w = search rules
 
 state_going : {code : List Node} {table : Table} (line : List ℕ) {place state steps added : ℕ} → IsTable code table → IsStateAt code table line place state steps → place < length line → slice_index line place < 256 → state < length table.states.items
     → entry table.rows.items state (slice_index line place) < length table.states.items → added ≡ (get_or table.states.items state no_state).positions → added ≤ weight code + 1
@@ -170,31 +164,17 @@ at_more {shifts} line {place} word {read} d {added} e a h b r w g =
     (a.0, a.1, a.2, (m.0, ap (λ k. k % 64) (w ∙ ap (λ k. read / 2 ^ k) a.3.1) ∙ m.1, m.2))
 
 pub at_stop : {code : List Node} {shifts : ShiftTable} (line : List ℕ) {place : ℕ} (word : ℕ) {steps : ℕ} → IsAt code shifts line place word steps → word % 64 ≡ shifts.stop → IsOutcome code line (record { found = true; steps = steps })
-at_stop {code} line {place} word {steps} a e =
-    let same : a.3.0 ≡ length a.0.states.items = (let s = a.2.stop in let q = a.3.1 in omega (arith, e, s, q)) in
-    record {
-      exact = (λ t. let has = a.3.2.over same in (has.place, has.within, has.ends), λ t. refl);
-      counted = λ f. absurd (false≢true (sym f));
-      least = λ t. a.3.2.over same;
-      bound = steps_wider place (length line + 1) steps (weight code + 1) a.3.2.bound (let h = a.3.2.within in omega (arith, h));
-    }
+at_stop {code} line {place} word {steps} a e = search rules
 
 -- the state, where the end wasn't entered
 state_here : {code : List Node} {shifts : ShiftTable} (line : List ℕ) {place : ℕ} (word : ℕ) {steps : ℕ} (a : IsAt code shifts line place word steps) → (word % 64 ≡ shifts.stop → ⊥) → a.3.0 < length a.0.states.items
-state_here line word a n = elim (cases_lt a.3.0 (length a.0.states.items)) [
-  | inl less ↦ less
-  | inr more ↦ absurd (n (let k = a.3.2.known in let s = a.2.stop in let q = a.3.1 in omega (arith, more, k, s, q)))
-]
+state_here line word a n = search rules
 
 state_number : {code : List Node} {shifts : ShiftTable} (line : List ℕ) {place : ℕ} (word : ℕ) {steps : ℕ} (a : IsAt code shifts line place word steps) → word % 64 / 6 ≡ a.3.0
 state_number line word a = let q = a.3.1 in omega (arith, q)
 
 pub at_known : {code : List Node} {shifts : ShiftTable} (line : List ℕ) {place : ℕ} (word : ℕ) {steps : ℕ} → IsAt code shifts line place word steps → (word % 64 ≡ shifts.stop → ⊥) → word % 64 / 6 < length shifts.states.items
-at_known line word a n =
-    let h = state_here line word a n in
-    let e = state_number line word a in
-    let s = ap length a.2.states in
-    omega (arith, h, e, s)
+at_known line word a n = search rules
 
 -- what is noted of the state
 noted_here : {code : List Node} {shifts : ShiftTable} (line : List ℕ) {place : ℕ} (word : ℕ) {steps : ℕ} {noted : State} (d : State) (a : IsAt code shifts line place word steps) → noted ≡ get_or shifts.states.items (word % 64 / 6) d → noted ≡ get_or a.0.states.items a.3.0 d

@@ -1,36 +1,15 @@
 -- Stretches of nodes, and their copies.
-use Rattle.std.proofs.Common.{◌≡◌, ℕ, zero, suc, ◌+◌, ◌<◌, ◌≤◌, List, [], ◌∷◌, ◌++◌, length, take, drop, get_or, reverse, refl, sym, ap, ◌∙◌, arith, append_assoc, append-nil, add-one, length-drop}
-use Rattle.std.proofs.lemmas.List.{take_more, get_or-drop, take-append-le, drop-append-le, reverse-append, get_or_append_left}
-use Rattle.std.proofs.Math.Seq.{take-append_seam, drop-append_seam}
+use Rattle.std.proofs.Common.{◌≡◌, ℕ, zero, suc, ◌+◌, ◌≤◌, List, ◌++◌, length, reverse, refl, sym, ap, ◌∙◌, arith, append_assoc, append-nil}
+use Rattle.std.proofs.lemmas.List.{reverse-append}
 use Rattle.scan_core.specs.declared.node.Node.{Node}
 use Rattle.scan_core.specs.Code.{copies}
 use Rattle.scan_core.specs.inner.Backwards.{stretch}
-
--- one node more of a stretch
-pub stretch_more : (old : List Node) {now new : List Node} (from k : ℕ) {node : Node} → now ≡ old ++ take k (drop from old) → from + k < length old → node ≡ get_or now (from + k) node → new ≡ now ++ node ∷ []
-    → new ≡ old ++ take (k + 1) (drop from old)
-stretch_more old from k {node} e h is m =
-    let here : node ≡ get_or (drop from old) k node = is ∙ ap (λ l. get_or l (from + k) node) e ∙ get_or_append_left old (take k (drop from old)) node (from + k) h ∙ sym (get_or-drop from old k node) in
-    let size = length-drop from old in
-    let more : take (k + 1) (drop from old) ≡ take k (drop from old) ++ node ∷ [] = take_more (drop from old) k node (omega (arith, size, h)) ∙ ap (λ n. take k (drop from old) ++ n ∷ []) (sym here) in
-    m ∙ ap (λ l. l ++ node ∷ []) e ∙ append_assoc old (take k (drop from old)) (node ∷ []) ∙ ap (λ l. old ++ l) (sym more)
-
--- a stretch stays where nodes are written after it
-pub stretch_stays : (from size : ℕ) (old more : List Node) → from + size ≤ length old → stretch from size (old ++ more) ≡ stretch from size old
-stretch_stays from size old more h =
-    let l = length-drop from old in
-    ap (take size) (drop-append-le from old more (omega (arith, h))) ∙ take-append-le size (drop from old) more (omega (arith, h, l))
+use Rattle.std.proofs.lemmas.Grind.{common_steps}
 
 -- one copy more
 pub copies_more : (old : List Node) {now new : List Node} (from size count : ℕ) → now ≡ old ++ copies count (stretch from size old) → from + size ≤ length old → new ≡ now ++ stretch from size now
     → new ≡ old ++ copies (count + 1) (stretch from size old)
-copies_more old from size count e h m =
-    m ∙ ap (λ l. l ++ stretch from size l) e
-    ∙ ap (λ l. (old ++ copies count (stretch from size old)) ++ l) (stretch_stays from size old (copies count (stretch from size old)) h)
-    ∙ append_assoc old (copies count (stretch from size old)) (stretch from size old) ∙ ap (λ n. old ++ copies n (stretch from size old)) (sym (add-one count))
-
-pub reverse-cons : (node : Node) (code : List Node) → reverse (node ∷ code) ≡ reverse code ++ node ∷ []
-reverse-cons node code = reverse-append (node ∷ []) code
+copies_more old from size count e h m = grind (arith, common_steps)
 
 -- a copy may stand on either side of the others
 pub copies_turn : (count : ℕ) (code : List Node) → code ++ copies count code ≡ copies count code ++ code
@@ -43,6 +22,4 @@ reverse-copies (suc count) code = reverse-append (copies count code) code ∙ ap
 
 -- the stretch after a front
 pub stretch_after : (before : List Node) {code : List Node} (more : List Node) {from size : ℕ} → length before ≡ from → length code ≡ size → stretch from size (before ++ (code ++ more)) ≡ code
-stretch_after before {code} more {size} e f =
-    ap (λ n. take size (drop n (before ++ (code ++ more)))) (sym e) ∙ ap (take size) (drop-append_seam before (code ++ more))
-    ∙ ap (λ n. take n (code ++ more)) (sym f) ∙ take-append_seam code more
+stretch_after before {code} more {size} e f = grind (arith, common_steps)

@@ -1,5 +1,5 @@
 -- A table that is built set by set and entry by entry.
-use Rattle.std.proofs.Common.{◌≡◌, ◌⊎◌, ◌↔◌, inl, inr, ℕ, ◌+◌, ◌*◌, ◌/◌, ◌%◌, ◌<◌, ◌≤◌, Bool, true, false, IsTrue, List, [], ◌∷◌, ◌++◌, length, length-append, get_or, refl, sym, ap, ◌∙◌, subst, arith}
+use Rattle.std.proofs.Common.{rules, ◌≡◌, ◌⊎◌, ◌↔◌, inl, inr, ℕ, ◌+◌, ◌*◌, ◌/◌, ◌%◌, ◌<◌, ◌≤◌, Bool, true, false, IsTrue, List, [], ◌∷◌, ◌++◌, length, length-append, get_or, refl, sym, ap, ◌∙◌, subst, arith}
 use Rattle.std.proofs.lemmas.Bool.{cases_eq}
 use Rattle.std.proofs.lemmas.List.{get_or_append_left, get_or_default}
 use Rattle.bre_core.specs.ByteSet.{has}
@@ -10,7 +10,7 @@ use Rattle.scan_core.specs.declared.node.Node.TheVariants.{Take}
 use Rattle.scan_core.specs.declared.table.State.{State}
 use Rattle.scan_core.specs.declared.table.Table.{Table}
 use Rattle.scan_core.specs.inner.Base.{IsBase}
-use Rattle.scan_core.specs.inner.Built.{AreAlike, Built, IsBuilding, IsFilling, IsOpen, LeadsTo, Led}
+use Rattle.scan_core.specs.inner.Built.{AreAlike, Built, IsFilling, IsOpen, LeadsTo, Led}
 use Rattle.scan_core.specs.inner.Each.{AreEach}
 use Rattle.scan_core.specs.Code.{At}
 use Rattle.scan_core.specs.Counted.{set_at}
@@ -50,10 +50,7 @@ built_set {code} {sets} {set} b small o = let l = length-append sets (set ∷ []
 -- the entry of a state and a byte by its place
 tells_at : {code : List Node} {sets : List (List Bool)} {place state byte read : ℕ} → place ≡ state * 256 + byte → byte < 256
     → Tells code sets state byte read ≡ Tells code sets (place / 256) (place % 256) read
-tells_at {code} {sets} {place} {state} {byte} {read} e h =
-    let s : state ≡ place / 256 = omega (arith, e, h) in
-    let b : byte ≡ place % 256 = omega (arith, e, h) in
-    ap (λ n. Tells code sets n byte read) s ∙ ap (λ n. Tells code sets (place / 256) n read) b
+tells_at {code} {sets} {place} {state} {byte} {read} e h = search rules
 
 pub told_of : {code : List Node} {entries : ℕ} {sets : List (List Bool)} {rows : List ℕ} (state byte : ℕ) → Built code entries sets rows → byte < 256 → state * 256 + byte < entries
     → Tells code sets state byte (entry rows state byte)
@@ -201,17 +198,4 @@ state_is {code} {now} {last} e s p f q x = record {
 -- a table that was built, with what is noted of each state
 pub table_is : {code : List Node} {sets : List (List Bool)} {table : Table} → Built code (length sets * 256) sets table.rows.items → length code ≤ 65536 → length sets < 65534
     → AreEach no_state (IsState code sets table.rows.items) (length sets) table.states.items → IsTable code table
-table_is {sets} b few small noted = (
-  sets,
-  record {
-    few = few;
-    some = b.some;
-    most = small;
-    rows = b.told.size;
-    states = noted.size;
-    front = b.front;
-    none = λ s h. (b.going.each s h).going;
-    told = λ s byte h k. told_of s byte b k (omega (arith, h, k));
-    noted = noted.each;
-  },
-)
+table_is {sets} b few small noted = search rules

@@ -1,32 +1,25 @@
 -- Entering all that a set of words leads to, word by word.
-use Rattle.std.proofs.Common.{◌≡◌, ◌⊎◌, ◌↔◌, inl, inr, ℕ, zero, suc, ◌+◌, ◌*◌, ◌-◌, ◌/◌, ◌%◌, ◌^◌, ◌<◌, ◌≤◌, Bool, false, List, length, get_or, refl, sym, ap, ◌∙◌, subst, arith, w64}
+use Rattle.std.proofs.Common.{rules, ◌≡◌, ◌⊎◌, ◌↔◌, inl, inr, ℕ, zero, suc, ◌+◌, ◌*◌, ◌-◌, ◌%◌, ◌^◌, ◌<◌, ◌≤◌, Bool, false, List, length, get_or, refl, ap, ◌∙◌, subst, arith, w64}
 use Rattle.std.proofs.lemmas.Bool.{cases_eq, cases_lt}
 use Rattle.std.proofs.lemmas.Nat.{and_le_l}
-use Rattle.std.proofs.lemmas.Nat.Bits.{bit_at-zero, bit_at_clear_same, bit_at_clear_other}
+use Rattle.std.proofs.lemmas.Nat.Bits.{bit_at_clear_same, bit_at_clear_other}
 use Rattle.std.specs.Prelude.{bit_and}
 use Rattle.std.specs.Int.{bit_at, bit_not}
-use Rattle.std.proofs.lemmas.List.{get_or_past}
 use Rattle.bre_core.specs.Match.{Parts}
 use Rattle.scan_core.specs.declared.node.Node.{Node}
 use Rattle.scan_core.proofs.Bits.{goes_none}
 use Rattle.scan_core.proofs.Enterings.{parts_anywhere}
 use Rattle.scan_core.specs.inner.Sets.{Flows, FlowsOn}
 use Rattle.scan_core.specs.inner.Words.{Adds, GoesOn, IsIn, unset, Visits, SpreadsOut}
+use Rattle.std.proofs.lemmas.Grind.{common_steps}
 
 pub is_in_word : (words : List ℕ) (at bit : ℕ) → bit < 64 → (bit_at (get_or words at 0) bit ≡ 1) ↔ IsIn words (at * 64 + bit)
 unfolding IsIn
-is_in_word words at bit h =
-    let word : (at * 64 + bit) / 64 ≡ at = omega (arith, h) in
-    let place : (at * 64 + bit) % 64 ≡ bit = omega (arith, h) in
-    let same : bit_at (get_or words ((at * 64 + bit) / 64) 0) ((at * 64 + bit) % 64) ≡ bit_at (get_or words at 0) bit = ap (λ k. bit_at (get_or words k 0) ((at * 64 + bit) % 64)) word ∙ ap (bit_at (get_or words at 0)) place in
-    (λ e. same ∙ e, λ e. sym same ∙ e)
+is_in_word words at bit h = search rules
 
 pub is_within : (words : List ℕ) (number : ℕ) → IsIn words number → number < 64 * length words
 unfolding IsIn
-is_within words number h = elim (cases_lt number (64 * length words)) [
-  | inl l ↦ l
-  | inr far ↦ let none = ap (λ x. bit_at x (number % 64)) (get_or_past words (number / 64) 0 (omega (arith, far))) ∙ bit_at-zero (number % 64) in absurd (omega (arith, none, h))
-]
+is_within words number h = grind (arith, common_steps)
 
 -- clearing a bit that is set makes a word smaller, and leaves the others
 pub cleared : (word : ℕ) {k : ℕ} → k < 64 → bit_at word k ≡ 1 → let left = bit_and word (bit_not w64 (1 * 2 ^ k % 2 ^ 64)) in (left < word) × ((j : ℕ) → j < 64 → (j ≡ k → ⊥) → bit_at left j ≡ bit_at word j) × (bit_at left k ≡ 0)
@@ -101,25 +94,6 @@ spreading_ends {code} {at_first} {at_last} {old} {now} s h = record {
         let l = is_within now p.0 before in
         s.closed p.0 number (omega (arith, l, h)) before p.2
 
--- going back to an earlier word, the set has grown
-smaller : (more less size at on : ℕ) → on ≤ at + 1 → at < size → less ≤ more → (on < at + 1 → less < more) → less * (size + 1) + (size - on) < more * (size + 1) + (size - at)
-smaller more less size at on l h m s = elim (cases_lt on (at + 1)) [
-  | inl back ↦
-      let n = s back in
-      let e : more ≡ less + 1 + (more - (less + 1)) = omega (arith, n) in
-      let f = ap (λ k. k * (size + 1)) e in
-      let g : (less + 1 + (more - (less + 1))) * (size + 1) ≡ less * (size + 1) + (size + 1) + (more - (less + 1)) * (size + 1) = grind arith in
-      omega (arith, f, g)
-  | inr next ↦
-      let e : more ≡ less + (more - less) = omega (arith, m) in
-      let f = ap (λ k. k * (size + 1)) e in
-      let g : (less + (more - less)) * (size + 1) ≡ less * (size + 1) + (more - less) * (size + 1) = grind arith in
-      omega (arith, f, g, next, h, l)
-]
-
 pub visits_smaller : {code : List Node} {at_first at_last : Bool} {at : ℕ} {old new : List ℕ} {on : ℕ} → Visits code at_first at_last at old new on
     → at < length old → unset new * (length new + 1) + (length new - on) < unset old * (length old + 1) + (length old - at)
-visits_smaller {at} {old} {new} {on} v h =
-    let e = ap (λ n. unset new * (n + 1) + (n - on)) v.adds.size in
-    let s = smaller (unset old) (unset new) (length old) at on v.low h v.fuller v.less in
-    omega (arith, s, e)
+visits_smaller {at} {old} {new} {on} v h = grind (arith, common_steps)

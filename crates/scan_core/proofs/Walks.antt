@@ -1,5 +1,5 @@
 -- Walks over the nodes of a pattern.
-use Rattle.std.proofs.Common.{◌≡◌, ◌⊎◌, inl, inr, ℕ, zero, suc, ◌+◌, ◌-◌, ◌≤◌, List, [], ◌∷◌, ◌++◌, length, refl, sym, ap, subst, arith}
+use Rattle.std.proofs.Common.{rules, ◌≡◌, ◌⊎◌, inl, inr, ℕ, zero, suc, ◌+◌, ◌-◌, ◌≤◌, List, [], ◌∷◌, ◌++◌, length, refl, ap, subst, arith}
 use Rattle.std.proofs.lemmas.Bool.{cases_eq}
 use Rattle.std.proofs.lemmas.List.{length-append}
 use Rattle.scan_core.specs.declared.node.Node.{Node}
@@ -46,8 +46,7 @@ walk-right a b line (suc count) at place to stop w =
     (length a + w.0, w.1, (w.2.0, at-right a b at w.2.0 w.2.1, leads_shift w.2.0 line (length a) at place w.0 w.1 w.2.2), walk-right a b line count w.0 w.1 to stop w.3)
 
 pub walk_on : (code : List Node) (line : List ℕ) (first second at place at' place' to stop : ℕ) → Walks code line first at place at' place' → Walks code line second at' place' to stop → Path code line at place to stop
-walk_on code line zero second at place at' place' to stop v w =
-    (second, subst (λ n. Walks code line second n place to stop) (sym v.0) (subst (λ n. Walks code line second at' n to stop) (sym v.1) w))
+walk_on code line zero second at place at' place' to stop v w = search rules
 walk_on code line (suc first) second at place at' place' to stop v w =
     let rest = walk_on code line first second v.0 v.1 at' place' to stop v.3 w in
     (suc rest.0, (v.0, v.1, v.2, rest.1))

@@ -1,5 +1,5 @@
 -- Where the numbers of a code lead without a byte.
-use Rattle.std.proofs.Common.{◌≡◌, ◌⊎◌, ◌↔◌, inl, inr, ℕ, ◌+◌, ◌-◌, ◌<◌, ◌≤◌, Bool, true, false, List, length, refl, sym, subst, arith}
+use Rattle.std.proofs.Common.{◌≡◌, ◌⊎◌, inl, inr, ℕ, ◌+◌, ◌-◌, ◌≤◌, Bool, false, List, length, sym, subst, arith}
 use Rattle.scan_core.specs.declared.node.Node.{Node}
 use Rattle.scan_core.specs.declared.node.Node.TheVariants.{Take, First, Last, Choose, Back}
 use Rattle.scan_core.specs.declared.way.Way.{Way}
@@ -7,7 +7,7 @@ use Rattle.std.proofs.lemmas.Bool.{false≢true}
 use Rattle.scan_core.specs.declared.way.When.{When}
 use Rattle.scan_core.specs.declared.way.When.TheVariants.{Never, AtFront, AtEnd, Always}
 use Rattle.scan_core.specs.Code.{At}
-use Rattle.scan_core.specs.inner.Sets.{Flows, IsCode, LeadsOn}
+use Rattle.scan_core.specs.inner.Sets.{Flows, IsCode}
 use Rattle.scan_core.specs.inner.Ways.{IsWay, Opens}
 use Rattle.scan_core.proofs.Enterings.{at_least, flows_of}
 

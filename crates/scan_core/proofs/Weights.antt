@@ -1,5 +1,5 @@
 -- A pattern's code has its positions.
-use Rattle.std.proofs.Common.{◌≡◌, ℕ, zero, suc, ◌+◌, ◌*◌, ◌-◌, ◌≤◌, List, [], ◌∷◌, ◌++◌, length, Option, Some, None, refl, ap, ◌∙◌, arith}
+use Rattle.std.proofs.Common.{◌≡◌, ℕ, zero, suc, ◌+◌, ◌*◌, ◌-◌, ◌≤◌, List, [], ◌∷◌, ◌++◌, length, Option, Some, None, refl, ap, subst, arith}
 use Rattle.std.proofs.lemmas.List.{length-append}
 use Rattle.std.proofs.Math.Nat.{suc-mul, add-mul}
 use Rattle.bre_core.specs.Match.{IsAtMost}
@@ -8,85 +8,56 @@ use Rattle.scan_core.specs.declared.node.Node.{Node}
 use Rattle.scan_core.specs.declared.node.Node.TheVariants.{Back}
 use Rattle.scan_core.specs.Code.{starred, up_to, copies, tail_of, code_of, code_of_item, IsOrdered, IsOrderedItem, weight}
 
-pub weight-append : (a b : List Node) → weight (a ++ b) ≡ weight a + weight b
+-- a code of so many positions has at most two nodes for each: each step back has its choice
+pub record Weighs (code : List Node) (positions : ℕ) : Type 0 where
+  pub exact : weight code ≡ positions
+  pub most : length code ≤ 2 * positions
+
+weight-append : (a b : List Node) → weight (a ++ b) ≡ weight a + weight b
 weight-append [] b = let e : weight b ≡ 0 + weight b = omega arith in e
 weight-append (node ∷ a) b = let e = weight-append a b in omega (arith, e)
 
-weight_copies : (n : ℕ) (code : List Node) → weight (copies n code) ≡ n * weight code
-weight_copies zero code = let e : 0 ≡ 0 * weight code = grind arith in e
-weight_copies (suc n) code = let a = weight-append (copies n code) code in let b = weight_copies n code in let t = suc-mul n (weight code) in omega (arith, a, b, t)
+weighs_both : {a b : List Node} {m n : ℕ} → Weighs a m → Weighs b n → Weighs (a ++ b) (m + n)
+weighs_both {a} {b} v w = let e = weight-append a b in let l = length-append a b in record { exact = omega (arith, e, v.exact, w.exact); most = omega (arith, l, v.most, w.most) }
 
-weight_up_to : (n : ℕ) (code : List Node) → weight (up_to n code) ≡ n * weight code + n
-weight_up_to zero code = let e : 0 ≡ 0 * weight code + 0 = grind arith in e
-weight_up_to (suc n) code =
-    let a = weight-append code (up_to n code) in
-    let b = weight_up_to n code in
-    let t = suc-mul n (weight code) in
-    let f : 1 + weight (code ++ up_to n code) ≡ suc n * weight code + suc n = omega (arith, a, b, t) in
-    f
+weighs_copies : (count : ℕ) {code : List Node} {n : ℕ} → Weighs code n → Weighs (copies count code) (count * n)
+weighs_copies zero {n} w = let z : 0 ≡ 0 * n = grind arith in record { exact = z; most = omega (arith, z) }
+weighs_copies (suc count) {n} w = let t : suc count * n ≡ count * n + n = grind (arith, suc-mul count n) in subst (Weighs _) (omega (arith, t)) (weighs_both (weighs_copies count w) w)
 
-weight_repeated : (code : List Node) (low : ℕ) (high : Option ℕ) → IsAtMost high low → weight (copies low code ++ tail_of code low high) ≡ repeated (weight code) low high
-weight_repeated code low None o =
-    let a = weight-append (copies low code) (starred code) in
-    let b = weight_copies low code in
-    let c = weight-append code (Back (length code + 1) ∷ []) in
-    let one : 1 * weight code ≡ weight code = grind arith in
-    let t = add-mul low 1 (weight code) in
-    omega (arith, a, b, c, t, one)
-weight_repeated code low (Some high) o =
-    let a = weight-append (copies low code) (up_to (high - low) code) in
-    let b = weight_copies low code in
-    let c = weight_up_to (high - low) code in
-    let t = add-mul low (high - low) (weight code) in
-    let e : low + (high - low) ≡ high = omega (arith, o) in
-    let f = ap (λ n. n * weight code) e in
-    omega (arith, a, b, c, t, f)
+weighs_up_to : (count : ℕ) {code : List Node} {n : ℕ} → Weighs code n → Weighs (up_to count code) (count * n + count)
+weighs_up_to zero {n} w = let z : 0 ≡ 0 * n + 0 = grind arith in record { exact = z; most = omega (arith, z) }
+weighs_up_to (suc count) {code} {n} w =
+    let b = weighs_both w (weighs_up_to count w) in
+    let t = suc-mul count n in
+    let f : 1 + weight (code ++ up_to count code) ≡ suc count * n + suc count = omega (arith, b.exact, t) in
+    record { exact = f; most = omega (arith, b.most, t) }
 
-mutual
-  pub weight_is : (pattern : Pattern) → IsOrdered pattern → weight (code_of pattern) ≡ positions_in pattern
-  weight_is nothing o = refl
-  weight_is (append pattern item) o =
-      let a = weight-append (code_of pattern) (code_of_item item) in
-      let b = weight_is pattern o.0 in
-      let c = item_weight item o.1 in
-      omega (arith, a, b, c)
-
-  item_weight : (item : Item) → IsOrderedItem item → weight (code_of_item item) ≡ positions_in_item item
-  item_weight (set bytes) o = refl
-  item_weight front o = refl
-  item_weight end o = refl
-  item_weight (group pattern) o = weight_is pattern o
-  item_weight (repeat item low high) o = weight_repeated (code_of_item item) low high o.1 ∙ ap (λ w. repeated w low high) (item_weight item o.0)
-
--- a code has at most two nodes a position: each step back has its choice
-length_both : (a b : List Node) → length a ≤ 2 * weight a → length b ≤ 2 * weight b → length (a ++ b) ≤ 2 * weight (a ++ b)
-length_both a b h k = let w = weight-append a b in let l = length-append a b in omega (arith, w, l, h, k)
-
-copies_length : (n : ℕ) (code : List Node) → length code ≤ 2 * weight code → length (copies n code) ≤ 2 * weight (copies n code)
-copies_length zero code h = omega arith
-copies_length (suc n) code h = length_both (copies n code) code (copies_length n code h) h
-
-up_to_length : (n : ℕ) (code : List Node) → length code ≤ 2 * weight code → length (up_to n code) ≤ 2 * weight (up_to n code)
-up_to_length zero code h = omega arith
-up_to_length (suc n) code h = let b = length_both code (up_to n code) h (up_to_length n code h) in omega (arith, b)
-
-tail_length : (code : List Node) (low : ℕ) (high : Option ℕ) → length code ≤ 2 * weight code → length (tail_of code low high) ≤ 2 * weight (tail_of code low high)
-tail_length code low None h =
-    let a = weight-append code (Back (length code + 1) ∷ []) in
+weighs_starred : {code : List Node} {n : ℕ} → Weighs code n → Weighs (starred code) (n + 1)
+weighs_starred {code} {n} w =
+    let e = weight-append code (Back (length code + 1) ∷ []) in
     let l = length-append code (Back (length code + 1) ∷ []) in
-    omega (arith, a, l, h)
-tail_length code low (Some high) h = up_to_length (high - low) code h
+    let f : 1 + weight (code ++ Back (length code + 1) ∷ []) ≡ n + 1 = omega (arith, e, w.exact) in
+    record { exact = f; most = omega (arith, l, w.most) }
+
+weighs_repeated : {code : List Node} {n : ℕ} (low : ℕ) (high : Option ℕ) → IsAtMost high low → Weighs code n → Weighs (copies low code ++ tail_of code low high) (repeated n low high)
+weighs_repeated {n} low None o w =
+    let one : 1 * n ≡ n = grind arith in
+    let t = add-mul low 1 n in
+    subst (Weighs _) (omega (arith, t, one)) (weighs_both (weighs_copies low w) (weighs_starred w))
+weighs_repeated {n} low (Some high) o w =
+    let t = add-mul low (high - low) n in
+    let e : low + (high - low) ≡ high = omega (arith, o) in
+    let f = ap (λ k. k * n) e in
+    subst (Weighs _) (omega (arith, t, f)) (weighs_both (weighs_copies low w) (weighs_up_to (high - low) w))
 
 mutual
-  pub length_most : (pattern : Pattern) → length (code_of pattern) ≤ 2 * weight (code_of pattern)
-  length_most nothing = omega arith
-  length_most (append pattern item) = length_both (code_of pattern) (code_of_item item) (length_most pattern) (item_length item)
+  pub weighs : (pattern : Pattern) → IsOrdered pattern → Weighs (code_of pattern) (positions_in pattern)
+  weighs nothing o = record { exact = refl; most = omega arith }
+  weighs (append pattern item) o = weighs_both (weighs pattern o.0) (weighs_item item o.1)
 
-  item_length : (item : Item) → length (code_of_item item) ≤ 2 * weight (code_of_item item)
-  item_length (set bytes) = omega arith
-  item_length front = omega arith
-  item_length end = omega arith
-  item_length (group pattern) = length_most pattern
-  item_length (repeat item low high) =
-      let code = code_of_item item in
-      length_both (copies low code) (tail_of code low high) (copies_length low code (item_length item)) (tail_length code low high (item_length item))
+  weighs_item : (item : Item) → IsOrderedItem item → Weighs (code_of_item item) (positions_in_item item)
+  weighs_item (set bytes) o = record { exact = refl; most = omega arith }
+  weighs_item front o = record { exact = refl; most = omega arith }
+  weighs_item end o = record { exact = refl; most = omega arith }
+  weighs_item (group pattern) o = weighs pattern o
+  weighs_item (repeat item low high) o = weighs_repeated low high o.1 (weighs_item item o.0)

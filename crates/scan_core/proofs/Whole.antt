@@ -1,5 +1,5 @@
 -- The code of a pattern and the search for its end, together.
-use Rattle.std.proofs.Common.{◌≡◌, ◌↔◌, ℕ, ◌+◌, ◌*◌, ◌<◌, ◌≤◌, Bool, IsTrue, List, [], length, refl, ap, arith}
+use Rattle.std.proofs.Common.{◌≡◌, ◌↔◌, ℕ, ◌+◌, ◌*◌, ◌<◌, ◌≤◌, Bool, IsTrue, List, [], length, ap, arith}
 use Rattle.bre_core.specs.Pattern.{Pattern, positions_of}
 use Rattle.bre_core.specs.Match.{Contains}
 use Rattle.bre_core.specs.Search.{contains}
@@ -8,8 +8,7 @@ use Rattle.scan_core.specs.Code.{code_of, IsOrdered, weight}
 use Rattle.scan_core.specs.Counted.{EndsIn}
 use Rattle.scan_core.specs.inner.Sets.{IsCode}
 use Rattle.scan_core.proofs.Codes.{code_exact, contained}
-use Rattle.scan_core.proofs.Along.{flow_goes}
-use Rattle.scan_core.proofs.Weights.{weight_is, length_most}
+use Rattle.scan_core.proofs.Weights.{weighs}
 
 pub is_code : (pattern : Pattern) → IsOrdered pattern → IsCode (code_of pattern)
 is_code pattern o = (code_exact pattern [] o).fits
@@ -21,7 +20,7 @@ found_contains pattern line {found} o f =
 
 -- twice the positions are room enough
 pub enough_room : (pattern : Pattern) → IsOrdered pattern → length (code_of pattern) < 2 * positions_of pattern
-enough_room pattern o = let l = length_most pattern in let w = weight_is pattern o in omega (arith, l, w)
+enough_room pattern o = let w = weighs pattern o in omega (arith, w.most)
 
 pub bound_of : (pattern : Pattern) (places steps : ℕ) → IsOrdered pattern → steps ≤ places * (weight (code_of pattern) + 1) → steps ≤ places * positions_of pattern
-bound_of pattern places steps o h = let e = ap (λ n. places * (n + 1)) (weight_is pattern o) in omega (arith, h, e)
+bound_of pattern places steps o h = let e = ap (λ n. places * (n + 1)) (weighs pattern o).exact in omega (arith, h, e)

@@ -3,7 +3,7 @@
 ghost use Rattle.std.specs.Prelude.{◌≡◌, ◌<◌, ◌*◌, ◌/◌, ◌%◌, ◌^◌, ℕ, length};
 ghost use Rattle.scan_core.specs.inner.Base.{IsBase};
 ghost use Rattle.scan_core.specs.inner.Closures.{AreClosures};
-ghost use Rattle.scan_core.specs.inner.Hops.{AreHops, Hopped};
+ghost use Rattle.scan_core.specs.inner.Hops.{AreHops, Hopped, HoppedBy};
 ghost use Rattle.scan_core.specs.inner.Landings.{ClosesWords};
 ghost use Rattle.scan_core.specs.inner.Sets.{IsCode};
 ghost use Rattle.scan_core.specs.inner.Words.{Grows, IsIn, SpreadsOut, Visits, width};
@@ -15,14 +15,17 @@ use crate::landing::land;
 use crate::node::Node;
 use crate::words::lead;
 
-/// Enters what a hop leads to. Returns the word to go on with, as `enter` does.
+/// Enters what a hop leads to from some numbers of its word. Returns the word to go on with, as `enter` does.
 #[inline(always)]
-fn follow(words: &mut [u64], hop: &Hop, on: usize) -> usize
+fn follow(words: &mut [u64], hop: &Hop, numbers: u64, on: usize) -> usize
     requires room { hop.now.to < 64 * length words.old }
     requires word { hop.now.word ≡ hop.now.to / 64 }
     requires bit { hop.now.bit ≡ 1 * 2 ^ (hop.now.to % 64) % 2 ^ 64 }
-    ensures { Grows (λ other. other ≡ hop.now.to) words.old words.new on result }
+    ensures { Grows (HoppedBy hop.now numbers) words.old words.new on result }
 {
+    if numbers & hop.from == 0 {
+        return on;
+    }
     let word = words[hop.word];
     if word & hop.bit != 0 {
         return on;
@@ -48,10 +51,7 @@ fn hop(
 {
     let mut on = before;
     for which in 0..HOPS {
-        let hop = &hops[at * HOPS + which];
-        if word & hop.from != 0 {
-            on = follow(words, hop, on);
-        }
+        on = follow(words, &hops[at * HOPS + which], word, on);
     }
     on
 }

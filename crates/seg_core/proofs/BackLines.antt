@@ -1,9 +1,9 @@
 -- Delimiters that are counted from the end of a text.
-use Rattle.std.proofs.Common.{◌≡◌, ℕ, ◌+◌, ◌-◌, ◌<◌, ◌≤◌, Bool, true, false, cond, eqb, List, [], ◌∷◌, ◌++◌, length, take, drop, get_or, refl, sym, ap, ◌∙◌, arith, drop-cons, add-one}
+use Rattle.std.proofs.Common.{◌≡◌, ℕ, ◌+◌, ◌-◌, ◌<◌, ◌≤◌, Bool, true, false, cond, eqb, List, [], ◌∷◌, length, take, drop, get_or, refl, sym, ap, ◌∙◌, arith}
 use Rattle.std.proofs.lemmas.List.{take_more, drop-drop}
 use mir.Val.{bool_byte}
 use Rattle.seg_core.specs.Line.{delimiters, ends_with, BeginsAt}
-use Rattle.seg_core.proofs.Delimiters.{delimiters-append, delimiters-take-drop}
+use Rattle.seg_core.proofs.Delimiters.{delimiters-take-drop}
 use Rattle.seg_core.proofs.LineCounts.{ends_with-append}
 
 as_number : (is_delim : Bool) → bool_byte is_delim ≡ cond is_delim (0 + 1) 0
@@ -22,17 +22,6 @@ is_one false some = absurd (omega arith)
 pub at_most_one : (is_delim : Bool) → bool_byte is_delim ≤ 1
 at_most_one true = omega arith
 at_most_one false = omega arith
-
-pub most_one : (delim : ℕ) (x : List ℕ) (i one : ℕ) → one ≡ bool_byte (eqb (get_or x i 0) delim) → one ≤ 1
-most_one delim x i one is = omega (arith, at_most_one (eqb (get_or x i 0) delim))
-
--- the delimiters from a byte on
-pub count_back : (delim : ℕ) (x : List ℕ) (i : ℕ) {n : ℕ} (one : ℕ) → i < length x → n ≡ delimiters delim (drop (i + 1) x) → one ≡ bool_byte (eqb (get_or x i 0) delim) → n + one ≡ delimiters delim (drop i x)
-count_back delim x i one here so_far is =
-    let parts : drop i x ≡ (get_or x i 0 ∷ []) ++ drop (i + 1) x = drop-cons x i 0 here ∙ ap (λ k. get_or x i 0 ∷ drop k x) (sym (add-one i)) in
-    let all = ap (delimiters delim) parts ∙ delimiters-append delim (get_or x i 0 ∷ []) (drop (i + 1) x) in
-    let this = added delim (get_or x i 0) one is in
-    omega arith
 
 -- the byte that brings the count to n is a delimiter
 pub begins_after : {delim : ℕ} {x : List ℕ} (i : ℕ) {n seen : ℕ} (one : ℕ) → i < length x → seen ≡ delimiters delim (drop (i + 1) x) → one ≡ bool_byte (eqb (get_or x i 0) delim) → seen < n → seen + one ≡ n → BeginsAt delim n x (i + 1)

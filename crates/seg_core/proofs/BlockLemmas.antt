@@ -1,5 +1,5 @@
 -- A text in blocks.
-use Rattle.std.proofs.Common.{◌≡◌, ℕ, zero, suc, ◌+◌, ◌-◌, ◌^◌, ◌<◌, ◌≤◌, List, [], ◌∷◌, ◌++◌, length, take, drop, get_or, set, refl, sym, ap, subst, ◌∙◌, arith, drop-cons, add-one}
+use Rattle.std.proofs.Common.{rules, ◌≡◌, ℕ, zero, suc, ◌+◌, ◌-◌, ◌^◌, ◌<◌, ◌≤◌, List, [], ◌∷◌, ◌++◌, length, take, drop, get_or, set, refl, sym, ap, subst, ◌∙◌, arith}
 use Rattle.std.proofs.lemmas.List.{append-nil, append_assoc, length-append, length-drop, drop-drop, take-append-drop, take_at, drop_at}
 use Rattle.std.proofs.lemmas.List.Elements.{All-get_or, All-set, All-cons, All-take, All-drop}
 use Rattle.std.proofs.Math.Seq.{drop-append-add, take-append-add}
@@ -12,6 +12,7 @@ use Rattle.seg_core.proofs.LastLines.{few_from_nothing}
 use Rattle.seg_core.proofs.FirstLines.{first_lines-append, first_lines-short}
 use Rattle.seg_core.proofs.EndLines.{count_last}
 use Rattle.seg_core.proofs.FrontLines.{last_lines-front, length-after_lines-le}
+use Rattle.std.proofs.lemmas.Grind.{common_steps}
 
 pub text_of-append : (front back : List BlockState) → text_of (front ++ back) ≡ text_of front ++ text_of back
 text_of-append [] back = refl
@@ -34,9 +35,7 @@ text_set blocks n new part is was now = absurd (omega arith)
 
 -- from the i-th block on
 pub text_from : (blocks : List BlockState) (i : ℕ) (block : BlockState) → i < length blocks → block ≡ get_or blocks i block → text_of (drop i blocks) ≡ block.bytes ++ text_of (drop (i + 1) blocks)
-text_from blocks i block here is =
-    ap text_of (drop-cons blocks i block here) ∙ ap (λ (b : BlockState). b.bytes ++ text_of (drop (suc i) blocks)) (sym is)
-    ∙ ap (λ k. block.bytes ++ text_of (drop k blocks)) (sym (add-one i))
+text_from blocks i block here is = grind (arith, common_steps)
 
 -- where nothing stands after the i-th block, and this isn't empty, the text ends as it does
 pub ends_in : (delim : ℕ) (blocks : List BlockState) (i : ℕ) {block : BlockState} → i < length blocks → block ≡ get_or blocks i block → text_of (drop (i + 1) blocks) ≡ [] → 0 < length block.bytes → ends_with delim (text_of blocks) ≡ ends_with delim block.bytes
@@ -147,11 +146,7 @@ part_counted delim x start n is of =
 -- bytes after those of a block of which the front has left
 pub block_grows : (x part : List ℕ) {new : List ℕ} (start count more : ℕ) → start ≤ length x → count ≤ length (drop start x) → more ≤ length part → new ≡ x ++ part
     → (start ≤ length new) × (count + more ≤ length (drop start new))
-block_grows x part {new} start count more within few no_more grown =
-    let long = ap length grown ∙ length-append x part in
-    let old = length-drop start x in
-    let all = length-drop start new in
-    (omega arith, omega arith)
+block_grows x part {new} start count more within few no_more grown = grind (arith, common_steps)
 
 -- what a window knows of its blocks, once bytes go at the front
 pub counted_drop : {delim most : ℕ} (n : ℕ) {blocks new : List BlockState} {len count gone : ℕ} → IsCounted delim most blocks len count → n ≤ length (text_of blocks) → text_of new ≡ drop n (text_of blocks) → gone ≡ delimiters delim (take n (text_of blocks)) → HaveCounts delim new
@@ -206,4 +201,4 @@ split_counted delim near far is split = is ∙ ap (delimiters delim) split ∙ d
 -- all of a text is in blocks
 pub none_left : {held : List ℕ} (left : List ℕ) {text : List ℕ} → length left ≡ 0 → held ++ left ≡ text → held ≡ text
 none_left {held} [] none whole = sym (append-nil held) ∙ whole
-none_left (byte ∷ left) none whole = absurd (omega arith)
+none_left (byte ∷ left) none whole = search rules

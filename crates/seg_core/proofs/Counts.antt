@@ -1,30 +1,24 @@
 -- What a text writes as a count or as a number, from how its parts were read.
-use Rattle.std.proofs.Common.{◌≡◌, ℕ, suc, ◌+◌, ◌-◌, ◌*◌, ◌^◌, ◌<◌, ◌≤◌, ◌⊎◌, min, Bool, true, false, cond, leb, ltb, ◌&&◌, List, [], ◌∷◌, Option, Ok, Err, length, take, drop, refl, sym, ap, ◌∙◌, arith}
+use Rattle.std.proofs.Common.{rules, ◌≡◌, ℕ, suc, ◌+◌, ◌-◌, ◌*◌, ◌^◌, ◌<◌, ◌≤◌, ◌⊎◌, min, Bool, true, false, cond, leb, ltb, ◌&&◌, List, [], ◌∷◌, Option, Ok, Err, length, take, drop, refl, sym, ap, ◌∙◌, arith}
 use Rattle.std.specs.List.{prefix_len, list_all}
 use Rattle.std.specs.Char.{is_ascii_digit}
-use Rattle.std.proofs.lemmas.Bool.{eq-eqb, ne_eqb, le-leb, lt-leb, lt-ltb, and_from, and_right}
+use Rattle.std.proofs.lemmas.Bool.{le-leb, lt-leb, lt-ltb, and_from, and_right}
 use Rattle.std.proofs.lemmas.List.{take_all, take_rest}
-use Rattle.std.proofs.lemmas.List.Folds.{length-prefix_len, list_all_at}
+use Rattle.std.proofs.lemmas.List.Folds.{list_all_at}
 use Rattle.std.proofs.lemmas.List.Sums.{prefix_len-le-length, prefix_len_stops}
-use Rattle.std.proofs.Math.Nat.{mul-le-mul_left, mul-le-mul_right}
 use Rattle.seg_core.specs.declared.count.Sign.{Sign}
 use Rattle.seg_core.specs.declared.count.CountFault.TheVariants.{NoDigits, TooLarge}
-use Rattle.seg_core.specs.Count.{value_of, factor_of, leading_digits, greatest, sign_of, after_sign, sized, scaled, unsigned, count_of, digits_of}
+use Rattle.seg_core.specs.Count.{value_of, factor_of, greatest, sign_of, after_sign, sized, scaled, unsigned, count_of, digits_of}
 
 pub count_of-parts : (text : List ℕ) {sign : Sign} {rest : List ℕ} → sign ≡ sign_of text → rest ≡ after_sign text → count_of text ≡ unsigned sign rest
 unfolding count_of
 count_of-parts text {rest} a b = sym (ap (λ s. unsigned s rest) a ∙ ap (unsigned (sign_of text)) b)
 
 pub unsigned-none : (sign : Sign) (rest : List ℕ) (end : ℕ) → end ≡ prefix_len is_ascii_digit rest → end ≡ 0 → unsigned sign rest ≡ Err NoDigits
-unsigned-none sign rest end is none =
-    let long : length (leading_digits rest) ≡ 0 = length-prefix_len is_ascii_digit rest ∙ sym is ∙ none in
-    ap (λ (c : Bool). cond c (Err NoDigits) (scaled sign (leading_digits rest) (factor_of (drop (prefix_len is_ascii_digit rest) rest)))) (eq-eqb (length (leading_digits rest)) 0 long)
+unsigned-none sign rest end is none = search rules
 
 pub unsigned-some : (sign : Sign) (rest : List ℕ) (end : ℕ) → end ≡ prefix_len is_ascii_digit rest → (end ≡ 0 → ⊥) → unsigned sign rest ≡ scaled sign (take end rest) (factor_of (drop end rest))
-unsigned-some sign rest end is some =
-    let same : length (leading_digits rest) ≡ end = length-prefix_len is_ascii_digit rest ∙ sym is in
-    ap (λ (c : Bool). cond c (Err NoDigits) (scaled sign (leading_digits rest) (factor_of (drop (prefix_len is_ascii_digit rest) rest)))) (ne_eqb (length (leading_digits rest)) 0 (λ none. some (sym same ∙ none)))
-    ∙ ap (λ n. scaled sign (take n rest) (factor_of (drop n rest))) (sym is)
+unsigned-some sign rest end is some = search rules
 
 -- a count with digits, whose suffix was looked up in the table
 pub count_of-scaled : (text : List ℕ) {sign : Sign} {rest : List ℕ} (end : ℕ) {found : Option ℕ}
@@ -37,19 +31,11 @@ count_of-scaled text {sign} {rest} end a b is some looked_up =
 -- what the code reads: the value and the amount held at the greatest u64
 pub sized-ok : {sign : Sign} (value factor : ℕ) {held amount : ℕ} → held ≡ min value (2 ^ 64 - 1) → amount ≡ min (held * factor) (2 ^ 64 - 1) → 1 ≤ factor → amount ≤ greatest
     → sized sign (value * factor) ≡ Ok (record { sign = sign; amount = amount })
-sized-ok {sign} value factor {held} {amount} h a some fits =
-    let grows : held * 1 ≤ held * factor = mul-le-mul_left held some in
-    let exact : held ≡ value = omega arith in
-    let same : value * factor ≡ amount = ap (λ n. n * factor) (sym exact) ∙ omega arith in
-    ap (sized sign) same ∙ ap (λ (c : Bool). cond c (Ok (record { sign = sign; amount = amount })) (Err TooLarge)) (le-leb amount greatest fits)
+sized-ok {sign} value factor {held} {amount} h a some fits = search rules
 
 pub sized-too_large : (sign : Sign) (value factor : ℕ) {held amount : ℕ} → held ≡ min value (2 ^ 64 - 1) → amount ≡ min (held * factor) (2 ^ 64 - 1) → greatest < amount
     → sized sign (value * factor) ≡ Err TooLarge
-sized-too_large sign value factor {held} {amount} h a above =
-    let low : held ≤ value = omega arith in
-    let grows : held * factor ≤ value * factor = mul-le-mul_right factor low in
-    let over : greatest < value * factor = omega arith in
-    ap (λ (c : Bool). cond c (Ok (record { sign = sign; amount = value * factor })) (Err TooLarge)) (lt-leb (value * factor) greatest over)
+sized-too_large sign value factor {held} {amount} h a above = search rules
 
 all_step : (is_digit : Bool) {rest : Bool} {n m : ℕ} → (n ≡ m → rest ≡ true) → cond is_digit (1 + n) 0 ≡ suc m → (is_digit && rest) ≡ true
 all_step true later same = later (omega arith)

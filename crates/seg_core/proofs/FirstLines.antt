@@ -1,5 +1,5 @@
 -- The first lines of a text, and of a text that goes on.
-use Rattle.std.proofs.Common.{◌≡◌, ℕ, zero, suc, ◌+◌, ◌-◌, ◌<◌, ◌≤◌, Bool, true, false, cond, eqb, inl, List, [], ◌∷◌, ◌++◌, length, take, drop, get_or, refl, sym, ap, ◌∙◌, arith}
+use Rattle.std.proofs.Common.{rules, ◌≡◌, ℕ, zero, suc, ◌+◌, ◌-◌, ◌<◌, ◌≤◌, Bool, true, false, cond, eqb, inl, List, [], ◌∷◌, ◌++◌, length, take, drop, get_or, refl, sym, ap, ◌∙◌, arith}
 use Rattle.std.specs.List.{onto_first}
 use Rattle.std.proofs.lemmas.List.{take_more, take-append-drop, take_at, drop_at, take_all, length-take-le, append-nil, append_assoc, length-append}
 use Rattle.std.proofs.Math.Seq.{take-nil}
@@ -7,6 +7,7 @@ use Rattle.seg_core.specs.Line.{AreLines, joined, lines_of, line_count, delimite
 use Rattle.seg_core.proofs.Delimiters.{delimiters-take-le}
 use Rattle.seg_core.proofs.LinesOf.{joined-lines_of, lines_of-joined, AreLines-lines_of}
 use Rattle.seg_core.proofs.LineCounts.{line_count_near, line_count-le-length}
+use Rattle.std.proofs.lemmas.Grind.{common_steps}
 
 pub first_lines-nil : (delim n : ℕ) → first_lines delim n [] ≡ []
 first_lines-nil delim zero = refl
@@ -30,19 +31,13 @@ append_step : (delim : ℕ) (is_delim : Bool) (n : ℕ) (x y : List ℕ)
     → first_lines delim (suc n) (x ++ y) ≡ first_lines delim (suc n) x ++ first_lines delim (suc n - delimiters delim x) y
     → cond is_delim (first_lines delim n (x ++ y)) (first_lines delim (suc n) (x ++ y))
     ≡ cond is_delim (first_lines delim n x) (first_lines delim (suc n) x) ++ first_lines delim (suc n - cond is_delim (delimiters delim x + 1) (delimiters delim x)) y
-append_step delim true n x y here there =
-    let same : n - delimiters delim x ≡ suc n - (delimiters delim x + 1) = omega arith in
-    here ∙ ap (λ k. first_lines delim n x ++ first_lines delim k y) same
+append_step delim true n x y here there = search rules
 append_step delim false n x y here there = there
 
 -- the first lines of a text that goes on: those of the text so far, and as many of what follows as are missing
 pub first_lines-append : (delim n : ℕ) (x y : List ℕ) → first_lines delim n (x ++ y) ≡ first_lines delim n x ++ first_lines delim (n - delimiters delim x) y
-first_lines-append delim n [] y =
-    let same : n - 0 ≡ n = omega arith in
-    sym (ap (λ x. x ++ first_lines delim (n - 0) y) (first_lines-nil delim n) ∙ ap (λ k. first_lines delim k y) same)
-first_lines-append delim zero (byte ∷ x) y =
-    let same : 0 - delimiters delim (byte ∷ x) ≡ 0 = omega arith in
-    sym (ap (λ k. first_lines delim k y) same)
+first_lines-append delim n [] y = grind (arith, common_steps)
+first_lines-append delim zero (byte ∷ x) y = search rules
 first_lines-append delim (suc n) (byte ∷ x) y =
     first_lines-cons delim byte n (x ++ y)
     ∙ ap (λ z. byte ∷ z) (append_step delim (eqb byte delim) n x y (first_lines-append delim n x y) (first_lines-append delim (suc n) x y))

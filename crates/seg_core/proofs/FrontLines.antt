@@ -1,5 +1,5 @@
 -- The last lines of a text before which a block stands.
-use Rattle.std.proofs.Common.{◌≡◌, ℕ, ◌+◌, ◌-◌, ◌<◌, ◌≤◌, Bool, not, eqb, List, [], ◌∷◌, ◌++◌, length, get_or, sym, ap, ◌∙◌, arith}
+use Rattle.std.proofs.Common.{rules, ◌≡◌, ℕ, ◌+◌, ◌-◌, ◌<◌, ◌≤◌, Bool, not, eqb, List, [], ◌∷◌, ◌++◌, length, get_or, sym, ap, ◌∙◌, arith}
 use mir.Val.{bool_byte}
 use Rattle.std.proofs.lemmas.List.{append-nil, length-append}
 use Rattle.seg_core.specs.Line.{delimiters, ends_with, line_count, first_lines, after_lines, last_lines}
@@ -36,9 +36,7 @@ ends_with-alone delim block (byte ∷ held) none some = absurd (omega arith)
 -- the last lines of a text before which a block stands: all of the text, where it has no more, and what stands in the block after the lines that are too many
 pub last_lines-front : (delim most : ℕ) (block held : List ℕ) → line_count delim held ≤ most
     → last_lines delim most (block ++ held) ≡ after_lines delim (line_count delim (block ++ held) - most) block ++ held
-last_lines-front delim most block [] few =
-    let over = line_count delim (block ++ []) - most in
-    ap (after_lines delim over) (append-nil block) ∙ sym (append-nil (after_lines delim over block))
+last_lines-front delim most block [] few = search rules
 last_lines-front delim most block (byte ∷ held) few =
     let over = line_count delim (block ++ byte ∷ held) - most in
     let lines = line_count-front delim block (byte ∷ held) (omega arith) in

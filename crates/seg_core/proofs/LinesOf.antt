@@ -1,7 +1,7 @@
 -- `lines_of` is the one way to cut a text into lines.
-use Rattle.std.proofs.Common.{◌≡◌, ◌≢◌, ℕ, ◌<◌, Bool, true, false, cond, eqb, List, [], ◌∷◌, ◌++◌, inl, inr, length, refl, sym, ap, subst, ◌∙◌, arith}
+use Rattle.std.proofs.Common.{rules, ◌≡◌, ◌≢◌, ℕ, ◌<◌, Bool, true, false, cond, eqb, List, [], ◌∷◌, ◌++◌, inl, inr, length, refl, sym, ap, subst, ◌∙◌, arith}
 use Rattle.std.specs.List.{onto_first}
-use Rattle.std.proofs.lemmas.Bool.{ne_eqb, cases_eq, eqb-true, false≢true, eq-eqb}
+use Rattle.std.proofs.lemmas.Bool.{ne_eqb, cases_eq, false≢true, eq-eqb}
 use Rattle.std.proofs.lemmas.List.{append-nil}
 use Rattle.seg_core.specs.Line.{ends_with, joined, HasNone, IsComplete, AreLines, IsLines, lines_of}
 
@@ -79,9 +79,7 @@ append_step false byte (line ∷ front) back some = refl
 -- a text that ends with a delimiter and goes on: its lines, and those of what follows
 pub lines_of-append : (delim : ℕ) (x y : List ℕ) → ends_with delim x ≡ true → lines_of delim (x ++ y) ≡ lines_of delim x ++ lines_of delim y
 lines_of-append delim [] y ends = absurd (false≢true ends)
-lines_of-append delim (byte ∷ []) y ends =
-    let here = eqb-true byte delim ends in
-    lines_of-delimiter y here ∙ sym (ap (λ ls. ls ++ lines_of delim y) (lines_of-delimiter [] here))
+lines_of-append delim (byte ∷ []) y ends = search rules
 lines_of-append delim (byte ∷ next ∷ x) y ends =
     ap (λ ls. cond (eqb byte delim) ((byte ∷ []) ∷ ls) (onto_first byte ls)) (lines_of-append delim (next ∷ x) y ends)
     ∙ append_step (eqb byte delim) byte (lines_of delim (next ∷ x)) (lines_of delim y) (joined-lines_of delim (next ∷ x))

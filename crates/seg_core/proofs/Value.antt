@@ -1,5 +1,5 @@
 -- The value of digits, one digit after another, and held at a limit.
-use Rattle.std.proofs.Common.{◌≡◌, ℕ, ◌+◌, ◌-◌, ◌*◌, ◌^◌, ◌<◌, min, List, [], ◌∷◌, ◌++◌, length, take, get_or, ap, ◌∙◌, arith, add-one}
+use Rattle.std.proofs.Common.{rules, ◌≡◌, ℕ, ◌+◌, ◌-◌, ◌*◌, ◌^◌, ◌<◌, min, List, [], ◌∷◌, ◌++◌, length, take, get_or, ap, ◌∙◌, arith, add-one}
 use Rattle.std.proofs.lemmas.List.{take_more, length_push}
 use Rattle.std.proofs.Math.Nat.{pow-suc}
 use Rattle.seg_core.specs.Count.{value_of}
@@ -18,4 +18,4 @@ value_of_more text i h = ap value_of (take_more text i 0 h) ∙ value_of_push (t
 
 -- a step of the value that is held at a limit
 pub held_step : (limit value : ℕ) {held tens next : ℕ} (digit : ℕ) → held ≡ min value limit → tens ≡ min (held * 10) limit → next ≡ min (tens + digit) limit → next ≡ min (value * 10 + digit) limit
-held_step limit value digit a b c = omega arith
+held_step limit value digit a b c = search rules

@@ -1,5 +1,5 @@
 -- What numbers lead to without a byte, ready to be looked up.
-use Rattle.std.specs.Prelude.{◌≡◌, ◌⊎◌, ℕ, ◌+◌, ◌*◌, ◌/◌, ◌%◌, ◌^◌, ◌<◌, Bool, false, Option, None, IfSome, List, length, slice_index_or}
+use Rattle.std.specs.Prelude.{◌≡◌, ◌⊎◌, ℕ, ◌+◌, ◌*◌, ◌/◌, ◌%◌, ◌^◌, ◌<◌, Bool, false, None, IfSome, List}
 use Rattle.std.specs.Int.{bit_at}
 use Rattle.scan_core.specs.declared.closures.Closures.{Closures}
 use Rattle.scan_core.specs.declared.node.Node.{Node}

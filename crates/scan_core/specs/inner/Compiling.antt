@@ -8,14 +8,7 @@ use Rattle.scan_core.specs.declared.compile.Pending.TheVariants.{Group, Repeated
 use Rattle.scan_core.specs.declared.emit.Duplication.{Duplication}
 use Rattle.scan_core.specs.declared.node.Node.{Node}
 use Rattle.scan_core.specs.declared.node.Node.TheVariants.{Take, First, Last, Back}
-use Rattle.scan_core.specs.inner.Backwards.{IsBegun, Repeats}
-
--- what waits for an item waits for one that may stand among `size` nodes
-abbrev pub AreBegun : ℕ → List Pending → Type 0
-AreBegun size [] = Unit {0}
-AreBegun size (Group ∷ pending) = AreBegun size pending
-AreBegun size (Repeated duplication ∷ pending) = IsBegun duplication.high duplication.low duplication.start size
-    × AreBegun size pending
+use Rattle.scan_core.specs.inner.Backwards.{Repeats}
 
 -- the state, in its parts
 pub record IsNow (written : List Node) (waiting : List Pending) (depth : Option ℕ) (new : Compiling) : Type 0 where

@@ -1,5 +1,5 @@
 -- Hops: numbers of a word that lead to the same one beyond it.
-use Rattle.std.specs.Prelude.{◌≡◌, ℕ, ◌+◌, ◌*◌, ◌/◌, ◌%◌, ◌^◌, ◌<◌, ◌≤◌, false, List, length, slice_index_or}
+use Rattle.std.specs.Prelude.{◌≡◌, ℕ, ◌+◌, ◌*◌, ◌/◌, ◌%◌, ◌^◌, ◌<◌, ◌≤◌, false, List, length, slice_index_or, bit_and}
 use Rattle.std.specs.Int.{bit_at}
 use Rattle.scan_core.specs.declared.hops.Hop.{Hop}
 use Rattle.scan_core.specs.declared.node.Node.{Node}
@@ -26,8 +26,10 @@ abbrev pub HopsTo : List Hop → ℕ → ℕ → ℕ → Type 0
 HopsTo hops at bit to = (which : ℕ) × (which < 3) × (bit_at (slice_index_or hops (at * 3 + which) no_hop).from bit ≡ 1)
     × (to ≡ (slice_index_or hops (at * 3 + which) no_hop).to)
 
--- what the first hops of a word lead to from some of its numbers
+-- what a hop leads to from some numbers of its word, and what the first hops of a word lead to
+abbrev pub HoppedBy : Hop → ℕ → ℕ → Type 0
+HoppedBy hop word to = (bit_and word hop.from ≡ 0 → ⊥) × (to ≡ hop.to)
+
 abbrev pub Hopped : List Hop → ℕ → ℕ → ℕ → ℕ → Type 0
-Hopped hops at word count to = (which : ℕ) × (which < count) × (bit : ℕ) × (bit < 64) × (bit_at word bit ≡ 1)
-    × (bit_at (slice_index_or hops (at * 3 + which) no_hop).from bit ≡ 1)
-    × (to ≡ (slice_index_or hops (at * 3 + which) no_hop).to)
+Hopped hops at word count to = (which : ℕ) × (which < count)
+    × HoppedBy (slice_index_or hops (at * 3 + which) no_hop) word to

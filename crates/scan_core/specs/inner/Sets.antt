@@ -1,5 +1,5 @@
 -- What private calls say: where the nodes of a code lead.
-use Rattle.std.specs.Prelude.{◌≡◌, ◌⊎◌, ◌↔◌, ℕ, zero, suc, ◌+◌, ◌<◌, ◌≤◌, Bool, true, false, IsTrue, List, [], ◌∷◌, length, slice_index_or}
+use Rattle.std.specs.Prelude.{◌≡◌, ◌⊎◌, ℕ, ◌+◌, ◌≤◌, Bool, IsTrue, List, length}
 use Rattle.bre_core.specs.ByteSet.{has}
 use Rattle.bre_core.specs.Match.{Parts}
 use Rattle.scan_core.specs.declared.node.Node.{Node}

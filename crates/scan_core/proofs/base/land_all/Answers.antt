@@ -1,6 +1,6 @@
-use Rattle.std.proofs.Common.{arith, subst}
+use Rattle.std.proofs.Common.{subst}
 use Rattle.scan_core.specs.inner.Landings.{IsOther}
-use Rattle.scan_core.proofs.Each.{each_by, each_more, each_to}
+use Rattle.scan_core.proofs.Each.{each_by, each_more}
 use Rattle.scan_core.proofs.Landed.{other_kept}
 use Rattle.scan_core.proofs.base.land_all.Goals as goal
 

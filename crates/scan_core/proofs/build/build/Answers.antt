@@ -1,5 +1,5 @@
 use Rattle.std.proofs.Common.{◌≡◌, [], ◌*◌, length, sym, subst, arith}
-use Rattle.std.proofs.lemmas.Result.{err_from_is_err_and}
+use Rattle.std.proofs.lemmas.Grind.{common_steps}
 use Rattle.scan_core.specs.inner.Built.{Built, IsBuilding, IsOpen}
 use Rattle.scan_core.specs.inner.Each.{AreEach}
 use Rattle.scan_core.specs.inner.Table.{IsState, no_state}
@@ -14,9 +14,7 @@ fill-requires-clause-so_far c = record {
 }
 
 pub returns-in_err-fill : goal.returns-in_err-fill
-returns-in_err-fill c =
-    let p = err_from_is_err_and c.from_residual-in_err-fill.result c.from_residual-in_err-fill.ensures.1 in
-    rw (p.1, p.2) (record { ok = tt; err = c.in_err-fill.ensures.err })
+returns-in_err-fill c = grind (arith, common_steps)
 
 pub loop-state-preserved : goal.loop-state-preserved
 loop-state-preserved c =
@@ -30,9 +28,7 @@ pub states_of-requires-clause-sets : goal.states_of-requires-clause-sets
 states_of-requires-clause-sets c = subst (λ sets. AreEach [] (λ _. IsOpen c.args.nodes.now) (length sets) sets) (sym c.deref-2.ensures.value) c.loop-state.invariant.so_far.built.going
 
 pub returns-in_err-states : goal.returns-in_err-states
-returns-in_err-states c =
-    let p = err_from_is_err_and c.from_residual-in_err-states.result c.from_residual-in_err-states.ensures.1 in
-    rw (p.1, p.2) (record { ok = tt; err = c.in_err-states.ensures.err })
+returns-in_err-states c = grind (arith, common_steps)
 
 pub returns-clause-ok : goal.returns-clause-ok
 returns-clause-ok c =

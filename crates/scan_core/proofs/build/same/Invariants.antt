@@ -1,4 +1,4 @@
-use Rattle.std.proofs.Common.{◌≡◌, ◌<◌, ℕ, false, get_or}
+use Rattle.std.proofs.Common.{◌≡◌, ◌<◌, ℕ, get_or}
 use Rattle.scan_core.proofs.build.same.Given as goal
 
 abbrev pub invariant-loop-i : goal.invariant-loop-i

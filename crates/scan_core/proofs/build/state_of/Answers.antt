@@ -1,4 +1,4 @@
-use Rattle.std.proofs.Common.{◌≡◌, [], ap, length, ◌∙◌, sym, arith}
+use Rattle.std.proofs.Common.{[], ap, length, ◌∙◌, sym}
 use Rattle.std.proofs.lemmas.List.{get_or_default}
 use Rattle.scan_core.specs.inner.Words.{flags_of}
 use Rattle.scan_core.proofs.Tables.{set_size, state_is}

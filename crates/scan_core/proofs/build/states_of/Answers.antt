@@ -1,5 +1,5 @@
-use Rattle.std.proofs.Common.{arith, ◌∙◌}
-use Rattle.scan_core.proofs.Each.{each_more, each_to}
+use Rattle.std.proofs.Common.{◌∙◌}
+use Rattle.scan_core.proofs.Each.{each_more}
 use Rattle.scan_core.proofs.build.states_of.Goals as goal
 
 pub loop-state-preserved : goal.loop-state-preserved

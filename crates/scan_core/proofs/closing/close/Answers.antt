@@ -1,4 +1,5 @@
 use Rattle.std.proofs.Common.{rules, ◌≡◌, List, get_or, set, ◌<◌, ◌^◌, ℕ, length, refl, sym, subst, arith, w64}
+use Rattle.std.proofs.lemmas.Nat.{or_lt}
 use Rattle.std.proofs.lemmas.Grind.{common_steps}
 use Rattle.std.proofs.lemmas.List.{get_or-set_same}
 use Rattle.std.specs.Prelude.{bit_or}
@@ -31,7 +32,10 @@ returns c =
     let sets = c.requires.closures in
     let hopped = subst (λ hops. Grows (Hopped hops c.args.at all 3) c.bits.words c.hop.new.words c.bits.on c.hop.result) c.deref-2.ensures.value c.hop.ensures in
     let same : all ≡ get_or now c.args.at 0 = sym (get_or-set_same before c.args.at all 0 inside) in
-    close_ends _ closed c.bits.invariant (omega arith) (sets.leaves.each c.args.at c.requires.within) sets.hops c.requires.within
+    let word : get_or before c.args.at 0 < 2 ^ 64 = search rules in
+    let looked_up : c.looked_up.result < 2 ^ 64 = search rules in
+    let fits : get_or now c.args.at 0 < 2 ^ 64 = subst (λ n. n < 2 ^ 64) same (or_lt 64 (get_or before c.args.at 0) c.looked_up.result word looked_up) in
+    close_ends _ closed c.bits.invariant (omega arith) (sets.leaves.each c.args.at c.requires.within) sets.hops c.requires.within fits
     (subst (λ word. Grows (Hopped c.args.closures.now.hops.items c.args.at word 3) c.bits.words c.hop.new.words c.bits.on c.hop.result) same hopped)
 
 pub bits-init : goal.bits-init

@@ -1,4 +1,5 @@
-use Rattle.std.proofs.Common.{◌≡◌, ◌+◌, ◌<◌, ℕ, List, get_or, set, length, refl, sym, ap, ◌∙◌, subst, arith}
+use Rattle.std.proofs.Common.{rules, ◌^◌, ◌≡◌, ◌+◌, ◌<◌, ℕ, List, get_or, set, length, refl, sym, ap, ◌∙◌, subst, arith}
+use Rattle.std.proofs.lemmas.Nat.{or_lt}
 use Rattle.std.proofs.lemmas.List.{get_or-set_same, get_or_default}
 use Rattle.std.specs.Prelude.{bit_and, bit_or}
 use Rattle.scan_core.specs.inner.Hops.{Hopped}
@@ -27,5 +28,8 @@ returns c =
     let same : all ≡ get_or now at 0 = sym (get_or-set_same before at all 0 inside) in
     let e = c.index-2.ensures ∙ get_or_default leaves at _ 0 (let s = sets.leaves.size in omega (arith, s, c.requires.within)) in
     let none : bit_and (get_or now at 0) (get_or leaves at 0) ≡ 0 = ap (λ w. bit_and w (get_or leaves at 0)) (sym same) ∙ ap (bit_and all) (sym e) ∙ c.if-all-index-ne0.false in
-    close_ends (get_or leaves at 0) closed (visit_starts) none (sets.leaves.each at c.requires.within) sets.hops c.requires.within
+    let word : get_or before at 0 < 2 ^ 64 = search rules in
+    let looked_up : c.looked_up.result < 2 ^ 64 = search rules in
+    let fits : get_or now at 0 < 2 ^ 64 = subst (λ n. n < 2 ^ 64) same (or_lt 64 (get_or before at 0) c.looked_up.result word looked_up) in
+    close_ends (get_or leaves at 0) closed (visit_starts) none (sets.leaves.each at c.requires.within) sets.hops c.requires.within fits
     (subst (λ word. Grows (Hopped c.args.closures.now.hops.items at word 3) now c.hop.new.words (at + 1) c.hop.result) same hopped)

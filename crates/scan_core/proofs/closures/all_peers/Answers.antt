@@ -1,5 +1,4 @@
-use Rattle.std.proofs.Common.{arith}
-use Rattle.scan_core.proofs.Each.{each_more, each_to}
+use Rattle.scan_core.proofs.Each.{each_more}
 use Rattle.scan_core.proofs.closures.all_peers.Goals as goal
 
 pub loop-number-preserved : goal.loop-number-preserved

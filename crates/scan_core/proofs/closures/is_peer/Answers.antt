@@ -1,4 +1,4 @@
-use Rattle.std.proofs.Common.{inl, inr, sym, ap, ◌∙◌, ◌/◌, eqb-true, arith}
+use Rattle.std.proofs.Common.{inl, inr, sym, ap, ◌∙◌, ◌/◌, eqb-true}
 use Rattle.scan_core.proofs.Ways.{led_anywhere, opens_more}
 use Rattle.scan_core.proofs.closures.is_peer.Goals as goal
 

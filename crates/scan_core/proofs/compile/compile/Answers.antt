@@ -1,13 +1,12 @@
-use Rattle.std.proofs.Common.{◌≡◌, ◌-◌, reverse, drop, length, sym, ap, ◌∙◌, subst, arith}
+use Rattle.std.proofs.Common.{◌≡◌, ◌-◌, reverse, drop, length, ap, ◌∙◌, subst, arith}
 use Rattle.bre_core.specs.Flat.{AreBounded}
 use Rattle.bre_core.specs.Steps.{Steps}
-use Rattle.scan_core.specs.inner.Compiling.{Takes, AreBegun, depth_in}
-use Rattle.scan_core.proofs.Compiled.{compiled, ordered, way_starts, way_more, bounded_at}
+use Rattle.scan_core.specs.inner.Compiling.{Takes, depth_in}
+use Rattle.scan_core.proofs.Compiled.{compiled, ordered, way_starts, way_more}
 use Rattle.scan_core.proofs.compile.compile.Goals as goal
 
 pub loop-place-init : goal.loop-place-init
 loop-place-init c = record {
-  begun = subst (AreBegun (length c.new-compiling.result.nodes.items)) (sym c.new-compiling.ensures.pending) tt;
   depth = let d = ap depth_in c.new-compiling.ensures.passing in omega (arith, d);
   way = (
     c.new-compiling.result,
@@ -16,13 +15,8 @@ loop-place-init c = record {
   );
 }
 
-pub take-requires-clause-order : goal.take-requires-clause-order
-take-requires-clause-order c =
-    bounded_at c.tokens-tokens.result.now (c.loop-place.place - 1) c.tokens-tokens.ensures.order (omega (arith, c.loop-place.auto, c.loop-place-test.true)) c.index-tokens-place.is
-
 pub loop-place-preserved : goal.loop-place-preserved
 loop-place-preserved c = let w = c.loop-place.invariant.way in record {
-  begun = c.in_ok-take.ensures.begun;
   depth = omega (arith, c.in_ok-take.ensures.depth, c.loop-place.invariant.depth, c.loop-place-test.true);
   way = (
     w.0,

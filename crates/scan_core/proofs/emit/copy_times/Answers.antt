@@ -1,14 +1,10 @@
-use Rattle.std.proofs.Common.{length, ap, arith, length-append}
-use Rattle.scan_core.specs.Code.{copies}
-use Rattle.scan_core.specs.inner.Backwards.{stretch}
+use Rattle.std.proofs.Common.{arith}
+use Rattle.std.proofs.lemmas.Grind.{common_steps}
 use Rattle.scan_core.proofs.Stretches.{copies_more}
 use Rattle.scan_core.proofs.emit.copy_times.Goals as goal
 
 pub copy-requires : goal.copy-requires
-copy-requires c =
-    let e = ap length c.loop-done.invariant in
-    let l = length-append c.args.nodes.now.items (copies c.loop-done._done (stretch c.args.from c.args.size c.args.nodes.now.items)) in
-    omega (arith, e, l, c.requires)
+copy-requires c = grind (arith, common_steps)
 
 pub loop-done-preserved : goal.loop-done-preserved
 loop-done-preserved c = copies_more c.args.nodes.now.items c.args.from c.args.size c.loop-done._done c.loop-done.invariant c.requires c.in_ok-copy.ensures.ok

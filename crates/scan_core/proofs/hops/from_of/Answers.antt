@@ -1,4 +1,3 @@
-use Rattle.std.proofs.Common.{arith}
 use Rattle.scan_core.proofs.Bits.{bits_more, flag_one}
 use Rattle.scan_core.proofs.hops.from_of.Goals as goal
 

@@ -1,4 +1,3 @@
-use Rattle.std.proofs.Common.{subst}
 use Rattle.scan_core.specs.inner.Landings.{Lands}
 use Rattle.scan_core.proofs.Ways.{led_anywhere, led_by, led_never}
 use Rattle.scan_core.proofs.landing.is_settled.Goals as goal

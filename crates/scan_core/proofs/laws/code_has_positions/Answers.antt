@@ -1,6 +1,6 @@
 use Rattle.std.proofs.Common.{◌+◌, ap}
-use Rattle.scan_core.proofs.Weights.{weight_is}
+use Rattle.scan_core.proofs.Weights.{weighs}
 use Rattle.scan_core.proofs.laws.code_has_positions.Goals as goal
 
 pub returns : goal.returns
-returns c = λ pattern o. ap (λ n. n + 1) (weight_is pattern o)
+returns c = λ pattern o. ap (λ n. n + 1) (weighs pattern o).exact

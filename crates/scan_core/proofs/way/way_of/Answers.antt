@@ -1,4 +1,4 @@
-use Rattle.std.proofs.Common.{rules, ◌+◌, ◌≤◌, length, refl, arith}
+use Rattle.std.proofs.Common.{rules}
 use Rattle.scan_core.specs.declared.node.Node.TheVariants.{Take, First, Last, Choose, Back}
 use Rattle.scan_core.proofs.Enterings.{node_here, target_in}
 use Rattle.scan_core.proofs.Ways.{way_is, way_nowhere}

@@ -18,6 +18,3 @@ pub overflow_add-result : goal.overflow_add-result
 overflow_add-result c =
     let few = delimiters-le-length c.args.delim c.args.bytes.now in
     record { fits = omega arith }
-
-pub returns : goal.returns
-returns c = omega (arith, c.loop-left.invariant, c.count_one_by_one.ensures)

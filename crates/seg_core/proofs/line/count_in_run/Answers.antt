@@ -1,24 +1,15 @@
 use Rattle.std.proofs.Common.{◌+◌, ◌∙◌, length, sym, ap, subst, arith}
 use Rattle.std.specs.Simd.Lanes.{Each1, zip2}
 use Rattle.std.proofs.lemmas.List.{take_rest, length-drop}
-use Rattle.std.proofs.lemmas.Simd.{Each1-replicate, sum-zip2}
+use Rattle.std.proofs.lemmas.Simd.{sum-zip2}
 use Rattle.seg_core.specs.declared.line.TheConstants.{STEP}
 use Rattle.seg_core.specs.Line.{delimiters}
 use Rattle.seg_core.proofs.Delimiters.{delimiters-take-drop, delimiters-le-length}
 use Rattle.seg_core.proofs.Lanes.{IsFew, more_fit, more_few}
 use Rattle.seg_core.proofs.line.count_in_run.Goals as goal
 
-pub loop-left-init : goal.loop-left-init
-loop-left-init c = record {
-  counted = omega arith;
-  few = Each1-replicate (IsFew (length c.args.run.now)) STEP 0 (omega (arith, c.requires));
-}
-
 pub overflow_add-lanes : goal.overflow_add-lanes
 overflow_add-lanes c = more_fit c.loop-left.lanes c.delimiters_in_step-lanes.result (length c.loop-left.left.now) c.loop-left-test.true c.loop-left.invariant.few c.delimiters_in_step-lanes.ensures.each
-
-pub loop-left-smaller : goal.loop-left-smaller
-loop-left-smaller c = omega (arith, c.loop-left-test.true, ap length (take_rest c.loop-left.left.now STEP), length-drop STEP c.loop-left.left.now)
 
 pub loop-left-preserved : goal.loop-left-preserved
 loop-left-preserved c =
@@ -38,6 +29,3 @@ pub overflow_add-result : goal.overflow_add-result
 overflow_add-result c =
     let few = delimiters-le-length c.args.delim c.args.run.now in
     record { fits = omega arith }
-
-pub returns : goal.returns
-returns c = omega (arith, c.loop-left.invariant.counted, c.sum_of.ensures, c.count_one_by_one.ensures)

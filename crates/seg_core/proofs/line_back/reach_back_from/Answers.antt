@@ -1,6 +1,7 @@
 use Rattle.std.proofs.Common.{◌-◌, ◌+◌, ◌≡◌, subst, ap, ◌∙◌, drop, arith}
+use Rattle.std.proofs.lemmas.Grind.{common_steps}
 use Rattle.seg_core.specs.Line.{delimiters, BeginsAt}
-use Rattle.seg_core.proofs.BackLines.{begins_after, count_back, most_one}
+use Rattle.seg_core.proofs.BackLines.{begins_after}
 use Rattle.seg_core.proofs.line_back.reach_back_from.Goals as goal
 
 pub returns-then-seen-wanted : goal.returns-then-seen-wanted
@@ -11,8 +12,4 @@ returns-then-seen-wanted c =
     (c.loop-at.invariant.counted ∙ ap (λ k. delimiters c.args.delim (drop k x)) (omega arith)) c.from-seen.ensures c.loop-at.invariant.fewer c.if-seen-wanted.true)
 
 pub loop-at-preserved : goal.loop-at-preserved
-loop-at-preserved c =
-    let x = c.args.bytes.now in
-    let at : c.loop-at.at ≡ c.loop-at.at - 1 + 1 = let some = c.loop-at-test.true in omega arith in
-    let more = count_back c.args.delim x (c.loop-at.at - 1) c.from-seen.result (omega arith) (c.loop-at.invariant.counted ∙ ap (λ k. delimiters c.args.delim (drop k x)) at) c.from-seen.ensures in
-    record { within = omega arith; counted = more; fewer = let other = c.if-seen-wanted.false in let few = most_one c.args.delim c.args.bytes.now (c.loop-at.at - 1) c.from-seen.result c.from-seen.ensures in let so_far = c.loop-at.invariant.fewer in omega arith }
+loop-at-preserved c = grind (arith, common_steps)

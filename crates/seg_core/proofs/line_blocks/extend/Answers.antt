@@ -1,6 +1,5 @@
-use Rattle.std.proofs.Common.{sym, subst, arith}
-use Rattle.std.proofs.lemmas.List.Elements.{All-append}
-use Rattle.seg_core.specs.Blocks.{HasCount, HaveCounts}
+use Rattle.std.proofs.Common.{arith}
+use Rattle.std.proofs.lemmas.Grind.{common_steps}
 use Rattle.seg_core.proofs.Delimiters.{delimiters-le-length}
 use Rattle.seg_core.proofs.BlockLemmas.{extended, split_counted}
 use Rattle.seg_core.proofs.line_blocks.extend.Goals as goal
@@ -27,7 +26,4 @@ returns-clause-ok c =
     c.in-Ok.ensures.items c.in_ok-fill.ensures.ok c.in_ok-fresh.ensures.text c.reserve.ensures.items c.split_at.ensures.by_index.0
 
 pub returns-clause-each : goal.returns-clause-each
-returns-clause-each c =
-    let old = subst (HaveCounts c.args.delim) (sym c.reserve.ensures.items) c.requires.each in
-    let filled = c.in_ok-fill.ensures.each c.args.delim c.count_first-near_count.ensures old in
-    subst (HaveCounts c.args.delim) (sym c.in-Ok.ensures.items) (All-append (HasCount c.args.delim) c.fill.new.queue.items c.in_ok-fresh.fresh.items filled c.in_ok-fresh.ensures.each)
+returns-clause-each c = grind (arith, common_steps)

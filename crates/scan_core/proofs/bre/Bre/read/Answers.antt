@@ -1,16 +1,9 @@
-use Rattle.std.proofs.Common.{◌≡◌, ◌≤◌, IfSome, Ok, Err, IsErrOf, length, sym, ap, ◌∙◌, subst, arith}
+use Rattle.std.proofs.Common.{Ok, Err, IsErrOf, length, sym, ap, ◌∙◌, subst, arith}
 use Rattle.std.proofs.lemmas.Result.{err_from_is_err_and}
 use Rattle.bre_core.specs.declared.fault.BreFault.{BreFault}
 use Rattle.bre_core.specs.declared.fault.BreFault.TheVariants.{Memory, TooLarge}
-use Rattle.bre_core.specs.Pattern.{Pattern, positions_of}
-use Rattle.scan_core.specs.Code.{code_of, IsOrdered}
-use Rattle.scan_core.specs.inner.Base.{IsBase}
-use Rattle.scan_core.specs.inner.Closures.{AreClosures}
-use Rattle.scan_core.specs.inner.Needles.{IsNeedle}
+use Rattle.bre_core.specs.Pattern.{Pattern}
 use Rattle.scan_core.specs.inner.Sets.{IsCode}
-use Rattle.scan_core.specs.inner.Shifts.{IsShiftTable}
-use Rattle.scan_core.specs.inner.Table.{IsTable}
-use Rattle.scan_core.specs.inner.Words.{IsMasks}
 use Rattle.scan_core.proofs.Whole.{is_code, enough_room}
 use Rattle.scan_core.proofs.bre.Bre.read.Goals as goal
 
@@ -34,23 +27,6 @@ build-requires-clause-code c = subst IsCode (sym (c.as_slice-nodes.ensures.value
 
 pub needle_of-requires : goal.needle_of-requires
 needle_of-requires c = subst IsCode (sym (c.as_slice-nodes.ensures.value ∙ c.in_ok-code.ensures.ok)) (is_code _ c.in_ok-code.ensures.order)
-
-pub invariant_of-result : goal.invariant_of-result
-invariant_of-result c =
-    let bre = c.in_ok-expression.expression in
-    let e = c.as_slice-nodes.ensures.value in
-    subst (λ code. (code ≡ code_of bre) × IsOrdered bre × (positions_of bre ≤ 65535) × IsMasks code c.in_ok-masks.masks × IfSome c.in_ok-table.table (IsTable code)
-    × IfSome c.in_ok-shifts.shifts (IsShiftTable code) × AreClosures code c.in_ok-closures.closures × IsBase code c.in_ok-base.base × IfSome c.in_ok-needle.needle (IsNeedle code)) e (
-      e ∙ c.in_ok-code.ensures.ok,
-      c.in_ok-code.ensures.order,
-      c.in_ok-expression.ensures.size,
-      c.in_ok-masks.ensures.ok,
-      c.in_ok-table.ensures.ok,
-      c.in_ok-shifts.ensures.ok,
-      c.in_ok-closures.ensures.ok,
-      c.in_ok-base.ensures.ok,
-      c.in_ok-needle.ensures.ok,
-    )
 
 pub returns-in_err-shifts : goal.returns-in_err-shifts
 returns-in_err-shifts c =

@@ -1,20 +1,12 @@
-use Rattle.std.proofs.Common.{length, sym, ap, ◌∙◌, subst}
-use Rattle.scan_core.specs.inner.Compiling.{AreBegun, Finishes}
-use Rattle.scan_core.proofs.Finishing.{are_begun_wider, finish_more, finish_ends, are_begun_parts}
+use Rattle.std.proofs.Common.{ap, ◌∙◌, subst}
+use Rattle.scan_core.specs.inner.Compiling.{Finishes}
+use Rattle.scan_core.proofs.Finishing.{finish_more, finish_ends}
 use Rattle.scan_core.proofs.compile.Compiling.finish.Goals as goal
-
-pub write_out-requires : goal.write_out-requires
-write_out-requires c =
-    (are_begun_parts (length c.next_duplication.new.self.nodes.items) c.next_duplication.new.self.pending.items _
-    (subst (AreBegun (length c.next_duplication.new.self.nodes.items)) c.in-Some.ensures.2 (subst (λ n. AreBegun (length n) c.loop-duplication.self.pending.items) (sym c.in-Some.ensures.0) c.loop-duplication.invariant.begun))).1.0
 
 pub loop-duplication-preserved : goal.loop-duplication-preserved
 loop-duplication-preserved c = record {
   so_far = λ final f. c.loop-duplication.invariant.so_far final (subst (λ n. Finishes n c.loop-duplication.self.pending.items final) c.in-Some.ensures.0
       (finish_more c.next_duplication.new.self.nodes.items c.write_out.new.nodes.items c.next_duplication.new.self.pending.items c.in-Some.duplication final c.in-Some.ensures.2 c.in_ok-write_out.ensures.ok f));
-  begun = are_begun_wider c.next_duplication.new.self.pending.items _ _ c.in_ok-write_out.ensures.more
-      (are_begun_parts (length c.next_duplication.new.self.nodes.items) c.next_duplication.new.self.pending.items _
-      (subst (AreBegun (length c.next_duplication.new.self.nodes.items)) c.in-Some.ensures.2 (subst (λ n. AreBegun (length n) c.loop-duplication.self.pending.items) (sym c.in-Some.ensures.0) c.loop-duplication.invariant.begun))).0;
   passing = c.in-Some.ensures.1 ∙ c.loop-duplication.invariant.passing;
 }
 
