@@ -28,7 +28,7 @@ use Rattle.words_core.specs.declared.settings.Settings.{Settings}
 use Rattle.words_core.specs.declared.settings.Settings.TheVariants.{Head, Tail, Split, Csplit, Tee}
 use Rattle.tools_core.specs.Outcome.{DoesAsked, RefusesOperands, word_of}
 use Rattle.tools_core.specs.Tasks.{names_of, tool_of, is_plus, plan_of}
-use Rattle.tools_core.specs.Promises.{BrokeAt, Completes, HasLong, IsCalled, IsCopied, IsStopped, IsUnstopped, Ran, Run, StopsRun, Unstopped, failing, WhyBroken, IsGone, SaysLines, removes_files, told, unremoved}
+use Rattle.tools_core.specs.Promises.{BrokeAt, Completes, HasLong, IsCalled, IsCopied, IsStopped, IsUnstopped, Ran, Run, StopsRun, Unstopped, failing, WhyBroken, IsGone, SaysLines, removes_files, named, unremoved}
 use Rattle.tools_core.proofs.BeginLemmas.{slots_at}
 use Rattle.tools_core.proofs.PromiseLemmas.{ran_over}
 use Rattle.tools_core.proofs.SamePromises.{some_left}
@@ -205,7 +205,7 @@ refused_stop {run} {asked} ran (fault, bad, refuses) = record {
 }
 
 stopped_so : {run : Run} {asked : Settings} → IsStop (tool_of asked) run asked → IsStopped run asked
-stopped_so stop = record { failed = stop.failed; why = stop.why; name = stop.name; stops = stop.stops; told = stop.line }
+stopped_so stop = record { failed = stop.failed; why = stop.why; name = stop.name; stops = stop.stops; says = stop.line }
 
 pub completes_or : (run : Run) (asked : Settings) → Ran run asked → Completes run asked ⊎ IsStopped run asked
 completes_or run asked ran = elim (ran_over ran) [
@@ -423,7 +423,7 @@ is_broken run asked place ran differs broken = elim (ran_over ran) [
   | inl does ↦ let due = does_due asked _ run.inputs run.outputs differs broken does in (
     due.0,
     elim due.1 [
-      | inl (name, called, line) ↦ told name called line
+      | inl (name, called, line) ↦ named name called line
       | inr (removes, closed, gone) ↦ unremoved removes closed gone
     ],
   )

@@ -28,7 +28,7 @@ use Rattle.words_core.specs.declared.settings.Settings.TheVariants.{Csplit, Tee}
 use Rattle.tools_core.specs.Outcome.{DoesAsked, RefusesOperands}
 use Rattle.tools_core.specs.Outcome as outcome
 use Rattle.tools_core.specs.Tasks.{tool_of}
-use Rattle.tools_core.specs.Promises.{IsCalled, IsTold, Ran, Run, SaysLines, failing}
+use Rattle.tools_core.specs.Promises.{IsCalled, SaysWhy, Ran, Run, SaysLines, failing}
 use Rattle.tools_core.proofs.PromiseLemmas.{ran_over}
 use Rattle.tools_core.proofs.RunLemmas.{runs_as_named}
 
@@ -313,8 +313,8 @@ does_told (Csplit asked) inputs sources new one does = ends_told one does.ends
 does_told (Tee asked) inputs sources new one does = tee_told one does.ends
 does_told asked inputs sources new one does = ends_told one does
 
-pub is_told : (run : Run) (asked : Settings) → Ran run asked → run.status ≡ 1 → IsTold run asked
-is_told run asked ran one = elim (ran_over ran) [
+pub says_why : (run : Run) (asked : Settings) → Ran run asked → run.status ≡ 1 → SaysWhy run asked
+says_why run asked ran one = elim (ran_over ran) [
   | inl does ↦ does_told asked _ run.inputs run.outputs one does
   | inr (fault, bad, refuses) ↦ subst (λ those. TellsFault (tool_of asked) (slot_at those 1)) (sym refuses.slots)
       (subst (λ which. TellsFault which refuses.error) (runs_as_named run.words ran.read)

@@ -257,9 +257,9 @@ abbrev pub Tells : Run → Settings → Fault → List ℕ → Type 0
 Tells run asked fault name = (before : List (List ℕ)) × (after : List (List ℕ)) × SaysLines (tool_of asked)
     (before ++ message_of (tool_of asked) fault name ∷ after) (slot_at run.outputs 1)
 
--- it told some fault
-abbrev pub IsTold : Run → Settings → Type 0
-IsTold run asked = (fault : Fault) × (name : List ℕ) × Tells run asked fault name
+-- it says why it failed
+abbrev pub SaysWhy : Run → Settings → Type 0
+SaysWhy run asked = (fault : Fault) × (name : List ℕ) × Tells run asked fault name
 
 -- an output's name, which is lost where a file could not be opened and there was no memory to keep it
 abbrev pub IsCalled : Slot → List ℕ → Type 0
@@ -288,7 +288,7 @@ IsGone output = (has_file output.state ≡ false) ⊎ (output.is_broken ≡ true
 -- that was to be removed after some fault, with all others, and could not be: each of these is gone, or broken too.
 -- That need not be told, nor then what broke it before.
 pub data WhyBroken (run : Run) (asked : Settings) (place : ℕ) : Type 0 where
-  told : (name : List ℕ) → IsCalled (slot_at run.outputs place) name
+  named : (name : List ℕ) → IsCalled (slot_at run.outputs place) name
       → Tells run asked (failing place (slot_at run.outputs place).state) name → WhyBroken run asked place
   unremoved : removes_files asked ≡ true → (slot_at run.outputs place).state ≡ Closed
       → ((other : ℕ) → 2 ≤ other → IsGone (slot_at run.outputs other)) → WhyBroken run asked place
@@ -357,7 +357,7 @@ pub record IsStopped (run : Run) (asked : Settings) : Type 0 where
   pub why : Fault
   pub name : List ℕ
   pub stops : StopsRun run asked name why
-  pub told : Tells run asked why name
+  pub says : Tells run asked why name
 
 -- An output got the same in two runs, under the same name. It is left the same in both, unless it is broken in one of
 -- them, as a file that was to be removed and could not be.

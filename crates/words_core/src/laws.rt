@@ -145,8 +145,8 @@ pub fn operands_may_mix()
 /// Of several faults of single words the leftmost word's is told: one that is found among the first words is told whatever follows them, but
 /// that a value is missing, which is so only where no word follows; and where nothing is wrong with the first words, the
 /// fault stands after them.
-pub fn leftmost_fault_is_told()
-    ensures told { (rows : List OptionRow) (first more : List (List ℕ)) (place : ℕ) (state : State) (kind : UsageKind) (word : ℕ)
+pub fn leftmost_fault_decides()
+    ensures decides { (rows : List OptionRow) (first more : List (List ℕ)) (place : ℕ) (state : State) (kind : UsageKind) (word : ℕ)
         → spelled rows first place state ≡ Err (Fault.Usage kind word) → kind ≢ MissingValue
         → spelled rows (first ++ more) place state ≡ Err (Fault.Usage kind word) }
     ensures later { (rows : List OptionRow) (first more : List (List ℕ)) (place : ℕ) (state : State) (given : Given) (kind : UsageKind) (word : ℕ)

@@ -20,7 +20,7 @@ pub use args::{ArgsFault, read_args};
 pub use csplit_settings::CsplitSettings;
 pub use laws::{
     csplit_options_ask, ends_options_ask, last_of_csplit_decides, last_of_ends_decides,
-    last_of_split_decides, last_of_tail_decides, leftmost_fault_is_told, letters_stand_together,
+    last_of_split_decides, last_of_tail_decides, leftmost_fault_decides, letters_stand_together,
     number_comes_first, numbers_ask, one_way_at_most, operands_follow_the_end,
     operands_keep_their_order, operands_may_mix, options_stand_anywhere, split_options_ask,
     tail_options_ask, tee_options_ask, values_are_spelled_alike,

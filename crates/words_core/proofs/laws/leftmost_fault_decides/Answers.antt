@@ -9,7 +9,7 @@ use Rattle.words_core.specs.Given.{Given}
 use Rattle.words_core.specs.Spelling.{Meaning, ended, given_before, meaning_of, onward, spelled}
 use Rattle.words_core.proofs.MeaningLemmas.{Awaits, GivesItself, meaning-gives}
 use Rattle.words_core.proofs.SpellingLemmas.{of_more, told_whatever_follows}
-use Rattle.words_core.proofs.laws.leftmost_fault_is_told.Goals as goal
+use Rattle.words_core.proofs.laws.leftmost_fault_decides.Goals as goal
 
 well_more : (given whole : Given) (meant : Result Given Fault) → given_before given meant ≡ Ok whole → (rest : Given) × (meant ≡ Ok rest)
 well_more given whole (Ok more) is = (more, refl)
