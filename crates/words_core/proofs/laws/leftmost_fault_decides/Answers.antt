@@ -56,6 +56,6 @@ module _ (rows : List OptionRow) (kind : UsageKind) (word : ℕ) where
 
 pub returns : goal.returns
 returns c = record {
-  told = λ rows first more place state kind word is other. told_whatever_follows first more rows place state word other is;
+  decides = λ rows first more place state kind word is other. told_whatever_follows first more rows place state word other is;
   later = λ rows first more place state given kind word. stands_later rows kind word first more place state given;
 }
