@@ -93,9 +93,6 @@ pub opened_last : (old new : List Slot) (slot : ℕ) (name : List ℕ) (mode : M
 opened_last old new slot name mode at is =
     let size : length new ≡ length old + 1 = ap length is ∙ length-append old (opened name mode ∷ []) in omega (arith, at)
 
-pub written_last : (old new : List Slot) (slot : ℕ) (bytes : List ℕ) → suc slot ≡ length old → new ≡ with_written slot bytes old → suc slot ≡ length new
-written_last old new slot bytes last is = last ∙ sym (written_size slot bytes old new is)
-
 -- Which can be written
 
 pub writable_within : (place : ℕ) (slots : List Slot) → IsTrue (is_writable slots place) → place < length slots
