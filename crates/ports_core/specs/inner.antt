@@ -1,4 +1,3 @@
-pub mod Counter
 pub mod Engine
 pub mod Name
 pub mod Part

@@ -1,7 +1,9 @@
--- What private calls say: the names of the files that are made, by their place.
-use Rattle.std.specs.Prelude.{ℕ}
+-- What private calls say: where the name at a place stands among those that widen.
+use Rattle.std.specs.Prelude.{ℕ, ◌≡◌, ◌+◌, ◌<◌}
 use Rattle.ports_core.specs.declared.alphabet.Alphabet.{Alphabet}
-use Rattle.ports_core.specs.Name.{character}
+use Rattle.ports_core.specs.Name.{before_block, block_size}
 
-abbrev pub first_character : Alphabet → ℕ
-first_character alphabet = character alphabet 0
+-- the place is this one of a block
+pub record IsInBlock (alphabet : Alphabet) (width place block number : ℕ) : Type 0 where
+  pub place_is : before_block alphabet width block + number ≡ place
+  pub within : number < block_size alphabet width block
