@@ -103,10 +103,7 @@ first_few (block ∷ blocks) some is = let same = ap (λ (b : BlockState). b.cou
 
 -- the count so far and that of the first block are no more than that of all blocks
 pub gone_fits : {n : ℕ} {blocks : List BlockState} {first : BlockState} {left : List BlockState} {bytes count : ℕ} → 0 < length left → first ≡ get_or left 0 first → Gone n blocks left bytes count → count + first.count ≤ count_of blocks
-gone_fits {left} some is so_far =
-    let all = ap count_of so_far.whole ∙ count_of-append so_far.gone left in
-    let few = first_few left some is in
-    omega arith
+gone_fits {left} some is so_far = omega (arith, ap count_of so_far.whole ∙ count_of-append so_far.gone left, first_few left some is)
 
 text_whole : {n : ℕ} {blocks left : List BlockState} {bytes count : ℕ} (so_far : Gone n blocks left bytes count) → text_of blocks ≡ text_of so_far.gone ++ text_of left
 text_whole {left} so_far = ap text_of so_far.whole ∙ text_of-append so_far.gone left
@@ -130,18 +127,13 @@ rest_counted delim {n} {blocks} {left} {bytes} so_far each =
     let text = text_of gone in
     let front : take n (text_of blocks) ≡ text ++ take bytes (text_of left) =
     ap (take n) (text_whole so_far) ∙ ap (λ k. take k (text ++ text_of left)) so_far.long ∙ take-append-add text (text_of left) bytes in
-    let all = ap (delimiters delim) front ∙ delimiters-append delim text (take bytes (text_of left)) in
     let counts : HaveCounts delim gone = subst (HaveCounts delim) (take_at gone left (length gone) refl)
     (All-take (HasCount delim) (length gone) (gone ++ left) (subst (HaveCounts delim) so_far.whole each)) in
-    let counted = so_far.counted ∙ all_counted delim gone counts in
-    omega arith
+    omega (arith, ap (delimiters delim) front ∙ delimiters-append delim text (take bytes (text_of left)), so_far.counted ∙ all_counted delim gone counts)
 
 -- delimiters of a part that begins at `start`, and of what follows it
 pub part_counted : (delim : ℕ) (x : List ℕ) (start n : ℕ) {count part : ℕ} → count ≡ delimiters delim (drop start x) → part ≡ delimiters delim (take n (drop start x)) → part + delimiters delim (drop (start + n) x) ≡ count
-part_counted delim x start n is of =
-    let cut = delimiters-take-drop delim n (drop start x) in
-    let rest = ap (delimiters delim) (drop-drop n start x) in
-    omega arith
+part_counted delim x start n is of = omega (arith, delimiters-take-drop delim n (drop start x), ap (delimiters delim) (drop-drop n start x))
 
 -- bytes after those of a block of which the front has left
 pub block_grows : (x part : List ℕ) {new : List ℕ} (start count more : ℕ) → start ≤ length x → count ≤ length (drop start x) → more ≤ length part → new ≡ x ++ part

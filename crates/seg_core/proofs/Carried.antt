@@ -10,8 +10,7 @@ use Rattle.seg_core.proofs.LastLines.{but_last_lines-few}
 -- the last n lines are n lines, or all there are
 pub line_count-last : (delim n : ℕ) (x : List ℕ) → line_count delim (last_lines delim n x) ≡ min n (line_count delim x)
 line_count-last delim n x =
-    let all = ap length (lines_of-after_lines delim (line_count delim x - n) x) ∙ length-drop (line_count delim x - n) (lines_of delim x) in
-    omega arith
+    omega (arith, ap length (lines_of-after_lines delim (line_count delim x - n) x) ∙ length-drop (line_count delim x - n) (lines_of delim x))
 
 -- they are the end of the text
 pub last_lines-is_drop : (delim n : ℕ) (x : List ℕ) → drop (length (but_last_lines delim n x)) x ≡ last_lines delim n x

@@ -70,14 +70,12 @@ held_whole text end whole h = h ∙ ap (λ x. min (value_of x) (2 ^ 64 - 1)) (ta
 pub digits_of-ok : (text : List ℕ) (end : ℕ) {held : ℕ} → end ≡ prefix_len is_ascii_digit text → (end ≡ 0 → ⊥) → length text ≤ end → held ≡ min (value_of (take end text)) (2 ^ 64 - 1) → held ≤ greatest
     → digits_of text ≡ Ok held
 digits_of-ok text end {held} is some whole h fits =
-    let all = held_whole text end whole h in
-    let exact : value_of text ≡ held = omega arith in
+    let exact : value_of text ≡ held = omega (arith, held_whole text end whole h) in
     digits_of-some text end is some whole ∙ ap (λ n. cond (leb n greatest) (Ok n) (Err TooLarge)) exact
     ∙ ap (λ (c : Bool). cond c (Ok held) (Err TooLarge)) (le-leb held greatest fits)
 
 pub digits_of-too_large : (text : List ℕ) (end : ℕ) {held : ℕ} → end ≡ prefix_len is_ascii_digit text → (end ≡ 0 → ⊥) → length text ≤ end → held ≡ min (value_of (take end text)) (2 ^ 64 - 1) → greatest < held
     → digits_of text ≡ Err TooLarge
 digits_of-too_large text end is some whole h above =
-    let all = held_whole text end whole h in
-    let over : greatest < value_of text = omega arith in
+    let over : greatest < value_of text = omega (arith, held_whole text end whole h) in
     digits_of-some text end is some whole ∙ ap (λ (c : Bool). cond c (Ok (value_of text)) (Err TooLarge)) (lt-leb (value_of text) greatest over)

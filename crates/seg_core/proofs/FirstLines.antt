@@ -60,9 +60,8 @@ first_lines-full delim n x y h =
 -- while n lines aren't complete, the next byte belongs to them
 pub first_lines-more : (delim n : ℕ) (x : List ℕ) (byte : ℕ) → delimiters delim x < n → first_lines delim n (x ++ byte ∷ []) ≡ x ++ byte ∷ []
 first_lines-more delim n x byte h =
-    let one = line_count-le-length delim (byte ∷ []) in
     first_lines-append delim n x (byte ∷ []) ∙ ap (λ z. z ++ first_lines delim (n - delimiters delim x) (byte ∷ [])) (first_lines-short delim n x h)
-    ∙ ap (λ z. x ++ z) (first_lines-all delim (n - delimiters delim x) (omega arith))
+    ∙ ap (λ z. x ++ z) (first_lines-all delim (n - delimiters delim x) (omega (arith, line_count-le-length delim (byte ∷ []))))
 
 pub joined-append : (front back : List (List ℕ)) → joined (front ++ back) ≡ joined front ++ joined back
 joined-append [] back = refl

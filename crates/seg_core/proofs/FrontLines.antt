@@ -39,6 +39,5 @@ pub last_lines-front : (delim most : ℕ) (block held : List ℕ) → line_count
 last_lines-front delim most block [] few = search rules
 last_lines-front delim most block (byte ∷ held) few =
     let over = line_count delim (block ++ byte ∷ held) - most in
-    let lines = line_count-front delim block (byte ∷ held) (omega arith) in
-    let enough : over ≤ delimiters delim block = omega arith in
+    let enough : over ≤ delimiters delim block = omega (arith, line_count-front delim block (byte ∷ held) (omega arith)) in
     sym (after_lines-append delim over block (byte ∷ held) enough)

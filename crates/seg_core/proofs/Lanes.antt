@@ -55,10 +55,7 @@ sum-fours lanes long =
     (sum_dots 16 lanes (replicate STEP 1) long refl).0 ∙ ap (λ n. sum_l (products lanes (replicate n 1))) (sym long) ∙ sum_by-ones lanes
 
 pub fours_fit : (lanes : List ℕ) → length lanes ≡ STEP → Each1 (Fits w8) lanes → Steps (λ s x. Fits w32 (s + x)) (λ s x. s + x) 0 (dots lanes (replicate STEP 1))
-fours_fit lanes long fit =
-    let small = sum_bound 255 lanes (bytes_below lanes fit) in
-    let same = sum-fours lanes long in
-    sum_fits w32 0 (dots lanes (replicate STEP 1)) (omega arith)
+fours_fit lanes long fit = sum_fits w32 0 (dots lanes (replicate STEP 1)) (omega (arith, sum_bound 255 lanes (bytes_below lanes fit), sum-fours lanes long))
 
 pub fold-fours : (lanes : List ℕ) → length lanes ≡ STEP → fold_l (λ s x. s + x) 0 (dots lanes (replicate STEP 1)) ≡ sum_l lanes
 fold-fours lanes long = omega (arith, fold-sum 0 (dots lanes (replicate STEP 1)), sum-fours lanes long)

@@ -64,9 +64,8 @@ over_short delim n held piece {lines} is enough =
 -- what stands after the last delimiters of a text, by the number of lines before it
 pub begins_first : {delim n : ℕ} (lines : ℕ) {x : List ℕ} {at : ℕ} → n + lines ≡ delimiters delim x + 1 → BeginsAt delim n x at → at ≡ length (first_lines delim lines x)
 begins_first {delim} lines {x} {at} is begins =
-    let cut = delimiters-take-drop delim at x in
     let after = begins.counted in
-    let count : lines ≡ delimiters delim (take at x) = omega arith in
+    let count : lines ≡ delimiters delim (take at x) = omega (arith, delimiters-take-drop delim at x) in
     sym (
     ap (λ y. length (first_lines delim lines y)) (sym (take-append-drop at x))
     ∙ ap length (first_lines-whole delim (take at x) (drop at x) lines begins.after count) ∙ length-take-le at x begins.within

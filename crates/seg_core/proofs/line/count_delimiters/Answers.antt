@@ -11,10 +11,7 @@ overflow_add-count c =
 
 pub loop-left-preserved : goal.loop-left-preserved
 loop-left-preserved c =
-    let cut = ap (delimiters c.args.delim) c.split_at.ensures.by_index.0 ∙ delimiters-append c.args.delim c.split_at.result.0.now c.split_at.result.1.now in
-    omega arith
+    omega (arith, ap (delimiters c.args.delim) c.split_at.ensures.by_index.0 ∙ delimiters-append c.args.delim c.split_at.result.0.now c.split_at.result.1.now)
 
 pub overflow_add-result : goal.overflow_add-result
-overflow_add-result c =
-    let few = delimiters-le-length c.args.delim c.args.bytes.now in
-    record { fits = omega arith }
+overflow_add-result c = record { fits = omega (arith, delimiters-le-length c.args.delim c.args.bytes.now) }

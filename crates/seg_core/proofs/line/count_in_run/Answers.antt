@@ -26,6 +26,4 @@ loop-left-preserved c =
     }
 
 pub overflow_add-result : goal.overflow_add-result
-overflow_add-result c =
-    let few = delimiters-le-length c.args.delim c.args.run.now in
-    record { fits = omega arith }
+overflow_add-result c = record { fits = omega (arith, delimiters-le-length c.args.delim c.args.run.now) }

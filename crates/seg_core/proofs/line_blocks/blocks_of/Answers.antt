@@ -14,8 +14,7 @@ holding-requires c = omega (arith, delimiters-le-length c.args.delim c.split_at.
 
 pub overflow_sub-count : goal.overflow_sub-count
 overflow_sub-count c =
-    let all = split_counted c.args.delim c.split_at.result.0.now c.split_at.result.1.now c.loop-left.invariant.counted c.split_at.ensures.by_index.0 in
-    omega arith
+    omega (arith, split_counted c.args.delim c.split_at.result.0.now c.split_at.result.1.now c.loop-left.invariant.counted c.split_at.ensures.by_index.0)
 
 pub returns-clause-text : goal.returns-clause-text
 returns-clause-text c = none_left c.loop-left.left.now (eqb-true (length c.loop-left.left.now) 0 (sym c.is_empty.ensures ∙ c.loop-left-test.false)) c.loop-left.invariant.whole

@@ -7,8 +7,7 @@ use Rattle.seg_core.proofs.line_blocks.drop_front.Goals as goal
 pub drop_whole-left-requires : goal.drop_whole-left-requires
 drop_whole-left-requires c =
     let items = c.args.queue.now.items in
-    let few = delimiters-le-length c.args.delim (text_of items) in
-    omega (arith, all_counted c.args.delim items c.requires.each)
+    omega (arith, all_counted c.args.delim items c.requires.each, delimiters-le-length c.args.delim (text_of items))
 
 pub drop_within-requires-clause-each : goal.drop_within-requires-clause-each
 drop_within-requires-clause-each c = rest_have_counts c.args.delim c.drop_whole-left.ensures.gone c.requires.each

@@ -8,7 +8,6 @@ use Rattle.seg_core.proofs.line_blocks.ends_with_delimiter.Goals as goal
 pub returns-in-Some : goal.returns-in-Some
 returns-in-Some c =
     let items = c.args.queue.now.items in
-    let block = c.index.result.now in
     let bytes = c.bytes.result.now in
     let here : c.loop-left.left - 1 < length items = omega arith in
     let next : c.loop-left.left - 1 + 1 ≡ c.loop-left.left = omega arith in

@@ -9,13 +9,11 @@ count_first-near_count-requires c = split_counted c.args.delim c.split_at.result
 
 pub overflow_sub-count : goal.overflow_sub-count
 overflow_sub-count c =
-    let all = split_counted c.args.delim c.split_at.result.0.now c.split_at.result.1.now c.requires.counted c.split_at.ensures.by_index.0 in
-    omega arith
+    omega (arith, split_counted c.args.delim c.split_at.result.0.now c.split_at.result.1.now c.requires.counted c.split_at.ensures.by_index.0)
 
 pub blocks_of-requires : goal.blocks_of-requires
 blocks_of-requires c =
-    let all = split_counted c.args.delim c.split_at.result.0.now c.split_at.result.1.now c.requires.counted c.split_at.ensures.by_index.0 in
-    omega arith
+    omega (arith, split_counted c.args.delim c.split_at.result.0.now c.split_at.result.1.now c.requires.counted c.split_at.ensures.by_index.0)
 
 pub fill-requires-clause-few : goal.fill-requires-clause-few
 fill-requires-clause-few c = omega (arith, delimiters-le-length c.args.delim c.split_at.result.0.now)

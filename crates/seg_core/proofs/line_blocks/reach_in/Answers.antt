@@ -11,8 +11,7 @@ use Rattle.seg_core.proofs.line_blocks.reach_in.Goals as goal
 ends_here : (delim : ℕ) {wanted : ℕ} (passed left end : ℕ) {rest : List ℕ} (block after : List ℕ) → rest ≡ block ++ after → wanted ≡ passed + length (first_lines delim left rest) → left ≤ delimiters delim block → end ≡ length (first_lines delim left block)
     → passed + end ≡ wanted
 ends_here delim passed left end block after is place enough of =
-    let whole = ap (λ x. length (first_lines delim left x)) is ∙ ap length (first_lines-full delim left block after enough) in
-    omega arith
+    omega (arith, ap (λ x. length (first_lines delim left x)) is ∙ ap length (first_lines-full delim left block after enough))
 
 pub overflow_add-result : goal.overflow_add-result
 overflow_add-result c =
@@ -40,7 +39,6 @@ loop-i-preserved c =
     let left = c.loop-i.left in
     let is = text_from items c.loop-i.i block here c.index-block.ensures in
     let count = c.delimiters-in-loop-i.ensures ∙ counted_at c.args.delim items c.loop-i.i here c.index-block.ensures c.requires.each in
-    let counted = counted_at c.args.delim items c.loop-i.i here c.index-block.ensures c.requires.each in
     let fewer : delimiters c.args.delim block.bytes < left = let t = c.if-left-delimiters.false in let e = c.delimiters.ensures in omega arith in
     let lines = ap (delimiters c.args.delim) is ∙ delimiters-append c.args.delim block.bytes after in
     let whole = ap length is ∙ length-append block.bytes after in

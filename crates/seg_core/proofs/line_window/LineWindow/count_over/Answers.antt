@@ -25,20 +25,16 @@ returns-in-Begins-clause-bytes c =
 pub overflow_add-lines-in-Short : goal.overflow_add-lines-in-Short
 overflow_add-lines-in-Short c =
     let held = text_of c.self.inside.blocks.items in
-    let lines = c.last_delimiter_off-text.ensures.count held in
     let few = line_count-le-length c.self.inside.delim (held ++ c.args.piece.now) in
     let long = length-append held c.args.piece.now in
-    let is = ap (λ (w : Window). length w.held) c.self.view_is in
     let count = c.in-Short.ensures.counted in
     omega arith
 
 pub overflow_add-lines : goal.overflow_add-lines
 overflow_add-lines c =
     let held = text_of c.self.inside.blocks.items in
-    let lines = c.last_delimiter_off-text.ensures.count held in
     let few = line_count-le-length c.self.inside.delim (held ++ c.args.piece.now) in
     let long = length-append held c.args.piece.now in
-    let is = ap (λ (w : Window). length w.held) c.self.view_is in
     let count = c.in-Short.ensures.counted in
     omega arith
 
@@ -57,7 +53,4 @@ returns-in-Short-clause-bytes c =
     ∙ over_short c.self.inside.delim most held c.args.piece.now is enough)
 
 pub overflow_add-result : goal.overflow_add-result
-overflow_add-result c =
-    let few = delimiters-le-length c.self.inside.delim c.args.piece.now in
-    let count = c.in-Short.ensures.counted in
-    omega arith
+overflow_add-result c = omega (arith, delimiters-le-length c.self.inside.delim c.args.piece.now, c.in-Short.ensures.counted)

@@ -8,7 +8,6 @@ use Rattle.seg_core.proofs.line_window.LineWindow.put_counted.Goals as goal
 
 pub overflow_add-self-2 : goal.overflow_add-self-2
 overflow_add-self-2 c =
-    let held = ap (λ (w : Window). length w.held) c.self.view_is in
     let few = delimiters-le-length c.self.inside.delim (text_of c.self.inside.blocks.items) in
     let more = delimiters-le-length c.self.inside.delim c.args.piece.now in
     let of = subst (λ (w : Window). c.args.count ≡ delimiters w.delim c.args.piece.now) (sym c.self.view_is) c.requires.counted in

@@ -14,7 +14,6 @@ loop-at-preserved c =
     let long = ap length next ∙ length-append c.front.result.now c.front.ensures.front.0 in
     let left = length-drop at held in
     let fits : count ≤ length c.front.result.now = omega arith in
-    let size = same_size held c.args.out.now at was.there was.within was.out in
     record {
       most = ap (λ (w : Window). w.most) c.drop_front.ensures ∙ was.most;
       delim = ap (λ (w : Window). w.delim) c.drop_front.ensures ∙ was.delim;
