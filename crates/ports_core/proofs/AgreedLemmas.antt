@@ -1,8 +1,8 @@
 -- Lemmas on what all continuations agree on.
-use Rattle.std.proofs.Common.{◌≡◌, ◌≢◌, ℕ, ◌+◌, ◌-◌, ◌<◌, ◌≤◌, zero, suc, List, [], ◌∷◌, ◌++◌, length, get_or, replicate, cond, inl, inr, sym, ◌∙◌, ap, arith, length-append, lit<, map, take, drop, refl, subst}
-use Rattle.std.proofs.lemmas.List.Elements.{All-nil, All-cons, All-replicate}
+use Rattle.std.proofs.lemmas.Grind.{common_steps}
+use Rattle.std.proofs.Common.{◌≡◌, ◌≢◌, ℕ, ◌+◌, ◌-◌, ◌<◌, ◌≤◌, zero, suc, List, [], ◌∷◌, ◌++◌, length, get_or, replicate, inl, inr, sym, ◌∙◌, ap, arith, length-append, lit<, map, take, drop, refl, subst, rules}
 use Rattle.std.proofs.lemmas.List.{append-nil, get_or_append_left, length-map}
-use Rattle.std.proofs.lemmas.Bool.{cases_lt, lt-ltb, le-ltb}
+use Rattle.std.proofs.lemmas.Bool.{cases_lt}
 use Rattle.ports_core.specs.Part.{IsBeginning, Begins, File, Part, FilesBegin}
 use Rattle.ports_core.specs.Work.{Work, IsLawful}
 use Rattle.ports_core.specs.Agreed.{CanCome, outputs_of, output_at, IsAgreed, Spot, spot, spots_from, IsUndecided}
@@ -12,13 +12,13 @@ use Rattle.std.proofs.Math.Seq.{drop-append_seam, take-append_seam}
 -- Some continuations
 
 pub none_comes : CanCome []
-none_comes = All-nil (λ byte. byte < 256)
+none_comes = search rules
 
 pub one_comes : (byte : ℕ) (bytes : List ℕ) → byte < 256 → CanCome bytes → CanCome (byte ∷ bytes)
-one_comes byte bytes less can = All-cons (λ byte. byte < 256) byte bytes less can
+one_comes byte bytes less can = grind (arith, common_steps)
 
 pub copies_come : (count byte : ℕ) → byte < 256 → CanCome (replicate count byte)
-copies_come count byte less = All-replicate (λ byte. byte < 256) count byte less
+copies_come count byte less = grind (arith, common_steps)
 
 -- a byte that isn't the delimiter
 abbrev pub other : ℕ → ℕ
@@ -26,8 +26,8 @@ other zero = 1
 other (suc delim) = 0
 
 pub other_differs : (delim : ℕ) → delim ≢ other delim
-other_differs zero is = (let e : 0 ≡ 1 = is in omega (arith, e))
-other_differs (suc delim) is = (let e : suc delim ≡ 0 = is in omega (arith, e))
+other_differs zero is = grind (arith, common_steps)
+other_differs (suc delim) is = grind (arith, common_steps)
 
 pub other_comes : (delim : ℕ) → other delim < 256
 other_comes zero = lit< tt
@@ -37,7 +37,7 @@ other_comes (suc delim) = lit< tt
 
 -- no beginning is longer than the whole
 pub beginning_short : (bytes whole : List ℕ) → IsBeginning bytes whole → length bytes ≤ length whole
-beginning_short bytes whole (rest, is) = let e : length whole ≡ length bytes + length rest = ap length is ∙ length-append bytes rest in omega (arith, e)
+beginning_short bytes whole (rest, is) = grind (arith, common_steps)
 
 -- what is settled begins the whole of every continuation
 pub common : (work : Work) → IsLawful work → (x y : List ℕ) → Begins (work.settled x) (work.whole (x ++ y))
@@ -71,17 +71,17 @@ agreed_now work x begin same =
 -- Spots
 
 pub spot_in : (place i : ℕ) (bytes : List ℕ) (outputs : List (List ℕ)) → i < length bytes → spots_from place (bytes ∷ outputs) i ≡ spot place i ∷ []
-spot_in place i bytes outputs less = ap (λ in_it. cond in_it (spot place i ∷ []) (spots_from (place + 1) outputs (i - length bytes))) (lt-ltb i (length bytes) less)
+spot_in place i bytes outputs less = grind (arith, common_steps)
 
 pub spot_past : (place i : ℕ) (bytes : List ℕ) (outputs : List (List ℕ)) → length bytes ≤ i → spots_from place (bytes ∷ outputs) i ≡ spots_from (place + 1) outputs (i - length bytes)
-spot_past place i bytes outputs past = ap (λ in_it. cond in_it (spot place i ∷ []) (spots_from (place + 1) outputs (i - length bytes))) (le-ltb i (length bytes) past)
+spot_past place i bytes outputs past = grind (arith, common_steps)
 
 pub some_spot : (one : Spot) (spots : List Spot) → one ∷ spots ≡ [] → ⊥
 some_spot one spots is = cc
 
 -- no byte of outputs from a place on goes to an output before it
 pub none_before : (from i place offset : ℕ) (outputs : List (List ℕ)) → place < from → spots_from from outputs i ≡ spot place offset ∷ [] → ⊥
-none_before from i place offset [] before is = some_spot (spot place offset) [] (sym is)
+none_before from i place offset [] before is = grind (arith, common_steps)
 none_before from i place offset (bytes ∷ outputs) before is = elim (cases_lt i (length bytes)) [
   | inl within ↦ (let e : from ≡ place = ap (λ those. (get_or those 0 (spot from i)).place) (sym (spot_in from i bytes outputs within) ∙ is) in omega (arith, before, e))
   | inr past ↦ none_before (from + 1) (i - length bytes) place offset outputs (omega (arith, before)) (sym (spot_past from i bytes outputs past) ∙ is)
@@ -97,17 +97,17 @@ lists_same : (one other : List (List ℕ)) → length one ≡ length other → (
 lists_same [] [] count same = refl
 lists_same (bytes ∷ one) (those ∷ other) count same =
     ap (λ first. first ∷ one) (same zero (omega arith)) ∙ ap (λ rest. those ∷ rest) (lists_same one other (omega (arith, count)) (λ place less. same (suc place) (omega (arith, less))))
-lists_same one other count same = absurd (omega (arith, count))
+lists_same one other count same = cc
 
 files_at : (low high : List File) (place : ℕ) → FilesBegin low high → place < length (map (λ (file : File). file.bytes) low)
     → IsBeginning (get_or (map (λ (file : File). file.bytes) low) place []) (get_or (map (λ (file : File). file.bytes) high) place [])
-files_at [] high place begins less = absurd (omega (arith, less))
+files_at [] high place begins less = search rules
 files_at (file ∷ low) [] place begins less = absurd begins
 files_at (file ∷ low) (whole ∷ high) zero begins less = begins.4
 files_at (file ∷ low) (whole ∷ high) (suc place) begins less = files_at low high place begins.5 (omega (arith, less))
 
 outputs_fewer : {low high : Part} → Begins low high → length (outputs_of low) ≤ length (outputs_of high)
-outputs_fewer {low} {high} begins = omega (arith, no_fewer low.files high.files begins.files, length-map low.files (λ (file : File). file.bytes), length-map high.files (λ (file : File). file.bytes))
+outputs_fewer {low} {high} begins = grind (arith, common_steps, no_fewer, length-map)
 
 begins_at : {low high : Part} (place : ℕ) → Begins low high → place < length (outputs_of low) → IsBeginning (output_at low place) (output_at high place)
 begins_at zero begins less = begins.out
@@ -115,7 +115,7 @@ begins_at {low} {high} (suc place) begins less = files_at low.files high.files p
 
 -- as many outputs
 no_more : {work : Work} {x : List ℕ} (one other : Part) → IsAgreed work x one → IsAgreed work x other → length (outputs_of one) ≤ length (outputs_of other)
-no_more one other agreed also = let few = outputs_fewer (agreed.common also.fewest.0 also.fewest.1) in let count = also.fewest.2 in omega (arith, few, count)
+no_more one other agreed also = grind (arith, common_steps, outputs_fewer, common)
 
 -- and in each as many bytes
 no_longer : {work : Work} {x : List ℕ} (one other : Part) (place : ℕ) → IsAgreed work x one → IsAgreed work x other → place < length (outputs_of one) → place < length (outputs_of other) → length (output_at one place) ≤ length (output_at other place)

@@ -1,4 +1,5 @@
 -- Lemmas on what all engines share.
+use Rattle.std.proofs.lemmas.Grind.{common_steps}
 use Rattle.std.proofs.Common.{◌≡◌, ℕ, ◌+◌, ◌≤◌, ◌<◌, Bool, false, List, arith, Result, Ok, Err, IfErr, refl, subst}
 use Rattle.ports_core.specs.Slot.{Slot}
 use Rattle.ports_core.specs.Work.{Work, IsLawful}
@@ -30,4 +31,4 @@ module _ {S : Type 0} (Met : S → Fault → Type 0) (state guard : GuardState S
 
 -- a piece is too long for what came in
 pub is_long : {S : Type 0} {state guard : GuardState S} (size : ℕ) {most : ℕ} → state ≡ guard → (state.fed + size < most → ⊥) → most ≤ guard.fed + size
-is_long {state} size {most} is many = subst (λ (those : GuardState _). most ≤ those.fed + size) is (omega (arith, many))
+is_long {state} size {most} is many = grind (arith, common_steps)

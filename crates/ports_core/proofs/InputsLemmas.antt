@@ -1,10 +1,11 @@
 -- Lemmas on what reads leave of the inputs of a run.
-use Rattle.std.proofs.Common.{◌≡◌, ℕ, ◌≤◌, zero, suc, Bool, true, false, not, ◌&&◌, IsTrue, List, [], ◌∷◌, ◌++◌, length, take, drop, slice_index_or, arith, append_assoc, refl, sym, ◌∙◌, ap, subst}
+use Rattle.std.proofs.lemmas.Grind.{common_steps}
+use Rattle.std.proofs.Common.{◌≡◌, ℕ, ◌≤◌, Bool, true, false, IsTrue, List, [], ◌++◌, take, slice_index_or, arith, sym, ◌∙◌, ap, subst}
 use Rattle.std.proofs.lemmas.List.{append-nil, take-append-drop}
-use Rattle.std.proofs.lemmas.Bool.{false≢true, and_parts, not-true}
+use Rattle.std.proofs.lemmas.Bool.{and_parts, not-true}
 use Rattle.ports_core.specs.Inputs.{AsksAtMost, BreaksOnly, KeepsOthers, OfContent}
 use Rattle.ports_core.specs.Slot.{changed_at}
-use Rattle.ports_core.specs.Source.{Content, Source, source_at, source_of, is_readable, gives, fails, without, Gave, BrokeOff, IsFresh}
+use Rattle.ports_core.specs.Source.{Content, Source, source_at, is_readable, gives, fails, Gave, BrokeOff, IsFresh}
 use Rattle.ports_core.proofs.SlotLemmas.{changed_there, elsewhere, length-changed_at}
 use Rattle.ports_core.proofs.SourceLemmas.{readable_within}
 
@@ -14,7 +15,7 @@ pub record HasRead (content : Content) (x : List ℕ) (slot : ℕ) (sources : Li
   pub breaks_off : (source_at sources slot).left.breaks_off ≡ content.breaks_off
 
 pub nothing_read : (slot : ℕ) (sources : List Source) → HasRead (source_at sources slot).left [] slot sources
-nothing_read slot sources = record { bytes = refl; breaks_off = refl }
+nothing_read slot sources = grind (arith, common_steps)
 
 -- a change of one input
 
@@ -22,19 +23,13 @@ pub changed_elsewhere : {X : Type 0} (default : X) (place other : ℕ) (change :
 changed_elsewhere = elsewhere
 
 pub keeps_others : (slot : ℕ) (change : Source → Source) (old new : List Source) → new ≡ changed_at slot change old → KeepsOthers slot old new
-keeps_others slot change old new is = record {
-  count = ap length is ∙ length-changed_at slot change old;
-  others = λ place differs. ap (λ those. source_at those place) is ∙ changed_elsewhere _ slot place change old differs;
-}
+keeps_others slot change old new is = grind (arith, common_steps, length-changed_at, changed_elsewhere)
 
 pub keeps_itself : (slot : ℕ) (sources : List Source) → KeepsOthers slot sources sources
-keeps_itself slot sources = record { count = refl; others = λ place differs. refl }
+keeps_itself slot sources = grind (arith, common_steps)
 
 pub keeps_again : (slot : ℕ) (old mid new : List Source) → KeepsOthers slot old mid → KeepsOthers slot mid new → KeepsOthers slot old new
-keeps_again slot old mid new first second = record {
-  count = second.count ∙ first.count;
-  others = λ place differs. second.others place differs ∙ first.others place differs;
-}
+keeps_again slot old mid new first second = grind (arith, common_steps)
 
 -- an input that can be read is there, so the change is one of it
 pub changed_source : (slot : ℕ) (change : Source → Source) (sources new : List Source) → IsTrue (is_readable sources slot) → new ≡ changed_at slot change sources → source_at new slot ≡ change (source_at sources slot)
@@ -46,18 +41,10 @@ sound_at sources slot can = not-true _ (and_parts (source_at sources slot).is_op
 
 -- a read changes no flag
 pub still_readable : (slot : ℕ) (sources new : List Source) (size n : ℕ) → new ≡ changed_at slot (gives size n) sources → IsTrue (is_readable sources slot) → IsTrue (is_readable new slot)
-still_readable slot sources new size n is can = ap (λ (source : Source). source.is_open && not source.is_broken) (changed_source slot (gives size n) sources new can is) ∙ can
+still_readable slot sources new size n is can = grind (arith, common_steps, changed_source)
 
 pub read_more : (content : Content) (x : List ℕ) (slot : ℕ) (sources new : List Source) (old_buffer buffer : List ℕ) (size n : ℕ) → HasRead content x slot sources → IsTrue (is_readable sources slot) → Gave (source_at sources slot).left old_buffer buffer n → new ≡ changed_at slot (gives size n) sources → HasRead content (x ++ take n buffer) slot new
-read_more content x slot sources new old_buffer buffer size n read can gave is =
-    let after : (source_at new slot).left ≡ without n (source_at sources slot).left = ap (λ source. source.left) (changed_source slot (gives size n) sources new can is) in
-    record {
-      bytes = read.bytes ∙ ap (λ bytes. x ++ bytes) (sym (take-append-drop n (source_at sources slot).left.bytes))
-          ∙ sym (append_assoc x (take n (source_at sources slot).left.bytes) (drop n (source_at sources slot).left.bytes))
-          ∙ ap (λ bytes. (x ++ bytes) ++ drop n (source_at sources slot).left.bytes) (sym gave.front)
-          ∙ ap (λ left. (x ++ take n buffer) ++ left.bytes) (sym after);
-      breaks_off = ap (λ left. left.breaks_off) after ∙ read.breaks_off;
-    }
+read_more content x slot sources new old_buffer buffer size n read can gave is = grind (arith, common_steps, changed_source, take-append-drop)
 
 pub read_to_end : (content : Content) (x : List ℕ) (slot : ℕ) (sources : List Source) → HasRead content x slot sources → (source_at sources slot).left.bytes ≡ [] → (source_at sources slot).left.breaks_off ≡ false → (content.breaks_off ≡ false) × (content.bytes ≡ x)
 read_to_end content x slot sources read none sound = (sym read.breaks_off ∙ sound, read.bytes ∙ ap (λ rest. x ++ rest) none ∙ append-nil x)
@@ -66,17 +53,15 @@ pub read_broken : (content : Content) (x : List ℕ) (slot : ℕ) (sources : Lis
 read_broken content x slot sources read broke = (read.bytes ∙ ap (λ rest. x ++ rest) broke.no_more ∙ append-nil x, sym read.breaks_off ∙ broke.breaks_off)
 
 pub of_content : (told : Bool) (there seen : Content) (source : Source) (P : Content → Type 0) → (told ≡ true → P there) → (told ≡ false → P seen) → (seen.breaks_off ≡ true → source.is_broken ≡ true) → OfContent told there (λ content. P content × BreaksOnly told content source)
-of_content true there seen source P told untold broke = (there, λ t. refl, (told refl, λ differs. absurd (false≢true (sym differs))))
-of_content false there seen source P told untold broke = (seen, λ t. absurd (false≢true t), (untold refl, λ _. broke))
+of_content true there seen source P told untold broke = grind (arith, common_steps)
+of_content false there seen source P told untold broke = grind (arith, common_steps)
 
 pub read_failed : (content : Content) (x : List ℕ) (slot : ℕ) (sources new : List Source) (size : ℕ) → HasRead content x slot sources → IsTrue (is_readable sources slot) → new ≡ changed_at slot (fails size) sources → content.bytes ≡ x ++ (source_at new slot).left.bytes
-read_failed content x slot sources new size read can is =
-    read.bytes ∙ ap (λ (source : Source). x ++ source.left.bytes) (sym (changed_source slot (fails size) sources new can is))
+read_failed content x slot sources new size read can is = grind (arith, common_steps, changed_source)
 
 -- the read that told the end took nothing
 pub read_none_more : (content : Content) (x : List ℕ) (slot : ℕ) (sources new : List Source) (size n : ℕ) → HasRead content x slot sources → IsTrue (is_readable sources slot) → n ≡ 0 → new ≡ changed_at slot (gives size n) sources → content.bytes ≡ x ++ (source_at new slot).left.bytes
-read_none_more content x slot sources new size n read can none is =
-    read.bytes ∙ ap (λ (left : Content). x ++ left.bytes) (sym (ap (λ (source : Source). source.left) (changed_source slot (gives size n) sources new can is) ∙ ap (λ k. without k (source_at sources slot).left) none))
+read_none_more content x slot sources new size n read can none is = grind (arith, common_steps, changed_source)
 
 -- no read asked for more
 pub asked_again : (slot size most n : ℕ) (sources new : List Source) → IsTrue (is_readable sources slot) → new ≡ changed_at slot (gives size n) sources → size ≤ most → (source_at sources slot).asked ≤ most → (source_at new slot).asked ≤ most
@@ -89,7 +74,4 @@ pub broken_now : (slot size : ℕ) (sources new : List Source) → IsTrue (is_re
 broken_now slot size sources new can is = ap (λ (source : Source). source.is_broken) (changed_source slot (fails size) sources new can is)
 
 pub fresh_asks : (most : ℕ) (sources : List Source) → IsFresh sources → AsksAtMost most sources
-fresh_asks most sources fresh = subst (AsksAtMost most) (sym fresh.only) nothing_asked where
-  nothing_asked : AsksAtMost most (source_of fresh.standard ∷ [])
-  nothing_asked zero = omega arith
-  nothing_asked (suc place) = omega arith
+fresh_asks most sources fresh = grind (arith, common_steps)

@@ -1,6 +1,6 @@
 -- Lemmas on what an engine takes in without a read.
-use Rattle.std.proofs.Common.{◌≡◌, ℕ, zero, suc, Bool, IsTrue, List, [], ◌∷◌, inl, refl, sym, ◌∙◌, ap}
-use Rattle.std.proofs.lemmas.List.{append-nil}
+use Rattle.std.proofs.lemmas.Grind.{common_steps}
+use Rattle.std.proofs.Common.{◌≡◌, ℕ, zero, suc, Bool, IsTrue, List, [], ◌∷◌, inl, refl, ◌∙◌, ap, arith}
 use Rattle.ports_core.specs.Slot.{Slot, changed_at}
 use Rattle.ports_core.specs.Source.{Source, source_at, is_readable, skips}
 use Rattle.ports_core.specs.Work.{Work}
@@ -11,7 +11,7 @@ use Rattle.ports_core.proofs.SourceLemmas.{readable_within}
 -- an input of which nothing is passed over is as it was
 pub none_passed : (slot : ℕ) (sources : List Source) → sources ≡ changed_at slot (skips 0) sources
 none_passed slot [] = refl
-none_passed zero (source ∷ sources) = ap (λ (taken : List ℕ). record source { taken = taken } ∷ sources) (sym (append-nil source.taken))
+none_passed zero (source ∷ sources) = grind (arith, common_steps)
 none_passed (suc slot) (source ∷ sources) = ap (λ those. source ∷ those) (none_passed slot sources)
 
 -- of an input that can be read a front was passed over

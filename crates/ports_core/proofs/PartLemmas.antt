@@ -1,11 +1,11 @@
 -- Lemmas on what outputs have got.
-use Rattle.std.proofs.Common.{◌≡◌, ℕ, ◌+◌, ◌<◌, ◌≤◌, zero, suc, List, [], ◌∷◌, ◌++◌, length, take, drop, Bool, true, false, IsTrue, ◌⊎◌, inl, inr, refl, sym, ◌∙◌, ap, subst, arith, append_assoc, length-append}
-use Rattle.std.proofs.Math.Seq.{take-length, take-append_seam}
+use Rattle.std.proofs.lemmas.Grind.{common_steps}
+use Rattle.std.proofs.Common.{◌≡◌, ℕ, ◌+◌, ◌<◌, ◌≤◌, zero, suc, List, [], ◌∷◌, ◌++◌, length, take, drop, Bool, true, false, IsTrue, ◌⊎◌, inl, inr, refl, sym, ◌∙◌, ap, subst, arith, append_assoc, rules}
 use Rattle.std.proofs.lemmas.List.{append-nil, take-append-drop, drop_all, length-map}
 use Rattle.std.proofs.lemmas.Bool.{false≢true, and_parts, not-true}
 use Rattle.ports_core.specs.Slot.{Slot, is_open, slot_at, is_writable, with_written, with_broken, told_of}
 use Rattle.ports_core.specs.Write.{BrokeAfter}
-use Rattle.ports_core.specs.Part.{File, Part, nothing, only_out, OutputsAt, IsBeginning, FilesBegin, Begins, IsNext, Marks, IsAt, InOrder, StoppedBetween, file_of, told_file}
+use Rattle.ports_core.specs.Part.{File, Part, nothing, only_out, OutputsAt, IsBeginning, FilesBegin, Begins, IsNext, Marks, IsAt, InOrder, StoppedBetween}
 use Rattle.ports_core.specs.inner.Part.{AllClosed, InTurn, StoppedInTurn}
 use Rattle.ports_core.specs.declared.slot.State.{State}
 use Rattle.ports_core.specs.declared.slot.State.TheVariants as state
@@ -17,7 +17,7 @@ use Rattle.ports_core.proofs.WriteLemmas.{told_of-append, told_of-nil, with_writ
 -- beginnings
 
 pub begins_itself : (bytes : List ℕ) → IsBeginning bytes bytes
-begins_itself bytes = ([], sym (append-nil bytes))
+begins_itself bytes = search rules
 
 pub begins_more : (bytes more : List ℕ) → IsBeginning bytes (bytes ++ more)
 begins_more bytes more = (more, refl)
@@ -26,7 +26,7 @@ pub nothing_begins : (bytes : List ℕ) → IsBeginning [] bytes
 nothing_begins bytes = (bytes, refl)
 
 pub begins_trans : (low middle high : List ℕ) → IsBeginning low middle → IsBeginning middle high → IsBeginning low high
-begins_trans low middle high (rest, is) (more, is_too) = (rest ++ more, is_too ∙ ap (λ bytes. bytes ++ more) is ∙ append_assoc low rest more)
+begins_trans low middle high (rest, is) (more, is_too) = grind (arith, common_steps)
 
 pub take_begins_after : (n : ℕ) (before bytes : List ℕ) → IsBeginning (before ++ take n bytes) (before ++ bytes)
 take_begins_after n before bytes = (drop n bytes, ap (λ rest. before ++ rest) (sym (take-append-drop n bytes)) ∙ sym (append_assoc before (take n bytes) (drop n bytes)))
@@ -57,39 +57,23 @@ part_trans low middle high first second = record { out = begins_trans _ _ _ firs
 -- parts that have bytes on standard output alone
 
 pub out_begins : (low high : List ℕ) → IsBeginning low high → Begins (only_out low) (only_out high)
-out_begins low high begins = record { out = begins; files = tt }
+out_begins low high begins = search rules
 
 -- standard output got more, after what it had
 pub out_more : (told : Bool) (before : List Slot) (part : Part) (old new : List Slot) (more : List ℕ) → OutputsAt told before part old → new ≡ with_written 0 (told_of told more) old → OutputsAt told before (record part { out = part.out ++ more }) new
-out_more told before part old new more at wrote = record {
-  standard = at.standard;
-  since = at.since;
-  slots = wrote ∙ ap (with_written 0 (told_of told more)) at.slots
-      ∙ changed_at-append 0 _ (with_written 0 (told_of told part.out) before) at.since (subst (λ n. 0 < n) (sym (length-changed_at 0 _ before)) at.standard)
-      ∙ ap (λ front. front ++ at.since) (with_written-append 0 (told_of told part.out) (told_of told more) before ∙ ap (λ bytes. with_written 0 bytes before) (sym (told_of-append told part.out more)));
-  files = at.files;
-}
+out_more told before part old new more at wrote = grind (arith, common_steps, changed_at-append, length-changed_at, with_written-append, told_of-append)
 
 -- nothing was written yet
 pub nothing_out : (told : Bool) (before : List Slot) → 0 < length before → OutputsAt told before nothing before
-nothing_out told before standard = record {
-  standard = standard;
-  since = [];
-  slots = sym (append-nil (with_written 0 (told_of told []) before) ∙ ap (λ bytes. with_written 0 bytes before) (told_of-nil told) ∙ with_written-nil 0 before);
-  files = refl;
-}
+nothing_out told before standard = grind (arith, common_steps, append-nil, told_of-nil, with_written-nil)
 
 -- how many slots there are
 pub outputs_count : (told : Bool) (before : List Slot) (part : Part) (now : List Slot) → OutputsAt told before part now → length now ≡ length before + length part.files
-outputs_count told before part now at =
-    let all : length now ≡ length (with_written 0 (told_of told part.out) before) + length at.since = ap length at.slots ∙ length-append (with_written 0 (told_of told part.out) before) at.since in
-    let front : length (with_written 0 (told_of told part.out) before) ≡ length before = length-changed_at 0 _ before in
-    let since : length at.since ≡ length part.files = sym (length-map at.since file_of) ∙ ap length at.files
-    ∙ length-map part.files (told_file told) in omega arith
+outputs_count told before part now at = grind (arith, common_steps, length-changed_at, length-map)
 
 -- no file is touched
 pub still_in_order : (files : List File) → InOrder files files files 0
-still_in_order files = record { done = refl; untouched = refl }
+still_in_order files = grind (arith, common_steps)
 
 -- a write of which the beginning was written before the output broke
 pub out_cut : (told : Bool) (before : List Slot) (part : Part) (old new : List Slot) (more : List ℕ) (n : ℕ) → OutputsAt told before part old → BrokeAfter told old new 0 more n → StoppedBetween told before part (record part { out = part.out ++ more }) (Write 0) new
@@ -109,17 +93,7 @@ out_cut told before part old new more n at broke = record {
 
 -- a fault that came before anything was written, and from no output
 pub stopped_here : (told : Bool) (before : List Slot) (low high : Part) (fault : Fault) (old new : List Slot) → OutputsAt told before low old → Begins low high → Marks (IsNext low high) fault old new → IsAt fault (length before) 0 (length low.files) → StoppedBetween told before low high fault new
-stopped_here told before low high fault old new at begins marks from = record {
-  part = low;
-  above = part_begins_itself low;
-  below = begins;
-  place = 0;
-  order = record { done = refl; untouched = refl };
-  reached = old;
-  outputs = at;
-  marks = marks;
-  from = from;
-}
+stopped_here told before low high fault old new at begins marks from = grind (arith, common_steps, part_begins_itself)
 
 -- an output that could be written broke
 pub broken_at : (place : ℕ) (slots : List Slot) → IsTrue (is_writable slots place) → (slot_at (with_broken place slots) place).is_broken ≡ true
@@ -131,11 +105,11 @@ pub sound_at : (place : ℕ) (slots : List Slot) → IsTrue (is_writable slots p
 sound_at place slots can = not-true _ (and_parts (is_open (slot_at slots place).state) _ can).1
 
 pub nothing_begins_part : (part : Part) → Begins nothing part
-nothing_begins_part part = record { out = nothing_begins part.out; files = tt }
+nothing_begins_part part = grind (arith, common_steps)
 
 -- the mark of a fault, where the next file is known by another sentence
 pub marks_by : (IsName IsOther : List ℕ → Type 0) (fault : Fault) (before after : List Slot) → ((name : List ℕ) → IsName name → IsOther name) → Marks IsName fault before after → Marks IsOther fault before after
-marks_by IsName IsOther (Open slot) before after also is = (is.0, (is.1.0, is.1.1, also is.1.0 is.1.2, is.1.3, is.1.4))
+marks_by IsName IsOther (Open slot) before after also is = grind (arith, common_steps)
 marks_by IsName IsOther fault before after also is = is
 
 -- the files of a part are at their places in what it begins
@@ -154,17 +128,7 @@ next_wider {part} more begins name next =
 
 -- what stopped in turn between two parts stopped between one that begins the lower and one that the higher begins
 pub turn_between : (told : Bool) (before : List Slot) (less low high more : Part) (fault : Fault) (now : List Slot) → Begins less low → StoppedInTurn told before low high fault now → Begins high more → StoppedInTurn told before less more fault now
-turn_between told before less low high more fault now lower stop wider = record {
-  part = stop.part;
-  above = part_trans _ _ _ lower stop.above;
-  below = part_trans _ _ _ stop.below wider;
-  place = stop.place;
-  turn = stop.turn;
-  reached = stop.reached;
-  outputs = stop.outputs;
-  marks = marks_by (IsNext stop.part high) (IsNext stop.part more) fault stop.reached now (next_wider more wider) stop.marks;
-  from = stop.from;
-}
+turn_between told before less low high more fault now lower stop wider = search (rules, part_trans, marks_by, next_wider)
 
 closed_stays : {file : File} (whole : File) → file.state ≡ state.Closed → (file.state ≡ state.Open) ⊎ (file ≡ whole) → file ≡ whole
 closed_stays whole closed (inl is) = cc
@@ -184,31 +148,14 @@ no_fewer (file ∷ low) (whole ∷ part) begins = let fewer : length low ≤ len
 
 -- in turn is in order
 pub in_order : {low part high : List File} {place : ℕ} → FilesBegin low part → FilesBegin part high → InTurn part place → InOrder low part high place
-in_order {low} {part} {high} {place} above below turn = record {
-  done = done_by place part high below turn.closed turn.within;
-  untouched = drop_all (suc place) part turn.last ∙ sym (drop_all (suc place) low (let fewer : length low ≤ length part = no_fewer low part above in let last : length part ≤ suc place = turn.last in omega arith));
-}
+in_order {low} {part} {high} {place} above below turn = grind (arith, common_steps, done_by, drop_all, no_fewer)
 
 pub stopped_in_turn : (told : Bool) (before : List Slot) (low high : Part) (fault : Fault) (now : List Slot) → StoppedInTurn told before low high fault now → StoppedBetween told before low high fault now
-stopped_in_turn told before low high fault now stop = record {
-  part = stop.part;
-  above = stop.above;
-  below = stop.below;
-  place = stop.place;
-  order = in_order stop.above.files stop.below.files stop.turn;
-  reached = stop.reached;
-  outputs = stop.outputs;
-  marks = stop.marks;
-  from = stop.from;
-}
+stopped_in_turn told before low high fault now stop = search (rules, in_order)
 
 -- closed files, and one more
 pub turn_last : (files : List File) (file : File) (place : ℕ) → length files ≡ place → AllClosed files → InTurn (files ++ file ∷ []) place
-turn_last files file place count closed = record {
-  closed = subst (λ n. AllClosed (take n (files ++ file ∷ []))) count (subst AllClosed (sym (take-append_seam files (file ∷ []))) closed);
-  within = let all : length (files ++ file ∷ []) ≡ length files + 1 = length-append files (file ∷ []) in omega arith;
-  last = let all : length (files ++ file ∷ []) ≡ length files + 1 = length-append files (file ∷ []) in omega arith;
-}
+turn_last files file place count closed = grind (arith, common_steps)
 
 pub turn_next : (files : List File) → AllClosed files → InTurn files (length files)
-turn_next files closed = record { closed = subst AllClosed (sym (take-length files)) closed; within = omega arith; last = omega arith }
+turn_next files closed = grind (arith, common_steps)

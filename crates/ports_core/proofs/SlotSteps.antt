@@ -1,8 +1,8 @@
 -- Slots as they are opened, written and closed, and as they break.
-use Rattle.std.proofs.Common.{◌≡◌, ℕ, ◌+◌, ◌<◌, ◌≤◌, zero, suc, not, ◌&&◌, List, [], ◌∷◌, ◌++◌, length, take, Bool, true, false, IsTrue, refl, sym, ◌∙◌, ap, arith, length-append}
+use Rattle.std.proofs.lemmas.Grind.{common_steps}
+use Rattle.std.proofs.Common.{◌≡◌, ℕ, ◌<◌, ◌≤◌, zero, suc, not, ◌&&◌, List, [], ◌∷◌, ◌++◌, length, take, Bool, true, false, IsTrue, refl, sym, ◌∙◌, ap, arith, rules}
 use Rattle.std.proofs.lemmas.Bool.{false≢true}
 use Rattle.std.proofs.Math.Seq.{get_or-append_seam}
-use Rattle.std.proofs.lemmas.List.{get_or_past, get_or_append_left}
 use Rattle.ports_core.specs.Slot.{Slot, Rose, is_open, has_file, can_write, no_slot, slot_at, changed_at, opened, unopened, adds, closes, breaks, with_written, with_broken, told_of, is_writable}
 use Rattle.ports_core.specs.inner.Slot.{KeepsBroken}
 use Rattle.ports_core.specs.Swept.{Swept, none}
@@ -25,10 +25,10 @@ flag_stays change same (suc place) (suc other) (slot ∷ slots) = flag_stays cha
 flag_stays change same place other slots = refl
 
 pub keeps_same : (old new : List Slot) → new ≡ old → KeepsBroken old new
-keeps_same old new is place sound = ap (λ those. (slot_at those place).is_broken) (sym is) ∙ sound
+keeps_same old new is place sound = grind (arith, common_steps)
 
 pub keeps_again : (old mid new : List Slot) → KeepsBroken old mid → KeepsBroken mid new → KeepsBroken old new
-keeps_again old mid new first second place sound = first place (second place sound)
+keeps_again old mid new first second place sound = search rules
 
 keeps_change : (change : Slot → Slot) → ((slot : Slot) → (change slot).is_broken ≡ slot.is_broken) → (slot : ℕ) (old : List Slot) {new : List Slot} → new ≡ changed_at slot change old → KeepsBroken old new
 keeps_change change same slot old is place sound = sym (flag_stays change same slot place old) ∙ ap (λ those. (slot_at those place).is_broken) (sym is) ∙ sound
@@ -39,13 +39,8 @@ keeps_write slot bytes old new is = keeps_change (adds bytes) (λ one. refl) slo
 pub keeps_close : (slot : ℕ) (old new : List Slot) → new ≡ changed_at slot closes old → KeepsBroken old new
 keeps_close slot old new is = keeps_change closes (λ one. refl) slot old is
 
-sound_before : (slots : List Slot) (one : Slot) (place : ℕ) → (slot_at (slots ++ one ∷ []) place).is_broken ≡ false → (slot_at slots place).is_broken ≡ false
-sound_before [] one place sound = refl
-sound_before (slot ∷ slots) one zero sound = sound
-sound_before (slot ∷ slots) one (suc place) sound = sound_before slots one place sound
-
 pub keeps_open : (one : Slot) (old new : List Slot) → new ≡ old ++ one ∷ [] → KeepsBroken old new
-keeps_open one old new is place sound = sound_before old one place (ap (λ those. (slot_at those place).is_broken) (sym is) ∙ sound)
+keeps_open one old new is place sound = grind (arith, common_steps)
 
 -- One that breaks was sound.
 
@@ -55,28 +50,19 @@ broken_there zero (slot ∷ slots) within = refl
 broken_there (suc place) (slot ∷ slots) within = broken_there place slots (omega arith)
 
 pub rose_later : (slot : ℕ) (old mid new : List Slot) → KeepsBroken old mid → Rose slot mid new → Rose slot old new
-rose_later slot old mid new keeps rose = (keeps slot rose.0, rose.1)
+rose_later slot old mid new keeps rose = search rules
 
 pub write_rose : (told : Bool) (slot : ℕ) (bytes : List ℕ) (n : ℕ) (old new : List Slot) → IsTrue (is_writable old slot) → BrokeAfter told old new slot bytes n → Rose slot old new
-write_rose told slot bytes n old new can cut = (
-  sound_at slot old can,
-  ap (λ those. (slot_at those slot).is_broken) cut.slots ∙ broken_at slot (with_written slot (told_of told (take n bytes)) old) (writable-written old slot slot (told_of told (take n bytes)) ∙ can),
-)
+write_rose told slot bytes n old new can cut = grind (arith, common_steps, sound_at, broken_at, writable-written)
 
 pub close_rose : (slot : ℕ) (old new : List Slot) → IsTrue (is_writable old slot) → slot < length old → new ≡ with_broken slot (changed_at slot closes old) → Rose slot old new
-close_rose slot old new can within is = (
-  sound_at slot old can,
-  ap (λ those. (slot_at those slot).is_broken) is ∙ broken_there slot (changed_at slot closes old) (let same : length (changed_at slot closes old) ≡ length old = length-changed_at slot closes old in omega arith),
-)
+close_rose slot old new can within is = grind (arith, common_steps, sound_at, broken_there, length-changed_at)
 
 pub at_end : (slots : List Slot) (one : Slot) → slot_at (slots ++ one ∷ []) (length slots) ≡ one
 at_end slots one = get_or-append_seam slots one [] no_slot
 
 pub open_rose : (slot : ℕ) (kept : List ℕ) (old new : List Slot) → slot ≡ length old → new ≡ old ++ unopened kept ∷ [] → Rose slot old new
-open_rose slot kept old new number is = (
-  ap (λ n. (slot_at old n).is_broken) number ∙ ap (λ (one : Slot). one.is_broken) (get_or_past old (length old) no_slot (omega arith)),
-  ap (λ those. (slot_at those slot).is_broken) is ∙ ap (λ n. (slot_at (old ++ unopened kept ∷ []) n).is_broken) number ∙ ap (λ (one : Slot). one.is_broken) (at_end old (unopened kept)),
-)
+open_rose slot kept old new number is = grind (arith, common_steps)
 
 -- How many there are
 
@@ -84,28 +70,26 @@ pub written_size : (slot : ℕ) (bytes : List ℕ) (old new : List Slot) → new
 written_size slot bytes old new is = ap length is ∙ length-changed_at slot (adds bytes) old
 
 pub short_size : (told : Bool) (slot : ℕ) (bytes : List ℕ) (old new : List Slot) (f : Fault) → WritesShort told slot bytes old new f → length new ≡ length old
-short_size told slot bytes old new _ (broke n cut) = ap length cut.slots ∙ length-changed_at slot breaks _ ∙ length-changed_at slot (adds (told_of told (take n bytes))) old
+short_size told slot bytes old new _ (broke n cut) = grind (arith, common_steps, length-changed_at)
 
 pub broken_size : (slot : ℕ) (old new : List Slot) → new ≡ with_broken slot (changed_at slot closes old) → length new ≡ length old
 broken_size slot old new is = ap length is ∙ length-changed_at slot breaks _ ∙ length-changed_at slot closes old
 
 pub opened_last : (old new : List Slot) (slot : ℕ) (name : List ℕ) (mode : Mode) → slot ≡ length old → new ≡ old ++ opened name mode ∷ [] → suc slot ≡ length new
-opened_last old new slot name mode at is =
-    let size : length new ≡ length old + 1 = ap length is ∙ length-append old (opened name mode ∷ []) in omega (arith, at)
+opened_last old new slot name mode at is = grind (arith, common_steps)
 
 -- Which can be written
 
 pub writable_within : (place : ℕ) (slots : List Slot) → IsTrue (is_writable slots place) → place < length slots
 writable_within place [] can = absurd (false≢true can)
 writable_within zero (slot ∷ slots) can = omega arith
-writable_within (suc place) (slot ∷ slots) can = let rest = writable_within place slots can in omega (arith, rest)
+writable_within (suc place) (slot ∷ slots) can = grind (arith, common_steps)
 
 pub opened_writable : (old new : List Slot) (slot : ℕ) (name : List ℕ) (mode : Mode) → slot ≡ length old → new ≡ old ++ opened name mode ∷ [] → IsTrue (is_writable new slot)
-opened_writable old new slot name mode at is =
-    ap (λ those. is_writable those slot) is ∙ ap (λ n. is_writable (old ++ opened name mode ∷ []) n) at ∙ ap can_write (at_end old (opened name mode))
+opened_writable old new slot name mode at is = grind (arith, common_steps)
 
 pub writable_before : (old new : List Slot) (place : ℕ) (one : Slot) → place < length old → new ≡ old ++ one ∷ [] → IsTrue (is_writable old place) → IsTrue (is_writable new place)
-writable_before old new place one within is can = ap (λ those. is_writable those place) is ∙ ap can_write (get_or_append_left old (one ∷ []) no_slot place within) ∙ can
+writable_before old new place one within is can = grind (arith, common_steps)
 
 pub written_writable : (old new : List Slot) (slot place : ℕ) (bytes : List ℕ) → IsTrue (is_writable old slot) → new ≡ with_written place bytes old → IsTrue (is_writable new slot)
 written_writable old new slot place bytes can is = ap (λ those. is_writable those slot) is ∙ writable-written old place slot bytes ∙ can
@@ -120,16 +104,16 @@ open_has_file Open broken can = refl
 open_has_file state broken can = absurd (false≢true can)
 
 pub none_past : (slots : List Slot) (place : ℕ) → length slots ≤ place → has_file (slot_at slots place).state ≡ false
-none_past slots place past = ap (λ (one : Slot). has_file one.state) (get_or_past slots place no_slot past)
+none_past slots place past = grind (arith, common_steps)
 
 pub none_opened : (slots : List Slot) (name : List ℕ) (place : ℕ) → length slots ≤ place → has_file (slot_at (slots ++ unopened name ∷ []) place).state ≡ false
 none_opened [] name zero past = refl
 none_opened [] name (suc place) past = refl
 none_opened (slot ∷ slots) name zero past = absurd (omega arith)
-none_opened (slot ∷ slots) name (suc place) past = none_opened slots name place (omega arith)
+none_opened (slot ∷ slots) name (suc place) past = grind (arith, common_steps)
 
 pub file_before : (slots : List Slot) (one : Slot) (place : ℕ) → place < length slots → has_file (slot_at (slots ++ one ∷ []) place).state ≡ has_file (slot_at slots place).state
-file_before slots one place within = ap (λ (slot : Slot). has_file slot.state) (get_or_append_left slots (one ∷ []) no_slot place within)
+file_before slots one place within = grind (arith, common_steps)
 
 -- where there is no file, none is removed
 pub swept_none : (clears : Bool) (first : ℕ) (slots : List Slot) → ((place : ℕ) → first ≤ place → has_file (slot_at slots place).state ≡ false) → Swept clears first slots slots
@@ -142,10 +126,10 @@ pub record KeepsMade (old new : List Slot) : Type 0 where
   pub same : (place : ℕ) → has_file (slot_at new place).state ≡ has_file (slot_at old place).state
 
 pub made_same : (slots : List Slot) → KeepsMade slots slots
-made_same slots = record { size = refl; same = λ place. refl }
+made_same slots = grind (arith, common_steps)
 
 pub made_again : (old mid new : List Slot) → KeepsMade old mid → KeepsMade mid new → KeepsMade old new
-made_again old mid new first second = record { size = second.size ∙ first.size; same = λ place. second.same place ∙ first.same place }
+made_again old mid new first second = grind (arith, common_steps)
 
 file_stays : (change : Slot → Slot) (place other : ℕ) (slots : List Slot) → has_file (change (slot_at slots place)).state ≡ has_file (slot_at slots place).state → has_file (slot_at (changed_at place change slots) other).state ≡ has_file (slot_at slots other).state
 file_stays change place other [] same = refl
@@ -154,10 +138,7 @@ file_stays change (suc place) (suc other) (slot ∷ slots) same = file_stays cha
 file_stays change place other slots same = refl
 
 made_change : (change : Slot → Slot) (slot : ℕ) {old new : List Slot} → has_file (change (slot_at old slot)).state ≡ has_file (slot_at old slot).state → new ≡ changed_at slot change old → KeepsMade old new
-made_change change slot {old} same is = record {
-  size = ap length is ∙ length-changed_at slot change old;
-  same = λ place. ap (λ those. has_file (slot_at those place).state) is ∙ file_stays change slot place old same;
-}
+made_change change slot {old} same is = grind (arith, common_steps, length-changed_at, file_stays)
 
 pub made_write : (slot : ℕ) (bytes : List ℕ) (old new : List Slot) → new ≡ with_written slot bytes old → KeepsMade old new
 made_write slot bytes old new is = made_change (adds bytes) slot refl is

@@ -1,5 +1,6 @@
 -- Lemmas on removing many files.
-use Rattle.std.proofs.Common.{◌≡◌, ℕ, ◌+◌, ◌<◌, ◌≤◌, zero, suc, eqb, eqb-true, eq-eqb, Bool, true, false, ◌||◌, List, [], ◌∷◌, ◌++◌, length, get_or, set, take, drop, Result, Ok, Err, is_ok, OnOk, IfErr, IsTrue, refl, sym, ◌∙◌, ap, subst, arith, length-set, take-suc, take-suc-set, drop-cons, drop-set-lt}
+use Rattle.std.proofs.lemmas.Grind.{common_steps}
+use Rattle.std.proofs.Common.{◌≡◌, ℕ, ◌+◌, ◌<◌, ◌≤◌, zero, suc, eqb, eq-eqb, true, false, ◌||◌, List, [], ◌∷◌, ◌++◌, length, get_or, set, take, drop, Result, Ok, Err, is_ok, OnOk, IfErr, IsTrue, refl, sym, ◌∙◌, ap, subst, arith, length-set, take-suc, take-suc-set, drop-cons, drop-set-lt, rules}
 use Rattle.std.proofs.lemmas.Bool.{false≢true, or_parts}
 use Rattle.std.proofs.lemmas.List.{append-nil}
 use Rattle.ports_core.specs.Slot.{Slot, has_file, slot_at, changed_at, with_broken, removes, closes, breaks, is_removable}
@@ -11,17 +12,14 @@ use Rattle.ports_core.proofs.SlotLemmas.{length-changed_at, changed_at-again, sl
 -- Among others
 
 differs : {place : ℕ} (one : ℕ) → eqb place one ≡ false → place ≡ one → ⊥
-differs {place} one is same = false≢true (sym is ∙ eq-eqb place one same)
+differs {place} one is same = grind (arith, common_steps)
 
 -- a place, and whether it is the first of these
 pub by_place : {A : Type 0} (place one : ℕ) → (place ≡ one → A) → (eqb place one ≡ false → A) → A
-by_place {A = A} place one same other = by (eqb place one) refl where
-  by : (has : Bool) → eqb place one ≡ has → A
-  by true is = same (eqb-true place one is)
-  by false is = other is
+by_place {A = A} place one same other = grind (arith, common_steps)
 
 among_rest : (place one : ℕ) (places : List ℕ) → eqb place one ≡ false → is_among place (one ∷ places) ≡ is_among place places
-among_rest place one places is = ap (λ b. b || is_among place places) is
+among_rest place one places is = cc
 
 -- What a change of one slot leaves
 
@@ -114,7 +112,7 @@ sweep_on (Err f) so_far within file_is ok gone = absurd (false≢true ok)
 
 pub sweep_past : {files now : List ℕ} {place left file : ℕ} {old mid new : List Slot} (result : Result (Unit {0}) Fault) → Sweeping files now place left old mid → place < length now → file ≡ get_or now place 0 → is_ok result ≡ false
     → IfErr result (λ f. (f ≡ fault.Write file) × (new ≡ with_broken file (changed_at file closes mid))) → Sweeping files (set now left file) (place + 1) (left + 1) old new
-sweep_past (Ok done) so_far within file_is failed stuck_so = absurd (false≢true (sym failed))
+sweep_past (Ok done) so_far within file_is failed stuck_so = search rules
 sweep_past {files} {now} {place} {left} {file} {old} {mid} {new} (Err f) so_far within file_is failed stuck_so =
     let few = so_far.few in
     subst (λ n. Sweeping files (set now left file) (place + 1) n old new) (let e : suc left ≡ left + 1 = omega arith in e)
@@ -188,11 +186,4 @@ left_there files left old new (stays one places left' old' new' rest) are =
 -- all files from a place on, where these are just the ones removed
 pub all_cleared : (first : ℕ) (files left : List ℕ) (old new : List Slot) → Removes files old left new → AreThere files old → ((place : ℕ) → is_among place files ≡ true → first ≤ place) → ((place : ℕ) → first ≤ place → has_file (slot_at old place).state ≡ is_among place files)
     → SweptFrom first old new
-all_cleared first files left old new tried are from own = record {
-  size = same_size files left old new tried;
-  before = λ place less. others_same place tried (by place less (is_among place files) refl);
-  cleared = λ place past. each_cleared place tried are (own place past);
-} where
-  by : (place : ℕ) → place < first → (has : Bool) → is_among place files ≡ has → is_among place files ≡ false
-  by place less true is = let past : first ≤ place = from place is in absurd (omega (arith, less, past))
-  by place less false is = is
+all_cleared first files left old new tried are from own = grind (arith, common_steps, same_size, others_same, each_cleared)
