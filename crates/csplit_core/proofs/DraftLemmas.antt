@@ -1,5 +1,5 @@
 -- What is written of sections, of which one more was begun or ended.
-use Rattle.std.proofs.Common.{◌≡◌, ℕ, ◌+◌, suc, Bool, true, false, cond, not, ◌&&◌, List, [], ◌∷◌, ◌++◌, length, decimal, sym, ◌∙◌, ap, subst, arith, length-append}
+use Rattle.std.proofs.Common.{◌≡◌, ℕ, ◌+◌, suc, Bool, true, false, cond, not, ◌&&◌, List, [], ◌∷◌, ◌++◌, length, decimal, refl, sym, ◌∙◌, ap, subst, arith, length-append}
 use Rattle.std.proofs.lemmas.List.{append-nil}
 use Rattle.ports_core.specs.Name.{numbered_name}
 use Rattle.ports_core.specs.Part.{File, Part, Begins, IsBeginning}
@@ -8,7 +8,7 @@ use Rattle.ports_core.specs.declared.slot.State.TheVariants as state
 use Rattle.csplit_core.specs.Input.{newline}
 use Rattle.csplit_core.specs.Output.{Style, Contents, makes_file, file_at, files_of, size_line, size_lines, part_by}
 use Rattle.csplit_core.specs.Draft.{Draft, draft_part, last_contents, AreClosed}
-use Rattle.csplit_core.specs.inner.Writer.{ended_part}
+use Rattle.csplit_core.specs.inner.Writer.{with_section}
 use Rattle.csplit_core.specs.laws.SectionLaws.{size_lines-append}
 use Rattle.csplit_core.proofs.WriterLemmas.{file_of, with_last, more_files}
 
@@ -52,6 +52,9 @@ part_none style ended one none = both
     (size_lines-append style ended (one ∷ []) ∙ ap (λ line. size_lines style ended ++ (line ++ [])) (no_size (one.is_closed && not style.quiet) _ none) ∙ append-nil (size_lines style ended))
     (last_file style ended one ∙ ap (λ makes. files_of style 0 ended ++ cond makes (file_at style (length (files_of style 0 ended)) one ∷ []) []) none ∙ append-nil (files_of style 0 ended))
 
+pub parts_none : (style : Style) (ended : List Contents) (one other : Contents) → makes_file style one ≡ false → makes_file style other ≡ false → part_by style (ended ++ one ∷ []) ≡ part_by style (ended ++ other ∷ [])
+parts_none style ended one other none also = part_none style ended one none ∙ sym (part_none style ended other also)
+
 -- a section with one
 
 pub part_made : (style : Style) (ended : List Contents) (one : Contents) → makes_file style one ≡ true → part_by style (ended ++ one ∷ []) ≡ with_last (size_lines style ended ++ size_line style one) (files_of style 0 ended) (file_at style (length (files_of style 0 ended)) one)
@@ -64,9 +67,13 @@ open_part style draft makes = part_made style draft.ended (last_contents false d
     ∙ ap (λ out. with_last out (files_of style 0 draft.ended) (file_of (name_after style draft.ended) draft.bytes state.Open))
     (ap (λ made. size_lines style draft.ended ++ cond (made && (false && not style.quiet)) (decimal (length draft.bytes) ++ newline ∷ []) []) makes ∙ append-nil (size_lines style draft.ended))
 
+-- once it ended, no section is open
+pub ended_part : (style : Style) (draft : Draft) → draft_part style (with_section false draft) ≡ part_by style (draft.ended ++ last_contents true draft ∷ [])
+ended_part style draft = part_none style (draft.ended ++ last_contents true draft ∷ []) (last_contents false (with_section false draft)) refl
+
 pub closed_part : (style : Style) (draft : Draft) (line : List ℕ) → makes_file style (last_contents true draft) ≡ true → size_line style (last_contents true draft) ≡ line
-    → ended_part style draft ≡ with_last (size_lines style draft.ended ++ line) (files_of style 0 draft.ended) (file_of (name_after style draft.ended) draft.bytes state.Closed)
-closed_part style draft line makes is = part_made style draft.ended (last_contents true draft) makes
+    → draft_part style (with_section false draft) ≡ with_last (size_lines style draft.ended ++ line) (files_of style 0 draft.ended) (file_of (name_after style draft.ended) draft.bytes state.Closed)
+closed_part style draft line makes is = ended_part style draft ∙ part_made style draft.ended (last_contents true draft) makes
     ∙ ap (λ those. with_last (size_lines style draft.ended ++ those) (files_of style 0 draft.ended) (file_of (name_after style draft.ended) draft.bytes state.Closed)) is
 
 pub line_of : (style : Style) (draft : Draft) (quiet : Bool) → makes_file style (last_contents true draft) ≡ true → style.quiet ≡ quiet

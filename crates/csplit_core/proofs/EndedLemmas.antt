@@ -1,5 +1,5 @@
 -- What ending the cutter leaves: all lines that waited belong to the last section, which ends; and the fault with which the work ends.
-use Rattle.std.proofs.Common.{◌≡◌, inl, inr, ℕ, suc, ◌+◌, ◌-◌, ◌≤◌, Bool, true, false, Option, Some, None, List, [], ◌∷◌, ◌++◌, length, map, take, refl, sym, ◌∙◌, ap, subst, arith, ◌<◌, nat_lt, drop, get_or}
+use Rattle.std.proofs.Common.{◌≡◌, inl, inr, ℕ, suc, ◌+◌, ◌-◌, ◌≤◌, Bool, true, false, Option, Some, None, List, [], ◌∷◌, ◌++◌, length, map, take, refl, sym, ◌∙◌, ap, subst, arith, ◌<◌, nat_lt, get_or}
 use Rattle.std.proofs.lemmas.Bool.{false≢true}
 use Rattle.std.proofs.lemmas.List.{append-nil, map-append, take_all, drop_all}
 use Rattle.seg_core.specs.Line.{lines_of, line_count, joined, first_lines, after_lines}
@@ -10,7 +10,7 @@ use Rattle.ports_core.specs.Slot.{Slot}
 use Rattle.ports_core.specs.declared.fault.Fault.{Fault}
 use Rattle.csplit_core.specs.Csplit.{whole_of, verdict_of}
 use Rattle.csplit_core.specs.Draft.{Draft, draft_part}
-use Rattle.csplit_core.specs.inner.Writer.{ended_part, with_bytes, Ends, Goes, Reaches}
+use Rattle.csplit_core.specs.inner.Writer.{with_bytes, with_section, Goes, Reaches}
 use Rattle.csplit_core.specs.Input.{newline, all_lines}
 use Rattle.csplit_core.specs.Operand.{Operand, Line}
 use Rattle.csplit_core.specs.Output.{Style, contents_of, part_by}
@@ -28,7 +28,8 @@ use Rattle.csplit_core.specs.inner.Cutter.{settled_part, whole_part, IsJudged, E
 use Rattle.csplit_core.proofs.LineLemmas.{count_from, from_further}
 use Rattle.csplit_core.proofs.CutterLemmas.{settled_part_is, draft_is, draft_to, runs_to, live_part}
 use Rattle.csplit_core.proofs.HoldLemmas.{goes_as}
-use Rattle.csplit_core.proofs.WriterLemmas.{bytes_begin, end_begins, in_any, leaves_again, reaches_again, reaches_as, stops_wider}
+use Rattle.csplit_core.proofs.WriterLemmas.{bytes_begin, section_begins, in_any, leaves_again, reaches_again, reaches_as, stops_wider}
+use Rattle.csplit_core.proofs.DraftLemmas.{ended_part}
 use Rattle.csplit_core.proofs.WholeLemmas.{ends_after_all}
 use Rattle.std.proofs.lemmas.Bool.Decides.{nat_tests}
 use Rattle.csplit_core.specs.declared.progress.Turn.{Turn}
@@ -36,10 +37,11 @@ use Rattle.csplit_core.proofs.TurnLemmas.{left_is}
 
 -- What ending the cutter leaves: all lines that waited belong to the last section, which ends.
 
-whole_part_is : (style : Style) (operands : List Operand) (lines : List Line) → ended_part style (draft_to whole_end style.suppress operands lines) ≡ whole_of style operands lines
+whole_part_is : (style : Style) (operands : List Operand) (lines : List Line) → draft_part style (with_section false (draft_to whole_end style.suppress operands lines)) ≡ whole_of style operands lines
 whole_part_is style operands lines =
     let p = plan style.suppress operands lines in
-    ap (part_by style) (sym (map-append contents_of (map (section_of lines) p.steps) (section (is_last_kept p.ending) true (lines_between p.last.current (whole_end (length lines) p.ending) lines) ∷ [])))
+    ended_part style (draft_to whole_end style.suppress operands lines)
+    ∙ ap (part_by style) (sym (map-append contents_of (map (section_of lines) p.steps) (section (is_last_kept p.ending) true (lines_between p.last.current (whole_end (length lines) p.ending) lines) ∷ [])))
 
 -- The last section has all lines that are left, and none where the cut is below the current line.
 
@@ -65,14 +67,14 @@ record LastDraft (cutter : CutterState) (x : List ℕ) : Type 0 where
   draft : Draft
   writes : Writes cutter.writer draft
   settled : draft_part cutter.writer.style draft ≡ settled_part cutter x
-  whole : ended_part cutter.writer.style (with_bytes cutter.window.held draft) ≡ whole_part cutter x
+  whole : draft_part cutter.writer.style (with_section false (with_bytes cutter.window.held draft)) ≡ whole_part cutter x
 
 live_draft : {cutter : CutterState} {x : List ℕ} → IsFit cutter → IsLive cutter x → LastDraft cutter x
 live_draft {cutter} {x} fit live = record {
   draft = draft_by (all_lines x) live.at.steps (kept_by (state_in cutter).operands) live.at.written;
   writes = live.at.writes;
   settled = live_part live;
-  whole = ap (ended_part cutter.writer.style) (draft_is whole_end cutter.operands x _ (runs_to live.at live.ends) refl
+  whole = ap (λ draft. draft_part cutter.writer.style (with_section false draft)) (draft_is whole_end cutter.operands x _ (runs_to live.at live.ends) refl
       (all_written x cutter.progress.current live.at.taken live.ends.ending fit.fits.some live.live live.at.written_is live.at.left_is))
       ∙ whole_part_is cutter.writer.style cutter.operands (all_lines x);
 }
@@ -91,7 +93,7 @@ past_draft {cutter} {x} past = record {
   draft = settled_draft (suppress_in cutter) cutter.operands (all_lines x);
   writes = past.writes;
   settled = settled_part_is cutter.writer.style cutter.operands (all_lines x);
-  whole = ap (ended_part cutter.writer.style) (past_whole past) ∙ whole_part_is cutter.writer.style cutter.operands (all_lines x);
+  whole = ap (λ draft. draft_part cutter.writer.style (with_section false draft)) (past_whole past) ∙ whole_part_is cutter.writer.style cutter.operands (all_lines x);
 }
 
 last_draft : {cutter : CutterState} {x : List ℕ} → IsFit cutter → Stands cutter x → LastDraft cutter x
@@ -122,33 +124,31 @@ judged_later {cutter} {x} same stands =
       aims = subst (λ (style : Style). AimsAt cutter.aim (plan style.suppress cutter.operands (all_lines x)).ending) (sym same) judged.aims;
     }
 
--- What `end` does, of a cutter that is known by its fields: the lines that wait are written, and then the section ends.
+-- What `end` does: the lines that wait are written, and then the section ends.
 
 all_held : (cutter : CutterState) {n : ℕ} → n ≡ length cutter.window.held → take n cutter.window.held ≡ cutter.window.held
 all_held cutter {n} all = take_all n cutter.window.held (omega (arith, all))
 
-pub end_goes : {told : Bool} {cutter now : CutterState} {between next : WriterState} (window : Window) {n : ℕ} {old mid new : List Slot} {fault : Option Fault} → cutter ≡ now → IsFit now → n ≡ length cutter.window.held
-    → Goes told cutter.writer (with_bytes (take n cutter.window.held)) old mid between None → Ends told between mid new next fault → EndsAll told now old new (record cutter { writer = next; window = window }) fault
-end_goes {told} {cutter} {between = between} {next} window {old = old} {mid} {new} {fault} is fit all goes ends =
-    let went = goes_as (all_held cutter all) goes in
-    subst (λ (those : CutterState). EndsAll told those old new (record cutter { writer = next; window = window }) fault) is (record {
+pub end_goes : {told : Bool} {cutter : CutterState} {between next : WriterState} (window : Window) {n : ℕ} {old mid new : List Slot} {fault : Option Fault} → IsFit cutter → n ≡ length cutter.window.held
+    → Goes told cutter.writer (with_bytes (take n cutter.window.held)) old mid between None → Goes told between (with_section false) mid new next fault → EndsAll told cutter old new (record cutter { writer = next; window = window }) fault
+end_goes {told} {cutter} {between = between} {next} window {mid = mid} {new} {fault} fit all goes ends =
+    let went = goes_as (all_held cutter all) goes in record {
       keeps = record { operands = refl; writer = leaves_again went.leaves ends.leaves };
-      reaches = λ x stands. let last = last_draft (subst IsFit (sym is) fit) stands in let all = with_bytes cutter.window.held last.draft in
+      reaches = λ x stands. let last = last_draft fit stands in let all = with_bytes cutter.window.held last.draft in
           reaches_as (sym last.settled) (sym last.whole) (reaches_again (bytes_begin cutter.writer.style cutter.window.held last.draft) (went.reaches last.draft last.writes)
-          (subst (λ (style : Style). Reaches told between next (draft_part style all) (ended_part style all) mid new fault) went.leaves.style (ends.reaches all (went.writes last.draft last.writes))));
+          (subst (λ (style : Style). Reaches told between next (draft_part style all) (draft_part style (with_section false all)) mid new fault) went.leaves.style (ends.reaches all (went.writes last.draft last.writes))));
       judged = in_any fault (λ x stands. judged_later (ends.leaves.style ∙ went.leaves.style) stands);
-    })
+    }
 
-pub end_short : {told : Bool} {cutter now : CutterState} {next : WriterState} {window : Window} {n : ℕ} {old new : List Slot} {fault : Fault} → cutter ≡ now → IsFit now → n ≡ length cutter.window.held
-    → Goes told cutter.writer (with_bytes (take n cutter.window.held)) old new next (Some fault) → EndsAll told now old new (record cutter { writer = next; window = window }) (Some fault)
-end_short {told} {cutter} {next = next} {window} {old = old} {new} {fault} is fit all goes =
-    let stopped = goes_as (all_held cutter all) goes in
-    subst (λ (those : CutterState). EndsAll told those old new (record cutter { writer = next; window = window }) (Some fault)) is (record {
+pub end_short : {told : Bool} {cutter : CutterState} {next : WriterState} {window : Window} {n : ℕ} {old new : List Slot} {fault : Fault} → IsFit cutter → n ≡ length cutter.window.held
+    → Goes told cutter.writer (with_bytes (take n cutter.window.held)) old new next (Some fault) → EndsAll told cutter old new (record cutter { writer = next; window = window }) (Some fault)
+end_short {cutter = cutter} fit all goes =
+    let stopped = goes_as (all_held cutter all) goes in record {
       keeps = record { operands = refl; writer = stopped.leaves };
-      reaches = λ x stands. let last = last_draft (subst IsFit (sym is) fit) stands in
-          reaches_as (sym last.settled) (sym last.whole) (stops_wider (stopped.reaches last.draft last.writes) (end_begins cutter.writer.style (with_bytes cutter.window.held last.draft)));
+      reaches = λ x stands. let last = last_draft fit stands in
+          reaches_as (sym last.settled) (sym last.whole) (stops_wider (stopped.reaches last.draft last.writes) (section_begins cutter.writer.style false (with_bytes cutter.window.held last.draft)));
       judged = tt;
-    })
+    }
 
 -- The fault with which the work ends, from where the cutter stands.
 
@@ -187,24 +187,15 @@ verdict_is suppress lines state (Above matched line) (above other repetition mat
 verdict_is suppress lines state Below (below other repetition) (rest, matched, cut, is, at, within, low, often) are aims = next_one (λ o n. verdict_of (below o n)) state is often are
 verdict_is suppress lines state aim ending ends are aims = absurd aims
 
--- What `verdict` returns: the cutter is known by its fields.
+-- What `verdict` returns
 
-pub judged_none : {cutter now : CutterState} {result : Option Fault} {x : List ℕ} → cutter ≡ now → false ≡ nat_lt cutter.progress.done (length cutter.operands) → result ≡ None → IsJudged now x
-    → result ≡ verdict_of (plan (suppress_in now) now.operands (all_lines x)).ending
-judged_none {cutter} {now} {x} is over none judged =
+pub judged_none : {cutter : CutterState} {result : Option Fault} {x : List ℕ} → false ≡ nat_lt cutter.progress.done (length cutter.operands) → result ≡ None → IsJudged cutter x → result ≡ verdict_of (ending_in cutter x)
+judged_none {cutter} {x = x} over none judged =
     let beyond : length cutter.operands ≤ cutter.progress.done = grind (arith, nat_tests, over) in
-    let left : (state_in now).operands ≡ [] = subst (λ (those : CutterState). (state_in those).operands ≡ []) is (drop_all cutter.progress.done cutter.operands beyond) in
-    none ∙ none_of (suppress_in now) (all_lines x) (state_in now) (ending_in now x) (of_it judged) left
+    none ∙ none_of (suppress_in cutter) (all_lines x) (state_in cutter) (ending_in cutter x) (of_it judged) (drop_all cutter.progress.done cutter.operands beyond)
 
 -- the operand that was looked up is the next
-next_is : {cutter now : CutterState} {operand : Operand} → cutter ≡ now → cutter.progress.done < length cutter.operands → operand ≡ get_or cutter.operands cutter.progress.done operand
-    → (state_in now).operands ≡ operand ∷ drop (now.progress.done + 1) now.operands
-next_is {cutter} {operand} is within here =
-    subst (λ (those : CutterState). (state_in those).operands ≡ operand ∷ drop (those.progress.done + 1) those.operands) is (left_is cutter.operands cutter.progress.done within here)
-
-pub judged_next : {cutter now : CutterState} {operand : Operand} {aim : Turn} {result : Option Fault} {x : List ℕ} → cutter ≡ now → cutter.progress.done < length cutter.operands → operand ≡ get_or cutter.operands cutter.progress.done operand
-    → cutter.aim ≡ aim → result ≡ verdict_at aim operand cutter.progress.repetition → IsJudged now x → result ≡ verdict_of (plan (suppress_in now) now.operands (all_lines x)).ending
-judged_next {now} {operand} {aim} {x} is within here aimed made judged =
-    let aims : AimsAt aim (ending_in now x) = subst (λ a. AimsAt a (ending_in now x)) (sym (ap (λ (those : CutterState). those.aim) is) ∙ aimed) judged.aims in
-    made ∙ ap (λ (those : CutterState). verdict_at aim operand those.progress.repetition) is
-    ∙ verdict_is (suppress_in now) (all_lines x) (state_in now) aim (ending_in now x) (of_it judged) (next_is is within here) aims
+pub judged_next : {cutter : CutterState} {operand : Operand} {aim : Turn} {result : Option Fault} {x : List ℕ} → cutter.progress.done < length cutter.operands → operand ≡ get_or cutter.operands cutter.progress.done operand
+    → cutter.aim ≡ aim → result ≡ verdict_at aim operand cutter.progress.repetition → IsJudged cutter x → result ≡ verdict_of (ending_in cutter x)
+judged_next {cutter} {aim = aim} {x = x} within here aimed made judged =
+    made ∙ verdict_is (suppress_in cutter) (all_lines x) (state_in cutter) aim (ending_in cutter x) (of_it judged) (left_is cutter.operands cutter.progress.done within here) (subst (λ a. AimsAt a (ending_in cutter x)) aimed judged.aims)

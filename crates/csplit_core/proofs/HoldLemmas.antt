@@ -17,8 +17,9 @@ use Rattle.ports_core.proofs.PartLemmas.{part_begins_itself, turn_last, turn_nex
 use Rattle.csplit_core.specs.Output.{Style, makes_file, files_of}
 use Rattle.csplit_core.specs.Draft.{Draft, draft_part, last_contents, AreClosed}
 use Rattle.csplit_core.specs.inner.Writer.{with_bytes, Goes, Reaches, fault_in}
-use Rattle.csplit_core.specs.Writer.{WriterState, Writes, IsReady, size_of}
-use Rattle.csplit_core.proofs.WriterLemmas.{bytes_begin, leaves_again, leaves_lacking, leaves_still, reaches_again, reaches_as, reaches_still, stops_wider, where_well, well_in, where_three}
+use Rattle.csplit_core.specs.Writer.{WriterState, Writes, IsCurrent, IsReady, size_of}
+use Rattle.csplit_core.proofs.WriterCalls.{goes_again, goes_still, goes_wider}
+use Rattle.csplit_core.proofs.WriterLemmas.{bytes_begin, leaves_again, leaves_lacking, leaves_still, reaches_again, reaches_as, reaches_still, where_three}
 use Rattle.csplit_core.proofs.DraftLemmas.{open_part, part_none, closed_files}
 use Rattle.std.specs.Prelude.{IfNone}
 use Rattle.csplit_core.specs.Input.{newline, all_lines}
@@ -75,30 +76,16 @@ none_more : {draft : Draft} → draft ≡ with_bytes [] draft
 none_more {draft} = ap (λ bytes. record draft { bytes = bytes }) (sym (append-nil draft.bytes))
 
 goes_none : {told : Bool} {writer : WriterState} {slots : List Slot} → IsReady writer slots → Goes told writer (with_bytes []) slots slots writer None
-goes_none {writer = writer} ready = record {
-  leaves = leaves_still ready;
-  reaches = λ draft writes. reaches_still (ap (draft_part writer.style) (none_more {draft = draft}));
-  writes = λ draft writes. subst (Writes writer) (none_more {draft = draft}) writes;
-}
+goes_none {writer = writer} ready = goes_still writer.current ready ready.current (λ last. last)
+    (λ draft writes. (ap (draft_part writer.style) (none_more {draft = draft}), writes.closed, subst (λ bytes. IsCurrent writer.style draft.is_kept bytes writer.current) (sym (append-nil draft.bytes)) writes.current))
 
 goes_more : {told : Bool} {one two three : WriterState} (a b : List ℕ) {old mid new : List Slot} {fault : Option Fault} → Goes told one (with_bytes a) old mid two None → Goes told two (with_bytes b) mid new three fault → Goes told one (with_bytes (a ++ b)) old new three fault
-goes_more {one = one} {three = three} a b {fault = fault} first second = record {
-  leaves = leaves_again first.leaves second.leaves;
-  reaches = λ draft writes. reaches_again (bytes_begin one.style a draft) (first.reaches draft writes)
-      (reaches_as (ap (λ (s : Style). draft_part s (with_bytes a draft)) (sym first.leaves.style))
-      (ap (draft_part one.style) (sym (again draft a b)) ∙ ap (λ (s : Style). draft_part s (with_bytes b (with_bytes a draft))) (sym first.leaves.style))
-      (second.reaches (with_bytes a draft) (first.writes draft writes)));
-  writes = where_well fault second.writes (λ wrote draft writes. subst (Writes three) (again draft a b) (wrote (with_bytes a draft) (first.writes draft writes)));
-}
+goes_more {one = one} a b first second = goes_again (with_bytes (a ++ b)) (λ draft. again draft a b) (bytes_begin one.style a) first second
 
--- it stopped among more bytes
-stops_among : {told : Bool} {writer next : WriterState} (a b : List ℕ) {old new : List Slot} {fault : Fault} → Goes told writer (with_bytes a) old new next (Some fault) → Goes told writer (with_bytes (a ++ b)) old new next (Some fault)
-stops_among {writer = writer} a b stopped = record {
-  leaves = stopped.leaves;
-  reaches = λ draft writes. stops_wider (stopped.reaches draft writes)
-      (subst (λ those. Begins (draft_part writer.style (with_bytes a draft)) (draft_part writer.style those)) (again draft a b) (bytes_begin writer.style b (with_bytes a draft)));
-  writes = tt;
-}
+-- it was stopped among them
+pub stops_among : {told : Bool} {writer next : WriterState} (a b : List ℕ) {old new : List Slot} {fault : Fault} → Goes told writer (with_bytes a) old new next (Some fault) → Goes told writer (with_bytes (a ++ b)) old new next (Some fault)
+stops_among {writer = writer} a b stopped = goes_wider (with_bytes (a ++ b))
+    (λ draft. subst (λ those. Begins (draft_part writer.style (with_bytes a draft)) (draft_part writer.style those)) (again draft a b) (bytes_begin writer.style b (with_bytes a draft))) stopped
 
 pub goes_as : {told : Bool} {writer next : WriterState} {a b : List ℕ} {old new : List Slot} {fault : Option Fault} → a ≡ b → Goes told writer (with_bytes a) old new next fault → Goes told writer (with_bytes b) old new next fault
 goes_as {told} {writer} {next} {old = old} {new} {fault} is goes = subst (λ bytes. Goes told writer (with_bytes bytes) old new next fault) is goes
@@ -275,7 +262,7 @@ held_live {cutter} {writer} {x} {left} {bytes} {held} {at} arrives fit live same
   settled = taken_is arrives fit live;
 }
 
-hold_goes : {told : Bool} {cutter : CutterState} {writer : WriterState} {window : Window} {left : List ℕ} {old new : List Slot} {fault : Option Fault} → IsFit cutter → (cutter.aim ≡ Below → ⊥)
+pub hold_goes : {told : Bool} {cutter : CutterState} {writer : WriterState} {window : Window} {left : List ℕ} {old new : List Slot} {fault : Option Fault} → IsFit cutter → (cutter.aim ≡ Below → ⊥)
     → Goes told cutter.writer (with_bytes (but_last_lines cutter.window.delim cutter.window.most left)) old new writer fault
     → IfNone fault (window ≡ record { most = cutter.window.most; delim = cutter.window.delim; held = last_lines cutter.window.delim cutter.window.most left })
     → IfNone fault (size_of writer.current + length window.held ≤ size_of cutter.writer.current + length left) → Holds told cutter left old new (record cutter { writer = writer; window = window }) fault
@@ -304,7 +291,7 @@ past_draft {cutter} {x} {at} arrives past =
     draft_is settled_end cutter.operands x at.taken (runs_to at arrives.ends)
     (arrives.low past ∙ final_count (line_count newline x) cutter.progress.current arrives.ends.ending past) at.written_is
 
-hold_past : {told : Bool} {cutter : CutterState} {window : Window} {left : List ℕ} {slots : List Slot} {n : ℕ} → cutter.aim ≡ Below → IsReady cutter.writer slots → n ≡ length cutter.window.held → length cutter.window.held ≤ length left
+pub hold_past : {told : Bool} {cutter : CutterState} {window : Window} {left : List ℕ} {slots : List Slot} {n : ℕ} → cutter.aim ≡ Below → IsReady cutter.writer slots → n ≡ length cutter.window.held → length cutter.window.held ≤ length left
     → window ≡ without_first cutter.window n → Holds told cutter left slots slots (record cutter { window = window }) None
 hold_past {cutter = cutter} {window} {left} {slots} {n} aim ready all less dropped = record {
   keeps = record { operands = refl; writer = leaves_still ready };
@@ -327,22 +314,3 @@ hold_past {cutter = cutter} {window} {left} {slots} {n} aim ready all less dropp
 
   past : (x : List ℕ) (at : IsAt cutter x left) (arrives : Arrives cutter x left at) → is_final arrives.ends.ending ≡ true
   past x at arrives = aims_past arrives.ends.ending (subst (λ a. AimsAt a arrives.ends.ending) aim arrives.ends.aims)
-
--- The same of a cutter that is known by its fields.
-
-pub hold_goes_at : {told : Bool} {cutter now : CutterState} {writer : WriterState} {window : Window} (text : List ℕ) {old new : List Slot} (result : Result (Unit {0}) Fault) → cutter ≡ now → IsFit now → (now.aim ≡ Below → ⊥)
-    → Goes told cutter.writer (with_bytes (but_last_lines cutter.window.delim cutter.window.most (cutter.window.held ++ text))) old new writer (fault_in result)
-    → OnOk result (window ≡ record { most = cutter.window.most; delim = cutter.window.delim; held = last_lines cutter.window.delim cutter.window.most (cutter.window.held ++ text) })
-    → OnOk result (size_of writer.current + length window.held ≤ size_of cutter.writer.current + length cutter.window.held + length text)
-    → Holds told now (now.window.held ++ text) old new (record cutter { writer = writer; window = window }) (fault_in result)
-hold_goes_at {told} {cutter} {writer = writer} {window} text {old} {new} result is fit differs goes kept size =
-    subst (λ (those : CutterState). Holds told those (those.window.held ++ text) old new (record cutter { writer = writer; window = window }) (fault_in result)) is
-    (hold_goes (subst IsFit (sym is) fit) (λ below. differs (sym (ap (λ (those : CutterState). those.aim) is) ∙ below)) goes (well_in _ result kept)
-    (where_well (fault_in result) (well_in _ result size) (λ fewer. let e : length (cutter.window.held ++ text) ≡ length cutter.window.held + length text = length-append cutter.window.held text in omega (arith, e, fewer))))
-
-pub hold_past_at : {told : Bool} {cutter now : CutterState} {window : Window} (text : List ℕ) {slots : List Slot} {n : ℕ} → cutter ≡ now → now.aim ≡ Below → IsReady now.writer slots → n ≡ length cutter.window.held
-    → window ≡ without_first cutter.window n → Holds told now (now.window.held ++ text) slots slots (record cutter { window = window }) None
-hold_past_at {told} {cutter} {window = window} text {slots} is aim ready all dropped =
-    subst (λ (those : CutterState). Holds told those (those.window.held ++ text) slots slots (record cutter { window = window }) None) is
-    (hold_past (ap (λ (those : CutterState). those.aim) is ∙ aim) (subst (λ (those : CutterState). IsReady those.writer slots) (sym is) ready) all
-    (let e : length (cutter.window.held ++ text) ≡ length cutter.window.held + length text = length-append cutter.window.held text in omega (arith, e)) dropped)

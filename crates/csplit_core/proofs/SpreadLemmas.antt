@@ -65,12 +65,12 @@ cuts_again cut {x} line after tries will =
 end_again : (left rest waiting : List ℕ) → IsEnd left waiting → IsEnd rest left → IsEnd rest waiting
 end_again left rest waiting (front, is) (more, rest_is) = (front ++ more, is ∙ ap (λ those. front ++ those) rest_is ∙ sym (append_assoc front more rest))
 
-pub spread_more : {told : Bool} {cutter now mid next : CutterState} {cut cut' : Cut} {place at : ℕ} {waiting line left rest : List ℕ} {old between new : List Slot} → at ≡ mid.progress.current → Spreading told cutter cut place waiting line old between now left
-    → mid ≡ record now { aim = mid.aim } → Tries now line mid (Some cut') → WillCut now cut' → CutAt told mid cut' at left between new next rest → Spreading told cutter cut place waiting line old new next rest
+pub spread_more : {told : Bool} {cutter now mid next : CutterState} {cut cut' : Cut} {place : ℕ} {waiting line left rest : List ℕ} {old between new : List Slot} → Spreading told cutter cut place waiting line old between now left
+    → mid ≡ record now { aim = mid.aim } → Tries now line mid (Some cut') → WillCut now cut' → CutAt told mid cut' mid.progress.current left between new next rest → Spreading told cutter cut place waiting line old new next rest
 unfolding at_alike
-spread_more {told} {cutter} {now} {mid} {next} {cut} {cut'} {waiting = waiting} {line} {left} {rest} {between = between} {new} at_is so_far is tries will at_cut =
+spread_more {told} {cutter} {now} {mid} {next} {cut} {cut'} {waiting = waiting} {line} {left} {rest} {between = between} {new} so_far is tries will at_cut =
     let tried = subst (λ (m : CutterState). Tries now line m (Some cut')) is tries in
-    let once = (subst (λ (m : CutterState). CutAt told m cut' m.progress.current left between new next rest) is (subst (λ n. CutAt told mid cut' n left between new next rest) at_is at_cut)).spreading line in record {
+    let once = (subst (λ (m : CutterState). CutAt told m cut' m.progress.current left between new next rest) is at_cut).spreading line in record {
       keeps = keeps_on so_far.keeps (record { operands = once.keeps.operands; writer = once.keeps.writer });
       lines = once.lines ∙ so_far.lines;
       fit = once.fit;
@@ -89,12 +89,12 @@ spread_more {told} {cutter} {now} {mid} {next} {cut} {cut'} {waiting = waiting} 
       end = end_again left rest waiting so_far.end once.end;
     }
 
-pub spread_stopped : {told : Bool} {cutter now mid next : CutterState} {cut cut' : Cut} {place at : ℕ} {waiting line left : List ℕ} {old between new : List Slot} {fault : Fault} → at ≡ mid.progress.current → Spreading told cutter cut place waiting line old between now left
-    → mid ≡ record now { aim = mid.aim } → Tries now line mid (Some cut') → WillCut now cut' → CutsAll told mid cut' at left line [] between new next (Some fault) → CutsAll told cutter cut place waiting line [] old new next (Some fault)
+pub spread_stopped : {told : Bool} {cutter now mid next : CutterState} {cut cut' : Cut} {place : ℕ} {waiting line left : List ℕ} {old between new : List Slot} {fault : Fault} → Spreading told cutter cut place waiting line old between now left
+    → mid ≡ record now { aim = mid.aim } → Tries now line mid (Some cut') → WillCut now cut' → CutsAll told mid cut' mid.progress.current left line [] between new next (Some fault) → CutsAll told cutter cut place waiting line [] old new next (Some fault)
 unfolding at_alike
-spread_stopped {told} {now = now} {mid} {next} {cut' = cut'} {line = line} {left} {between = between} {new} {fault} at_is so_far is tries will stops =
+spread_stopped {told} {now = now} {mid} {next} {cut' = cut'} {line = line} {left} {between = between} {new} {fault} so_far is tries will stops =
     let tried = subst (λ (m : CutterState). Tries now line m (Some cut')) is tries in
-    let stopped = subst (λ (m : CutterState). CutsAll told m cut' m.progress.current left line [] between new next (Some fault)) is (subst (λ n. CutsAll told mid cut' n left line [] between new next (Some fault)) at_is stops) in record {
+    let stopped = subst (λ (m : CutterState). CutsAll told m cut' m.progress.current left line [] between new next (Some fault)) is stops in record {
       keeps = keeps_on so_far.keeps (record { operands = stopped.keeps.operands; writer = stopped.keeps.writer });
       reaches = λ x at here. let after = so_far.after x at here in reaches_again after.grows after.reaches
           (reaches_as refl (sym (settled_same (x ++ []) so_far.keeps)) (stopped.reaches x (at_alike now mid.aim now.window x left after.now) (cuts_again cut' line after tried will)));
@@ -152,12 +152,6 @@ alone P cutter line none holds =
     subst (λ those. P (cutter.lines - delimiters newline those) (those ++ line)) (sym none)
     (subst (λ n. P n line) (let e : cutter.lines ≡ cutter.lines - 0 = omega arith in e) holds)
 
-pub cut_alone : {told : Bool} {cutter start place_of next : CutterState} {cut : Cut} {line : List ℕ} {old new : List Slot} {fault : Option Fault} → start ≡ cutter → place_of ≡ cutter → start.window.held ≡ []
-    → CutsAll told cutter cut place_of.lines line line [] old new next fault → CutsAll told cutter cut (cutter.lines - delimiters newline cutter.window.held) (cutter.window.held ++ line) line [] old new next fault
-cut_alone {told} {cutter} {next = next} {cut} {line} {old} {new} {fault} same same_place none cuts =
-    alone (λ place those. CutsAll told cutter cut place those line [] old new next fault) cutter line (sym (ap (λ (c : CutterState). c.window.held) same) ∙ none)
-    (subst (λ (c : CutterState). CutsAll told cutter cut c.lines line line [] old new next fault) same_place cuts)
-
 -- and where some do
 
 cuts_alike : {cutter : CutterState} (window : Window) {x left : List ℕ} (line : List ℕ) (cut : Cut) {place : ℕ} {at : IsAt cutter x left} → CutsNow cutter x left line cut place at → CutsNow (alike cutter cutter.aim window) x left line cut place (at_alike cutter cutter.aim window x left at)
@@ -173,12 +167,11 @@ all_alike cutter window {cut} {left = left} {line} {fault = fault} all = record 
   went = where_well fault all.went (λ went. record { lines = went.lines; sound = went.sound; stands = λ x at now. went.stands x (at_alike cutter cutter.aim window x left at) (cuts_alike window line cut now); size = went.size });
 }
 
-pub cut_drained : {told : Bool} {cutter start next : CutterState} {window : Window} {cut : Cut} {place : ℕ} {waiting line : List ℕ} {old new : List Slot} {fault : Option Fault} → start ≡ cutter → waiting ≡ start.window.held ++ line → place ≡ start.lines - delimiters newline start.window.held
-    → CutsAll told (record start { window = window }) cut place waiting line [] old new next fault → CutsAll told cutter cut (cutter.lines - delimiters newline cutter.window.held) (cutter.window.held ++ line) line [] old new next fault
-cut_drained {told} {start = start} {next} {window} {cut} {waiting = waiting} {line} {old} {new} {fault} same waiting_is place_is cuts =
-    subst (λ (c : CutterState). CutsAll told c cut (c.lines - delimiters newline c.window.held) (c.window.held ++ line) line [] old new next fault) same
-    (all_alike start window (subst (λ those. CutsAll told (record start { window = window }) cut (start.lines - delimiters newline start.window.held) those line [] old new next fault) waiting_is
-    (subst (λ n. CutsAll told (record start { window = window }) cut n waiting line [] old new next fault) place_is cuts)))
+pub cut_drained : {told : Bool} {cutter next : CutterState} {window : Window} {cut : Cut} {place : ℕ} {waiting line : List ℕ} {old new : List Slot} {fault : Option Fault} → waiting ≡ cutter.window.held ++ line → place ≡ cutter.lines - delimiters newline cutter.window.held
+    → CutsAll told (record cutter { window = window }) cut place waiting line [] old new next fault → CutsAll told cutter cut (cutter.lines - delimiters newline cutter.window.held) (cutter.window.held ++ line) line [] old new next fault
+cut_drained {told} {cutter} {next} {window} {cut} {waiting = waiting} {line} {old} {new} {fault} waiting_is place_is cuts =
+    all_alike cutter window (subst (λ those. CutsAll told (record cutter { window = window }) cut (cutter.lines - delimiters newline cutter.window.held) those line [] old new next fault) waiting_is
+    (subst (λ n. CutsAll told (record cutter { window = window }) cut n waiting line [] old new next fault) place_is cuts))
 
 -- how many lines wait
 pub waiting_count : (lines : ℕ) (held : List ℕ) {waiting : List ℕ} (line front : List ℕ) {size count place : ℕ} → waiting ≡ held ++ line → size ≡ length held → front ≡ take size waiting → count ≡ delimiters newline front → place ≡ lines - count → place ≡ lines - delimiters newline held
@@ -281,35 +274,29 @@ gone_left {told} {mid} {next} {left} {rest} {tail} {kept} {old} {new} {result} k
     subst (λ those. GoesOn told mid those rest old new next result) (ap (take kept) is ∙ take_at left rest kept (sym kept_is))
     (subst (λ those. GoesOn told mid (take kept tail) those old new next result) (ap (drop kept) is ∙ drop_at left rest kept (sym kept_is)) gone)
 
-cut_gone : {told : Bool} {cutter start mid next : CutterState} {cut : Cut} {line left rest : List ℕ} {old between new : List Slot} {result : Result Passed Fault} → start ≡ cutter → ends_with newline line ≡ true → Spread told cutter cut start.lines line line old between mid left
-    → (gone : GoesOn told mid left rest between new next result) → CutsAll told cutter cut cutter.lines line line (take gone.n rest) old new next (fault_in result)
-cut_gone {told} {cutter} {next = next} {cut} {line} {rest = rest} {old} {new = new} {result} same complete spread gone =
-    subst (λ (c : CutterState). CutsAll told cutter cut c.lines line line (take gone.n rest) old new next (fault_in result)) same (spread_passes spread complete gone.over gone.held)
-
-pub cut_on : {told : Bool} {cutter start mid next : CutterState} {cut : Cut} (text : List ℕ) {tail left : List ℕ} (size : ℕ) {kept : ℕ} {passed all : Passed} {old between new : List Slot} → start ≡ cutter → size ≤ length text → ends_with newline (take size text) ≡ true
-    → Spread told cutter cut start.lines (take size text) (take size text) old between mid left → kept ≡ length left → tail ≡ left ++ drop size text → GoesOn told mid (take kept tail) (drop kept tail) between new next (Ok passed)
+pub cut_on : {told : Bool} {cutter mid next : CutterState} {cut : Cut} (text : List ℕ) {tail left : List ℕ} (size : ℕ) {kept : ℕ} {passed all : Passed} {old between new : List Slot} → size ≤ length text → ends_with newline (take size text) ≡ true
+    → Spread told cutter cut cutter.lines (take size text) (take size text) old between mid left → kept ≡ length left → tail ≡ left ++ drop size text → GoesOn told mid (take kept tail) (drop kept tail) between new next (Ok passed)
     → all.size ≡ size - kept + passed.size → all.found ≡ passed.found → CutsOn told cutter cut (take size text) (drop size text) old new next (Ok all)
-cut_on {next = next} text {left = left} size {passed = passed} same within complete spread kept_is tail_is goes size_is found_is =
+cut_on {next = next} text {left = left} size {passed = passed} within complete spread kept_is tail_is goes size_is found_is =
     let gone = gone_left kept_is tail_is goes in
     let few : length left ≤ size = left_within text left size within spread.so_far.end in
     let long : length (take size text) ≡ size = length-take-le size text within in record {
       n = gone.n;
       within = gone.over.within;
       whole = gone.over.whole;
-      all = cut_gone same complete spread gone;
+      all = spread_passes spread complete gone.over gone.held;
       size = (let g = gone.size in omega (arith, size_is, g, few, kept_is, long));
       found = subst (λ found. IfSome found (IsNextFound next (drop gone.n (drop size text)))) (sym found_is) (found_by (drop gone.n (drop size text)) passed.found gone.held gone.found);
     }
 
-pub cut_not_on : {told : Bool} {cutter start mid next : CutterState} {cut : Cut} {line tail left rest : List ℕ} {kept : ℕ} {old between new : List Slot} {fault : Fault} → start ≡ cutter → ends_with newline line ≡ true → Spread told cutter cut start.lines line line old between mid left
+pub cut_not_on : {told : Bool} {cutter mid next : CutterState} {cut : Cut} {line tail left rest : List ℕ} {kept : ℕ} {old between new : List Slot} {fault : Fault} → ends_with newline line ≡ true → Spread told cutter cut cutter.lines line line old between mid left
     → kept ≡ length left → tail ≡ left ++ rest → GoesOn told mid (take kept tail) (drop kept tail) between new next (Err fault) → CutsOn told cutter cut line rest old new next (Err fault)
-cut_not_on same complete spread kept_is tail_is goes =
-    let gone = gone_left kept_is tail_is goes in record { n = gone.n; within = gone.over.within; whole = gone.over.whole; all = cut_gone same complete spread gone; size = tt; found = tt }
+cut_not_on complete spread kept_is tail_is goes =
+    let gone = gone_left kept_is tail_is goes in record { n = gone.n; within = gone.over.within; whole = gone.over.whole; all = spread_passes spread complete gone.over gone.held; size = tt; found = tt }
 
 -- a fault at the cut
-pub cut_stopped_on : {told : Bool} {cutter start next : CutterState} {cut : Cut} {line rest : List ℕ} {old new : List Slot} {fault : Fault} → start ≡ cutter → CutsAll told cutter cut start.lines line line [] old new next (Some fault) → CutsOn told cutter cut line rest old new next (Err fault)
-cut_stopped_on {told} {cutter} {next = next} {cut} {line} {old = old} {new} {fault} same stopped =
-    record { n = 0; within = omega arith; whole = inl refl; all = subst (λ (c : CutterState). CutsAll told cutter cut c.lines line line [] old new next (Some fault)) same stopped; size = tt; found = tt }
+pub cut_stopped_on : {told : Bool} {cutter next : CutterState} {cut : Cut} {line rest : List ℕ} {old new : List Slot} {fault : Fault} → CutsAll told cutter cut cutter.lines line line [] old new next (Some fault) → CutsOn told cutter cut line rest old new next (Err fault)
+cut_stopped_on stopped = record { n = 0; within = omega arith; whole = inl refl; all = stopped; size = tt; found = tt }
 
 -- What `stretch` owes. The first line isn't cut.
 

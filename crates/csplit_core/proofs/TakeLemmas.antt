@@ -11,12 +11,11 @@ use Rattle.ports_core.specs.Slot.{Slot}
 use Rattle.ports_core.specs.declared.fault.Fault.{Fault}
 use Rattle.csplit_core.specs.Input.{newline, all_lines}
 use Rattle.csplit_core.specs.Operand.{Operand, Line}
-use Rattle.csplit_core.specs.Plan.{State, Step, Ending, below, CutsAt, state_after, Runs, cuts}
+use Rattle.csplit_core.specs.Plan.{State, Ending, below, CutsAt, Runs}
 use Rattle.csplit_core.specs.Draft.{draft_part}
 use Rattle.csplit_core.specs.Output.{Style}
-use Rattle.csplit_core.specs.Planned.{Plan, plan, plan_within}
-use Rattle.csplit_core.specs.laws.PlanLaws.{runs, line_some, plan_runs}
-use Rattle.csplit_core.specs.inner.PlanLaws.{needed}
+use Rattle.csplit_core.specs.Planned.{Plan, plan}
+use Rattle.csplit_core.specs.laws.PlanLaws.{plan_runs}
 use Rattle.seg_core.proofs.EndLines.{line_count-grows}
 use Rattle.csplit_core.specs.inner.Progress.{GoesPast}
 use Rattle.csplit_core.specs.Progress.{AimsAt}
@@ -36,18 +35,6 @@ use Rattle.csplit_core.specs.declared.line_cutter.Passed.{Passed}
 
 -- Taking lines in.
 
--- a step of the plan is a cut
-
-first_cuts : {suppress : Bool} {lines : List Line} {state : State} {step : Step} {steps : List Step} {last : State} {ending : Ending} → Runs suppress lines state (step ∷ steps) last ending → CutsAt suppress lines state step.operand step.operand.target step.matched step.cut
-first_cuts (cuts state' operand operands matched cut steps' last' ending' are at from within rest) = at
-
-goes_cuts : {suppress : Bool} {lines : List Line} {state : State} {matched : ℕ} (cut : ℕ) (goes : GoesPast suppress lines state matched cut) → 1 ≤ cut → CutsAt suppress lines state goes.operand goes.operand.target matched cut
-goes_cuts {suppress} {lines} {state} {matched} cut goes some =
-    let next = state_after suppress goes.operand goes.operands state.repetition matched cut in
-    let p = plan_within (needed (length lines) next) suppress lines next in
-    let rest = runs (needed (length lines) next) suppress lines next (omega arith) (let least = line_some suppress cut in omega (arith, least, some)) in
-    first_cuts (goes.runs p.steps p.last p.ending rest)
-
 -- The lines that were left begin no later than a cut.
 
 live_before : {cutter : CutterState} {x : List ℕ} (t : List ℕ) (live : IsLive cutter x) {operand : Operand} {operands : List Operand} (matched cut : ℕ) → (state_in cutter).operands ≡ operand ∷ operands
@@ -58,8 +45,7 @@ live_before {cutter} {x} t live matched cut are at =
 
 pub place_before : {cutter : CutterState} {x : List ℕ} (t : List ℕ) {matched : ℕ} (cut : ℕ) (live : IsLive cutter x) → IsWhole x → (goes : GoesPast (suppress_in cutter) (all_lines (x ++ t)) (state_in cutter) matched cut) → IsFit cutter → cutter.progress.current ≤ cut → cutter.progress.current + live.at.taken ≤ cut
 place_before {cutter} {x} t {matched} cut live whole goes fit from =
-    let at = subst (λ lines. CutsAt (suppress_in cutter) lines (state_in cutter) goes.operand goes.operand.target matched cut) (all_lines-append t whole)
-    (goes_cuts cut goes (let s = fit.fits.some in omega (arith, s, from))) in omega (arith, live_taken live, live_before t live matched cut goes.are at, from)
+    let at = subst (λ lines. CutsAt (suppress_in cutter) lines (state_in cutter) goes.operand goes.operand.target matched cut) (all_lines-append t whole) goes.cuts in omega (arith, live_taken live, live_before t live matched cut goes.are at, from)
 
 -- What arrives where more lines came.
 

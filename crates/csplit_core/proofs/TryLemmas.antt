@@ -9,8 +9,8 @@ use Rattle.seg_core.specs.Line.{line_count}
 use Rattle.csplit_core.specs.Input.{newline, without_newline, marked, all_lines, is_match_of}
 use Rattle.csplit_core.specs.laws.PlanLaws.{search_past, search_some, match_still, cuts_still}
 use Rattle.csplit_core.specs.Operand.{Target, Number, Search, Operand, Line, unmarked, is_match}
-use Rattle.csplit_core.specs.Plan.{State, Ending, used_up, missed, above, below, search_line, line_after, CutsAt, Misses, Runs, cuts}
-use Rattle.csplit_core.specs.inner.Progress.{AreSeen, Turns, MovesOn, GoesPast, Advances}
+use Rattle.csplit_core.specs.Plan.{State, Ending, used_up, missed, above, below, search_line, line_after, CutsAt, Misses, Runs}
+use Rattle.csplit_core.specs.inner.Progress.{AreSeen, Turns, MovesOn, GoesPast}
 use Rattle.csplit_core.specs.Progress.{AimsAt, EndsHere}
 use Rattle.csplit_core.specs.inner.PlanLaws.{EndsAs}
 use Rattle.csplit_core.specs.laws.SectionLaws.{ends_as, front_of}
@@ -20,7 +20,7 @@ use Rattle.csplit_core.specs.declared.progress.Turn.{Turn}
 use Rattle.csplit_core.specs.declared.progress.Turn.TheVariants.{Missed, Above, Cuts}
 use Rattle.csplit_core.specs.Cutter.{CutterState, suppress_in, state_in, pattern_in, pattern_by, AimHolds, IsFit, IsLive, EndsNow}
 use Rattle.csplit_core.specs.inner.Cutter.{IsWhole, IsLine, Looked, IsFound, IsNoCut, search_after, StaysNear, Tries, TriesNext}
-use Rattle.csplit_core.proofs.TurnLemmas.{advances, capped}
+use Rattle.csplit_core.proofs.TurnLemmas.{capped}
 use Rattle.csplit_core.proofs.LineLemmas.{all_lines-append, all_lines-line, length-all_lines, count-append, count-line, whole-append}
 use Rattle.csplit_core.proofs.StayLemmas.{NoneFrom, search_grows, ends_still, EndsStill}
 
@@ -45,9 +45,9 @@ seen_all {cutter} {x} line fit says looked =
       others = looked.others;
     }
 
-pub advance_ends : {suppress : Bool} {lines : List Line} {state : State} (turn : Turn) → IsNoCut turn → Advances suppress lines state turn → EndsHere suppress lines state turn
-advance_ends (Cuts matched line) no_cut ends = absurd no_cut
-advance_ends _ no_cut ends = ends
+pub turn_ends : {suppress : Bool} {lines : List Line} {state : State} (turn : Turn) → IsNoCut turn → Turns suppress lines state turn → EndsHere suppress lines state turn
+turn_ends (Cuts matched line) no_cut ends = absurd no_cut
+turn_ends _ no_cut ends = ends
 
 pub no_cut_aims : (operands : List Operand) (total : ℕ) (progress : Progress) (turn : Turn) → IsNoCut turn → MovesOn operands total progress turn → AimHolds operands total progress turn
 no_cut_aims operands total progress (Above matched line) no_cut moves = moves
@@ -65,35 +65,34 @@ after_cut false cut = by (eqb cut.line 1 && eqb cut.matched 0) refl where
 pub after_matched : (suppress : Bool) (cut : Cut) → cut.matched < search_after suppress cut
 after_matched suppress cut = search_past suppress (record { operands = []; repetition = 0; current = line_after suppress cut.line; matched = cut.matched })
 
-near_by : {cutter : CutterState} {x : List ℕ} (line : List ℕ) (cut : Cut) {operand : Operand} {operands : List Operand} (target : Target) (at : ℕ) → (state_in cutter).operands ≡ operand ∷ operands → operand.target ≡ target → IsFit cutter → Looked cutter x line
-    → CutsAt (suppress_in cutter) (all_lines x) (state_in cutter) operand target cut.matched at → cutter.progress.current ≤ cut.line → StaysNear cutter cut
-near_by {cutter} line cut {operands} (Number n) at are is fit looked at_cut from (inl far) =
+near_by : {cutter : CutterState} {x : List ℕ} (line : List ℕ) (cut : Cut) {operand : Operand} {operands : List Operand} (target : Target) → (state_in cutter).operands ≡ operand ∷ operands → operand.target ≡ target → IsFit cutter → Looked cutter x line
+    → CutsAt (suppress_in cutter) (all_lines x) (state_in cutter) operand target cut.matched cut.line → cutter.progress.current ≤ cut.line → StaysNear cutter cut
+near_by {cutter} line cut {operands} (Number n) are is fit looked at_cut from (inl far) =
     let same : cut.matched ≡ cutter.progress.matched = at_cut.0 in
     let more = search_grows (suppress_in cutter) (state_in cutter) (record { operands = []; repetition = 0; current = line_after (suppress_in cutter) cut.line; matched = cut.matched }) cut.line fit.fits.some from (omega (arith, same)) refl in
     omega (arith, far, more)
-near_by line cut (Number n) at are is fit looked at_cut from (inr searched) = absurd (searched (fit.sought ∙ ap pattern_by are ∙ ap pattern_in is))
-near_by {cutter} line cut {operand} {operands} (Search pattern kept offset) at are is fit looked at_cut from either = elim (cases_lt cut.matched cutter.lines) [
+near_by line cut (Number n) are is fit looked at_cut from (inr searched) = absurd (searched (fit.sought ∙ ap pattern_by are ∙ ap pattern_in is))
+near_by {cutter} line cut {operand} {operands} (Search pattern kept offset) are is fit looked at_cut from either = elim (cases_lt cut.matched cutter.lines) [
   | inl less ↦ absurd (false≢true (sym (looked.others operand operands are cut.matched at_cut.0.not_before less) ∙ at_cut.0.match))
   | inr not_less ↦ let past = after_matched (suppress_in cutter) cut in omega (arith, not_less, past)
 ]
 
-pub cut_near : {cutter : CutterState} {x : List ℕ} (line : List ℕ) (cut : Cut) {turn : Turn} → turn ≡ Cuts cut.matched cut.line → IsFit cutter → Looked cutter x line → Turns (suppress_in cutter) (all_lines x) cutter.lines (state_in cutter) turn → StaysNear cutter cut
+pub cut_near : {cutter : CutterState} {x : List ℕ} (line : List ℕ) (cut : Cut) {turn : Turn} → turn ≡ Cuts cut.matched cut.line → IsFit cutter → Looked cutter x line → Turns (suppress_in cutter) (all_lines x) (state_in cutter) turn → StaysNear cutter cut
 cut_near {cutter} {x} line cut is fit looked turns =
-    let here = subst (Turns (suppress_in cutter) (all_lines x) cutter.lines (state_in cutter)) is turns in
-    near_by line cut here.operand.target here.cut here.are refl fit looked here.cuts here.place.1
+    let here = subst (Turns (suppress_in cutter) (all_lines x) (state_in cutter)) is turns in near_by line cut here.operand.target here.are refl fit looked here.cuts here.from
 
 -- what `try_last` owes
 
 module _ {cutter : CutterState} (line : List ℕ) {found : Bool} (turn : Turn) (fit : IsFit cutter) (says : IsFound cutter (without_newline line) cutter.lines found)
-    (turns : (lines : List Line) → AreSeen (suppress_in cutter) lines cutter.lines (state_in cutter) found → Turns (suppress_in cutter) lines cutter.lines (state_in cutter) turn) (x : List ℕ) (looked : Looked cutter x line) where
-  advanced : Advances (suppress_in cutter) (all_lines x) (state_in cutter) turn
-  advanced = advances (suppress_in cutter) (all_lines x) (state_in cutter) turn (length-all_lines x ∙ sym looked.counted) (turns (all_lines x) (seen_all line fit says looked))
+    (turns : (lines : List Line) → AreSeen (suppress_in cutter) lines cutter.lines (state_in cutter) found → Turns (suppress_in cutter) lines (state_in cutter) turn) (x : List ℕ) (looked : Looked cutter x line) where
+  turned : Turns (suppress_in cutter) (all_lines x) (state_in cutter) turn
+  turned = turns (all_lines x) (seen_all line fit says looked)
 
   pub tries_cut : (cut : Cut) → turn ≡ Cuts cut.matched cut.line → GoesPast (suppress_in cutter) (all_lines x) (state_in cutter) cut.matched cut.line × StaysNear cutter cut
-  tries_cut cut is = (subst (Advances (suppress_in cutter) (all_lines x) (state_in cutter)) is advanced, cut_near line cut is fit looked (turns (all_lines x) (seen_all line fit says looked)))
+  tries_cut cut is = (subst (Turns (suppress_in cutter) (all_lines x) (state_in cutter)) is turned, cut_near line cut is fit looked turned)
 
-  pub tries_none : {before : CutterState} → before ≡ cutter → IsNoCut turn → EndsNow (record before { aim = turn }) x
-  tries_none same no_cut = subst (λ (those : CutterState). EndsHere (suppress_in those) (all_lines x) (state_in those) turn) (sym same) (advance_ends turn no_cut advanced)
+  pub tries_none : IsNoCut turn → EndsNow (record cutter { aim = turn }) x
+  tries_none no_cut = turn_ends turn no_cut turned
 
 -- One more line comes.
 
@@ -131,12 +130,10 @@ ends_over {cutter} {lines} text fit count stays x before counted ends =
       },
     )
 
-pub next_stays : {cutter before now : CutterState} {x : List ℕ} (line : List ℕ) {turn : Turn} → before ≡ cutter → now ≡ record cutter { lines = cutter.lines + 1 } → IsFit cutter → IsLive cutter x → IsWhole x → IsLine line → before.aim ≡ turn → StaysOver before line (before.lines + 1) turn
-    → EndsNow now (x ++ line)
-next_stays {cutter} {before} {x = x} line same now_is fit live whole one aim stays =
-    let stays' = subst (λ (c : CutterState). StaysOver c line (c.lines + 1) c.aim) same (subst (StaysOver before line (before.lines + 1)) (sym aim) stays) in
+pub next_stays : {cutter : CutterState} {x : List ℕ} (line : List ℕ) {turn : Turn} → IsFit cutter → IsLive cutter x → IsWhole x → IsLine line → cutter.aim ≡ turn → StaysOver cutter line (cutter.lines + 1) turn → EndsNow (record cutter { lines = cutter.lines + 1 }) (x ++ line)
+next_stays {cutter} {x} line fit live whole one aim stays =
     let count : line_count newline line ≡ 1 = ap length one in
-    subst (λ (c : CutterState). EndsNow c (x ++ line)) (sym now_is) (ends_over line fit (omega (arith, count)) stays' x whole live.at.counted live.ends).1
+    (ends_over line fit (omega (arith, count)) (subst (StaysOver cutter line (cutter.lines + 1)) (sym aim) stays) x whole live.at.counted live.ends).1
 
 -- the lines as they are counted
 lines_are : {cutter : CutterState} {x : List ℕ} (live : IsLive cutter x) → length (all_lines x) ≡ cutter.lines
@@ -154,22 +151,20 @@ above_cuts {suppress} lines line {state} {total} {at} (above operand repetition 
             operand = operand;
             operands = operands;
             are = are;
-            runs = λ steps last ending rest. cuts state operand operands matched' cut steps last ending are (cuts_still suppress lines (line ∷ []) state operand operand.target matched' cut at_cut) (omega (arith, here, within)) (omega (arith, here, all, count)) rest;
+            cuts = cuts_still suppress lines (line ∷ []) state operand operand.target matched' cut at_cut;
+            from = omega (arith, here, within);
+            within = omega (arith, here, all, count);
           })),
       same ∙ here,
     )
 above_cuts lines line _ count within ends aims near few = absurd aims
 
-pub next_cut : {cutter before : CutterState} {x : List ℕ} (line : List ℕ) {matched at total : ℕ} → before ≡ cutter → total ≡ before.lines + 1 → IsFit cutter → IsLive cutter x → IsWhole x → IsLine line → before.aim ≡ Above matched at → at ≤ before.lines + 1 → cutter.lines < 2 ^ 63
-    → GoesPast (suppress_in cutter) (all_lines (x ++ line)) (state_in cutter) matched at × (total ≤ search_after (suppress_in cutter) (record { matched = matched; line = at }))
-next_cut {cutter} {before} {x} line {matched} {at} same total_is fit live whole one aim near few =
-    let aim' : cutter.aim ≡ Above matched at = ap (λ (c : CutterState). c.aim) (sym same) ∙ aim in
-    let lines' : before.lines ≡ cutter.lines = ap (λ (c : CutterState). c.lines) same in
-    let ends = ends_as _ _ _ _ _ _ live.ends.runs in
-    let reached : at ≤ cutter.lines + 1 = omega (arith, near, lines') in
-    let goes = above_cuts (all_lines x) (marked line) live.ends.ending (lines_are live) fit.fits.current ends (subst (λ a. AimsAt a live.ends.ending) aim' live.ends.aims) reached (omega (arith, few)) in (
+pub next_cut : {cutter : CutterState} {x : List ℕ} (line : List ℕ) {matched at : ℕ} → IsFit cutter → IsLive cutter x → IsWhole x → IsLine line → cutter.aim ≡ Above matched at → at ≤ cutter.lines + 1 → cutter.lines < 2 ^ 63
+    → GoesPast (suppress_in cutter) (all_lines (x ++ line)) (state_in cutter) matched at × (cutter.lines + 1 ≤ search_after (suppress_in cutter) (record { matched = matched; line = at }))
+next_cut {cutter} {x} line {matched} {at} fit live whole one aim near few =
+    let goes = above_cuts (all_lines x) (marked line) live.ends.ending (lines_are live) fit.fits.current (ends_as _ _ _ _ _ _ live.ends.runs) (subst (λ a. AimsAt a live.ends.ending) aim live.ends.aims) near (omega (arith, few)) in (
       subst (λ lines. GoesPast (suppress_in cutter) lines (state_in cutter) matched at) (sym (all_lines-line line whole one)) goes.0,
-      (let after = after_cut (suppress_in cutter) (record { matched = matched; line = at }) in omega (arith, after, goes.1, total_is, lines')),
+      (let after = after_cut (suppress_in cutter) (record { matched = matched; line = at }) in omega (arith, after, goes.1)),
     )
 
 -- where a pattern matched no line so far
@@ -208,13 +203,7 @@ next_sought {cutter} {x} live fit aim none =
     missed_sought (suppress_in cutter) (all_lines x) (state_in cutter) live.ends.ending (ends_as _ _ _ _ _ _ live.ends.runs)
     (subst (λ a. AimsAt a live.ends.ending) aim live.ends.aims) (sym fit.sought ∙ none)
 
-pub next_tries : {cutter before next : CutterState} (line : List ℕ) (result : Option Cut) → before ≡ cutter → IsFit cutter → IsLine line → before.aim ≡ Missed → next ≡ record before { lines = before.lines + 1; aim = next.aim } → Tries (record before { lines = before.lines + 1 }) line next result → TriesNext cutter line next result
-next_tries {cutter} line None same fit one aim next_is tries = λ x whole live.
-    tries (x ++ line) (subst (λ (c : CutterState). Looked (record c { lines = c.lines + 1 }) (x ++ line) line) (sym same) (next_looked line live whole one (ap (λ (c : CutterState). c.aim) (sym same) ∙ aim)))
-next_tries {cutter} {next = next} line (Some cut) same fit one aim next_is tries = λ x whole live.
-    let aim' : cutter.aim ≡ Missed = ap (λ (c : CutterState). c.aim) (sym same) ∙ aim in
-    let both = tries (x ++ line) (subst (λ (c : CutterState). Looked (record c { lines = c.lines + 1 }) (x ++ line) line) (sym same) (next_looked line live whole one aim')) in
-    let near = subst (λ (c : CutterState). StaysNear (record c { lines = c.lines + 1 }) cut) same both.1 (inr (next_sought live fit aim')) in (
-      subst (λ (c : CutterState). GoesPast (suppress_in c) (all_lines (x ++ line)) (state_in c) cut.matched cut.line) same both.0,
-      (let lines' : next.lines ≡ cutter.lines + 1 = ap (λ (c : CutterState). c.lines) next_is ∙ ap (λ (c : CutterState). c.lines + 1) same in omega (arith, near, lines')),
-    )
+pub next_tries : {cutter : CutterState} (next : CutterState) (line : List ℕ) (result : Option Cut) → IsFit cutter → IsLine line → cutter.aim ≡ Missed → next.lines ≡ cutter.lines + 1 → Tries (record cutter { lines = cutter.lines + 1 }) line next result → TriesNext cutter line next result
+next_tries next line None fit one aim counted tries = λ x whole live. tries (x ++ line) (next_looked line live whole one aim)
+next_tries next line (Some cut) fit one aim counted tries = λ x whole live.
+    let both = tries (x ++ line) (next_looked line live whole one aim) in let near = both.1 (inr (next_sought live fit aim)) in (both.0, omega (arith, near, counted))

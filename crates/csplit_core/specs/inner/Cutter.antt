@@ -25,8 +25,9 @@ use Rattle.csplit_core.specs.inner.Writer.{BegunNot, Leaves, Reaches, fault_in, 
 use Rattle.csplit_core.specs.declared.progress.Turn.{Turn}
 use Rattle.csplit_core.specs.declared.progress.Turn.TheVariants.{UsedUp, Missed, Above, Below, Cuts}
 use Rattle.csplit_core.specs.declared.line_cutter.Cut.{Cut}
+use Rattle.csplit_core.specs.declared.line_cutter.LineCutter.{LineCutter}
 use Rattle.csplit_core.specs.declared.line_cutter.Passed.{Passed}
-use Rattle.csplit_core.specs.Cutter.{CutterState, AimHolds, suppress_in, state_in, kept_by, IsFit, IsSound, load, draft_by, IsAt, EndsNow, IsLive, Stands}
+use Rattle.csplit_core.specs.Cutter.{CutterState, AimHolds, seen, suppress_in, state_in, kept_by, IsFit, IsSound, load, draft_by, IsAt, EndsNow, IsLive, Stands}
 
 -- a text of complete lines
 abbrev pub IsWhole : List ℕ → Type 0
@@ -320,8 +321,8 @@ pub record Opened (told : Bool) (style : Style) (operands : List Operand) (old n
   pub sound : IsSound cutter
   pub size : load cutter ≡ 0
 
-abbrev pub Opens : Bool → Style → List Operand → List Slot → List Slot → Result CutterState Fault → Type 0
-Opens told style operands old new (Ok cutter) = Opened told style operands old new cutter
+abbrev pub Opens : Bool → Style → List Operand → List Slot → List Slot → Result LineCutter Fault → Type 0
+Opens told style operands old new (Ok cutter) = Opened told style operands old new (seen cutter)
 Opens told style operands old new (Err fault) = BegunNot told style (settled_of style operands []) old new fault
 
 -- The last section ended, or a fault came before that. How the plan ends stays.

@@ -5,7 +5,7 @@ use Rattle.csplit_core.proofs.line_cutter.LineCutter.end.Goals as goal
 
 pub returns-in_err-write_front : goal.returns-in_err-write_front
 returns-in_err-write_front g c = stop_is (EndsAll _ _ _ _ _) _ _ c.from_residual.ensures.1
-    (end_short c.self.view_is c.requires.sound.fit c.len-held.ensures.len c.in_err-write_front.ensures.goes)
+    (end_short c.requires.sound.fit c.len-held.ensures.len c.in_err-write_front.ensures.goes)
 
 pub returns : goal.returns
-returns g c = end_goes c.write_front.new.window c.self.view_is c.requires.sound.fit c.len-held.ensures.len c.in_ok-write_front.ensures.goes c.end.ensures
+returns g c = end_goes c.write_front.new.window c.requires.sound.fit c.len-held.ensures.len c.in_ok-write_front.ensures.goes c.end.ensures.goes

@@ -1,4 +1,4 @@
-use Rattle.std.proofs.Common.{Ok, Err, take, ap, arith, sym, ◌∙◌, subst}
+use Rattle.std.proofs.Common.{Ok, Err, take, arith, sym, subst}
 use Rattle.std.proofs.lemmas.Grind.{common_steps}
 use Rattle.ports_core.proofs.HandedOn.{result_is}
 use Rattle.csplit_core.specs.Cutter.{CutterState}
@@ -45,7 +45,7 @@ cut_on-requires g c = record {
 pub returns-then-is_empty : goal.returns-then-is_empty
 returns-then-is_empty g c = stretch_cut c.cut_on.result c.requires.sound.fit (c.is_past.ensures.live c.if-is_past.false) c.first_size-size.ensures.some c.first_size-size.ensures.within
     c.first_size-size.ensures.line c.first_size-size.ensures.whole c.try_line.ensures.same
-    (sym (ap (λ (cutter : CutterState). cutter.window.held) c.self.view_is) ∙ none_there c.is_empty.ensures c.if-is_empty.true) c.in-Some.ensures.cuts c.in-Some.ensures.tries c.cut_on.ensures
+    (none_there c.is_empty.ensures c.if-is_empty.true) c.in-Some.ensures.cuts c.in-Some.ensures.tries c.cut_on.ensures
 
 pub cut_line-requires : goal.cut_line-requires
 cut_line-requires g c = record {
