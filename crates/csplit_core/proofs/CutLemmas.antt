@@ -24,10 +24,9 @@ use Rattle.csplit_core.specs.Writer.{WriterState, Writes, size_of}
 use Rattle.csplit_core.specs.declared.line_cutter.Cut.{Cut}
 use Rattle.csplit_core.specs.Cutter.{CutterState, suppress_in, state_in, kept_by, text_from, Leads, draft_by, IsFit, IsAt}
 use Rattle.csplit_core.specs.inner.Cutter.{settled_part, part_at, search_after, CutsNow, WentOn, PassesCut, IsAfter, CutAt, CutsAll, WillCut, IsEnd}
-use Rattle.csplit_core.proofs.HoldLemmas.{goes_or_lacks}
+use Rattle.csplit_core.proofs.CutterLemmas.{goes_or_lacks, last_kept}
 use Rattle.csplit_core.proofs.WholeLemmas.{after_within}
 use Rattle.csplit_core.proofs.LineLemmas.{bytes_between, first_further, from_further}
-use Rattle.csplit_core.proofs.CutterLemmas.{last_kept}
 use Rattle.csplit_core.proofs.WriterLemmas.{bytes_begin, leaves_again, reaches_again, reaches_as, section_begins, stops_wider}
 
 -- What is settled begins with what stands where a section has begun.

@@ -21,8 +21,7 @@ use Rattle.csplit_core.specs.declared.line_cutter.Passed.{Passed}
 use Rattle.csplit_core.specs.declared.progress.Turn.{Turn}
 use Rattle.csplit_core.specs.declared.progress.Turn.TheVariants.{UsedUp, Missed, Above, Cuts}
 use Rattle.csplit_core.proofs.LineLemmas.{whole_drop, all_lines-append, all_lines-line, count-append, count-line, length-all_lines, whole_count, whole-append, whole_by, line_by}
-use Rattle.csplit_core.proofs.StayLemmas.{NoneFrom}
-use Rattle.csplit_core.proofs.TryLemmas.{StaysOver, ends_over, found_is}
+use Rattle.csplit_core.proofs.TryLemmas.{NoneFrom, StaysOver, ends_over, found_is}
 use Rattle.scan_core.specs.Clear.{IsClear}
 use Rattle.seg_core.proofs.LinesOf.{AreLines-lines_of, joined-lines_of}
 
@@ -245,8 +244,8 @@ more_clear {cutter} {left} {rest} {next} {after} {n} so clear rest_is =
       all = so.all ∙ ap (λ those. so.front ++ those) (sym (take-append-drop n left) ∙ ap (λ those. t ++ those) (sym rest_is)) ∙ sym (append_assoc so.front t rest);
       whole = whole-append t so.whole clear.whole;
       same = clear.same ∙ ap (λ (those : CutterState). record those { lines = after.lines }) so.same;
-      count = clear.count ∙ (let more : line_count newline (so.front ++ t) ≡ line_count newline so.front + line_count newline t = count-append t so.whole in let c : next.lines ≡ cutter.lines + line_count newline so.front = so.count in omega (arith, more, c));
-      none = λ operand same. subst (λ those. NoneFrom operand cutter.lines those (search_line (suppress_in cutter) (state_in cutter))) (sym (all_lines-append t so.whole))
+      count = clear.count ∙ (let more : line_count newline (so.front ++ t) ≡ line_count newline so.front + line_count newline t = count-append t (inl so.whole) in let c : next.lines ≡ cutter.lines + line_count newline so.front = so.count in omega (arith, more, c));
+      none = λ operand same. subst (λ those. NoneFrom operand cutter.lines those (search_line (suppress_in cutter) (state_in cutter))) (sym (all_lines-append t (inl so.whole)))
           (none_more operand cutter.lines (all_lines so.front) (all_lines t) (search_line (suppress_in cutter) (state_in cutter)) (so.none operand same)
           (λ k less near. marks_clear operand t (λ pattern is. clear.clear pattern (ap (λ (those : CutterState). those.sought) so.same ∙ same ∙ is)) k less));
     }

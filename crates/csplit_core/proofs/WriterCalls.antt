@@ -1,32 +1,284 @@
--- What the calls of the writer of sections do.
-use Rattle.std.proofs.Common.{◌≡◌, ℕ, ◌+◌, ◌<◌, zero, suc, List, [], ◌∷◌, ◌++◌, length, take, drop, replicate, decimal, refl, ◌∙◌, ap, arith, sym, subst, eqb, ◌≤◌, Bool, true, false, not, ◌&&◌, Option, Some, None, IsTrue, length-append, Err}
-use Rattle.std.proofs.Math.Seq.{take-append-add}
-use Rattle.csplit_core.specs.Input.{newline}
-use Rattle.ports_core.specs.Slot.{Slot, FailsToOpen, is_writable, told_of, opened, changed_at, closes, with_broken}
-use Rattle.ports_core.specs.declared.fault.Fault.{Fault}
-use Rattle.ports_core.specs.declared.fault.Fault.TheVariants.{Memory}
-use Rattle.csplit_core.specs.Output.{Style, Contents, is_empty, makes_file, files_of, size_lines, file_at, part_by, size_line}
-use Rattle.csplit_core.specs.Writer.{WriterState, Writes, IsCurrent, IsLast, IsReady, OwnsFiles, IsOpenAt}
-use Rattle.csplit_core.specs.inner.Writer.{MakesNone, unnamed, failed, Appends, Wrote, Made, Makes, next_name, with_bytes, with_kept, first_draft, with_section, Goes, KeepsOrBreaks, Leaves, KeepsFiles, BegunNot, new_writer}
-use Rattle.csplit_core.specs.declared.section_writer.Current.{Current}
-use Rattle.std.proofs.lemmas.Bool.{false≢true, eq-eqb}
-use Rattle.std.specs.Prelude.{IfNone}
-use Rattle.ports_core.specs.Part.{Part, OutputsAt, IsNext, File as PartFile, Begins}
-use Rattle.csplit_core.specs.Draft.{Draft, draft_part, last_contents, AreClosed}
-use Rattle.csplit_core.specs.laws.SectionLaws.{made_more}
-use Rattle.csplit_core.specs.declared.section_writer.Current.TheVariants.{Skipped, Unmade, File}
-use Rattle.csplit_core.proofs.WriterLemmas.{reaches_as, reaches_by, where_well, writes_to, leaves_again, stops_in, Becomes, becomes_again, file_of, with_last, file_begins, opens, opens_not, reaches_again, stops_wider, section_begins, in_any, falls_wider, line_begins, close_begins, closes_last, closes_not, tells_line}
-use Rattle.ports_core.proofs.SlotSteps.{KeepsMade, keeps_write, made_write, written_writable, made_short, keeps_same, keeps_open, writable_before, opened_writable, opened_last, none_past, made_same, made_again, made_close, made_break, keeps_close, writable_elsewhere}
-use Rattle.csplit_core.proofs.DraftLemmas.{name_after, part_none, parts_none, ended_part, open_part, count_made, closed_files, part_made, count_none, more_begins, closed_part, line_of, all_closed}
-use Rattle.csplit_core.proofs.OwnLemmas.{at_file, last_file, there_same, owned_same, write_breaks, owned_opened, owned_unopened, make_breaks, line_breaks, close_breaks}
-use Rattle.ports_core.specs.Name.{numbered_name}
-use Rattle.ports_core.specs.Swept.{is_among, SweptFrom, Removes}
-use Rattle.ports_core.specs.declared.slot.Mode.TheVariants.{Fresh}
+-- What is written of a draft, whose the files are, and what the calls of the writer of sections do.
+use Rattle.std.proofs.Common.{◌≡◌, ℕ, ◌+◌, suc, Bool, true, false, cond, not, ◌&&◌, List, [], ◌∷◌, ◌++◌, length, decimal, refl, sym, ◌∙◌, ap, subst, arith, length-append, ◌⊎◌, inl, inr, ◌<◌, ◌≤◌, eqb, eq-eqb, ne_eqb, ◌||◌, IsTrue, zero, take, drop, replicate, Option, Some, None, Err}
 use Rattle.std.proofs.lemmas.List.{append-nil}
+use Rattle.ports_core.specs.Name.{numbered_name}
+use Rattle.ports_core.specs.Part.{Part, Begins, IsBeginning, OutputsAt, IsNext, File as PartFile}
 use Rattle.ports_core.specs.inner.Part.{AllClosed}
-use Rattle.ports_core.proofs.SweepLemmas.{all_cleared, left_apart, left_has, left_there, same_size}
 use Rattle.ports_core.specs.declared.slot.State.TheVariants as state
+use Rattle.csplit_core.specs.Input.{newline}
+use Rattle.csplit_core.specs.Output.{Style, Contents, makes_file, file_at, files_of, size_line, size_lines, part_by, is_empty}
+use Rattle.csplit_core.specs.Draft.{Draft, draft_part, last_contents, AreClosed}
+use Rattle.csplit_core.specs.inner.Writer.{with_section, KeepsFiles, MakesNone, unnamed, failed, Made, next_name, Appends, Wrote, Makes, with_bytes, with_kept, first_draft, Goes, KeepsOrBreaks, Leaves, BegunNot, new_writer}
+use Rattle.csplit_core.specs.laws.SectionLaws.{size_lines-append, made_more}
+use Rattle.csplit_core.proofs.WriterLemmas.{file_of, with_last, more_files, reaches_as, reaches_by, where_well, writes_to, leaves_again, stops_in, Becomes, becomes_again, file_begins, opens, opens_not, reaches_again, stops_wider, section_begins, in_any, falls_wider, line_begins, close_begins, closes_last, closes_not, tells_line}
+use Rattle.std.proofs.lemmas.Bool.{false≢true, cases_lt, eq-eqb}
+use Rattle.ports_core.specs.Slot.{Slot, has_file, slot_at, changed_at, opened, unopened, closes, with_broken, is_writable, is_removable, broke, numberless, FailsToOpen, told_of}
+use Rattle.ports_core.specs.Swept.{AreThere, is_among, SweptFrom, Removes}
+use Rattle.ports_core.specs.declared.fault.Fault.{Fault}
 use Rattle.ports_core.specs.declared.fault.Fault.TheVariants as fault
+use Rattle.ports_core.specs.declared.slot.Mode.TheVariants.{Fresh}
+use Rattle.csplit_core.specs.Writer.{WriterState, IsReady, IsOpenAt, IsLast, Breaks, Writes, IsCurrent, OwnsFiles}
+use Rattle.ports_core.specs.inner.Write as short
+use Rattle.csplit_core.specs.declared.section_writer.Current.TheVariants.{File, Unopened, Skipped, Unmade}
+use Rattle.ports_core.proofs.SlotSteps.{KeepsMade, none_past, none_opened, file_before, at_end, opened_last, writable_within, open_rose, write_rose, close_rose, keeps_write, made_write, written_writable, made_short, keeps_same, keeps_open, writable_before, opened_writable, made_same, made_again, made_close, made_break, keeps_close, writable_elsewhere}
+use Rattle.ports_core.proofs.SweepLemmas.{by_place, all_cleared, left_apart, left_has, left_there, same_size}
+use Rattle.ports_core.specs.inner.Write.{WritesShort}
+use Rattle.std.proofs.Math.Seq.{take-append-add}
+use Rattle.ports_core.specs.declared.fault.Fault.TheVariants.{Memory}
+use Rattle.csplit_core.specs.declared.section_writer.Current.{Current}
+use Rattle.std.specs.Prelude.{IfNone}
+
+-- What is written of sections, of which one more was begun or ended.
+
+-- the files of sections, and then of those after them
+
+files_by : (style : Style) (place : ℕ) (one : Contents) (a b : List Contents) (makes : Bool) → files_of style (place + 1) (a ++ b) ≡ files_of style (place + 1) a ++ files_of style (place + 1 + length (files_of style (place + 1) a)) b
+    → files_of style place (a ++ b) ≡ files_of style place a ++ files_of style (place + length (files_of style place a)) b
+    → cond makes (file_at style place one ∷ files_of style (place + 1) (a ++ b)) (files_of style place (a ++ b))
+    ≡ cond makes (file_at style place one ∷ files_of style (place + 1) a) (files_of style place a) ++ files_of style (place + length (cond makes (file_at style place one ∷ files_of style (place + 1) a) (files_of style place a))) b
+files_by style place one a b true rest other =
+    let moved : place + 1 + length (files_of style (place + 1) a) ≡ place + suc (length (files_of style (place + 1) a)) = omega arith in
+    ap (λ those. file_at style place one ∷ those) rest ∙ ap (λ n. file_at style place one ∷ (files_of style (place + 1) a ++ files_of style n b)) moved
+files_by style place one a b false rest other = other
+
+pub files_of-append : (style : Style) (place : ℕ) (a b : List Contents) → files_of style place (a ++ b) ≡ files_of style place a ++ files_of style (place + length (files_of style place a)) b
+files_of-append style place [] b = ap (λ n. files_of style n b) (let e : place ≡ place + 0 = omega arith in e)
+files_of-append style place (one ∷ a) b = files_by style place one a b (makes_file style one) (files_of-append style (place + 1) a b) (files_of-append style place a b)
+
+-- the files of one more section
+files_with : (style : Style) (ended : List Contents) (one : Contents) → files_of style 0 (ended ++ one ∷ []) ≡ files_of style 0 ended ++ cond (makes_file style one) (file_at style (length (files_of style 0 ended)) one ∷ []) []
+files_with style ended one =
+    files_of-append style 0 ended (one ∷ []) ∙ ap (λ n. files_of style 0 ended ++ cond (makes_file style one) (file_at style n one ∷ []) [])
+    (let e : 0 + length (files_of style 0 ended) ≡ length (files_of style 0 ended) = omega arith in e)
+
+abbrev pub name_after : Style → List Contents → List ℕ
+name_after style ended = numbered_name style.prefix style.digits (length (files_of style 0 ended))
+
+abbrev part_with : List ℕ → List PartFile → Part
+part_with out files = record { out = out; files = files }
+
+both : {out out' : List ℕ} {files files' : List PartFile} → out ≡ out' → files ≡ files' → part_with out files ≡ part_with out' files'
+both {out'} {files} first second = ap (λ those. part_with those files) first ∙ ap (λ those. part_with out' those) second
+
+-- a section without a file changes nothing
+
+no_size : {makes : Bool} (other : Bool) (line : List ℕ) → makes ≡ false → cond (makes && other) line [] ≡ []
+no_size other line is = ap (λ m. cond (m && other) line []) is
+
+pub part_none : (style : Style) (ended : List Contents) (one : Contents) → makes_file style one ≡ false → part_by style (ended ++ one ∷ []) ≡ part_by style ended
+part_none style ended one none = both
+    (size_lines-append style ended (one ∷ []) ∙ ap (λ line. size_lines style ended ++ (line ++ [])) (no_size (one.is_closed && not style.quiet) _ none) ∙ append-nil (size_lines style ended))
+    (files_with style ended one ∙ ap (λ makes. files_of style 0 ended ++ cond makes (file_at style (length (files_of style 0 ended)) one ∷ []) []) none ∙ append-nil (files_of style 0 ended))
+
+pub parts_none : (style : Style) (ended : List Contents) (one other : Contents) → makes_file style one ≡ false → makes_file style other ≡ false → part_by style (ended ++ one ∷ []) ≡ part_by style (ended ++ other ∷ [])
+parts_none style ended one other none also = part_none style ended one none ∙ sym (part_none style ended other also)
+
+-- a section with one
+
+pub part_made : (style : Style) (ended : List Contents) (one : Contents) → makes_file style one ≡ true → part_by style (ended ++ one ∷ []) ≡ with_last (size_lines style ended ++ size_line style one) (files_of style 0 ended) (file_at style (length (files_of style 0 ended)) one)
+part_made style ended one makes = both
+    (size_lines-append style ended (one ∷ []) ∙ ap (λ line. size_lines style ended ++ line) (append-nil (size_line style one)))
+    (files_with style ended one ∙ ap (λ made. files_of style 0 ended ++ cond made (file_at style (length (files_of style 0 ended)) one ∷ []) []) makes)
+
+pub open_part : (style : Style) (draft : Draft) → makes_file style (last_contents false draft) ≡ true → draft_part style draft ≡ with_last (size_lines style draft.ended) (files_of style 0 draft.ended) (file_of (name_after style draft.ended) draft.bytes state.Open)
+open_part style draft makes = part_made style draft.ended (last_contents false draft) makes
+    ∙ ap (λ out. with_last out (files_of style 0 draft.ended) (file_of (name_after style draft.ended) draft.bytes state.Open))
+    (ap (λ made. size_lines style draft.ended ++ cond (made && (false && not style.quiet)) (decimal (length draft.bytes) ++ newline ∷ []) []) makes ∙ append-nil (size_lines style draft.ended))
+
+-- once it ended, no section is open
+pub ended_part : (style : Style) (draft : Draft) → draft_part style (with_section false draft) ≡ part_by style (draft.ended ++ last_contents true draft ∷ [])
+ended_part style draft = part_none style (draft.ended ++ last_contents true draft ∷ []) (last_contents false (with_section false draft)) refl
+
+pub closed_part : (style : Style) (draft : Draft) (line : List ℕ) → makes_file style (last_contents true draft) ≡ true → size_line style (last_contents true draft) ≡ line
+    → draft_part style (with_section false draft) ≡ with_last (size_lines style draft.ended ++ line) (files_of style 0 draft.ended) (file_of (name_after style draft.ended) draft.bytes state.Closed)
+closed_part style draft line makes is = ended_part style draft ∙ part_made style draft.ended (last_contents true draft) makes
+    ∙ ap (λ those. with_last (size_lines style draft.ended ++ those) (files_of style 0 draft.ended) (file_of (name_after style draft.ended) draft.bytes state.Closed)) is
+
+pub line_of : (style : Style) (draft : Draft) (quiet : Bool) → makes_file style (last_contents true draft) ≡ true → style.quiet ≡ quiet
+    → size_line style (last_contents true draft) ≡ cond (not quiet) (decimal (length draft.bytes) ++ newline ∷ []) []
+line_of style draft quiet makes is =
+    ap (λ made. cond (made && (true && not style.quiet)) (decimal (length draft.bytes) ++ newline ∷ []) []) makes
+    ∙ ap (λ q. cond (true && (true && not q)) (decimal (length draft.bytes) ++ newline ∷ []) []) is
+
+-- how many files there are
+
+pub count_made : (style : Style) (ended : List Contents) (one : Contents) → makes_file style one ≡ true → length (files_of style 0 (ended ++ one ∷ [])) ≡ length (files_of style 0 ended) + 1
+count_made style ended one makes = ap (λ (part : Part). length part.files) (part_made style ended one makes) ∙ length-append (files_of style 0 ended) (file_at style (length (files_of style 0 ended)) one ∷ [])
+
+pub count_none : (style : Style) (ended : List Contents) (one : Contents) → makes_file style one ≡ false → length (files_of style 0 (ended ++ one ∷ [])) ≡ length (files_of style 0 ended)
+count_none style ended one none = ap (λ (part : Part). length part.files) (part_none style ended one none)
+
+-- the files of sections that ended are closed
+
+closed_by : (style : Style) (place : ℕ) (one : Contents) (makes : Bool) (rest other : List PartFile) → one.is_closed ≡ true → AllClosed rest → AllClosed other → AllClosed (cond makes (file_at style place one ∷ rest) other)
+closed_by style place one true rest other closed all also = (ap (λ c. (file_at style place (record one { is_closed = c })).state) closed, all)
+closed_by style place one false rest other closed all also = also
+
+pub closed_files : (style : Style) (place : ℕ) (ended : List Contents) → AreClosed ended → AllClosed (files_of style place ended)
+closed_files style place [] closed = tt
+closed_files style place (one ∷ ended) closed = closed_by style place one (makes_file style one) _ _ closed.0 (closed_files style (place + 1) ended closed.1) (closed_files style place ended closed.1)
+
+pub all_closed : (ended : List Contents) (one : Contents) → AreClosed ended → one.is_closed ≡ true → AreClosed (ended ++ one ∷ [])
+all_closed [] one closed is = (is, tt)
+all_closed (first ∷ ended) one closed is = (closed.0, all_closed ended one closed.1 is)
+
+-- one more section begins with those before it
+pub more_begins : (style : Style) (ended : List Contents) (one : Contents) → Begins (part_by style ended) (part_by style (ended ++ one ∷ []))
+more_begins style ended one = record {
+  out = (size_lines style (one ∷ []), size_lines-append style ended (one ∷ []));
+  files = subst (λ files. Rattle.ports_core.specs.Part.FilesBegin (files_of style 0 ended) files) (sym (files_with style ended one)) (more_files (files_of style 0 ended) _);
+}
+
+-- The files that the writer made stay its own, its outputs can be written, and which faults come.
+
+-- the file of the open section can be written
+pub at_file : {writer : WriterState} {slot size : ℕ} {slots : List Slot} → writer.current ≡ File slot size → IsReady writer slots → (2 ≤ slot) × IsTrue (is_writable slots slot)
+at_file {slots} is ready = subst (λ current. IsOpenAt current slots) is ready.current
+
+-- and is the last output, where that is known of the open section
+pub last_file : (writer : WriterState) {slot size : ℕ} (slots : List Slot) → writer.current ≡ File slot size → IsLast writer.current slots → suc slot ≡ length slots
+last_file writer slots is last = subst (λ current. IsLast current slots) is last
+
+-- The files are there, and stay the writer's own.
+
+there_still : (files : List ℕ) (old new : List Slot) → ((place : ℕ) → has_file (slot_at new place).state ≡ has_file (slot_at old place).state) → AreThere files old → AreThere files new
+there_still [] old new keeps are = tt
+there_still (place ∷ files) old new keeps are = ((are.0.0, subst IsTrue (sym (keeps place)) are.0.1), are.1, there_still files old new keeps are.2)
+
+pub there_same : (files : List ℕ) {old new : List Slot} → KeepsMade old new → AreThere files old → AreThere files new
+there_same files {old} {new} keeps are = there_still files old new keeps.same are
+
+pub owned_same : {writer next : WriterState} {old new : List Slot} → next.files ≡ writer.files → (IsLast writer.current old → IsLast next.current new) → KeepsMade old new → KeepsFiles writer next old new
+owned_same {writer} {old} {new} same last keeps = record {
+  owns = λ first own. record {
+    streams = own.streams;
+    within = (let size : length new ≡ length old = keeps.size in let within = own.within in omega (arith, size, within));
+    from = λ place among. own.from place (subst (λ files. is_among place files ≡ true) same among);
+    own = λ place above. keeps.same place ∙ own.own place above ∙ sym (ap (is_among place) same);
+    there = subst (λ files. AreThere files new) (sym same) (there_same writer.files keeps own.there);
+    last = last own.last;
+  };
+  there = λ are. subst (λ files. AreThere files new) (sym same) (there_same writer.files keeps are);
+}
+
+-- one file more
+
+with_none : (b : Bool) → (b || false) ≡ b
+with_none true = refl
+with_none false = refl
+
+among_more : (place slot : ℕ) (files : List ℕ) → is_among place (files ++ slot ∷ []) ≡ (is_among place files || eqb place slot)
+among_more place slot [] = with_none (eqb place slot)
+among_more place slot (one ∷ files) = ap (λ b. eqb place one || b) (among_more place slot files) ∙ regroup (eqb place one) (is_among place files) (eqb place slot) where
+  regroup : (a b c : Bool) → (a || (b || c)) ≡ ((a || b) || c)
+  regroup true b c = refl
+  regroup false b c = refl
+
+-- a file that is there stands before the end
+there_within : (place : ℕ) (slots : List Slot) → is_removable slots place → place < length slots
+there_within place slots can =
+    elim (cases_lt place (length slots)) [ inl less ↦ less | inr past ↦ absurd (false≢true (sym (none_past slots place past) ∙ can.1)) ]
+
+there_more : (files : List ℕ) (slots : List Slot) (name : List ℕ) {slot : ℕ} → slot ≡ length slots → 2 ≤ length slots → AreThere files slots → AreThere (files ++ slot ∷ []) (slots ++ opened name Fresh ∷ [])
+there_more [] slots name at two are =
+    ((omega (arith, at, two), subst (λ (one : Slot). IsTrue (has_file one.state)) (sym (ap (slot_at (slots ++ opened name Fresh ∷ [])) at ∙ at_end slots (opened name Fresh))) refl), refl, tt)
+there_more (place ∷ files) slots name {slot} at two are =
+    let within : place < length slots = there_within place slots are.0 in (
+      (are.0.0, subst IsTrue (sym (file_before slots (opened name Fresh) place within)) are.0.1),
+      among_more place slot files ∙ ap (λ b. b || eqb place slot) are.1 ∙ ne_eqb place slot (λ same. omega (arith, within, at, same)),
+      there_more files slots name at two are.2,
+    )
+
+own_more : (files : List ℕ) (slots : List Slot) (name : List ℕ) {slot : ℕ} (place : ℕ) → slot ≡ length slots → has_file (slot_at slots place).state ≡ is_among place files
+    → has_file (slot_at (slots ++ opened name Fresh ∷ []) place).state ≡ is_among place (files ++ slot ∷ [])
+own_more files slots name {slot} place at own = by (cases_lt place (length slots)) where
+  none_among : length slots ≤ place → is_among place files ≡ false
+  none_among past = sym own ∙ none_past slots place past
+
+  by : (place < length slots) ⊎ (length slots ≤ place) → has_file (slot_at (slots ++ opened name Fresh ∷ []) place).state ≡ is_among place (files ++ slot ∷ [])
+  by (inl less) =
+      file_before slots (opened name Fresh) place less ∙ own
+      ∙ sym (among_more place slot files ∙ ap (λ b. is_among place files || b) (ne_eqb place slot (λ same. omega (arith, less, at, same))) ∙ with_none (is_among place files))
+  by (inr past) = by_place place slot
+      (λ same. ap (λ n. has_file (slot_at (slots ++ opened name Fresh ∷ []) n).state) (same ∙ at) ∙ ap (λ (one : Slot). has_file one.state) (at_end slots (opened name Fresh))
+      ∙ sym (among_more place slot files ∙ ap (λ b. b || eqb place slot) (none_among past) ∙ eq-eqb place slot same))
+      (λ other. none_past (slots ++ opened name Fresh ∷ []) place
+      (let size : length (slots ++ opened name Fresh ∷ []) ≡ length slots + 1 = length-append slots (opened name Fresh ∷ []) in
+      let differs : place ≡ slot → ⊥ = (λ same. false≢true (sym other ∙ eq-eqb place slot same)) in
+      elim (cases_lt (length slots) place) [ inl less ↦ omega (arith, size, less) | inr few ↦ absurd (differs (omega (arith, few, past, at))) ])
+      ∙ sym (among_more place slot files ∙ ap (λ b. b || eqb place slot) (none_among past) ∙ other))
+
+pub owned_opened : {writer next : WriterState} {slot : ℕ} {old new : List Slot} → 2 ≤ length old → Made writer old new next slot → KeepsFiles writer next old new
+owned_opened {writer} {next} {slot} {old} {new} two made = record {
+  owns = λ first own. record {
+    streams = own.streams;
+    within = (let within = own.within in omega (arith, size, within));
+    from = λ place among. by_place place slot (λ same. let within = own.within in omega (arith, same, at, within))
+        (λ other. own.from place (sym (ap (λ b. is_among place writer.files || b) other ∙ with_none (is_among place writer.files)) ∙ sym (among_more place slot writer.files) ∙ subst (λ files. is_among place files ≡ true) files among));
+    own = λ place above. ap (λ slots. has_file (slot_at slots place).state) made.added ∙ own_more writer.files old (next_name writer) place at (own.own place above) ∙ sym (ap (is_among place) files);
+    there = there own.there;
+    last = subst (λ current. IsLast current new) (sym (ap (λ (those : WriterState). those.current) made.same)) (opened_last old new slot (next_name writer) Fresh at made.added);
+  };
+  there = there;
+} where
+  at : slot ≡ length old
+  at = made.place
+
+  size : length new ≡ length old + 1
+  size = ap length made.added ∙ length-append old (opened (next_name writer) Fresh ∷ [])
+
+  files : next.files ≡ writer.files ++ slot ∷ []
+  files = ap (λ (those : WriterState). those.files) made.same
+
+  there : AreThere writer.files old → AreThere next.files new
+  there are = subst (λ those. AreThere those new) (sym files) (subst (AreThere (writer.files ++ slot ∷ [])) (sym made.added) (there_more writer.files old (next_name writer) at two are))
+
+unopened_keeps : (kept : List ℕ) (old : List Slot) (place : ℕ) → has_file (slot_at (old ++ unopened kept ∷ []) place).state ≡ has_file (slot_at old place).state
+unopened_keeps kept old place = elim (cases_lt place (length old)) [
+  | inl less ↦ file_before old (unopened kept) place less
+  | inr past ↦ none_opened old kept place past ∙ sym (none_past old place past)
+]
+
+unmade_keeps : {name : List ℕ} {old new : List Slot} {f : Fault} → MakesNone old name new f → (place : ℕ) → has_file (slot_at new place).state ≡ has_file (slot_at old place).state
+unmade_keeps (unnamed same) place = ap (λ slots. has_file (slot_at slots place).state) same
+unmade_keeps {old} (failed _ (broke slot kept number is added)) place = ap (λ slots. has_file (slot_at slots place).state) added ∙ unopened_keeps kept old place
+unmade_keeps (failed _ (numberless full same)) place = ap (λ slots. has_file (slot_at slots place).state) same
+
+unmade_size : {name : List ℕ} {old new : List Slot} {f : Fault} → MakesNone old name new f → length old ≤ length new
+unmade_size {old} {new} (unnamed same) = (let size : length new ≡ length old = ap length same in omega (arith, size))
+unmade_size {old} {new} (failed _ (broke slot kept number is added)) = (let size : length new ≡ length old + 1 = ap length added ∙ length-append old (unopened kept ∷ []) in omega (arith, size))
+unmade_size {old} {new} (failed _ (numberless full same)) = (let size : length new ≡ length old = ap length same in omega (arith, size))
+
+pub owned_unopened : {writer : WriterState} {name : List ℕ} {old new : List Slot} {f : Fault} → MakesNone old name new f → KeepsFiles writer (record writer { current = Unopened }) old new
+owned_unopened {writer} {old} {new} none = record {
+  owns = λ first own. record {
+    streams = own.streams;
+    within = (let within = own.within in let size = unmade_size none in omega (arith, size, within));
+    from = own.from;
+    own = λ place above. unmade_keeps none place ∙ own.own place above;
+    there = there_still writer.files old new (unmade_keeps none) own.there;
+    last = tt;
+  };
+  there = there_still writer.files old new (unmade_keeps none);
+}
+
+-- Which faults come
+
+pub make_breaks : (style : Style) {name : List ℕ} {old new : List Slot} {f : Fault} → MakesNone old name new f → Breaks style old new f
+make_breaks style (unnamed same) = tt
+make_breaks style {old} {new} (failed _ (broke slot kept number is added)) = open_rose slot kept old new number added
+make_breaks style (failed _ (numberless full same)) = tt
+
+pub write_breaks : (told : Bool) (style : Style) {slot : ℕ} {bytes : List ℕ} {old new : List Slot} {f : Fault} → 2 ≤ slot → IsTrue (is_writable old slot) → WritesShort told slot bytes old new f → Breaks style old new f
+write_breaks told style {slot} {bytes} {old} {new} streams can (short.broke n cut) = (λ none. absurd (omega (arith, streams, none)), write_rose told slot bytes n old new can cut)
+
+pub line_breaks : (told : Bool) (style : Style) (line : List ℕ) {old new : List Slot} {f : Fault} → style.quiet ≡ false → IsTrue (is_writable old 0) → WritesShort told 0 line old new f → Breaks style old new f
+line_breaks told style line {old} {new} said_so can (short.broke n cut) = (λ here. said_so, write_rose told 0 line n old new can cut)
+
+pub close_breaks : (style : Style) (slot : ℕ) (old : List Slot) {new : List Slot} → 2 ≤ slot → IsTrue (is_writable old slot) → new ≡ with_broken slot (changed_at slot closes old) → Breaks style old new (fault.Write slot)
+close_breaks style slot old {new} streams can is = (λ none. absurd (omega (arith, streams, none)), close_rose slot old new can (writable_within slot old can) is)
+
+-- What the calls of the writer of sections do.
 
 -- The line with a file's size.
 

@@ -1,5 +1,5 @@
 //! Cutting lines into sections as they come in: what is settled of them goes to the sections, and the others wait.
-ghost use Rattle.std.specs.Prelude.{◌≡◌, ◌≢◌, ◌+◌, ◌-◌, ◌<◌, ◌≤◌, ◌^◌, ◌++◌, List, ℕ, [], length, drop, take, Some, None, IfOk, IfErr, IfSome, IfNone, OnOk, IsTrue, true, false};
+ghost use Rattle.std.specs.Prelude.{◌≡◌, ◌≢◌, ◌⊎◌, ◌+◌, ◌-◌, ◌<◌, ◌≤◌, ◌^◌, ◌++◌, List, ℕ, [], length, drop, take, Some, None, IfOk, IfErr, IfSome, IfNone, OnOk, IsTrue, true, false};
 ghost use Rattle.bre_core.specs.Pattern.{Pattern};
 ghost use Rattle.seg_core.specs.Line.{delimiters, ends_with};
 ghost use Rattle.ports_core.specs.Engine.{is_verdict};
@@ -174,7 +174,8 @@ impl<'o> LineCutter<'o> {
         let mut left = text;
         let mut found = None;
         'stretches: while !left.is_empty() {
-            let passed = self.stretch(left, found, outs)?;
+            let size = first_size(left, found);
+            let passed = self.stretch(left, size, found.is_some(), outs)?;
             left = &left[passed.size..];
             found = passed.found;
         }
@@ -189,29 +190,32 @@ impl<'o> LineCutter<'o> {
         matches!(self.aim, Turn::Below)
     }
 
-    /// Takes in a beginning of a text of complete lines, which isn't empty: its first line, and the lines after it that the
-    /// next operand doesn't cut. `found` says how long the first line is where the pattern that is searched for was found
-    /// in it. Returns how far that is, and the same of the next line. Where lines go nowhere any more, that is all of it.
+    /// Takes in a beginning of a text: its first line, which has `size` bytes and may lack its newline if it is the only one, and
+    /// the lines after it that the next operand doesn't cut. `is_found` says that the pattern that is searched for was found in the
+    /// first line. Returns how far that is, and how long the next line is where it was found in that. Where lines go nowhere any
+    /// more, that is all of it.
     fn stretch<O: Outs>(
         &mut self,
         text: &[u8],
-        found: Option<usize>,
+        size: usize,
+        is_found: bool,
         outs: &mut O,
     ) -> Result<Passed, Fault>
-        requires some { 0 < length text.now }
-        requires whole { IsWhole text.now }
-        requires found { IfSome found (IsNextFound (seen self.old) text.now) }
+        requires within { size ≤ length text.now }
+        requires line { IsLine (take size text.now) }
+        requires rest { IsWhole (drop size text.now) }
+        requires complete { (drop size text.now ≡ []) ⊎ (ends_with newline (take size text.now) ≡ true) }
+        requires found { is_found ≡ true → IsFound (seen self.old) (without_newline (take size text.now)) (self.old.lines + 1) true }
         requires fits { load (seen self.old) + length text.now < 2 ^ 63 }
         requires sound { IsSound (seen self.old) }
         requires ready { IsReady (seen self.old).writer (O.slots outs.old) }
-        ensures { Stretches O.told (seen self.old) text.now (O.slots outs.old) (O.slots outs.new) (seen self.new) result }
+        ensures { Stretches O.told (seen self.old) text.now size (O.slots outs.old) (O.slots outs.new) (seen self.new) result }
     {
         if self.is_past() {
             return Ok(unfound(text.len()));
         }
-        let size = first_size(text, found);
         let line = &text[..size];
-        let Some(cut) = self.try_line(line, found.is_some()) else {
+        let Some(cut) = self.try_line(line, is_found) else {
             return self.go_on(text, size, outs);
         };
         if self.window.is_empty() {
@@ -234,7 +238,7 @@ impl<'o> LineCutter<'o> {
         requires within { size ≤ length text.now }
         requires line { IsLine (take size text.now) }
         requires rest { IsWhole (drop size text.now) }
-        requires complete { ends_with newline (take size text.now) ≡ true }
+        requires complete { (drop size text.now ≡ []) ⊎ (ends_with newline (take size text.now) ≡ true) }
         requires lines { self.old.lines + (length text.now - size) < 2 ^ 63 }
         requires fits { size_of self.old.writer.current + length text.now < 2 ^ 63 }
         requires fit { IsFit (seen self.old) }
@@ -282,13 +286,8 @@ impl<'o> LineCutter<'o> {
         requires ready { IsReady (seen self.old).writer (O.slots outs.old) }
         ensures { Takes O.told (seen self.old) line.now (O.slots outs.old) (O.slots outs.new) (seen self.new) (fault_in result) }
     {
-        if self.is_past() {
-            return Ok(());
-        }
-        match self.try_line(line, false) {
-            None => self.hold(line, outs),
-            Some(cut) => self.cut_line(cut, line, outs),
-        }
+        self.stretch(line, line.len(), false, outs)?;
+        Ok(())
     }
 
     /// Counts the lines at the beginning of a text of complete lines after which the next operand stands as it does now.
@@ -498,39 +497,15 @@ impl<'o> LineCutter<'o> {
         requires ready { IsReady (seen self.old).writer (O.slots outs.old) }
         ensures { CutsAll O.told (seen self.old) cut (self.old.lines - delimiters newline self.old.window.held) (self.old.window.held ++ line.now) line.now [] (O.slots outs.old) (O.slots outs.new) (seen self.new) (fault_in result) }
     {
-        if self.window.is_empty() {
-            return self.cut_all(cut, self.lines, line, line, outs);
-        }
         let waiting = drain(self.alloc, &mut self.window, line)?;
         let lines = count_delimiters(&waiting[..waiting.len() - line.len()], NEWLINE);
         let place = self.lines.saturating_sub(lines as u64);
-        self.cut_all(cut, place, &waiting, line, outs)
-    }
-
-    /// Cuts the last lines that came in, which begin with the line of number `place`, as often as operands cut them. No
-    /// line waits.
-    fn cut_all<O: Outs>(
-        &mut self,
-        cut: Cut,
-        place: u64,
-        waiting: &[u8],
-        line: &[u8],
-        outs: &mut O,
-    ) -> Result<(), Fault>
-        requires line { IsLine line.now }
-        requires few { self.old.lines ≤ 2 ^ 63 }
-        requires fits { size_of self.old.writer.current + length waiting.now < 2 ^ 63 }
-        requires fit { IsFit (seen self.old) }
-        requires none { self.old.window.held ≡ [] }
-        requires cuts { WillCut (seen self.old) cut }
-        requires ready { IsReady (seen self.old).writer (O.slots outs.old) }
-        ensures { CutsAll O.told (seen self.old) cut place waiting.now line.now [] (O.slots outs.old) (O.slots outs.new) (seen self.new) (fault_in result) }
-    {
-        let left = self.cut_often(cut, place, waiting, line, outs)?;
+        let left = self.cut_often(cut, place, &waiting, line, outs)?;
         self.hold(left, outs)
     }
 
-    /// The same, but that what is left is returned, and isn't held yet.
+    /// Cuts the last lines that came in, which begin with the line of number `place`, as often as operands cut them. No
+    /// line waits. Returns what is left, which isn't held yet.
     fn cut_often<'l, O: Outs>(
         &mut self,
         cut: Cut,

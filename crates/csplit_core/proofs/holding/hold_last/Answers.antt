@@ -3,7 +3,7 @@ use Rattle.std.proofs.lemmas.Grind.{common_steps}
 use Rattle.seg_core.specs.Line.{but_last_lines}
 use Rattle.seg_core.specs.Window.{Window}
 use Rattle.csplit_core.specs.inner.Writer.{Goes}
-use Rattle.csplit_core.proofs.HoldLemmas.{goes_or_lacks, hold_on, hold_short, kept_window, parted, rest_fits}
+use Rattle.csplit_core.proofs.CutterLemmas.{goes_or_lacks, hold_on, hold_short, kept_window, parted, rest_fits}
 use Rattle.csplit_core.proofs.WriterLemmas.{stop_is}
 use Rattle.csplit_core.proofs.holding.hold_last.Goals as goal
 

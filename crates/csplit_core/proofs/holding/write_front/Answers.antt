@@ -1,7 +1,7 @@
 use Rattle.std.proofs.Common.{◌<◌, ◌^◌, length, arith}
 use Rattle.std.proofs.lemmas.Grind.{common_steps}
 use Rattle.csplit_core.specs.inner.Writer.{Goes}
-use Rattle.csplit_core.proofs.HoldLemmas.{starts, fits_front, empties, empties_short, emptied_went, emptied_window, left_within}
+use Rattle.csplit_core.proofs.CutterLemmas.{starts, fits_front, empties, empties_short, emptied_went, emptied_window, left_within}
 use Rattle.csplit_core.proofs.WriterLemmas.{stop_is}
 use Rattle.csplit_core.proofs.holding.write_front.Goals as goal
 

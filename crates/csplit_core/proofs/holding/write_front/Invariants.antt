@@ -1,5 +1,5 @@
 use Rattle.csplit_core.specs.Writer.{seen_writer}
-use Rattle.csplit_core.proofs.HoldLemmas.{Emptying}
+use Rattle.csplit_core.proofs.CutterLemmas.{Emptying}
 use Rattle.csplit_core.proofs.holding.write_front.Given as goal
 
 abbrev pub invariant-loop-left : goal.invariant-loop-left

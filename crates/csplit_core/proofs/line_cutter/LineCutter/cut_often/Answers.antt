@@ -1,7 +1,7 @@
 use Rattle.std.proofs.Common.{◌∙◌, ap, arith, rules}
 use Rattle.ports_core.proofs.HandedOn.{fault_is}
 use Rattle.csplit_core.specs.Cutter.{CutterState, seen}
-use Rattle.csplit_core.proofs.SpreadLemmas.{spread_more, spread_stopped, spread_fit, spread_ready, spread_fewer}
+use Rattle.csplit_core.proofs.TakeLemmas.{spread_more, spread_stopped, spread_fit, spread_ready, spread_fewer}
 use Rattle.csplit_core.proofs.line_cutter.LineCutter.cut_often.Goals as goal
 use Rattle.csplit_core.specs.Writer.{size_of}
 

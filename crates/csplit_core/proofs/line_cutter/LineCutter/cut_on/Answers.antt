@@ -2,7 +2,7 @@ use Rattle.std.proofs.Common.{arith, refl}
 use Rattle.std.proofs.lemmas.Grind.{common_steps}
 use Rattle.ports_core.proofs.HandedOn.{result_is}
 use Rattle.csplit_core.specs.inner.Cutter.{CutsOn}
-use Rattle.csplit_core.proofs.SpreadLemmas.{cut_on, cut_not_on, cut_stopped_on, from_left, spread_fit, spread_ready}
+use Rattle.csplit_core.proofs.TakeLemmas.{cut_on, cut_not_on, cut_stopped_on, from_left, spread_fit, spread_ready}
 use Rattle.csplit_core.proofs.line_cutter.LineCutter.cut_on.Goals as goal
 
 pub returns-in_err-left : goal.returns-in_err-left

@@ -1,7 +1,7 @@
 use Rattle.std.proofs.Common.{refl}
 use Rattle.ports_core.proofs.HandedOn.{result_is}
 use Rattle.csplit_core.specs.inner.Cutter.{GoesOn}
-use Rattle.csplit_core.proofs.SpreadLemmas.{gone_on}
+use Rattle.csplit_core.proofs.TakeLemmas.{gone_on}
 use Rattle.csplit_core.proofs.LineLemmas.{rest_all}
 use Rattle.csplit_core.proofs.line_cutter.LineCutter.go_on.Goals as goal
 

@@ -1,5 +1,5 @@
 use Rattle.std.proofs.Common.{arith, length-append}
-use Rattle.csplit_core.proofs.HoldLemmas.{hold_goes, hold_past}
+use Rattle.csplit_core.proofs.CutterLemmas.{hold_goes, hold_past}
 use Rattle.csplit_core.proofs.WriterLemmas.{well_in}
 use Rattle.csplit_core.proofs.line_cutter.LineCutter.hold.Goals as goal
 

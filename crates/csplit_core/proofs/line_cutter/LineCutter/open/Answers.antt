@@ -2,7 +2,7 @@ use Rattle.std.proofs.Common.{ap}
 use Rattle.ports_core.proofs.HandedOn.{result_is}
 use Rattle.csplit_core.specs.inner.Cutter.{Opens}
 use Rattle.csplit_core.specs.Output.{Style}
-use Rattle.csplit_core.proofs.OpenLemmas.{opened_at, opened_not, opened_lacks}
+use Rattle.csplit_core.proofs.EndedLemmas.{opened_at, opened_not, opened_lacks}
 use Rattle.csplit_core.proofs.line_cutter.LineCutter.open.Goals as goal
 
 pub returns-in_err-matcher : goal.returns-in_err-matcher

@@ -2,7 +2,7 @@ use Rattle.std.proofs.Common.{arith}
 use Rattle.std.proofs.lemmas.Bool.Decides.{nat_tests}
 use Rattle.std.proofs.lemmas.List.{drop_all}
 use Rattle.csplit_core.specs.Progress.{state_of}
-use Rattle.csplit_core.proofs.TurnLemmas.{left_is, falls_number, falls_search, misses_search, used_up_here}
+use Rattle.csplit_core.proofs.TryLemmas.{left_is, falls_number, falls_search, misses_search, used_up_here}
 use Rattle.csplit_core.proofs.progress.Progress.turn.Goals as goal
 
 pub returns-in_default-clause-says : goal.returns-in_default-clause-says
