@@ -1,16 +1,16 @@
 use Rattle.std.proofs.Common.{ap, subst}
-use Rattle.ports_core.proofs.HandedOn.{result_is}
+use Rattle.ports_core.proofs.HandedOn.{handed_on}
 use Rattle.csplit_core.specs.CsplitState.{CsplitState}
 use Rattle.csplit_core.specs.Cutter.{seen}
-use Rattle.csplit_core.specs.inner.CsplitState.{Closes, Judges, ended_well, ended_short}
+use Rattle.csplit_core.specs.inner.CsplitState.{Judges, ended_well, ended_short}
 use Rattle.csplit_core.proofs.StageLemmas.{closed_on, closed_short, judged_by}
 use Rattle.csplit_core.proofs.csplitter.CsplitterStage.finish.Goals as goal
 
 pub returns-in_err-take_last-clause-closes : goal.returns-in_err-take_last-clause-closes
-returns-in_err-take_last-clause-closes g c = result_is (Closes g.O.Outs.told c.args.self.now _ _ c.take_last.new.self) c.from_residual.result _ c.from_residual.ensures.1 (ended_short _ (closed_short c.in_err-take_last.ensures.takes))
+returns-in_err-take_last-clause-closes g c = rw (handed_on _ _ c.from_residual.ensures.1) (ended_short _ (closed_short c.in_err-take_last.ensures.takes))
 
 pub returns-in_err-end-clause-closes : goal.returns-in_err-end-clause-closes
-returns-in_err-end-clause-closes g c = result_is (Closes g.O.Outs.told c.args.self.now _ _ _) c.from_residual-in_err-end.result _ c.from_residual-in_err-end.ensures.1
+returns-in_err-end-clause-closes g c = rw (handed_on _ _ c.from_residual-in_err-end.ensures.1)
     (ended_short _ (closed_on c.take_last.new.self (ap (λ (stage : CsplitState). stage.cutter) c.self.view_is) c.in_ok-take_last.ensures.takes c.in_err-end.ensures))
 
 pub returns-in-None-clause-closes : goal.returns-in-None-clause-closes

@@ -1,18 +1,17 @@
 use Rattle.std.proofs.Common.{ap}
-use Rattle.ports_core.proofs.HandedOn.{result_is}
-use Rattle.csplit_core.specs.inner.Cutter.{Opens}
+use Rattle.ports_core.proofs.HandedOn.{handed_on}
 use Rattle.csplit_core.specs.Output.{Style}
 use Rattle.csplit_core.proofs.EndedLemmas.{opened_at, opened_not, opened_lacks}
 use Rattle.csplit_core.proofs.line_cutter.LineCutter.open.Goals as goal
 
 pub returns-in_err-matcher : goal.returns-in_err-matcher
-returns-in_err-matcher g c = result_is (Opens g.O.Outs.told c.args.style c.args.operands.now _ _) _ _ c.from_residual.ensures.1 (opened_lacks g.O.Outs.told c.args.operands.now c.in_err-matcher.ensures.err)
+returns-in_err-matcher g c = rw (handed_on _ _ c.from_residual.ensures.1) (opened_lacks g.O.Outs.told c.args.operands.now c.in_err-matcher.ensures.err)
 
 pub returns-in_err-window : goal.returns-in_err-window
-returns-in_err-window g c = result_is (Opens g.O.Outs.told c.args.style c.args.operands.now _ _) _ _ c.from_residual-in_err-window.ensures.1 (opened_lacks g.O.Outs.told c.args.operands.now c.in_err-window.ensures.err)
+returns-in_err-window g c = rw (handed_on _ _ c.from_residual-in_err-window.ensures.1) (opened_lacks g.O.Outs.told c.args.operands.now c.in_err-window.ensures.err)
 
 pub returns-in_err-begin : goal.returns-in_err-begin
-returns-in_err-begin g c = result_is (Opens g.O.Outs.told c.args.style c.args.operands.now _ _) _ _ c.from_residual-in_err-begin.ensures.1
+returns-in_err-begin g c = rw (handed_on _ _ c.from_residual-in_err-begin.ensures.1)
     (opened_not g.O.Outs.told c.args.operands.now c.first-next.ensures.value c.is_kept.ensures c.new-writer.ensures c.requires.streams c.in_err-begin.ensures.goes c.in_err-begin.ensures.made)
 
 pub returns : goal.returns

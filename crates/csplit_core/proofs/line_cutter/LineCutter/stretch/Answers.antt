@@ -1,9 +1,8 @@
 use Rattle.std.proofs.Common.{Err, Ok, arith, subst, sym}
 use Rattle.std.proofs.lemmas.Grind.{common_steps}
-use Rattle.ports_core.proofs.HandedOn.{result_is}
+use Rattle.ports_core.proofs.HandedOn.{handed_on}
 use Rattle.csplit_core.specs.Cutter.{CutterState}
 use Rattle.csplit_core.specs.Writer.{IsReady}
-use Rattle.csplit_core.specs.inner.Cutter.{Stretches}
 use Rattle.csplit_core.proofs.TakeLemmas.{none_there, stretch_cut, stretch_first, stretch_on, stretch_past, took_past}
 use Rattle.csplit_core.proofs.line_cutter.LineCutter.stretch.Goals as goal
 
@@ -52,7 +51,7 @@ cut_line-requires g c = record {
 }
 
 pub returns-in_err-cut_line : goal.returns-in_err-cut_line
-returns-in_err-cut_line g c = result_is (Stretches _ _ _ _ _ _ _) _ _ c.from_residual.ensures.1
+returns-in_err-cut_line g c = rw (handed_on _ _ c.from_residual.ensures.1)
     (stretch_first (Err c.in_err-cut_line.field-0.0) c.requires.sound.fit (c.is_past.ensures.live c.if-is_past.false) c.requires.within c.requires.line c.requires.complete c.try_line.ensures.same c.in-Some.ensures.cuts c.in-Some.ensures.tries c.in_err-cut_line.ensures tt)
 
 pub returns : goal.returns

@@ -1,10 +1,8 @@
+use Rattle.ports_core.proofs.HandedOn.{handed_on}
 use Rattle.std.proofs.Common.{◌^◌, ◌∙◌, inr, sym, take, arith}
 use Rattle.std.proofs.lemmas.List.{length-take-le}
-use Rattle.std.proofs.lemmas.Grind.{common_steps}
-use Rattle.csplit_core.specs.inner.Cutter.{Takes}
 use Rattle.csplit_core.proofs.TakeLemmas.{found_first, none_there, takes_all, takes_more, takes_stopped, takes_end, takes_fit, takes_fewer, found_next}
 use Rattle.csplit_core.proofs.LineLemmas.{ends_by, whole_drop}
-use Rattle.csplit_core.proofs.WriterLemmas.{stop_is}
 use Rattle.csplit_core.proofs.line_cutter.LineCutter.take.Goals as goal
 
 pub stretches-init : goal.stretches-init
@@ -23,7 +21,7 @@ stretch-requires g c = let so_far = c.stretches.invariant.0 in record {
 }
 
 pub returns-in_err-passed : goal.returns-in_err-passed
-returns-in_err-passed g c = stop_is (Takes _ _ _ _ _ _) _ _ c.from_residual.ensures.1 (takes_stopped c.stretches.invariant.0 c.in_err-passed.ensures)
+returns-in_err-passed g c = rw (handed_on _ _ c.from_residual.ensures.1) (takes_stopped c.stretches.invariant.0 c.in_err-passed.ensures)
 
 pub stretches-smaller : goal.stretches-smaller
 stretches-smaller g c = takes_fewer c.in_ok-passed.passed c.first_size-size.ensures.some c.in_ok-passed.ensures

@@ -1,8 +1,8 @@
-use Rattle.std.proofs.Common.{[], inl, rules, subst, sym, length, drop, take, arith}
+use Rattle.ports_core.proofs.HandedOn.{handed_on}
+use Rattle.std.proofs.Common.{inl, rules, subst, sym, length, arith}
 use Rattle.std.proofs.lemmas.List.{drop_all, take_all}
-use Rattle.csplit_core.specs.inner.Cutter.{IsLine, Takes}
+use Rattle.csplit_core.specs.inner.Cutter.{IsLine}
 use Rattle.csplit_core.proofs.TakeLemmas.{stretched_line}
-use Rattle.csplit_core.proofs.WriterLemmas.{stop_is}
 use Rattle.csplit_core.proofs.line_cutter.LineCutter.take_line.Goals as goal
 
 pub stretch-requires : goal.stretch-requires
@@ -18,7 +18,7 @@ stretch-requires g c = let none = drop_all (length c.args.line.now) c.args.line.
 }
 
 pub returns-in_err-stretch : goal.returns-in_err-stretch
-returns-in_err-stretch g c = stop_is (Takes _ _ _ _ _ _) _ _ c.from_residual.ensures.1 (stretched_line c.in_err-stretch.ensures)
+returns-in_err-stretch g c = rw (handed_on _ _ c.from_residual.ensures.1) (stretched_line c.in_err-stretch.ensures)
 
 pub returns : goal.returns
 returns g c = stretched_line c.in_ok-stretch.ensures

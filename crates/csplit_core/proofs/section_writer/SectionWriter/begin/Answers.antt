@@ -1,8 +1,6 @@
+use Rattle.ports_core.proofs.HandedOn.{handed_on}
 use Rattle.std.proofs.Common.{refl, ◌∙◌, ap, sym}
-use Rattle.csplit_core.proofs.WriterLemmas.{stop_is}
 use Rattle.csplit_core.specs.Output.{Style}
-use Rattle.csplit_core.specs.Writer.{seen_writer}
-use Rattle.csplit_core.specs.inner.Writer.{Goes, with_kept}
 use Rattle.csplit_core.specs.declared.section_writer.Current.TheVariants.{Skipped, Unmade}
 use Rattle.csplit_core.proofs.WriterCalls.{begun, begun_none, skips_file, elides_file, begin_made, begin_not}
 use Rattle.csplit_core.proofs.section_writer.SectionWriter.begin.Goals as goal
@@ -15,7 +13,7 @@ returns-then-style-clause-goes g c = let elide = sym (ap (λ (style : Style). st
     begun_none Unmade c.requires.none (elides_file c.args.self.now.style (begun c.args.is_kept) elide refl) (c.if-not-is_kept.false, elide, refl) tt tt c.requires.ready
 
 pub returns-in_err-make_file-clause-goes : goal.returns-in_err-make_file-clause-goes
-returns-in_err-make_file-clause-goes g c = stop_is (Goes g.O.Outs.told _ (with_kept c.args.is_kept) _ _ (seen_writer c.make_file.new.self)) _ _ c.from_residual.ensures.1
+returns-in_err-make_file-clause-goes g c = rw (handed_on _ _ c.from_residual.ensures.1)
     (begin_not c.requires.none c.if-not-is_kept.false (sym (ap (λ (style : Style). style.elide) (c.behind-self.view_is ∙ c.style.ensures)) ∙ c.if-style.false) c.in_err-make_file.ensures)
 
 pub returns-clause-goes : goal.returns-clause-goes

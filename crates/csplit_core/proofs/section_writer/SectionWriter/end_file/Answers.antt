@@ -1,14 +1,12 @@
-use Rattle.std.proofs.Common.{◌∙◌, ap, sym, arith, false}
+use Rattle.ports_core.proofs.HandedOn.{handed_on}
+use Rattle.std.proofs.Common.{◌∙◌, ap, sym, arith}
 use Rattle.std.proofs.lemmas.Grind.{common_steps}
-use Rattle.csplit_core.proofs.WriterLemmas.{stop_is}
 use Rattle.csplit_core.specs.Output.{Style}
-use Rattle.csplit_core.specs.Writer.{seen_writer}
-use Rattle.csplit_core.specs.inner.Writer.{Goes, with_section}
 use Rattle.csplit_core.proofs.WriterCalls.{close_not, end_quiet, end_sized}
 use Rattle.csplit_core.proofs.section_writer.SectionWriter.end_file.Goals as goal
 
 pub returns-in_err-close-clause-goes : goal.returns-in_err-close-clause-goes
-returns-in_err-close-clause-goes g c = stop_is (Goes g.O.Outs.told (seen_writer c.args.self.now) (with_section false) _ _ _) _ _ c.from_residual.ensures.1
+returns-in_err-close-clause-goes g c = rw (handed_on _ _ c.from_residual.ensures.1)
     (close_not c.args.slot c.args.size c.requires.file c.requires.ready c.in_err-close.ensures.err.0 c.in_err-close.ensures.err.1)
 
 pub returns-then-style-clause-goes : goal.returns-then-style-clause-goes

@@ -1,8 +1,6 @@
+use Rattle.ports_core.proofs.HandedOn.{handed_on}
 use Rattle.std.proofs.Common.{arith}
 use Rattle.std.proofs.lemmas.Grind.{common_steps}
-use Rattle.csplit_core.proofs.WriterLemmas.{stop_is}
-use Rattle.csplit_core.specs.inner.Writer.{with_bytes, Goes}
-use Rattle.csplit_core.specs.Writer.{seen_writer}
 use Rattle.csplit_core.proofs.WriterCalls.{put_skipped, put_file, some_bytes, put_first, put_unmade}
 use Rattle.csplit_core.proofs.section_writer.SectionWriter.put.Goals as goal
 
@@ -10,7 +8,7 @@ pub returns-in-Skipped-clause-goes : goal.returns-in-Skipped-clause-goes
 returns-in-Skipped-clause-goes g c = put_skipped c.args.bytes.now c.in-Skipped.is c.requires.ready
 
 pub returns-in_err-slot-in-Unmade-clause-goes : goal.returns-in_err-slot-in-Unmade-clause-goes
-returns-in_err-slot-in-Unmade-clause-goes g c = stop_is (Goes g.O.Outs.told _ (with_bytes c.args.bytes.now) _ _ (seen_writer c.make_file.new.self)) _ _ c.from_residual.ensures.1
+returns-in_err-slot-in-Unmade-clause-goes g c = rw (handed_on _ _ c.from_residual.ensures.1)
     (put_unmade c.args.bytes.now c.in-Unmade.is (some_bytes c.args.bytes.now c.if-is_empty.ensures) c.in_err-slot-in-Unmade.ensures)
 
 pub returns-in_ok-slot-in-Unmade-clause-goes : goal.returns-in_ok-slot-in-Unmade-clause-goes
