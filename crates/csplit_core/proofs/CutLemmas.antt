@@ -24,10 +24,9 @@ use Rattle.csplit_core.specs.Writer.{WriterState, Writes, size_of}
 use Rattle.csplit_core.specs.declared.line_cutter.Cut.{Cut}
 use Rattle.csplit_core.specs.Cutter.{CutterState, suppress_in, state_in, kept_by, text_from, Leads, draft_by, IsFit, IsAt}
 use Rattle.csplit_core.specs.inner.Cutter.{settled_part, part_at, search_after, CutsNow, WentOn, PassesCut, IsAfter, CutAt, CutsAll, WillCut, IsEnd}
-use Rattle.csplit_core.proofs.HoldLemmas.{goes_or_lacks}
+use Rattle.csplit_core.proofs.CutterLemmas.{goes_or_lacks, last_kept}
 use Rattle.csplit_core.proofs.WholeLemmas.{after_within}
 use Rattle.csplit_core.proofs.LineLemmas.{bytes_between, first_further, from_further}
-use Rattle.csplit_core.proofs.CutterLemmas.{last_kept}
 use Rattle.csplit_core.proofs.WriterLemmas.{bytes_begin, leaves_again, reaches_again, reaches_as, section_begins, stops_wider}
 
 -- What is settled begins with what stands where a section has begun.
@@ -95,7 +94,7 @@ leads_on : {cutter : CutterState} {x left : List ℕ} (at : IsAt cutter x left) 
     → Leads (suppress_in cutter) (all_lines x) cutter.operands (at.steps ++ step_at cutter goes.operand cut ∷ []) (state_after (suppress_in cutter) goes.operand goes.operands cutter.progress.repetition cut.matched cut.line)
 leads_on {cutter} {x} at cut goes more last ending run =
     subst (λ steps. Runs (suppress_in cutter) (all_lines x) (start cutter.operands) steps last ending) (sym (append_assoc at.steps (step_at cutter goes.operand cut ∷ []) more))
-    (at.leads (step_at cutter goes.operand cut ∷ more) last ending (goes.runs more last ending run))
+    (at.leads (step_at cutter goes.operand cut ∷ more) last ending (cuts (state_in cutter) goes.operand goes.operands cut.matched cut.line more last ending goes.are goes.cuts goes.from goes.within run))
 
 -- what is settled begins with the sections after the cut
 pub cut_begins : {cutter : CutterState} {x left : List ℕ} (line : List ℕ) {before : List ℕ} {at : IsAt cutter x left} (cut : Cut) {place : ℕ} (now : CutsNow cutter x left line cut place at) → IsFit cutter → WillCut cutter cut → before ≡ first_lines newline (cut.line - place) left
@@ -126,41 +125,39 @@ pub cut_stopped : {told : Bool} {cutter next : CutterState} {cut : Cut} {place :
 cut_stopped {cutter = cutter} operands leaves reaches =
     record { keeps = record { operands = operands; writer = leaves }; reaches = λ x at now. reaches_as refl (ap (settled_part cutter) (append-nil x)) (reaches x at now); went = tt }
 
-goes_here : {told : Bool} {cutter start : CutterState} {writer : WriterState} {before : List ℕ} {old new : List Slot} {fault : Option Fault} → start ≡ cutter → Goes told start.writer (with_bytes before) old new writer fault → Goes told cutter.writer (with_bytes before) old new writer fault
-goes_here {told} {writer = writer} {before} {old} {new} {fault} same goes = subst (λ (c : CutterState). Goes told c.writer (with_bytes before) old new writer fault) same goes
-
 -- where the run stands after the cut
-passed_state : {told : Bool} {cutter start mid : CutterState} {writer : WriterState} {cut : Cut} {before : List ℕ} {old new : List Slot} → start ≡ cutter → Goes told start.writer (with_bytes before) old new writer None → WentOn (record start { writer = writer }) cut mid
+passed_state : {told : Bool} {cutter mid : CutterState} {writer : WriterState} {cut : Cut} {before : List ℕ} {old new : List Slot} → Goes told cutter.writer (with_bytes before) old new writer None → WentOn (record cutter { writer = writer }) cut mid
     → {operand : Operand} {operands : List Operand} → (state_in cutter).operands ≡ operand ∷ operands → state_in mid ≡ state_after (suppress_in cutter) operand operands cutter.progress.repetition cut.matched cut.line
-passed_state {cutter = cutter} {mid = mid} {writer} {cut} same goes passed {operand} {operands} are =
-    let here = subst (λ (c : CutterState). WentOn (record c { writer = writer }) cut mid) same passed in
-    here.state operand operands are ∙ ap (λ (s : Style). state_after s.suppress operand operands cutter.progress.repetition cut.matched cut.line) (goes_here same goes).leaves.style
+passed_state {cutter = cutter} {cut = cut} goes passed {operand} {operands} are =
+    passed.state operand operands are ∙ ap (λ (s : Style). state_after s.suppress operand operands cutter.progress.repetition cut.matched cut.line) goes.leaves.style
 
--- a cut of this cutter, which is known by its fields too, is due, and stands after these bytes of the lines that are left
-module _ {cutter start : CutterState} {cut : Cut} {place : ℕ} {left before : List ℕ} (same : start ≡ cutter) (fit : IsFit cutter) (will : WillCut cutter cut) (before_is : before ≡ first_lines newline (cut.line - place) left) where
-  pub cut_put_stopped : {told : Bool} {next : CutterState} {old new : List Slot} {fault : Fault} (line : List ℕ) → next.operands ≡ start.operands → Goes told start.writer (with_bytes before) old new next.writer (Some fault)
+-- the writer is as it was before
+began_there : {told : Bool} (cutter : CutterState) {mid : CutterState} {writer next : WriterState} {cut : Cut} {kept : Bool} {old new : List Slot} {fault : Option Fault} → WentOn (record cutter { writer = writer }) cut mid → Goes told mid.writer (with_section kept) old new next fault → Goes told writer (with_section kept) old new next fault
+began_there {told} cutter {next = next} {kept = kept} {old} {new} {fault} passed began = subst (λ w. Goes told w (with_section kept) old new next fault) (ap (λ (c : CutterState). c.writer) passed.same) began
+
+-- a cut of this cutter is due, and stands after these bytes of the lines that are left
+module _ {cutter : CutterState} {cut : Cut} {place : ℕ} {left before : List ℕ} (fit : IsFit cutter) (will : WillCut cutter cut) (before_is : before ≡ first_lines newline (cut.line - place) left) where
+  pub cut_put_stopped : {told : Bool} {next : CutterState} {old new : List Slot} {fault : Fault} (line : List ℕ) → next.operands ≡ cutter.operands → Goes told cutter.writer (with_bytes before) old new next.writer (Some fault)
       → CutsAll told cutter cut place left line [] old new next (Some fault)
-  cut_put_stopped line operands goes = let stopped = goes_here same goes in cut_stopped (operands ∙ ap (λ (c : CutterState). c.operands) same) stopped.leaves
-      (λ x at now. stops_wider (stopped.reaches (draft_at cutter x left at) at.writes) (before_begins line cut now fit will before_is))
+  cut_put_stopped line operands goes = cut_stopped operands goes.leaves (λ x at now. stops_wider (goes.reaches (draft_at cutter x left at) at.writes) (before_begins line cut now fit will before_is))
 
-  pub cut_pass_stopped : {told : Bool} {mid : CutterState} {writer : WriterState} {old new : List Slot} {fault : Fault} (line : List ℕ) → Goes told start.writer (with_bytes before) old new writer None
-      → PassesCut (record start { writer = writer }) cut mid (Some fault) → CutsAll told cutter cut place left line [] old new mid (Some fault)
+  pub cut_pass_stopped : {told : Bool} {mid : CutterState} {writer : WriterState} {old new : List Slot} {fault : Fault} (line : List ℕ) → Goes told cutter.writer (with_bytes before) old new writer None
+      → PassesCut (record cutter { writer = writer }) cut mid (Some fault) → CutsAll told cutter cut place left line [] old new mid (Some fault)
   cut_pass_stopped {told} {old = old} {new} {fault} line goes (is_memory, same_writer, same_operands) =
-      cut_put_stopped line same_operands (subst (λ w. Goes told start.writer (with_bytes before) old new w (Some fault)) (sym same_writer) (goes_or_lacks (Err fault) goes is_memory))
+      cut_put_stopped line same_operands (subst (λ w. Goes told cutter.writer (with_bytes before) old new w (Some fault)) (sym same_writer) (goes_or_lacks (Err fault) goes is_memory))
 
-  pub cut_next_stopped : {told : Bool} {mid now : CutterState} {writer next : WriterState} {kept : Bool} {old between new : List Slot} {fault : Fault} (line : List ℕ) → Goes told start.writer (with_bytes before) old between writer None → now ≡ mid → WentOn (record start { writer = writer }) cut mid
-      → kept ≡ kept_by (state_in now).operands → Goes told now.writer (with_section kept) between new next (Some fault) → CutsAll told cutter cut place left line [] old new (record now { writer = next }) (Some fault)
-  cut_next_stopped {told} {mid} {now} {writer} {next} {kept} {old} {between} {new} {fault} line goes same_mid passed kept_is stops =
-      let went = goes_here same goes in
-      let stopped : Goes told writer (with_section kept) between new next (Some fault) = subst (λ w. Goes told w (with_section kept) between new next (Some fault)) (ap (λ (c : CutterState). c.writer) (same_mid ∙ passed.same)) stops in
-      cut_stopped (ap (λ (c : CutterState). c.operands) (same_mid ∙ passed.same) ∙ ap (λ (c : CutterState). c.operands) same) (leaves_again went.leaves stopped.leaves)
+  pub cut_next_stopped : {told : Bool} {mid : CutterState} {writer next : WriterState} {kept : Bool} {old between new : List Slot} {fault : Fault} (line : List ℕ) → Goes told cutter.writer (with_bytes before) old between writer None → WentOn (record cutter { writer = writer }) cut mid
+      → kept ≡ kept_by (state_in mid).operands → Goes told mid.writer (with_section kept) between new next (Some fault) → CutsAll told cutter cut place left line [] old new (record mid { writer = next }) (Some fault)
+  cut_next_stopped {told} {mid} {writer} {next} {kept} {between = between} {new} {fault} line went passed kept_is stops =
+      let stopped = began_there cutter passed stops in
+      cut_stopped (ap (λ (c : CutterState). c.operands) passed.same) (leaves_again went.leaves stopped.leaves)
       (λ x at due.
-      let kept' = kept_is ∙ ap (λ (m : CutterState). kept_by (state_in m).operands) same_mid ∙ ap (λ (s : State). kept_by s.operands) (passed_state same goes passed due.goes.are) in
       let draft = draft_at cutter x left at in
       reaches_again (bytes_begin cutter.writer.style before draft) (went.reaches draft at.writes)
       (stops_wider
       (reaches_as (ap (λ (s : Style). draft_part s (with_bytes before draft)) (sym went.leaves.style)) (ap (λ (s : Style). draft_part s (with_section kept (with_bytes before draft))) (sym went.leaves.style)) (stopped.reaches (with_bytes before draft) (went.writes draft at.writes)))
-      (subst (λ k. Begins (draft_part cutter.writer.style (with_section k (with_bytes before draft))) (settled_part cutter x)) (sym kept') (cut_begins line cut due fit will before_is))))
+      (subst (λ k. Begins (draft_part cutter.writer.style (with_section k (with_bytes before draft))) (settled_part cutter x)) (sym (kept_is ∙ ap (λ (s : State). kept_by s.operands) (passed_state went passed due.goes.are)))
+      (cut_begins line cut due fit will before_is))))
 
 -- the next section began
 
@@ -188,12 +185,13 @@ end_of false left all n all_is skipped whole = (first_lines newline n left, sym 
 
 module _ {told : Bool} {cutter mid : CutterState} {writer next : WriterState} {cut : Cut} {place : ℕ} {left before rest : List ℕ} (all : List ℕ) {kept : Bool} {old between new : List Slot} (fit : IsFit cutter) (will : WillCut cutter cut)
     (before_is : before ≡ first_lines newline (cut.line - place) left) (all_is : all ≡ after_lines newline (cut.line - place) left) (skipped : next.style.suppress ≡ true → rest ≡ after_lines newline 1 all) (whole : next.style.suppress ≡ false → rest ≡ all)
-    (went : Goes told cutter.writer (with_bytes before) old between writer None) (passed : WentOn (record cutter { writer = writer }) cut mid) (kept_is : kept ≡ kept_by (state_in mid).operands) (second : Goes told writer (with_section kept) between new next None) where
+    (went : Goes told cutter.writer (with_bytes before) old between writer None) (passed : WentOn (record cutter { writer = writer }) cut mid) (kept_is : kept ≡ kept_by (state_in mid).operands) (began : Goes told mid.writer (with_section kept) between new next None) where
   after_at : {x : List ℕ} (line : List ℕ) {at : IsAt cutter x left} (now : CutsNow cutter x left line cut place at) → IsAfter told cutter x line (record mid { writer = next }) rest (part_at cutter x left at) old new
   after_at {x} line {at} now =
+      let second = began_there cutter passed began in
       let style_is : next.style ≡ cutter.writer.style = second.leaves.style ∙ went.leaves.style in
       let suppress_is : next.style.suppress ≡ suppress_in cutter = ap (λ (s : Style). s.suppress) style_is in
-      let state = passed_state refl went passed now.goes.are in
+      let state = passed_state went passed now.goes.are in
       let current : mid.progress.current ≡ line_after (suppress_in cutter) cut.line = ap (λ (s : State). s.current) state in
       let lines_is : mid.lines ≡ cutter.lines = ap (λ (c : CutterState). c.lines) passed.same in
       let on : cutter.progress.current + at.taken ≤ cut.line = (let p = now.place_is in let b = now.before in omega (arith, p, b)) in
@@ -237,8 +235,8 @@ module _ {told : Bool} {cutter mid : CutterState} {writer next : WriterState} {c
             (second.reaches (with_bytes before draft) (went.writes draft at.writes)));
       }
 
-  cut_went : size_of next.current ≡ 0 → length rest ≤ length left → CutAt told cutter cut place left old new (record mid { writer = next }) rest
-  cut_went empty shorter = record {
+  pub cut_done : size_of next.current ≡ 0 → length rest ≤ length left → CutAt told cutter cut place left old new (record mid { writer = next }) rest
+  cut_done empty shorter = let second = began_there cutter passed began in record {
     fewer = passed.fewer;
     spreading = λ line. record {
       keeps = record { operands = ap (λ (c : CutterState). c.operands) passed.same; writer = leaves_again went.leaves second.leaves };
@@ -250,13 +248,3 @@ module _ {told : Bool} {cutter mid : CutterState} {writer next : WriterState} {c
       end = end_of next.style.suppress left all (cut.line - place) all_is skipped whole;
     };
   }
-
--- The same of a cutter that is known by its fields.
-pub cut_done : {told : Bool} {cutter start mid now : CutterState} {writer next : WriterState} {cut : Cut} {place : ℕ} {left before rest : List ℕ} (all : List ℕ) {kept : Bool} {old between new : List Slot} → start ≡ cutter → IsFit cutter → WillCut cutter cut
-    → before ≡ first_lines newline (cut.line - place) left → all ≡ after_lines newline (cut.line - place) left → (next.style.suppress ≡ true → rest ≡ after_lines newline 1 all) → (next.style.suppress ≡ false → rest ≡ all)
-    → Goes told start.writer (with_bytes before) old between writer None → now ≡ mid → WentOn (record start { writer = writer }) cut mid → kept ≡ kept_by (state_in now).operands → Goes told now.writer (with_section kept) between new next None → size_of next.current ≡ 0 → length rest ≤ length left
-    → CutAt told cutter cut place left old new (record now { writer = next }) rest
-cut_done {told} {cutter} {mid = mid} {writer = writer} {next} {cut} {place} {left} {rest = rest} all {kept} {old} {between} {new} same fit will before_is all_is skipped whole goes same_mid passed kept_is second empty shorter =
-    subst (λ (m : CutterState). CutAt told cutter cut place left old new (record m { writer = next }) rest) (sym same_mid)
-    (cut_went all fit will before_is all_is skipped whole (goes_here same goes) (subst (λ (c : CutterState). WentOn (record c { writer = writer }) cut mid) same passed)
-    (kept_is ∙ ap (λ (m : CutterState). kept_by (state_in m).operands) same_mid) (subst (λ w. Goes told w (with_section kept) between new next None) (ap (λ (c : CutterState). c.writer) (same_mid ∙ passed.same)) second) empty shorter)

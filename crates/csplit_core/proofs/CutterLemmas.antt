@@ -1,13 +1,13 @@
--- Lemmas on the cutter of lines, and on what is settled of complete lines, by where the plan over them ends.
-use Rattle.std.proofs.Common.{◌≡◌, ℕ, ◌+◌, ◌-◌, ◌≤◌, Bool, true, false, List, [], ◌∷◌, ◌++◌, length, map, refl, sym, ◌∙◌, ap, arith, ◌⊎◌, inl, inr, Option, None, subst}
-use Rattle.std.proofs.lemmas.Bool.{false≢true}
-use Rattle.std.proofs.lemmas.List.{map-append, append-nil}
-use Rattle.seg_core.specs.Line.{line_count, first_lines, after_lines}
+-- Lemmas on the cutter of lines: what is settled, and what holding lines leaves.
+use Rattle.std.proofs.Common.{◌≡◌, ℕ, ◌+◌, ◌-◌, ◌≤◌, Bool, true, false, List, [], ◌∷◌, ◌++◌, length, map, refl, sym, ◌∙◌, ap, arith, ◌⊎◌, inl, inr, Option, None, subst, ◌<◌, min, Some, Result, Ok, Err, OnOk, IfErr, take, drop, append_assoc, length-append}
+use Rattle.std.proofs.lemmas.Bool.{false≢true, cases_lt}
+use Rattle.std.proofs.lemmas.List.{map-append, append-nil, length-take-le, length-drop, take-append-drop, take-append-le, take_all, drop_all, take_at, drop_at}
+use Rattle.seg_core.specs.Line.{line_count, first_lines, after_lines, but_last_lines, last_lines}
 use Rattle.csplit_core.specs.Csplit.{settled_of}
-use Rattle.csplit_core.specs.Draft.{draft_part, Draft}
+use Rattle.csplit_core.specs.Draft.{draft_part, Draft, last_contents, AreClosed}
 use Rattle.csplit_core.specs.Input.{newline, all_lines}
 use Rattle.csplit_core.specs.Operand.{Plus, Minus, Target, Number, Search, Operand, Line, most_held}
-use Rattle.csplit_core.specs.Output.{Style, contents_of, part_by}
+use Rattle.csplit_core.specs.Output.{Style, contents_of, part_by, makes_file, files_of}
 use Rattle.csplit_core.specs.Plan.{State, start, Step, Ending, used_up, missed, above, below, CutsAt, Runs}
 use Rattle.csplit_core.specs.Planned.{Plan, plan}
 use Rattle.csplit_core.specs.Section.{section, section_of, lines_between, is_last_kept, settled_end, is_final, most_waiting, bytes_of}
@@ -17,14 +17,27 @@ use Rattle.csplit_core.specs.declared.progress.Turn.TheVariants.{Below}
 use Rattle.csplit_core.specs.laws.PlanLaws.{plan_once, goes_on}
 use Rattle.csplit_core.specs.inner.PlanLaws.{EndsAs}
 use Rattle.csplit_core.specs.laws.SectionLaws.{ends_as, closed_still, are_within}
-use Rattle.csplit_core.specs.Cutter.{kept_by, most_by, text_from, draft_by, settled_draft, CutterState, suppress_in, state_in, IsAt, EndsNow, IsLive}
-use Rattle.csplit_core.specs.inner.Cutter.{IsWhole, settled_part, Keeps, part_at}
+use Rattle.csplit_core.specs.Cutter.{kept_by, most_by, text_from, draft_by, settled_draft, CutterState, suppress_in, state_in, IsAt, EndsNow, IsLive, IsFit, Stands}
+use Rattle.csplit_core.specs.inner.Cutter.{Joins, settled_part, Keeps, part_at, Arrives, Holds}
 use Rattle.csplit_core.proofs.LineLemmas.{all_lines-append, bytes_between, length-all_lines, count-append, count_from, first_still, rest_more, from_further, first_further}
 use Rattle.ports_core.specs.Slot.{Slot}
 use Rattle.ports_core.specs.declared.fault.Fault.{Fault}
-use Rattle.csplit_core.specs.inner.Writer.{with_bytes}
-use Rattle.csplit_core.specs.Writer.{WriterState, Writes}
-use Rattle.csplit_core.proofs.WriterLemmas.{leaves_again}
+use Rattle.csplit_core.specs.inner.Writer.{with_bytes, Goes, Reaches, fault_in}
+use Rattle.csplit_core.specs.Writer.{WriterState, Writes, IsCurrent, IsReady, size_of}
+use Rattle.csplit_core.proofs.WriterLemmas.{leaves_again, bytes_begin, leaves_lacking, leaves_still, reaches_again, reaches_as, reaches_still, where_three}
+use Rattle.std.proofs.Math.Nat.{min-eq_left, min-eq_right}
+use Rattle.std.proofs.Math.Seq.{take-add, take-append-add}
+use Rattle.seg_core.specs.Window.{Window, without_first}
+use Rattle.seg_core.proofs.FirstLines.{first_lines-is_take}
+use Rattle.seg_core.proofs.Carried.{left_after, left_alone, but_last_lines-last, over-le-length}
+use Rattle.ports_core.specs.Part.{Begins, Part}
+use Rattle.ports_core.specs.inner.Part.{InTurn}
+use Rattle.ports_core.specs.declared.fault.Fault.TheVariants.{Memory}
+use Rattle.ports_core.proofs.PartLemmas.{part_begins_itself, turn_last, turn_next}
+use Rattle.csplit_core.proofs.WriterCalls.{goes_again, goes_still, goes_wider, open_part, part_none, closed_files}
+use Rattle.std.specs.Prelude.{IfNone}
+
+-- Lemmas on the cutter of lines, and on what is settled of complete lines, by where the plan over them ends.
 
 -- What is settled of complete lines, by where the plan over them ends.
 
@@ -63,7 +76,7 @@ final_count total current (below operand repetition) past = omega arith
 final_count total current _ past = absurd (false≢true past)
 
 -- the sections that ended stay, whatever comes
-pub ended_still : (style : Style) (operands : List Operand) {x : List ℕ} (t : List ℕ) {steps : List Step} {state : State} {ending : Ending} (kept : Bool) (written : List ℕ) → IsWhole x → Runs style.suppress (all_lines x) (start operands) steps state ending
+pub ended_still : (style : Style) (operands : List Operand) {x : List ℕ} (t : List ℕ) {steps : List Step} {state : State} {ending : Ending} (kept : Bool) (written : List ℕ) → Joins x t → Runs style.suppress (all_lines x) (start operands) steps state ending
     → draft_by (all_lines x) steps kept written ≡ draft_by (all_lines (x ++ t)) steps kept written
 ended_still style operands {x} t {steps} {state} {ending} kept written whole runs =
     let within = (are_within style.suppress (all_lines x) (start operands) steps state ending runs (omega arith)).0 in
@@ -109,7 +122,7 @@ pub runs_to : {cutter : CutterState} {x left : List ℕ} (at : IsAt cutter x lef
 runs_to {cutter} {x} at ends = subst (λ steps. Runs (suppress_in cutter) (all_lines x) (start cutter.operands) steps (state_in cutter) ends.ending) (append-nil at.steps) (at.leads [] (state_in cutter) ends.ending ends.runs)
 
 -- more lines came in, and nothing was done with them yet
-unfoldable pub at_more : (cutter : CutterState) (lines : ℕ) (aim : Turn) (x t left : List ℕ) → IsWhole x → 1 ≤ cutter.progress.current → (at : IsAt cutter x left) → EndsNow cutter x → lines ≡ line_count newline (x ++ t)
+unfoldable pub at_more : (cutter : CutterState) (lines : ℕ) (aim : Turn) (x t left : List ℕ) → Joins x t → 1 ≤ cutter.progress.current → (at : IsAt cutter x left) → EndsNow cutter x → lines ≡ line_count newline (x ++ t)
     → IsAt (record cutter { lines = lines; aim = aim }) (x ++ t) (left ++ t)
 at_more cutter lines aim x t left whole some at ends count =
     let e = all_lines-append t whole in record {
@@ -125,7 +138,7 @@ at_more cutter lines aim x t left whole some at ends count =
       writes = subst (Writes cutter.writer) (ended_still cutter.writer.style cutter.operands t (kept_by (state_in cutter).operands) at.written whole (runs_to at ends)) at.writes;
     }
 
-pub part_more : {cutter : CutterState} {lines : ℕ} (aim : Turn) {x : List ℕ} (t : List ℕ) {left : List ℕ} (whole : IsWhole x) (some : 1 ≤ cutter.progress.current) (at : IsAt cutter x left) (ends : EndsNow cutter x) (count : lines ≡ line_count newline (x ++ t))
+pub part_more : {cutter : CutterState} {lines : ℕ} (aim : Turn) {x : List ℕ} (t : List ℕ) {left : List ℕ} (whole : Joins x t) (some : 1 ≤ cutter.progress.current) (at : IsAt cutter x left) (ends : EndsNow cutter x) (count : lines ≡ line_count newline (x ++ t))
     → part_at cutter x left at ≡ part_at (record cutter { lines = lines; aim = aim }) (x ++ t) (left ++ t) (at_more cutter lines aim x t left whole some at ends count)
 unfolding at_more
 part_more {cutter} aim t whole some at ends count =
@@ -176,3 +189,285 @@ at_held cutter writer x left bytes held n some at same within bytes_is held_is w
 pub taken_all : (taken lines current : ℕ) {left : ℕ} (most : ℕ) → 1 ≤ current → current + taken ≤ lines + 1 → left ≡ lines - (current + taken - 1) → (taken ≡ 0) ⊎ (most ≤ left) → taken + (left - most) ≡ lines + 1 - current - most
 taken_all taken lines current most some few is (inl none) = omega (arith, some, few, is, none)
 taken_all taken lines current most some few is (inr enough) = omega (arith, some, few, is, enough)
+
+-- Lines that wait go to the open section, and what `hold` leaves: all that is settled of the lines that came in is written, and the others wait.
+
+-- Writing lines that wait to the open section.
+
+-- want of memory leaves the outputs as they are
+
+pub in_turn : {told : Bool} {part : Part} (place : ℕ) {slots : List Slot} {writer next : WriterState} → InTurn part.files place → Reaches told writer next part part slots slots (Some Memory)
+in_turn {part = part} place {slots} turn = record {
+  there = λ before at. record {
+    part = part;
+    above = part_begins_itself part;
+    below = part_begins_itself part;
+    place = place;
+    turn = turn;
+    reached = slots;
+    outputs = at.outputs;
+    marks = refl;
+    from = tt;
+  };
+}
+
+draft_turn : (style : Style) (draft : Draft) → AreClosed draft.ended → (makes : Bool) → makes_file style (last_contents false draft) ≡ makes → (place : ℕ) × InTurn (draft_part style draft).files place
+draft_turn style draft closed true is = (
+  length (files_of style 0 draft.ended),
+  subst (λ (part : Part). InTurn part.files (length (files_of style 0 draft.ended))) (sym (open_part style draft is)) (turn_last (files_of style 0 draft.ended) _ _ refl (closed_files style 0 draft.ended closed)),
+)
+draft_turn style draft closed false is = (
+  length (files_of style 0 draft.ended),
+  subst (λ (part : Part). InTurn part.files (length (files_of style 0 draft.ended))) (sym (part_none style draft.ended (last_contents false draft) is)) (turn_next (files_of style 0 draft.ended) (closed_files style 0 draft.ended closed)),
+)
+
+pub lacks_memory : {told : Bool} (style : Style) (draft : Draft) {slots : List Slot} {writer next : WriterState} → AreClosed draft.ended → Reaches told writer next (draft_part style draft) (draft_part style draft) slots slots (Some Memory)
+lacks_memory style draft closed = let turn = draft_turn style draft closed (makes_file style (last_contents false draft)) refl in in_turn turn.0 turn.1
+
+-- bytes that are written after others
+
+again : (draft : Draft) (a b : List ℕ) → with_bytes b (with_bytes a draft) ≡ with_bytes (a ++ b) draft
+again draft a b = ap (λ bytes. record draft { bytes = bytes }) (append_assoc draft.bytes a b)
+
+none_more : {draft : Draft} → draft ≡ with_bytes [] draft
+none_more {draft} = ap (λ bytes. record draft { bytes = bytes }) (sym (append-nil draft.bytes))
+
+goes_none : {told : Bool} {writer : WriterState} {slots : List Slot} → IsReady writer slots → Goes told writer (with_bytes []) slots slots writer None
+goes_none {writer = writer} ready = goes_still writer.current ready ready.current (λ last. last)
+    (λ draft writes. (ap (draft_part writer.style) (none_more {draft = draft}), writes.closed, subst (λ bytes. IsCurrent writer.style draft.is_kept bytes writer.current) (sym (append-nil draft.bytes)) writes.current))
+
+goes_more : {told : Bool} {one two three : WriterState} (a b : List ℕ) {old mid new : List Slot} {fault : Option Fault} → Goes told one (with_bytes a) old mid two None → Goes told two (with_bytes b) mid new three fault → Goes told one (with_bytes (a ++ b)) old new three fault
+goes_more {one = one} a b first second = goes_again (with_bytes (a ++ b)) (λ draft. again draft a b) (bytes_begin one.style a) first second
+
+-- it was stopped among them
+pub stops_among : {told : Bool} {writer next : WriterState} (a b : List ℕ) {old new : List Slot} {fault : Fault} → Goes told writer (with_bytes a) old new next (Some fault) → Goes told writer (with_bytes (a ++ b)) old new next (Some fault)
+stops_among {writer = writer} a b stopped = goes_wider (with_bytes (a ++ b))
+    (λ draft. subst (λ those. Begins (draft_part writer.style (with_bytes a draft)) (draft_part writer.style those)) (again draft a b) (bytes_begin writer.style b (with_bytes a draft))) stopped
+
+pub goes_as : {told : Bool} {writer next : WriterState} {a b : List ℕ} {old new : List Slot} {fault : Option Fault} → a ≡ b → Goes told writer (with_bytes a) old new next fault → Goes told writer (with_bytes b) old new next fault
+goes_as {told} {writer} {next} {old = old} {new} {fault} is goes = subst (λ bytes. Goes told writer (with_bytes bytes) old new next fault) is goes
+
+-- A beginning of what waited was written and dropped, and `left` bytes are still to go.
+pub record Emptying (told : Bool) (writer now : WriterState) (window left_in : Window) (n left : ℕ) (old new : List Slot) : Type 0 where
+  pub gone : List ℕ
+  pub whole : window.held ≡ gone ++ left_in.held
+  pub count : length gone + left ≡ n
+  pub same : left_in ≡ record window { held = left_in.held }
+  pub went : Goes told writer (with_bytes gone) old new now None
+  pub size : size_of now.current + length left_in.held ≤ size_of writer.current + length window.held
+
+pub starts : {told : Bool} {writer : WriterState} {window : Window} {n : ℕ} {slots : List Slot} → IsReady writer slots → Emptying told writer writer window window n n slots slots
+starts ready = record { gone = []; whole = refl; count = omega arith; same = refl; went = goes_none ready; size = omega arith }
+
+-- the first bytes of what stands at the front are the first of all
+front_bytes : (bytes : ℕ) {held : List ℕ} (front rest : List ℕ) → held ≡ front ++ rest → bytes ≤ length front → take bytes front ≡ take bytes held
+front_bytes bytes front rest is within = sym (ap (take bytes) is ∙ take-append-le bytes front rest within)
+
+front_within : {held : List ℕ} (front rest : List ℕ) → held ≡ front ++ rest → length front ≤ length held
+front_within {held} front rest is = let e : length held ≡ length front + length rest = ap length is ∙ length-append front rest in omega (arith, e)
+
+module _ {told : Bool} {writer now : WriterState} {window left_in : Window} {n left : ℕ} {old mid : List Slot} (so_far : Emptying told writer now window left_in n left old mid) where
+  -- what is still to go is held
+  pub left_within : n ≤ length window.held → left ≤ length left_in.held
+  left_within enough =
+      let long : length window.held ≡ length so_far.gone + length left_in.held = ap length so_far.whole ∙ length-append so_far.gone left_in.held in
+      let count = so_far.count in omega (arith, long, count, enough)
+
+  pub fits_front : (bytes most : ℕ) (front rest : List ℕ) → left_in.held ≡ front ++ rest → bytes ≤ length front → size_of writer.current + length window.held < most → size_of now.current + length (take bytes front) < most
+  fits_front bytes most front rest is within fits =
+      let long : length (take bytes front) ≡ bytes = length-take-le bytes front within in
+      let less : length front ≤ length left_in.held = front_within front rest is in
+      let size = so_far.size in omega (arith, long, less, size, within, fits)
+
+  pub empties : (bytes : ℕ) (front rest : List ℕ) {next : WriterState} {after : Window} {new : List Slot} → left_in.held ≡ front ++ rest → bytes ≤ length front → bytes ≤ left → after ≡ without_first left_in bytes
+      → Goes told now (with_bytes (take bytes front)) mid new next None → size_of next.current ≤ size_of now.current + length (take bytes front) → Emptying told writer next window after n (left - bytes) old new
+  empties bytes front rest {after = after} is within few dropped went more =
+      let long : length (take bytes front) ≡ bytes = length-take-le bytes front within in
+      let less : length front ≤ length left_in.held = front_within front rest is in
+      let left_is : after.held ≡ drop bytes left_in.held = ap (λ (w : Window). w.held) dropped in
+      let after_long : length after.held ≡ length left_in.held - bytes = ap length left_is ∙ length-drop bytes left_in.held in record {
+        gone = so_far.gone ++ take bytes front;
+        whole = so_far.whole
+            ∙ ap (λ held. so_far.gone ++ held) (sym (take-append-drop bytes left_in.held) ∙ ap (λ z. z ++ drop bytes left_in.held) (sym (front_bytes bytes front rest is within)) ∙ ap (λ z. take bytes front ++ z) (sym left_is))
+            ∙ sym (append_assoc so_far.gone (take bytes front) after.held);
+        count = (let so = so_far.count in let all : length (so_far.gone ++ take bytes front) ≡ length so_far.gone + length (take bytes front) = length-append so_far.gone (take bytes front) in omega (arith, so, all, long, few));
+        same = dropped ∙ ap (λ (w : Window). without_first w bytes) so_far.same ∙ ap (λ held. record window { held = held }) (sym left_is);
+        went = goes_more so_far.gone (take bytes front) so_far.went went;
+        size = (let size = so_far.size in omega (arith, size, more, long, less, after_long, within));
+      }
+
+  -- a write of it stopped
+  pub empties_short : (bytes : ℕ) (front rest : List ℕ) {next : WriterState} {new : List Slot} {fault : Fault} → left_in.held ≡ front ++ rest → bytes ≤ length front → bytes ≤ left → Goes told now (with_bytes (take bytes front)) mid new next (Some fault)
+      → Goes told writer (with_bytes (take n window.held)) old new next (Some fault)
+  empties_short bytes front rest is within few stopped =
+      let all : take n window.held ≡ (so_far.gone ++ take bytes front) ++ take (left - bytes) (drop bytes left_in.held) =
+      ap (take n) so_far.whole ∙ ap (λ m. take m (so_far.gone ++ left_in.held)) (sym so_far.count) ∙ take-append-add so_far.gone left_in.held left
+      ∙ ap (λ z. so_far.gone ++ z) (ap (λ m. take m left_in.held) (let e : left ≡ bytes + (left - bytes) = omega (arith, few) in e) ∙ take-add bytes (left - bytes) left_in.held
+      ∙ ap (λ z. z ++ take (left - bytes) (drop bytes left_in.held)) (sym (front_bytes bytes front rest is within)))
+      ∙ sym (append_assoc so_far.gone (take bytes front) (take (left - bytes) (drop bytes left_in.held))) in
+      goes_as (sym all) (stops_among (so_far.gone ++ take bytes front) (take (left - bytes) (drop bytes left_in.held)) (goes_more so_far.gone (take bytes front) so_far.went stopped))
+
+  -- all of it was written
+  all_gone : left ≤ 0 → length so_far.gone ≡ n
+  all_gone none = let count = so_far.count in omega (arith, count, none)
+
+  pub emptied_went : left ≤ 0 → Goes told writer (with_bytes (take n window.held)) old mid now None
+  emptied_went none = goes_as (sym (ap (take n) so_far.whole ∙ take_at so_far.gone left_in.held n (all_gone none))) so_far.went
+
+  pub emptied_window : left ≤ 0 → left_in ≡ without_first window n
+  emptied_window none = so_far.same ∙ ap (λ held. record window { held = held }) (sym (ap (drop n) so_far.whole ∙ drop_at so_far.gone left_in.held n (all_gone none)))
+
+-- What leaves of the lines that wait and of a text after them, and what stays: of the text only where all that waited leaves.
+pub record Parted (delim most over front : ℕ) (held text : List ℕ) : Type 0 where
+  pub goes : take front held ++ take (over - front) text ≡ but_last_lines delim most (held ++ text)
+  pub stays : drop front held ++ drop (over - front) text ≡ last_lines delim most (held ++ text)
+  pub within : over - front ≤ length text
+
+pub parted : {delim most over front : ℕ} {held text : List ℕ} → over ≡ length (but_last_lines delim most (held ++ text)) → front ≡ min over (length held) → Parted delim most over front held text
+parted {delim} {most} {over} {front} {held} {text} is at = elim (cases_lt over (length held)) [
+  | inl less ↦
+      let low : over ≤ length held = omega (arith, less) in
+      let none : over - front ≡ 0 = (let same : front ≡ over = at ∙ min-eq_left low in omega (arith, same)) in record {
+        goes = ap (λ n. take front held ++ take n text) none ∙ append-nil (take front held) ∙ ap (λ n. take n held) (at ∙ min-eq_left low) ∙ sym (take-append-le over held text low) ∙ taken;
+        stays = ap (λ n. drop front held ++ drop n text) none ∙ ap (λ n. drop n held ++ text) (at ∙ min-eq_left low) ∙ left_after delim most held text over is low;
+        within = omega (arith, none);
+      }
+  | inr more ↦
+      let same : front ≡ length held = at ∙ min-eq_right more in record {
+        goes = ap (λ bytes. bytes ++ take (over - front) text) (ap (λ n. take n held) same ∙ take_all (length held) held (omega arith)) ∙ sym (take-append-add held text (over - front))
+            ∙ ap (λ n. take n (held ++ text)) (let e : length held + (over - front) ≡ over = omega (arith, more, same) in e) ∙ taken;
+        stays = ap (λ bytes. bytes ++ drop (over - front) text) (ap (λ n. drop n held) same ∙ drop_all (length held) held (omega arith)) ∙ left_alone delim most held text over (over - front) is (omega (arith, more, same));
+        within = (let all = over-le-length delim most held text in omega (arith, all, is, same));
+      }
+] where
+  taken : take over (held ++ text) ≡ but_last_lines delim most (held ++ text)
+  taken = ap (λ n. take n (held ++ text)) is ∙ sym (first_lines-is_take delim (line_count delim (held ++ text) - most) (held ++ text))
+
+-- what `hold_last` owes at each of its ends
+module _ {delim most over front : ℕ} {held text : List ℕ} (parts : Parted delim most over front held text) where
+  pub rest_fits : but_last_lines delim most (drop front held ++ drop (over - front) text) ≡ []
+  rest_fits = ap (but_last_lines delim most) parts.stays ∙ but_last_lines-last delim most (held ++ text)
+
+  pub hold_short : {told : Bool} {writer next : WriterState} {old new : List Slot} {fault : Fault} → Goes told writer (with_bytes (take front held)) old new next (Some fault) → Goes told writer (with_bytes (but_last_lines delim most (held ++ text))) old new next (Some fault)
+  hold_short stopped = goes_as parts.goes (stops_among (take front held) (take (over - front) text) stopped)
+
+  pub hold_on : {told : Bool} {writer between next : WriterState} {piece : List ℕ} {old mid new : List Slot} {fault : Option Fault} → piece ≡ take (over - front) text → Goes told writer (with_bytes (take front held)) old mid between None → Goes told between (with_bytes piece) mid new next fault
+      → Goes told writer (with_bytes (but_last_lines delim most (held ++ text))) old new next fault
+  hold_on piece_is first second = goes_as parts.goes (goes_more (take front held) (take (over - front) text) first (goes_as piece_is second))
+
+-- the last call only wants memory
+pub goes_or_lacks : {told : Bool} {writer next : WriterState} {bytes : List ℕ} {old new : List Slot} (result : Result (Unit {0}) Fault) → Goes told writer (with_bytes bytes) old new next None → IfErr result (λ fault. fault ≡ Memory)
+    → Goes told writer (with_bytes bytes) old new next (fault_in result)
+goes_or_lacks (Ok done) went lacks = went
+goes_or_lacks {told} {writer} {next} {bytes} {old} {new} (Err fault) went lacks = subst (λ why. Goes told writer (with_bytes bytes) old new next (Some why)) (sym lacks) (record {
+  leaves = leaves_again went.leaves leaves_lacking;
+  reaches = λ draft writes. reaches_again (bytes_begin writer.style bytes draft) (went.reaches draft writes) (lacks_memory writer.style (with_bytes bytes draft) writes.closed);
+  writes = tt;
+})
+
+pub goes_lacking : {told : Bool} {writer : WriterState} {bytes : List ℕ} {slots : List Slot} {fault : Fault} → IsReady writer slots → fault ≡ Memory → Goes told writer (with_bytes bytes) slots slots writer (Some fault)
+goes_lacking {bytes = bytes} {fault = fault} ready lacks = stops_among [] bytes (goes_or_lacks (Err fault) (goes_none ready) lacks)
+
+pub kept_window : {window mid : Window} (new : Window) {over front : ℕ} {text : List ℕ} (result : Result (Unit {0}) Fault) → Parted window.delim window.most over front window.held text → mid ≡ without_first window front
+    → OnOk result (new ≡ record { most = mid.most; delim = mid.delim; held = mid.held ++ drop (over - front) text }) → OnOk result (new ≡ record { most = window.most; delim = window.delim; held = last_lines window.delim window.most (window.held ++ text) })
+kept_window {window} new {over = over} {front} {text} (Ok done) parts dropped put =
+    put ∙ ap (λ (w : Window). record { most = w.most; delim = w.delim; held = w.held ++ drop (over - front) text }) dropped
+    ∙ ap (λ held. record { most = window.most; delim = window.delim; held = held }) parts.stays
+kept_window new (Err fault) parts dropped put = tt
+
+-- What `hold` leaves: all that is settled of the lines that came in is written, and the others wait.
+
+-- the cutter once `hold` has written and kept what it was to
+abbrev pub holding : CutterState → WriterState → List ℕ → CutterState
+holding cutter writer held = record cutter { writer = writer; window = record cutter.window { held = held } }
+
+-- how many lines of those that are left no longer wait
+abbrev pub over_of : CutterState → List ℕ → ℕ
+over_of cutter left = line_count newline left - cutter.window.most
+
+-- then all lines but those that may wait are taken
+taken_is : {cutter : CutterState} {x left : List ℕ} {at : IsAt cutter x left} (arrives : Arrives cutter x left at) → IsFit cutter → is_final arrives.ends.ending ≡ false
+    → at.taken + over_of cutter left ≡ cutter.lines + 1 - cutter.progress.current - most_waiting arrives.ends.ending
+taken_is {cutter} {x} {at} arrives fit live =
+    let most : cutter.window.most ≡ most_waiting arrives.ends.ending = fit.most ∙ most_is (suppress_in cutter) (all_lines x) (state_in cutter) arrives.ends.ending (ends_as _ _ _ _ _ _ arrives.ends.runs) live in
+    taken_all at.taken cutter.lines cutter.progress.current cutter.window.most fit.fits.some (few_taken at) (left_count at) arrives.enough
+    ∙ ap (λ n. cutter.lines + 1 - cutter.progress.current - n) most
+
+-- and what is written is what is settled
+held_part : {cutter : CutterState} {x left bytes : List ℕ} {at : IsAt cutter x left} (arrives : Arrives cutter x left at) → IsFit cutter → is_final arrives.ends.ending ≡ false → bytes ≡ first_lines newline (over_of cutter left) left
+    → draft_part cutter.writer.style (with_bytes bytes (draft_by (all_lines x) at.steps (kept_by (state_in cutter).operands) at.written)) ≡ settled_part cutter x
+held_part {cutter} {x} {left} {bytes} {at} arrives fit live bytes_is =
+    let written : at.written ++ bytes ≡ first_lines newline (at.taken + over_of cutter left) (text_from cutter.progress.current x) =
+    ap (λ those. those ++ bytes) at.written_is
+    ∙ ap (λ those. first_lines newline at.taken (text_from cutter.progress.current x) ++ those) (bytes_is ∙ ap (first_lines newline (over_of cutter left)) at.left_is)
+    ∙ sym (first_further cutter.progress.current at.taken (over_of cutter left) x fit.fits.some) in
+    ap (draft_part cutter.writer.style) (draft_is settled_end cutter.operands x (at.taken + over_of cutter left) (runs_to at arrives.ends)
+    (taken_is arrives fit live ∙ settled_count at arrives.ends.ending live) written)
+    ∙ settled_part_is cutter.writer.style cutter.operands (all_lines x)
+
+held_live : {cutter : CutterState} {writer : WriterState} {x left bytes held : List ℕ} {at : IsAt cutter x left} (arrives : Arrives cutter x left at) → IsFit cutter → is_final arrives.ends.ending ≡ false → writer.style ≡ cutter.writer.style
+    → bytes ≡ first_lines newline (over_of cutter left) left → held ≡ after_lines newline (over_of cutter left) left → ((draft : Draft) → Writes cutter.writer draft → Writes writer (with_bytes bytes draft)) → IsLive (holding cutter writer held) x
+unfolding at_held
+held_live {cutter} {writer} {x} {left} {bytes} {held} {at} arrives fit live same bytes_is held_is writes = record {
+  at = at_held cutter writer x left bytes held (over_of cutter left) fit.fits.some at same (omega arith) bytes_is held_is writes;
+  ends = record {
+    ending = arrives.ends.ending;
+    runs = subst (λ (style : Style). Runs style.suppress (all_lines x) (state_in cutter) [] (state_in cutter) arrives.ends.ending) (sym same) arrives.ends.runs;
+    aims = arrives.ends.aims;
+  };
+  live = live;
+  settled = taken_is arrives fit live;
+}
+
+pub hold_goes : {told : Bool} {cutter : CutterState} {writer : WriterState} {window : Window} {left : List ℕ} {old new : List Slot} {fault : Option Fault} → IsFit cutter → (cutter.aim ≡ Below → ⊥)
+    → Goes told cutter.writer (with_bytes (but_last_lines cutter.window.delim cutter.window.most left)) old new writer fault
+    → IfNone fault (window ≡ record { most = cutter.window.most; delim = cutter.window.delim; held = last_lines cutter.window.delim cutter.window.most left })
+    → IfNone fault (size_of writer.current + length window.held ≤ size_of cutter.writer.current + length left) → Holds told cutter left old new (record cutter { writer = writer; window = window }) fault
+hold_goes {cutter = cutter} {writer} {window} {left} {fault = fault} fit differs goes waits fewer = record {
+  keeps = record { operands = refl; writer = goes.leaves };
+  reaches = λ x at arrives. reaches_as refl (sym (held_part arrives fit (aims_live cutter.aim arrives.ends.ending arrives.ends.aims differs) bytes_is))
+      (goes.reaches (draft_by (all_lines x) at.steps (kept_by (state_in cutter).operands) at.written) at.writes);
+  went = where_three fault goes.writes waits fewer (λ writes kept size.
+      let held_is : window.held ≡ after_lines newline (over_of cutter left) left = ap (λ (w : Window). w.held) kept ∙ ap (λ d. last_lines d cutter.window.most left) fit.delim in
+      let window_is : window ≡ record cutter.window { held = window.held } = kept ∙ ap (λ held. record cutter.window { held = held }) (sym (ap (λ (w : Window). w.held) kept)) in record {
+        same = refl;
+        window = window_is;
+        stands = λ x at arrives. subst (λ w. Stands (record cutter { writer = writer; window = w }) x) (sym window_is)
+            (inl (held_live arrives fit (aims_live cutter.aim arrives.ends.ending arrives.ends.aims differs) goes.leaves.style bytes_is held_is writes));
+        size = size;
+      });
+} where
+  bytes_is : but_last_lines cutter.window.delim cutter.window.most left ≡ first_lines newline (over_of cutter left) left
+  bytes_is = ap (λ d. but_last_lines d cutter.window.most left) fit.delim
+
+-- where the cut is below the current line, none waits
+
+past_draft : {cutter : CutterState} {x left : List ℕ} {at : IsAt cutter x left} (arrives : Arrives cutter x left at) → is_final arrives.ends.ending ≡ true
+    → draft_by (all_lines x) at.steps (kept_by (state_in cutter).operands) at.written ≡ settled_draft (suppress_in cutter) cutter.operands (all_lines x)
+past_draft {cutter} {x} {at} arrives past =
+    draft_is settled_end cutter.operands x at.taken (runs_to at arrives.ends)
+    (arrives.low past ∙ final_count (line_count newline x) cutter.progress.current arrives.ends.ending past) at.written_is
+
+pub hold_past : {told : Bool} {cutter : CutterState} {window : Window} {left : List ℕ} {slots : List Slot} {n : ℕ} → cutter.aim ≡ Below → IsReady cutter.writer slots → n ≡ length cutter.window.held → length cutter.window.held ≤ length left
+    → window ≡ without_first cutter.window n → Holds told cutter left slots slots (record cutter { window = window }) None
+hold_past {cutter = cutter} {window} {left} {slots} {n} aim ready all less dropped = record {
+  keeps = record { operands = refl; writer = leaves_still ready };
+  reaches = λ x at arrives. reaches_still (ap (draft_part cutter.writer.style) (past_draft arrives (past x at arrives)) ∙ settled_part_is cutter.writer.style cutter.operands (all_lines x));
+  went = record {
+    same = refl;
+    window = dropped ∙ ap (λ held. record cutter.window { held = held }) (sym (ap (λ (w : Window). w.held) dropped));
+    stands = λ x at arrives. let is = plan_once (suppress_in cutter) cutter.operands (all_lines x) at.steps (state_in cutter) arrives.ends.ending (runs_to at arrives.ends) in inr (record {
+      aim = aim;
+      past = ap (λ (p : Plan). is_final p.ending) is ∙ past x at arrives;
+      last = sym (ap (λ (p : Plan). p.last) is);
+      none = none;
+      writes = subst (Writes cutter.writer) (past_draft arrives (past x at arrives)) at.writes;
+    });
+    size = (let e : length window.held ≡ 0 = ap length none in omega (arith, e));
+  };
+} where
+  none : window.held ≡ []
+  none = ap (λ (w : Window). w.held) dropped ∙ drop_all n cutter.window.held (omega (arith, all))
+
+  past : (x : List ℕ) (at : IsAt cutter x left) (arrives : Arrives cutter x left at) → is_final arrives.ends.ending ≡ true
+  past x at arrives = aims_past arrives.ends.ending (subst (λ a. AimsAt a arrives.ends.ending) aim arrives.ends.aims)

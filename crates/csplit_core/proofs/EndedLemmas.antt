@@ -1,45 +1,200 @@
--- What ending the cutter leaves: all lines that waited belong to the last section, which ends; and the fault with which the work ends.
-use Rattle.std.proofs.Common.{◌≡◌, inl, inr, ℕ, suc, ◌+◌, ◌-◌, ◌≤◌, Bool, true, false, Option, Some, None, List, [], ◌∷◌, ◌++◌, length, map, take, refl, sym, ◌∙◌, ap, subst, arith, ◌<◌, nat_lt, drop, get_or}
+-- What opening the cutter leaves, and what ending it does.
+use Rattle.std.proofs.Common.{◌≡◌, inl, inr, ◌+◌, ◌-◌, ◌≤◌, length, max, Bool, true, false, List, [], ◌∷◌, None, Option, Some, slice_get, refl, sym, ◌∙◌, ap, subst, arith, ℕ, suc, ◌++◌, map, take, ◌<◌, nat_lt, get_or}
 use Rattle.std.proofs.lemmas.Bool.{false≢true}
-use Rattle.std.proofs.lemmas.List.{append-nil, map-append, take_all, drop_all}
-use Rattle.seg_core.specs.Line.{lines_of, line_count, joined, first_lines, after_lines}
+use Rattle.bre_core.specs.Pattern.{Pattern}
 use Rattle.seg_core.specs.Window.{Window}
-use Rattle.seg_core.proofs.LinesOf.{joined-lines_of}
-use Rattle.seg_core.proofs.FirstLines.{first_lines_then_rest}
 use Rattle.ports_core.specs.Slot.{Slot}
 use Rattle.ports_core.specs.declared.fault.Fault.{Fault}
-use Rattle.csplit_core.specs.Csplit.{whole_of, verdict_of}
-use Rattle.csplit_core.specs.Draft.{Draft, draft_part}
-use Rattle.csplit_core.specs.inner.Writer.{ended_part, with_bytes, Ends, Goes, Reaches}
+use Rattle.ports_core.specs.declared.fault.Fault.TheVariants.{Memory}
+use Rattle.ports_core.proofs.PartLemmas.{nothing_begins_part}
+use Rattle.csplit_core.proofs.CutterLemmas.{in_turn, draft_is, settled_part_is, draft_to, runs_to, live_part, goes_as}
+use Rattle.csplit_core.specs.Csplit.{settled_of, whole_of, verdict_of}
+use Rattle.csplit_core.specs.Draft.{draft_part, Draft}
+use Rattle.csplit_core.specs.inner.Writer.{first_draft, with_kept, new_writer, BegunNot, Goes, with_bytes, with_section, Reaches}
 use Rattle.csplit_core.specs.Input.{newline, all_lines}
 use Rattle.csplit_core.specs.Operand.{Operand, Line}
 use Rattle.csplit_core.specs.Output.{Style, contents_of, part_by}
-use Rattle.csplit_core.specs.Plan.{Ending, below, State, used_up, missed, above}
+use Rattle.csplit_core.specs.Plan.{State, start, Step, Ending, used_up, below, Runs, cuts, missed, above}
 use Rattle.csplit_core.specs.Planned.{Plan, plan}
+use Rattle.csplit_core.specs.laws.PlanLaws.{plan_runs, plan_once}
+use Rattle.csplit_core.specs.Progress.{state_of, AimsAt, EndsHere}
+use Rattle.csplit_core.specs.inner.Progress.{AreSeen, Turns, MovesOn}
+use Rattle.csplit_core.specs.Section.{settled_end, is_final, section, section_of, lines_between, is_last_kept, whole_end, bytes_of}
+use Rattle.csplit_core.specs.declared.progress.Progress.{Progress}
+use Rattle.csplit_core.specs.declared.progress.Turn.{Turn}
+use Rattle.csplit_core.specs.declared.progress.Turn.TheVariants.{Below, Cuts, UsedUp, Missed, Above}
+use Rattle.csplit_core.specs.Writer.{WriterState, Writes, size_of}
+use Rattle.csplit_core.specs.Cutter.{CutterState, most_next, pattern_next, kept_next, next_of, most_by, pattern_by, kept_by, settled_draft, IsFit, Stands, suppress_in, state_in, text_from, draft_by, IsLive, IsPast}
+use Rattle.csplit_core.specs.inner.Cutter.{IsNoCut, Opened, settled_part, whole_part, IsJudged, EndsAll}
+use Rattle.csplit_core.proofs.TryLemmas.{repeated_anew, turn_ends, no_cut_aims, left_is}
+use Rattle.ports_core.proofs.SlotSteps.{none_past}
+use Rattle.csplit_core.proofs.WriterCalls.{begun_not, new_owns, new_writes, no_draft, ended_part}
+use Rattle.csplit_core.proofs.WriterLemmas.{reaches_as, stops_wider, bytes_begin, section_begins, in_any, leaves_again, reaches_again}
+use Rattle.std.proofs.lemmas.List.{append-nil, map-append, take_all, drop_all}
+use Rattle.seg_core.specs.Line.{lines_of, line_count, joined, first_lines, after_lines}
+use Rattle.seg_core.proofs.LinesOf.{joined-lines_of}
+use Rattle.seg_core.proofs.FirstLines.{first_lines_then_rest}
 use Rattle.csplit_core.specs.inner.PlanLaws.{EndsAs}
-use Rattle.csplit_core.specs.laws.PlanLaws.{plan_once, plan_runs}
 use Rattle.csplit_core.specs.laws.SectionLaws.{ends_as, front_of}
-use Rattle.csplit_core.specs.Progress.{AimsAt}
-use Rattle.csplit_core.specs.Section.{section, section_of, lines_between, is_last_kept, settled_end, whole_end, is_final, bytes_of}
-use Rattle.csplit_core.specs.declared.progress.Turn.TheVariants.{Below, UsedUp, Missed, Above}
-use Rattle.csplit_core.specs.Writer.{WriterState, Writes}
-use Rattle.csplit_core.specs.Cutter.{CutterState, suppress_in, state_in, kept_by, text_from, draft_by, settled_draft, IsFit, IsLive, IsPast, Stands}
-use Rattle.csplit_core.specs.inner.Cutter.{settled_part, whole_part, IsJudged, EndsAll}
 use Rattle.csplit_core.proofs.LineLemmas.{count_from, from_further}
-use Rattle.csplit_core.proofs.CutterLemmas.{settled_part_is, draft_is, draft_to, runs_to, live_part}
-use Rattle.csplit_core.proofs.HoldLemmas.{goes_as}
-use Rattle.csplit_core.proofs.WriterLemmas.{bytes_begin, end_begins, in_any, leaves_again, reaches_again, reaches_as, stops_wider}
 use Rattle.csplit_core.proofs.WholeLemmas.{ends_after_all}
 use Rattle.std.proofs.lemmas.Bool.Decides.{nat_tests}
-use Rattle.csplit_core.specs.declared.progress.Turn.{Turn}
-use Rattle.csplit_core.proofs.TurnLemmas.{left_is}
+
+-- What opening the cutter leaves: the first section, with no line yet.
+
+-- Over no line a plan has no step.
+
+first_only : {suppress : Bool} {first : State} {steps : List Step} {last : State} {ending : Ending} → Runs suppress [] first steps last ending → 1 ≤ first.current → Runs suppress [] first [] first ending
+first_only (cuts state operand operands matched cut steps' last' ending' is at from within rest) some = absurd (omega (arith, some, from, within))
+first_only run some = run
+
+none_settled : (ending : Ending) → 0 ≡ settled_end 0 ending - 1
+none_settled used_up = omega arith
+none_settled ending = omega arith
+
+-- the first section, without a byte, is what is settled
+first_settled : (suppress : Bool) (operands : List Operand) → first_draft (kept_by operands) ≡ settled_draft suppress operands []
+first_settled suppress operands =
+    draft_is settled_end operands [] 0 (first_only (plan_runs suppress operands []) (omega arith)) (none_settled (plan suppress operands []).ending) refl
+
+first_part : (style : Style) (operands : List Operand) → draft_part style (first_draft (kept_by operands)) ≡ settled_of style operands []
+first_part style operands = ap (draft_part style) (first_settled style.suppress operands) ∙ settled_part_is style operands []
+
+-- The first turn, before any line came in.
+
+abbrev pub first_progress : Progress
+first_progress = record { done = 0; repetition = 0; current = 1; matched = 0 }
+
+seen_none : {suppress : Bool} (operands : List Operand) → AreSeen suppress [] 0 (start operands) false
+seen_none operands = record {
+  count = refl;
+  last = λ operand rest are near. refl;
+  others = λ operand rest are other from less. absurd (omega (arith, less));
+}
+
+first_no_cut : (operands : List Operand) (turn : Turn) → MovesOn operands 0 first_progress turn → IsNoCut turn
+first_no_cut operands (Cuts matched line) moves = absurd (omega (arith, moves.6, moves.7))
+first_no_cut operands _ moves = tt
+
+abbrev SaysFirst : Bool → List Operand → Turn → Type 0
+SaysFirst suppress operands turn = (lines : List Line) → AreSeen suppress lines 0 (start operands) false → Turns suppress lines (start operands) turn
+
+first_ends : {suppress : Bool} (operands : List Operand) {turn : Turn} → SaysFirst suppress operands turn → MovesOn operands 0 first_progress turn → EndsHere suppress [] (start operands) turn
+first_ends {suppress} operands {turn} says moves =
+    turn_ends turn (first_no_cut operands turn moves) (says [] (seen_none operands))
+
+final_below : (turn : Turn) (ending : Ending) → AimsAt turn ending → is_final ending ≡ true → turn ≡ Below
+final_below Below (below operand repetition) aims past = refl
+final_below turn (below operand repetition) aims past = absurd aims
+final_below turn ending aims past = absurd (false≢true past)
+
+-- The cutter that was opened
+
+abbrev pub opened : List Operand → WriterState → Progress → Turn → Window → Option Pattern → CutterState
+opened operands writer progress aim window sought = record { operands = operands; writer = writer; progress = progress; aim = aim; lines = 0; window = window; sought = sought }
+
+abbrev first_window : List Operand → Window
+first_window operands = record { most = most_by operands; delim = newline; held = [] }
+
+abbrev first_cutter : List Operand → WriterState → Turn → CutterState
+first_cutter operands writer aim = opened operands writer first_progress aim (first_window operands) (pattern_by operands)
+
+first_stands : (operands : List Operand) {writer : WriterState} {aim : Turn} → Writes writer (first_draft (kept_by operands)) → (ends : EndsHere writer.style.suppress [] (start operands) aim) → (final : Bool) → is_final ends.ending ≡ final → Stands (first_cutter operands writer aim) []
+first_stands operands writes ends false live = inl (record {
+  at = record {
+    steps = [];
+    leads = λ more last ending run. run;
+    counted = refl;
+    taken = 0;
+    written = [];
+    few = omega arith;
+    written_is = refl;
+    left_is = refl;
+    writes = writes;
+  };
+  ends = ends;
+  live = live;
+  settled = omega arith;
+})
+first_stands operands {writer} {aim} writes ends true past =
+    let is = plan_once writer.style.suppress operands [] [] (start operands) ends.ending ends.runs in inr (record {
+      aim = final_below aim ends.ending ends.aims past;
+      past = ap (λ (p : Plan). is_final p.ending) is ∙ past;
+      last = sym (ap (λ (p : Plan). p.last) is);
+      none = refl;
+      writes = subst (Writes writer) (first_settled writer.style.suppress operands) writes;
+    })
+
+first_fit : (operands : List Operand) (writer : WriterState) (aim : Turn) → IsFit (first_cutter operands writer aim)
+first_fit operands writer aim = record {
+  fits = record { some = omega arith; current = omega arith; matched = omega arith; repeated = repeated_anew 0 (start operands) operands refl };
+  most = refl;
+  delim = refl;
+  sought = refl;
+}
+
+first_opened : (told : Bool) {style : Style} {operands : List Operand} {old new : List Slot} {writer : WriterState} (aim : Turn) → 2 ≤ length old → Goes told (new_writer style) (with_kept (kept_by operands)) old new writer None → size_of writer.current ≡ 0 → SaysFirst style.suppress operands aim → MovesOn operands 0 first_progress aim
+    → Opened told style operands old new (first_cutter operands writer aim)
+first_opened told {style} {operands} {old} {new} {writer} aim two begun none says moves =
+    let ends = first_ends operands (subst (λ (s : Style). SaysFirst s.suppress operands aim) (sym begun.leaves.style) says) moves in
+    let none' : size_of writer.current + 0 ≡ 0 = omega (arith, none) in record {
+      asked = begun.leaves.style;
+      operands_are = refl;
+      stands = first_stands operands (begun.writes no_draft (new_writes style)) ends (is_final ends.ending) refl;
+      reaches = reaches_as refl (sym (first_part style operands)) (begun.reaches no_draft (new_writes style));
+      owns = begun.leaves.owns.owns (length old) (new_owns style two);
+      ready = begun.leaves.ready;
+      sound = record { fit = first_fit operands writer aim; aim = no_cut_aims operands 0 first_progress aim (first_no_cut operands aim moves) moves };
+      size = ap (max 0) none';
+    }
+
+-- What `open` returns, where the next operand was looked up.
+
+next_seen : (operands : List Operand) → slice_get operands 0 ≡ next_of operands
+next_seen [] = refl
+next_seen (operand ∷ operands) = refl
+
+pub opened_at : (told : Bool) {style : Style} {suppress : Bool} {operands : List Operand} {next : Option Operand} {kept : Bool} {old new : List Slot} {first writer : WriterState} {progress : Progress} {aim : Turn} {window : Window} {sought : Option Pattern}
+    → next ≡ slice_get operands 0 → window ≡ record { most = most_next next; delim = newline; held = [] } → sought ≡ pattern_next next → kept ≡ kept_next next → suppress ≡ style.suppress → first ≡ new_writer style → 2 ≤ length old → Goes told first (with_kept kept) old new writer None → size_of writer.current ≡ 0 → progress ≡ first_progress
+    → ((lines : List Line) → AreSeen suppress lines 0 (state_of operands progress) false → Turns suppress lines (state_of operands progress) aim) → (progress.matched ≤ 0 → MovesOn operands 0 progress aim)
+    → Opened told style operands old new (opened operands writer progress aim window sought)
+opened_at told {style} {suppress} {operands} {kept = kept} {old} {new} {writer = writer} {aim = aim} {window} {sought} next_is window_is sought_is kept_is suppress_is made two begun none start_is says moves =
+    let first = next_is ∙ next_seen operands in
+    let window_first : first_window operands ≡ window = sym (window_is ∙ ap (λ (o : Option Operand). record { most = most_next o; delim = newline; held = [] }) first) in
+    let sought_first : pattern_by operands ≡ sought = sym (sought_is ∙ ap pattern_next first) in
+    let kept_first : kept ≡ kept_by operands = kept_is ∙ ap kept_next first in
+    let says_first : SaysFirst style.suppress operands aim = subst (λ s. SaysFirst s operands aim) suppress_is
+    (subst (λ (p : Progress). (lines : List Line) → AreSeen suppress lines 0 (state_of operands p) false → Turns suppress lines (state_of operands p) aim) start_is says) in
+    let moves_first : MovesOn operands 0 first_progress aim = subst (λ (p : Progress). p.matched ≤ 0 → MovesOn operands 0 p aim) start_is moves (omega arith) in
+    subst (λ (p : Progress). Opened told style operands old new (opened operands writer p aim window sought)) (sym start_is)
+    (subst (λ w. Opened told style operands old new (opened operands writer first_progress aim w sought)) window_first
+    (subst (λ s. Opened told style operands old new (opened operands writer first_progress aim (first_window operands) s)) sought_first
+    (first_opened told aim two (subst (λ k. Goes told (new_writer style) (with_kept k) old new writer None) kept_first (subst (λ w. Goes told w (with_kept kept) old new writer None) made begun)) none says_first moves_first)))
+
+pub opened_not : (told : Bool) {style : Style} (operands : List Operand) {next : Option Operand} {kept : Bool} {old new : List Slot} {first writer : WriterState} {fault : Fault} → next ≡ slice_get operands 0 → kept ≡ kept_next next → first ≡ new_writer style → 2 ≤ length old
+    → Goes told first (with_kept kept) old new writer (Some fault) → writer.files ≡ first.files → BegunNot told style (settled_of style operands []) old new fault
+opened_not told {style} operands {kept = kept} {old} {new} {writer = writer} {fault} next_is kept_is made two begun same =
+    subst (λ part. BegunNot told style part old new fault) (first_part style operands)
+    (subst (λ k. BegunNot told style (draft_part style (first_draft k)) old new fault) (kept_is ∙ ap kept_next (next_is ∙ next_seen operands))
+    (begun_not two (subst (λ w. Goes told w (with_kept kept) old new writer (Some fault)) made begun) (same ∙ ap (λ (w : WriterState). w.files) made)))
+
+-- where there is no memory, nothing was done
+pub opened_lacks : (told : Bool) {style : Style} (operands : List Operand) {slots : List Slot} {fault : Fault} → fault ≡ Memory → BegunNot told style (settled_of style operands []) slots slots fault
+opened_lacks told {style} operands {slots} lacks = subst (BegunNot told style (settled_of style operands []) slots slots) (sym lacks) (record {
+  reaches = stops_wider (in_turn 0 (record { closed = tt; within = omega arith; last = omega arith })) (nothing_begins_part (settled_of style operands []));
+  breaks = tt;
+  none = none_past slots;
+})
+
+-- What ending the cutter leaves: all lines that waited belong to the last section, which ends; and the fault with which the work ends.
 
 -- What ending the cutter leaves: all lines that waited belong to the last section, which ends.
 
-whole_part_is : (style : Style) (operands : List Operand) (lines : List Line) → ended_part style (draft_to whole_end style.suppress operands lines) ≡ whole_of style operands lines
+whole_part_is : (style : Style) (operands : List Operand) (lines : List Line) → draft_part style (with_section false (draft_to whole_end style.suppress operands lines)) ≡ whole_of style operands lines
 whole_part_is style operands lines =
     let p = plan style.suppress operands lines in
-    ap (part_by style) (sym (map-append contents_of (map (section_of lines) p.steps) (section (is_last_kept p.ending) true (lines_between p.last.current (whole_end (length lines) p.ending) lines) ∷ [])))
+    ended_part style (draft_to whole_end style.suppress operands lines)
+    ∙ ap (part_by style) (sym (map-append contents_of (map (section_of lines) p.steps) (section (is_last_kept p.ending) true (lines_between p.last.current (whole_end (length lines) p.ending) lines) ∷ [])))
 
 -- The last section has all lines that are left, and none where the cut is below the current line.
 
@@ -65,14 +220,14 @@ record LastDraft (cutter : CutterState) (x : List ℕ) : Type 0 where
   draft : Draft
   writes : Writes cutter.writer draft
   settled : draft_part cutter.writer.style draft ≡ settled_part cutter x
-  whole : ended_part cutter.writer.style (with_bytes cutter.window.held draft) ≡ whole_part cutter x
+  whole : draft_part cutter.writer.style (with_section false (with_bytes cutter.window.held draft)) ≡ whole_part cutter x
 
 live_draft : {cutter : CutterState} {x : List ℕ} → IsFit cutter → IsLive cutter x → LastDraft cutter x
 live_draft {cutter} {x} fit live = record {
   draft = draft_by (all_lines x) live.at.steps (kept_by (state_in cutter).operands) live.at.written;
   writes = live.at.writes;
   settled = live_part live;
-  whole = ap (ended_part cutter.writer.style) (draft_is whole_end cutter.operands x _ (runs_to live.at live.ends) refl
+  whole = ap (λ draft. draft_part cutter.writer.style (with_section false draft)) (draft_is whole_end cutter.operands x _ (runs_to live.at live.ends) refl
       (all_written x cutter.progress.current live.at.taken live.ends.ending fit.fits.some live.live live.at.written_is live.at.left_is))
       ∙ whole_part_is cutter.writer.style cutter.operands (all_lines x);
 }
@@ -91,7 +246,7 @@ past_draft {cutter} {x} past = record {
   draft = settled_draft (suppress_in cutter) cutter.operands (all_lines x);
   writes = past.writes;
   settled = settled_part_is cutter.writer.style cutter.operands (all_lines x);
-  whole = ap (ended_part cutter.writer.style) (past_whole past) ∙ whole_part_is cutter.writer.style cutter.operands (all_lines x);
+  whole = ap (λ draft. draft_part cutter.writer.style (with_section false draft)) (past_whole past) ∙ whole_part_is cutter.writer.style cutter.operands (all_lines x);
 }
 
 last_draft : {cutter : CutterState} {x : List ℕ} → IsFit cutter → Stands cutter x → LastDraft cutter x
@@ -122,33 +277,31 @@ judged_later {cutter} {x} same stands =
       aims = subst (λ (style : Style). AimsAt cutter.aim (plan style.suppress cutter.operands (all_lines x)).ending) (sym same) judged.aims;
     }
 
--- What `end` does, of a cutter that is known by its fields: the lines that wait are written, and then the section ends.
+-- What `end` does: the lines that wait are written, and then the section ends.
 
 all_held : (cutter : CutterState) {n : ℕ} → n ≡ length cutter.window.held → take n cutter.window.held ≡ cutter.window.held
 all_held cutter {n} all = take_all n cutter.window.held (omega (arith, all))
 
-pub end_goes : {told : Bool} {cutter now : CutterState} {between next : WriterState} (window : Window) {n : ℕ} {old mid new : List Slot} {fault : Option Fault} → cutter ≡ now → IsFit now → n ≡ length cutter.window.held
-    → Goes told cutter.writer (with_bytes (take n cutter.window.held)) old mid between None → Ends told between mid new next fault → EndsAll told now old new (record cutter { writer = next; window = window }) fault
-end_goes {told} {cutter} {between = between} {next} window {old = old} {mid} {new} {fault} is fit all goes ends =
-    let went = goes_as (all_held cutter all) goes in
-    subst (λ (those : CutterState). EndsAll told those old new (record cutter { writer = next; window = window }) fault) is (record {
+pub end_goes : {told : Bool} {cutter : CutterState} {between next : WriterState} (window : Window) {n : ℕ} {old mid new : List Slot} {fault : Option Fault} → IsFit cutter → n ≡ length cutter.window.held
+    → Goes told cutter.writer (with_bytes (take n cutter.window.held)) old mid between None → Goes told between (with_section false) mid new next fault → EndsAll told cutter old new (record cutter { writer = next; window = window }) fault
+end_goes {told} {cutter} {between = between} {next} window {mid = mid} {new} {fault} fit all goes ends =
+    let went = goes_as (all_held cutter all) goes in record {
       keeps = record { operands = refl; writer = leaves_again went.leaves ends.leaves };
-      reaches = λ x stands. let last = last_draft (subst IsFit (sym is) fit) stands in let all = with_bytes cutter.window.held last.draft in
+      reaches = λ x stands. let last = last_draft fit stands in let all = with_bytes cutter.window.held last.draft in
           reaches_as (sym last.settled) (sym last.whole) (reaches_again (bytes_begin cutter.writer.style cutter.window.held last.draft) (went.reaches last.draft last.writes)
-          (subst (λ (style : Style). Reaches told between next (draft_part style all) (ended_part style all) mid new fault) went.leaves.style (ends.reaches all (went.writes last.draft last.writes))));
+          (subst (λ (style : Style). Reaches told between next (draft_part style all) (draft_part style (with_section false all)) mid new fault) went.leaves.style (ends.reaches all (went.writes last.draft last.writes))));
       judged = in_any fault (λ x stands. judged_later (ends.leaves.style ∙ went.leaves.style) stands);
-    })
+    }
 
-pub end_short : {told : Bool} {cutter now : CutterState} {next : WriterState} {window : Window} {n : ℕ} {old new : List Slot} {fault : Fault} → cutter ≡ now → IsFit now → n ≡ length cutter.window.held
-    → Goes told cutter.writer (with_bytes (take n cutter.window.held)) old new next (Some fault) → EndsAll told now old new (record cutter { writer = next; window = window }) (Some fault)
-end_short {told} {cutter} {next = next} {window} {old = old} {new} {fault} is fit all goes =
-    let stopped = goes_as (all_held cutter all) goes in
-    subst (λ (those : CutterState). EndsAll told those old new (record cutter { writer = next; window = window }) (Some fault)) is (record {
+pub end_short : {told : Bool} {cutter : CutterState} {next : WriterState} {window : Window} {n : ℕ} {old new : List Slot} {fault : Fault} → IsFit cutter → n ≡ length cutter.window.held
+    → Goes told cutter.writer (with_bytes (take n cutter.window.held)) old new next (Some fault) → EndsAll told cutter old new (record cutter { writer = next; window = window }) (Some fault)
+end_short {cutter = cutter} fit all goes =
+    let stopped = goes_as (all_held cutter all) goes in record {
       keeps = record { operands = refl; writer = stopped.leaves };
-      reaches = λ x stands. let last = last_draft (subst IsFit (sym is) fit) stands in
-          reaches_as (sym last.settled) (sym last.whole) (stops_wider (stopped.reaches last.draft last.writes) (end_begins cutter.writer.style (with_bytes cutter.window.held last.draft)));
+      reaches = λ x stands. let last = last_draft fit stands in
+          reaches_as (sym last.settled) (sym last.whole) (stops_wider (stopped.reaches last.draft last.writes) (section_begins cutter.writer.style false (with_bytes cutter.window.held last.draft)));
       judged = tt;
-    })
+    }
 
 -- The fault with which the work ends, from where the cutter stands.
 
@@ -187,24 +340,15 @@ verdict_is suppress lines state (Above matched line) (above other repetition mat
 verdict_is suppress lines state Below (below other repetition) (rest, matched, cut, is, at, within, low, often) are aims = next_one (λ o n. verdict_of (below o n)) state is often are
 verdict_is suppress lines state aim ending ends are aims = absurd aims
 
--- What `verdict` returns: the cutter is known by its fields.
+-- What `verdict` returns
 
-pub judged_none : {cutter now : CutterState} {result : Option Fault} {x : List ℕ} → cutter ≡ now → false ≡ nat_lt cutter.progress.done (length cutter.operands) → result ≡ None → IsJudged now x
-    → result ≡ verdict_of (plan (suppress_in now) now.operands (all_lines x)).ending
-judged_none {cutter} {now} {x} is over none judged =
+pub judged_none : {cutter : CutterState} {result : Option Fault} {x : List ℕ} → false ≡ nat_lt cutter.progress.done (length cutter.operands) → result ≡ None → IsJudged cutter x → result ≡ verdict_of (ending_in cutter x)
+judged_none {cutter} {x = x} over none judged =
     let beyond : length cutter.operands ≤ cutter.progress.done = grind (arith, nat_tests, over) in
-    let left : (state_in now).operands ≡ [] = subst (λ (those : CutterState). (state_in those).operands ≡ []) is (drop_all cutter.progress.done cutter.operands beyond) in
-    none ∙ none_of (suppress_in now) (all_lines x) (state_in now) (ending_in now x) (of_it judged) left
+    none ∙ none_of (suppress_in cutter) (all_lines x) (state_in cutter) (ending_in cutter x) (of_it judged) (drop_all cutter.progress.done cutter.operands beyond)
 
 -- the operand that was looked up is the next
-next_is : {cutter now : CutterState} {operand : Operand} → cutter ≡ now → cutter.progress.done < length cutter.operands → operand ≡ get_or cutter.operands cutter.progress.done operand
-    → (state_in now).operands ≡ operand ∷ drop (now.progress.done + 1) now.operands
-next_is {cutter} {operand} is within here =
-    subst (λ (those : CutterState). (state_in those).operands ≡ operand ∷ drop (those.progress.done + 1) those.operands) is (left_is cutter.operands cutter.progress.done within here)
-
-pub judged_next : {cutter now : CutterState} {operand : Operand} {aim : Turn} {result : Option Fault} {x : List ℕ} → cutter ≡ now → cutter.progress.done < length cutter.operands → operand ≡ get_or cutter.operands cutter.progress.done operand
-    → cutter.aim ≡ aim → result ≡ verdict_at aim operand cutter.progress.repetition → IsJudged now x → result ≡ verdict_of (plan (suppress_in now) now.operands (all_lines x)).ending
-judged_next {now} {operand} {aim} {x} is within here aimed made judged =
-    let aims : AimsAt aim (ending_in now x) = subst (λ a. AimsAt a (ending_in now x)) (sym (ap (λ (those : CutterState). those.aim) is) ∙ aimed) judged.aims in
-    made ∙ ap (λ (those : CutterState). verdict_at aim operand those.progress.repetition) is
-    ∙ verdict_is (suppress_in now) (all_lines x) (state_in now) aim (ending_in now x) (of_it judged) (next_is is within here) aims
+pub judged_next : {cutter : CutterState} {operand : Operand} {aim : Turn} {result : Option Fault} {x : List ℕ} → cutter.progress.done < length cutter.operands → operand ≡ get_or cutter.operands cutter.progress.done operand
+    → cutter.aim ≡ aim → result ≡ verdict_at aim operand cutter.progress.repetition → IsJudged cutter x → result ≡ verdict_of (ending_in cutter x)
+judged_next {cutter} {aim = aim} {x = x} within here aimed made judged =
+    made ∙ verdict_is (suppress_in cutter) (all_lines x) (state_in cutter) aim (ending_in cutter x) (of_it judged) (left_is cutter.operands cutter.progress.done within here) (subst (λ a. AimsAt a (ending_in cutter x)) aimed judged.aims)

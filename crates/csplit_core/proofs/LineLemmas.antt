@@ -10,7 +10,7 @@ use Rattle.seg_core.proofs.FirstLines.{first_lines-short, first_lines_then_rest,
 use Rattle.seg_core.proofs.EndLines.{after_lines-past, after_lines-append}
 use Rattle.csplit_core.specs.Section.{lines_between, bytes_of}
 use Rattle.csplit_core.specs.Input.{newline, marked, all_lines, complete_lines, open_line}
-use Rattle.csplit_core.specs.inner.Cutter.{IsWhole, IsLine}
+use Rattle.csplit_core.specs.inner.Cutter.{IsWhole, IsLine, Joins}
 use Rattle.csplit_core.specs.Cutter.{text_from}
 use Rattle.seg_core.proofs.Delimiters.{delimiters-append}
 use Rattle.seg_core.proofs.LastLines.{first_lines-whole}
@@ -20,24 +20,25 @@ use Rattle.std.proofs.Math.Nat.{min-le_left}
 -- Lines of a text as operands see them, and their bytes.
 
 -- the lines of complete lines and of what follows them
-pub lines-append : {x : List ℕ} (t : List ℕ) → IsWhole x → lines_of newline (x ++ t) ≡ lines_of newline x ++ lines_of newline t
-lines-append t (inl none) = subst (λ those. lines_of newline (those ++ t) ≡ lines_of newline those ++ lines_of newline t) (sym none) refl
-lines-append {x} t (inr whole) = lines_of-append newline x t whole
+pub lines-append : {x : List ℕ} (t : List ℕ) → Joins x t → lines_of newline (x ++ t) ≡ lines_of newline x ++ lines_of newline t
+lines-append t (inl (inl none)) = subst (λ those. lines_of newline (those ++ t) ≡ lines_of newline those ++ lines_of newline t) (sym none) refl
+lines-append {x} t (inl (inr whole)) = lines_of-append newline x t whole
+lines-append {x} t (inr none) = subst (λ those. lines_of newline (x ++ those) ≡ lines_of newline x ++ lines_of newline those) (sym none) (ap (lines_of newline) (append-nil x) ∙ sym (append-nil (lines_of newline x)))
 
-pub all_lines-append : {x : List ℕ} (t : List ℕ) → IsWhole x → all_lines (x ++ t) ≡ all_lines x ++ all_lines t
+pub all_lines-append : {x : List ℕ} (t : List ℕ) → Joins x t → all_lines (x ++ t) ≡ all_lines x ++ all_lines t
 all_lines-append {x} t whole = ap (map marked) (lines-append t whole) ∙ map-append marked (lines_of newline x) (lines_of newline t)
 
 pub all_lines-line : {x : List ℕ} (line : List ℕ) → IsWhole x → IsLine line → all_lines (x ++ line) ≡ all_lines x ++ marked line ∷ []
-all_lines-line {x} line whole one = all_lines-append line whole ∙ ap (λ those. all_lines x ++ map marked those) one
+all_lines-line {x} line whole one = all_lines-append line (inl whole) ∙ ap (λ those. all_lines x ++ map marked those) one
 
 pub length-all_lines : (x : List ℕ) → length (all_lines x) ≡ line_count newline x
 length-all_lines x = length-map (lines_of newline x) marked
 
-pub count-append : {x : List ℕ} (t : List ℕ) → IsWhole x → line_count newline (x ++ t) ≡ line_count newline x + line_count newline t
+pub count-append : {x : List ℕ} (t : List ℕ) → Joins x t → line_count newline (x ++ t) ≡ line_count newline x + line_count newline t
 count-append {x} t whole = ap length (lines-append t whole) ∙ length-append (lines_of newline x) (lines_of newline t)
 
 pub count-line : {x : List ℕ} (line : List ℕ) → IsWhole x → IsLine line → line_count newline (x ++ line) ≡ line_count newline x + 1
-count-line {x} line whole one = count-append line whole ∙ ap (λ those. line_count newline x + length those) one
+count-line {x} line whole one = count-append line (inl whole) ∙ ap (λ those. line_count newline x + length those) one
 
 -- complete lines have as many delimiters
 pub whole_count : {x : List ℕ} → IsWhole x → line_count newline x ≡ delimiters newline x
@@ -92,7 +93,7 @@ pub first_from : (n first : ℕ) (x : List ℕ) → first_lines newline n (text_
 first_from n first x = ap (λ those. joined (take n those)) (lines_of-after_lines newline (first - 1) x)
 
 -- what follows complete lines changes nothing among them
-pub first_still : (n first : ℕ) {x : List ℕ} (t : List ℕ) → IsWhole x → 1 ≤ first → first + n ≤ line_count newline x + 1 → first_lines newline n (text_from first (x ++ t)) ≡ first_lines newline n (text_from first x)
+pub first_still : (n first : ℕ) {x : List ℕ} (t : List ℕ) → Joins x t → 1 ≤ first → first + n ≤ line_count newline x + 1 → first_lines newline n (text_from first (x ++ t)) ≡ first_lines newline n (text_from first x)
 first_still n first {x} t whole some within =
     let on : first - 1 ≤ line_count newline x = omega (arith, some, within) in
     let left : length (drop (first - 1) (lines_of newline x)) ≡ line_count newline x - (first - 1) = length-drop (first - 1) (lines_of newline x) in
@@ -100,8 +101,9 @@ first_still n first {x} t whole some within =
     ∙ ap (λ those. joined (take n those)) (drop-append-le (first - 1) (lines_of newline x) (lines_of newline t) on)
     ∙ ap joined (take-append-le n (drop (first - 1) (lines_of newline x)) (lines_of newline t) (omega (arith, left, some, within))) ∙ sym (first_from n first x)
 
-pub rest_more : (first : ℕ) {x : List ℕ} (t : List ℕ) → IsWhole x → 1 ≤ first → first ≤ line_count newline x + 1 → text_from first x ++ t ≡ text_from first (x ++ t)
-rest_more first {x} t whole some within = after_lines-append newline (first - 1) x t (let e : line_count newline x ≡ delimiters newline x = whole_count whole in omega (arith, e, some, within))
+pub rest_more : (first : ℕ) {x : List ℕ} (t : List ℕ) → Joins x t → 1 ≤ first → first ≤ line_count newline x + 1 → text_from first x ++ t ≡ text_from first (x ++ t)
+rest_more first {x} t (inl whole) some within = after_lines-append newline (first - 1) x t (let e : line_count newline x ≡ delimiters newline x = whole_count whole in omega (arith, e, some, within))
+rest_more first {x} t (inr none) some within = subst (λ those. text_from first x ++ those ≡ text_from first (x ++ those)) (sym none) (append-nil (text_from first x) ∙ ap (text_from first) (sym (append-nil x)))
 
 pub from_further : (first n : ℕ) (x : List ℕ) → 1 ≤ first → after_lines newline n (text_from first x) ≡ text_from (first + n) x
 from_further first n x some =
@@ -212,7 +214,7 @@ none_open rest piece none also = tail_is [] (inl refl) (no_newline rest piece no
 take_some : (n : ℕ) (x : List ℕ) → 0 < n → n ≤ length x → 0 < length (take n x)
 take_some n x some within = let e = length-take-le n x within in omega (arith, e, some)
 
-ends_by : (x : List ℕ) → IsWhole x → 0 < length x → ends_with newline x ≡ true
+pub ends_by : (x : List ℕ) → IsWhole x → 0 < length x → ends_with newline x ≡ true
 ends_by x (inl empty) some = absurd (let e : length x ≡ 0 = ap length empty in omega (arith, e, some))
 ends_by x (inr ends) some = ends
 

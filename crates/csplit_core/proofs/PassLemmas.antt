@@ -21,8 +21,7 @@ use Rattle.csplit_core.specs.declared.line_cutter.Passed.{Passed}
 use Rattle.csplit_core.specs.declared.progress.Turn.{Turn}
 use Rattle.csplit_core.specs.declared.progress.Turn.TheVariants.{UsedUp, Missed, Above, Cuts}
 use Rattle.csplit_core.proofs.LineLemmas.{whole_drop, all_lines-append, all_lines-line, count-append, count-line, length-all_lines, whole_count, whole-append, whole_by, line_by}
-use Rattle.csplit_core.proofs.StayLemmas.{NoneFrom}
-use Rattle.csplit_core.proofs.TryLemmas.{StaysOver, ends_over, found_is}
+use Rattle.csplit_core.proofs.TryLemmas.{NoneFrom, StaysOver, ends_over, found_is}
 use Rattle.scan_core.specs.Clear.{IsClear}
 use Rattle.seg_core.proofs.LinesOf.{AreLines-lines_of, joined-lines_of}
 
@@ -86,24 +85,15 @@ passes {cutter} {text} {lines} {n} sound within whole count stays = record {
 
 -- All lines of a text
 
-pub fits_count : {cutter now : CutterState} (text : List ℕ) {n : ℕ} → cutter ≡ now → now.lines + length text < 2 ^ 63 → n ≡ delimiters newline text → cutter.lines + n < 2 ^ 64
-fits_count {cutter} {now} text is few counted =
-    let same : cutter.lines ≡ now.lines = ap (λ (those : CutterState). those.lines) is in
-    let less : delimiters newline text ≤ length text = delimiters-le-length newline text in omega (arith, same, less, few, counted)
-
-passes_all : {cutter now : CutterState} {text : List ℕ} {n : ℕ} → cutter ≡ now → IsSound now → IsWhole text → n ≡ delimiters newline text
-    → StaysOver cutter text (cutter.lines + n) cutter.aim → PassesOver now text (record cutter { lines = cutter.lines + n }) (length text)
-passes_all {cutter} {text} {n} is sound whole count stays =
+passes_all : {cutter : CutterState} {text : List ℕ} {n : ℕ} → IsSound cutter → IsWhole text → n ≡ delimiters newline text → StaysOver cutter text (cutter.lines + n) cutter.aim → PassesOver cutter text (record cutter { lines = cutter.lines + n }) (length text)
+passes_all {cutter} {text} {n} sound whole count stays =
     let all : text ≡ take (length text) text = sym (take_all (length text) text (omega arith)) in
     let same : line_count newline text ≡ delimiters newline text = whole_count whole in
     let taken : line_count newline text ≡ line_count newline (take (length text) text) = ap (line_count newline) all in
-    subst (λ (those : CutterState). PassesOver those text (record cutter { lines = cutter.lines + n }) (length text)) is
-    (passes (subst IsSound (sym is) sound) (omega arith) (subst IsWhole all whole) (omega (arith, count, same, taken)) (subst (λ those. StaysOver cutter those (cutter.lines + n) cutter.aim) all stays))
+    passes sound (omega arith) (subst IsWhole all whole) (omega (arith, count, same, taken)) (subst (λ those. StaysOver cutter those (cutter.lines + n) cutter.aim) all stays)
 
-pub passes_all_at : {cutter now : CutterState} {text : List ℕ} {n : ℕ} → cutter ≡ now → IsSound now → IsWhole text → n ≡ delimiters newline text → now.aim ≡ UsedUp
-    → PassesOver now text (record cutter { lines = cutter.lines + n }) (length text)
-passes_all_at {cutter} {text} {n} is sound whole counted aim =
-    passes_all is sound whole counted (subst (StaysOver cutter text (cutter.lines + n)) (sym (ap (λ (those : CutterState). those.aim) is ∙ aim)) tt)
+pub passes_used_up : {cutter : CutterState} {text : List ℕ} {n : ℕ} → IsSound cutter → IsWhole text → n ≡ delimiters newline text → cutter.aim ≡ UsedUp → PassesOver cutter text (record cutter { lines = cutter.lines + n }) (length text)
+passes_used_up {cutter} {text} {n} sound whole counted aim = passes_all sound whole counted (subst (StaysOver cutter text (cutter.lines + n)) (sym aim) tt)
 
 -- Lines before the line of a cut
 
@@ -114,25 +104,20 @@ count_ends {n} {x} end ends =
     let near : delimiters newline x ≤ line_count newline x = (line_count_near newline x).0 in
     ap (line_count newline) ends.lines ∙ ap length (lines_of-first_lines newline n x) ∙ length-take-le n (lines_of newline x) (omega (arith, enough, near))
 
-pub passes_below_at : {cutter now : CutterState} {text : List ℕ} (line end : ℕ) → cutter ≡ now → IsSound now → (matched : ℕ) × (now.aim ≡ Above matched line) → EndsAt newline (line - 1 - cutter.lines) text end
-    → PassesOver now text (record cutter { lines = line - 1 }) end
-passes_below_at {cutter} {text} line end is sound (matched, aimed) ends =
-    let here : IsSound cutter = subst IsSound (sym is) sound in
-    let aim : cutter.aim ≡ Above matched line = ap (λ (those : CutterState). those.aim) is ∙ aimed in
-    let will : WillMove cutter.operands cutter.lines cutter.progress matched line =
-    subst (AimHolds cutter.operands cutter.lines cutter.progress) aim here.aim in
+pub passes_below : {cutter : CutterState} {text : List ℕ} (line end : ℕ) → IsSound cutter → (matched : ℕ) × (cutter.aim ≡ Above matched line) → EndsAt newline (line - 1 - cutter.lines) text end → PassesOver cutter text (record cutter { lines = line - 1 }) end
+passes_below {cutter} {text} line end sound (matched, aim) ends =
+    let will : WillMove cutter.operands cutter.lines cutter.progress matched line = subst (AimHolds cutter.operands cutter.lines cutter.progress) aim sound.aim in
     let less : cutter.lines < line = will.above in
     let count : line_count newline (take end text) ≡ line - 1 - cutter.lines = count_ends end ends in
-    subst (λ (those : CutterState). PassesOver those text (record cutter { lines = line - 1 }) end) is
-    (passes here ends.within (whole_by (take end text) _ refl (let all = ends.complete in omega (arith, count, all))) (omega (arith, less, count))
-    (subst (StaysOver cutter (take end text) (line - 1)) (sym aim) (let e : line - 1 < line = omega (arith, less) in e)))
+    passes sound ends.within (whole_by (take end text) _ refl (let all = ends.complete in omega (arith, count, all))) (omega (arith, less, count))
+    (subst (StaysOver cutter (take end text) (line - 1)) (sym aim) (let e : line - 1 < line = omega (arith, less) in e))
 
-pub passes_short_at : {cutter now : CutterState} {text : List ℕ} (line : ℕ) {count : ℕ} → cutter ≡ now → IsSound now → IsWhole text → (matched : ℕ) × (now.aim ≡ Above matched line) → FallsShort newline (line - 1 - cutter.lines) text count
-    → PassesOver now text (record cutter { lines = cutter.lines + count }) (length text)
-passes_short_at {cutter} {text} line {count} is sound whole (matched, aim) short =
+pub passes_short : {cutter : CutterState} {text : List ℕ} (line : ℕ) {count : ℕ} → IsSound cutter → IsWhole text → (matched : ℕ) × (cutter.aim ≡ Above matched line) → FallsShort newline (line - 1 - cutter.lines) text count
+    → PassesOver cutter text (record cutter { lines = cutter.lines + count }) (length text)
+passes_short {cutter} {text} line {count} sound whole (matched, aim) short =
     let fewer : count < line - 1 - cutter.lines = short.fewer in
     let less : cutter.lines + count < line = omega (arith, fewer) in
-    passes_all is sound whole short.counted (subst (StaysOver cutter text (cutter.lines + count)) (sym (ap (λ (those : CutterState). those.aim) is ∙ aim)) less)
+    passes_all sound whole short.counted (subst (StaysOver cutter text (cutter.lines + count)) (sym aim) less)
 
 -- Lines without the pattern that is searched for
 
@@ -212,16 +197,11 @@ one_more {cutter} {left} {rest} {next} number end so is within here none found r
 
 -- the numbers are small
 
-few_counted : {cutter : CutterState} {text left : List ℕ} {next : CutterState} → Unmatched cutter text left next → next.lines + length left ≤ cutter.lines + length text
+pub few_counted : {cutter : CutterState} {text left : List ℕ} {next : CutterState} → Unmatched cutter text left next → next.lines + length left ≤ cutter.lines + length text
 few_counted {cutter} {text} {left} {next} so =
     let long : length text ≡ length so.front + length left = ap length so.all ∙ length-append so.front left in
     let less : line_count newline so.front ≤ length so.front = line_count-le-length newline so.front in
     let c : next.lines ≡ cutter.lines + line_count newline so.front = so.count in omega (arith, long, less, c)
-
-pub few_counted_at : {cutter : CutterState} {text left : List ℕ} {next now : CutterState} → Unmatched cutter text left next → now ≡ next → cutter.lines + length text < 2 ^ 63 → now.lines + 1 < 2 ^ 64
-few_counted_at {next} {now} so is few =
-    let e : now.lines ≡ next.lines = ap (λ (those : CutterState). those.lines) is in
-    let less = few_counted so in omega (arith, e, less, few)
 
 -- what is left of a slice
 pub all_left : (left : List ℕ) {n : ℕ} (end : ℕ) → n ≡ length left → take (n - (end + 1)) (drop (end + 1) left) ≡ drop (suc end) left
@@ -229,17 +209,11 @@ all_left left {n} end is =
     take_all (n - (end + 1)) (drop (end + 1) left) (let e : length (drop (end + 1) left) ≡ length left - (end + 1) = length-drop (end + 1) left in omega (arith, e, is))
     ∙ ap (λ k. drop k left) (let e : end + 1 ≡ suc end = omega arith in e)
 
--- the same of cutters that are known by their fields
-
-pub one_more_at : {cutter : CutterState} {text left rest : List ℕ} {next before same now : CutterState} (end : ℕ) {found : Bool} → Unmatched cutter text left next → before ≡ next → same ≡ next → now ≡ same
-    → end < length left → Passes (is_byte newline) left end → Nowhere (Passes (is_byte newline) left) 0 end → IsFound next (take end left) (before.lines + 1) found → found ≡ false → rest ≡ drop (suc end) left
-    → Unmatched cutter text rest (record now { lines = now.lines + 1 })
-one_more_at {cutter} {text} {left} {rest} {next} {before} {now} end so before_is same_is now_is within here none finds not rest_is =
-    let is : now ≡ next = now_is ∙ same_is in
-    let number : before.lines + 1 ≡ now.lines + 1 = ap (λ (those : CutterState). those.lines + 1) (before_is ∙ sym is) in
-    subst (λ (those : CutterState). Unmatched cutter text rest (record those { lines = now.lines + 1 })) (sym is)
-    (one_more (now.lines + 1) end so (ap (λ (those : CutterState). those.lines + 1) is) within here none
-    (subst (λ k. IsFound next (take end left) k false) number (subst (IsFound next (take end left) (before.lines + 1)) not finds)) rest_is)
+-- the same of a cutter that looked at the line
+pub one_more_at : {cutter : CutterState} {text left rest : List ℕ} {next now : CutterState} (end : ℕ) {found : Bool} → Unmatched cutter text left next → now ≡ next → end < length left → Passes (is_byte newline) left end → Nowhere (Passes (is_byte newline) left) 0 end
+    → IsFound next (take end left) (next.lines + 1) found → found ≡ false → rest ≡ drop (suc end) left → Unmatched cutter text rest (record now { lines = now.lines + 1 })
+one_more_at {cutter} {text} {left} {rest} {next} end so is within here none finds not rest_is = subst (λ (those : CutterState). Unmatched cutter text rest (record those { lines = those.lines + 1 })) (sym is)
+    (one_more (next.lines + 1) end so refl within here none (subst (IsFound next (take end left) (next.lines + 1)) not finds) rest_is)
 
 -- all that were looked at are passed over
 pub all_passed_at : {cutter : CutterState} {text left : List ℕ} {next now : CutterState} → IsSound cutter → cutter.aim ≡ Missed → Unmatched cutter text left next → now ≡ next → PassesOver cutter text now (length text - length left)
@@ -263,16 +237,15 @@ marks_clear operand x clear k less =
     ap (λ (l : Line). l.marks operand) (get_or-map marked (lines_of newline x) k [] unmarked few)
     ∙ mark_clear (get_or (lines_of newline x) k []) operand.target (λ pattern is. clear pattern is k few)
 
-pub more_clear : {cutter : CutterState} {text left rest : List ℕ} {next now after : CutterState} {n : ℕ} → Unmatched cutter text left next → now ≡ next → PassesClear now left after n → rest ≡ drop n left → Unmatched cutter text rest after
-more_clear {cutter} {left} {rest} {next} {after} {n} so now_is passes rest_is =
-    let clear : PassesClear next left after n = subst (λ (those : CutterState). PassesClear those left after n) now_is passes in
+pub more_clear : {cutter : CutterState} {text left rest : List ℕ} {next after : CutterState} {n : ℕ} → Unmatched cutter text left next → PassesClear next left after n → rest ≡ drop n left → Unmatched cutter text rest after
+more_clear {cutter} {left} {rest} {next} {after} {n} so clear rest_is =
     let t = take n left in record {
       front = so.front ++ t;
       all = so.all ∙ ap (λ those. so.front ++ those) (sym (take-append-drop n left) ∙ ap (λ those. t ++ those) (sym rest_is)) ∙ sym (append_assoc so.front t rest);
       whole = whole-append t so.whole clear.whole;
       same = clear.same ∙ ap (λ (those : CutterState). record those { lines = after.lines }) so.same;
-      count = clear.count ∙ (let more : line_count newline (so.front ++ t) ≡ line_count newline so.front + line_count newline t = count-append t so.whole in let c : next.lines ≡ cutter.lines + line_count newline so.front = so.count in omega (arith, more, c));
-      none = λ operand same. subst (λ those. NoneFrom operand cutter.lines those (search_line (suppress_in cutter) (state_in cutter))) (sym (all_lines-append t so.whole))
+      count = clear.count ∙ (let more : line_count newline (so.front ++ t) ≡ line_count newline so.front + line_count newline t = count-append t (inl so.whole) in let c : next.lines ≡ cutter.lines + line_count newline so.front = so.count in omega (arith, more, c));
+      none = λ operand same. subst (λ those. NoneFrom operand cutter.lines those (search_line (suppress_in cutter) (state_in cutter))) (sym (all_lines-append t (inl so.whole)))
           (none_more operand cutter.lines (all_lines so.front) (all_lines t) (search_line (suppress_in cutter) (state_in cutter)) (so.none operand same)
           (λ k less near. marks_clear operand t (λ pattern is. clear.clear pattern (ap (λ (those : CutterState). those.sought) so.same ∙ same ∙ is)) k less));
     }
@@ -310,9 +283,9 @@ stops_unfound {cutter} {text} {next} passed over size_is found_is = record {
 
 -- The line in which the pattern was found is the next one.
 
-pub next_found : {cutter : CutterState} {text left : List ℕ} {next before now : CutterState} (end : ℕ) {found : Bool} → cutter.aim ≡ Missed → Unmatched cutter text left next → before ≡ next → now ≡ next → end < length left → Passes (is_byte newline) left end → Nowhere (Passes (is_byte newline) left) 0 end
-    → IsFound next (take end left) (before.lines + 1) found → found ≡ true → IsNextFound now (drop (length text - length left) text) (end + 1)
-next_found {text} {left} {next} {before} end {found} aim so before_is now_is within here none finds sure =
+pub next_found : {cutter : CutterState} {text left : List ℕ} {next now : CutterState} (end : ℕ) {found : Bool} → cutter.aim ≡ Missed → Unmatched cutter text left next → now ≡ next → end < length left → Passes (is_byte newline) left end → Nowhere (Passes (is_byte newline) left) 0 end
+    → IsFound next (take end left) (next.lines + 1) found → found ≡ true → IsNextFound now (drop (length text - length left) text) (end + 1)
+next_found {text} {left} {next} end {found} aim so now_is within here none finds sure =
     let long : length text ≡ length so.front + length left = ap length so.all ∙ length-append so.front left in
     let left_is : drop (length text - length left) text ≡ left = ap (drop (length text - length left)) so.all ∙ drop_at so.front left (length text - length left) (omega (arith, long)) in
     let one : suc end ≡ end + 1 = omega arith in
@@ -325,7 +298,7 @@ next_found {text} {left} {next} {before} end {found} aim so before_is now_is wit
       ends = first_ends left end within here;
       aim = ap (λ (those : CutterState). those.aim) so.same ∙ aim;
       found = subst (λ those. IsFound next those (next.lines + 1) true) (sym (ap without_newline parts.0 ∙ without_last (take end left) parts.1))
-          (subst (λ n. IsFound next (take end left) n true) (ap (λ (those : CutterState). those.lines + 1) before_is) (subst (IsFound next (take end left) (before.lines + 1)) sure finds));
+          (subst (IsFound next (take end left) (next.lines + 1)) sure finds);
     })))
 
 -- Lines of a text that is seen to have no match up to a place, and lines without their newlines.

@@ -1,42 +1,106 @@
--- What the stage that takes in bytes does with the cutter of lines, and what it owes.
-use Rattle.std.proofs.Common.{◌≡◌, ◌⊎◌, inl, inr, ℕ, ◌+◌, ◌-◌, ◌<◌, ◌≤◌, ◌^◌, Bool, true, false, List, [], ◌∷◌, ◌++◌, length, map, Option, Some, None, Result, Ok, Err, IfErr, refl, sym, ◌∙◌, ap, subst, arith, append_assoc, length-append, eqb, OnOk, take, drop, not, IsTrue}
+-- How many bytes wait, what the stage that takes in bytes does with the cutter of lines, and what it owes.
+use Rattle.std.proofs.Common.{◌≡◌, ℕ, ◌+◌, ◌-◌, ◌≤◌, cond, List, [], length, drop, sym, ◌∙◌, ap, arith, inl, inr, ◌<◌, ◌^◌, min, false, ◌++◌, length-append, ◌⊎◌, Bool, true, ◌∷◌, map, Option, Some, None, Result, Ok, Err, IfErr, refl, subst, append_assoc, eqb, OnOk, take, not, IsTrue}
+use Rattle.std.proofs.lemmas.List.{drop-map, append-nil, take-append-drop}
+use Rattle.seg_core.specs.Line.{lines_of, joined, after_lines, first_lines, delimiters, ends_with, LastEndsAt}
+use Rattle.csplit_core.specs.Input.{newline, marked, all_lines, open_line}
+use Rattle.csplit_core.specs.Plan.{start, Step, Ending, below}
+use Rattle.csplit_core.specs.Planned.{Plan, plan}
+use Rattle.csplit_core.specs.laws.PlanLaws.{plan_once, plan_runs}
+use Rattle.csplit_core.specs.Section.{bytes_of, settled_end, waiting_lines, is_final, section, section_of, lines_between, is_last_kept, whole_end, whole_sections}
+use Rattle.csplit_core.specs.laws.SectionLaws.{are_within, closed_still, ends_with as whole_grows}
+use Rattle.csplit_core.specs.Cutter.{CutterState, IsLive, state_in, suppress_in, text_from, IsPast, Stands, settled_draft, IsSound, load}
+use Rattle.csplit_core.proofs.CutterLemmas.{runs_to, live_taken, lacks_memory, settled_part_is, keeps_on, same_by, settled_same}
+use Rattle.csplit_core.proofs.LineLemmas.{bytes_marked, from_further, length-all_lines, all_complete, lines_then_open, all_lines-append, joined_line, open_is_line, open_complete, first_complete, none_lines, none_open, no_newline, piece_lines, piece_open, lines_whole, lines_more, open_more}
+use Rattle.seg_core.proofs.FirstLines.{lines_of-after_lines, first_lines_then_rest}
+use Rattle.std.proofs.Math.Nat.{min-eq_left}
+use Rattle.csplit_core.specs.Csplit.{waiting, waiting_of, whole_of, verdict_of, csplit_means, csplit_work, settled_of, settled_by, verdict_by}
+use Rattle.csplit_core.specs.CsplitState.{CsplitState, Holds, whole_lines, IsReady, Owns, files, work}
+use Rattle.csplit_core.proofs.TakeLemmas.{past_not_live, past_plan, past_part, is_past, still_past, more_settled, takes_again, takes_none, takes_wider, took_past, none_there}
 use Rattle.std.proofs.lemmas.Bool.{false≢true}
-use Rattle.std.proofs.lemmas.List.{append-nil, take-append-drop}
 use Rattle.ports_core.specs.Part.{Begins, OutputsAt, StoppedBetween, nothing}
 use Rattle.ports_core.specs.Slot.{Slot, is_writable}
 use Rattle.ports_core.specs.declared.fault.Fault.{Fault}
 use Rattle.ports_core.specs.declared.fault.Fault.TheVariants.{Memory, Write, Open, Suffixes, NoMatch, Range}
-use Rattle.csplit_core.specs.Csplit.{whole_of, verdict_of, csplit_means, csplit_work, settled_of, settled_by, verdict_by}
 use Rattle.csplit_core.specs.Draft.{AreClosed}
-use Rattle.csplit_core.specs.Input.{all_lines, newline, open_line}
 use Rattle.csplit_core.specs.Operand.{Line, Operand}
 use Rattle.csplit_core.specs.Output.{contents_of, part_of, Style}
-use Rattle.csplit_core.specs.Plan.{start, Step, Ending, below}
-use Rattle.csplit_core.specs.Planned.{Plan, plan}
-use Rattle.csplit_core.specs.laws.PlanLaws.{plan_runs}
-use Rattle.csplit_core.specs.Section.{section, section_of, lines_between, is_last_kept, whole_end, is_final, whole_sections}
 use Rattle.csplit_core.specs.inner.PlanLaws.{AreWithin}
-use Rattle.csplit_core.specs.laws.SectionLaws.{are_within, closed_still, ends_with as whole_grows}
 use Rattle.csplit_core.specs.Writer.{WriterState, IsReady as CanWrite, Breaks, OwnsFiles}
 use Rattle.csplit_core.specs.inner.Writer.{Reaches, fault_in, At, BegunNot, KeepsFiles, new_writer}
 use Rattle.csplit_core.specs.declared.progress.Turn.TheVariants.{Below}
-use Rattle.csplit_core.specs.Cutter.{CutterState, IsPast, Stands, settled_draft, suppress_in, IsSound, load}
 use Rattle.csplit_core.specs.inner.Cutter.{EndsAll, IsWhole, Takes, settled_part, whole_part, IsLine, Clears, Keeps}
-use Rattle.csplit_core.specs.CsplitState.{CsplitState, whole_lines, Holds, IsReady, Owns, files, work}
 use Rattle.csplit_core.specs.inner.CsplitState.{Closed, Closes, ended_so, Judges, Passes, Sweeps, ended_well, ended_short}
-use Rattle.csplit_core.proofs.HoldLemmas.{lacks_memory}
-use Rattle.csplit_core.proofs.LineLemmas.{all_lines-append, joined_line, open_is_line, open_complete, first_complete, none_lines, none_open, no_newline, piece_lines, piece_open, all_complete, lines_whole, lines_more, lines_then_open, open_more}
-use Rattle.csplit_core.proofs.CutterLemmas.{settled_part_is, keeps_on, same_by, settled_same}
 use Rattle.csplit_core.proofs.WriterLemmas.{leaves_lacking, reaches_again, reaches_as, stops_wider, where_well}
-use Rattle.csplit_core.proofs.TakeLemmas.{past_plan, past_part, is_past, still_past, more_settled, takes_again, takes_none, takes_wider, took_past}
-use Rattle.seg_core.specs.Line.{delimiters, ends_with, LastEndsAt}
 use Rattle.ports_core.specs.Engine.{is_verdict, TakesIn, PutsOut, CutsOff, EndsShort, EndsWith, EndsThere, Finishes, StandsAt, IsMet, KeepsOwn}
 use Rattle.csplit_core.specs.declared.progress.Turn.{Turn}
-use Rattle.csplit_core.proofs.SpreadLemmas.{none_there}
 use Rattle.ports_core.specs.Swept.{AreThere, Swept}
 use Rattle.ports_core.proofs.PartLemmas.{outputs_count, stopped_in_turn}
 use Rattle.csplit_core.proofs.WriterCalls.{new_owns, files_cleared, files_left}
 use Rattle.ports_core.specs.Engine as engine
+
+-- How many bytes wait.
+
+-- How many bytes wait in the stage that takes in bytes.
+
+-- the lines after the first ones, as bytes
+after_bytes : (first n : ℕ) (x : List ℕ) → 1 ≤ first → bytes_of (drop n (drop (first - 1) (all_lines x))) ≡ text_from (first + n) x
+after_bytes first n x some =
+    ap (λ those. bytes_of (drop n those)) (drop-map marked (first - 1) (lines_of newline x))
+    ∙ ap bytes_of (drop-map marked n (drop (first - 1) (lines_of newline x))) ∙ bytes_marked (drop n (drop (first - 1) (lines_of newline x)))
+    ∙ ap (λ those. joined (drop n those)) (sym (lines_of-after_lines newline (first - 1) x)) ∙ from_further first n x some
+
+pub waiting_live : {cutter : CutterState} {x : List ℕ} (live : IsLive cutter x) → bytes_of (waiting_lines (all_lines x) (plan (suppress_in cutter) cutter.operands (all_lines x))) ≡ cutter.window.held
+waiting_live {cutter} {x} live =
+    let runs = runs_to live.at live.ends in
+    let some : 1 ≤ cutter.progress.current = (are_within (suppress_in cutter) (all_lines x) (start cutter.operands) live.at.steps (state_in cutter) live.ends.ending runs (omega arith)).1 in
+    let taken : settled_end (length (all_lines x)) live.ends.ending - cutter.progress.current ≡ live.at.taken =
+    ap (λ n. settled_end n live.ends.ending - cutter.progress.current) (length-all_lines x) ∙ sym (live_taken live) in
+    ap (λ (p : Plan). bytes_of (waiting_lines (all_lines x) p)) (plan_once (suppress_in cutter) cutter.operands (all_lines x) live.at.steps (state_in cutter) live.ends.ending runs)
+    ∙ ap (λ final. bytes_of (cond final [] (drop (settled_end (length (all_lines x)) live.ends.ending - cutter.progress.current) (drop (cutter.progress.current - 1) (all_lines x))))) live.live
+    ∙ ap (λ n. bytes_of (drop n (drop (cutter.progress.current - 1) (all_lines x)))) taken ∙ after_bytes cutter.progress.current live.at.taken x some
+    ∙ sym live.at.left_is
+
+-- How many bytes wait.
+
+-- what the cutter holds is the end of the complete lines
+held_within : {cutter : CutterState} {x : List ℕ} → IsLive cutter x → length cutter.window.held ≤ length x
+held_within {cutter} {x} live =
+    let both : first_lines newline (cutter.progress.current + live.at.taken - 1) x ++ after_lines newline (cutter.progress.current + live.at.taken - 1) x ≡ x = first_lines_then_rest newline (cutter.progress.current + live.at.taken - 1) x in
+    let long : length x ≡ length (first_lines newline (cutter.progress.current + live.at.taken - 1) x) + length (text_from (cutter.progress.current + live.at.taken) x) = ap length (sym both) ∙ length-append (first_lines newline (cutter.progress.current + live.at.taken - 1) x) (text_from (cutter.progress.current + live.at.taken) x) in
+    let same : length cutter.window.held ≡ length (text_from (cutter.progress.current + live.at.taken) x) = ap length live.at.left_is in omega (arith, long, same)
+
+live_ending : {cutter : CutterState} {x : List ℕ} → IsLive cutter x → is_final (plan (suppress_in cutter) cutter.operands (all_lines x)).ending ≡ false
+live_ending {cutter} {x} live =
+    ap (λ (p : Plan). is_final p.ending) (plan_once (suppress_in cutter) cutter.operands (all_lines x) live.at.steps (state_in cutter) live.ends.ending (runs_to live.at live.ends)) ∙ live.live
+
+live_waiting : (stage : CsplitState) (x : List ℕ) (live : IsLive stage.cutter (whole_lines x)) → stage.rest ≡ open_line x → waiting stage.cutter.writer.style stage.cutter.operands x ≡ stage.cutter.window.held ++ stage.rest
+live_waiting stage x live rest_is =
+    ap (λ lines. waiting_of lines (plan (suppress_in stage.cutter) stage.cutter.operands lines) (open_line x)) (sym (all_complete x))
+    ∙ ap (λ final. cond final [] (bytes_of (waiting_lines (all_lines (whole_lines x)) (plan (suppress_in stage.cutter) stage.cutter.operands (all_lines (whole_lines x)))) ++ open_line x)) (live_ending live)
+    ∙ ap (λ those. those ++ open_line x) (waiting_live live) ∙ ap (λ those. stage.cutter.window.held ++ those) (sym rest_is)
+
+past_waiting : (stage : CsplitState) (x : List ℕ) → IsPast stage.cutter (whole_lines x) → waiting stage.cutter.writer.style stage.cutter.operands x ≡ []
+past_waiting stage x past =
+    ap (λ lines. waiting_of lines (plan (suppress_in stage.cutter) stage.cutter.operands lines) (open_line x)) (sym (all_complete x))
+    ∙ ap (λ final. cond final [] (bytes_of (waiting_lines (all_lines (whole_lines x)) (plan (suppress_in stage.cutter) stage.cutter.operands (all_lines (whole_lines x)))) ++ open_line x)) past.past
+
+pub held_is : {stage : CsplitState} {x : List ℕ} {result : ℕ} → Holds stage x → length x < 2 ^ 63 → result ≡ min (length stage.cutter.window.held + length stage.rest) (2 ^ 64 - 1) → result ≡ length (waiting stage.cutter.writer.style stage.cutter.operands x)
+held_is {stage} {x} {result} holds few is = by holds.stands where
+  by : Stands stage.cutter (whole_lines x) → result ≡ length (waiting stage.cutter.writer.style stage.cutter.operands x)
+  by (inl live) =
+      let rest_is = holds.live (λ below. past_not_live below live) in
+      let within = held_within live in
+      let all : length (whole_lines x) + length (open_line x) ≡ length x = sym (length-append (whole_lines x) (open_line x)) ∙ ap length (lines_then_open) in
+      let rest_long : length stage.rest ≡ length (open_line x) = ap length rest_is in
+      is ∙ min-eq_left (omega (arith, within, all, rest_long, few)) ∙ sym (length-append stage.cutter.window.held stage.rest)
+      ∙ sym (ap length (live_waiting stage x live rest_is))
+  by (inr past) =
+      let none : length stage.cutter.window.held ≡ 0 = ap length past.none in
+      let rest_none : length stage.rest ≡ 0 = ap length (holds.past past.aim) in
+      is ∙ min-eq_left (omega (arith, none, rest_none))
+      ∙ (let e : length stage.cutter.window.held + length stage.rest ≡ 0 = omega (arith, none, rest_none) in e) ∙ sym (ap length (past_waiting stage x past))
+
+-- What the stage that takes in bytes does with the cutter of lines, and what it owes.
 
 -- What the stage that takes in bytes does with the cutter of lines.
 
@@ -95,7 +159,7 @@ pub past_end : {cutter : CutterState} {x : List ℕ} (t : List ℕ) → IsWhole 
 past_end {cutter} {x} t whole past =
     let same = past_plan (suppress_in cutter) cutter.operands t whole past.past in
     ap (λ (p : Plan). part_of cutter.writer.style (whole_sections (all_lines (x ++ t)) p)) same
-    ∙ ap (λ lines. part_of cutter.writer.style (whole_sections lines (plan (suppress_in cutter) cutter.operands (all_lines x)))) (all_lines-append t whole)
+    ∙ ap (λ lines. part_of cutter.writer.style (whole_sections lines (plan (suppress_in cutter) cutter.operands (all_lines x)))) (all_lines-append t (inl whole))
     ∙ ap (part_of cutter.writer.style) (final_sections (all_lines x) (all_lines t) (plan (suppress_in cutter) cutter.operands (all_lines x))
     (are_within (suppress_in cutter) (all_lines x) (start cutter.operands) _ _ _ (plan_runs (suppress_in cutter) cutter.operands (all_lines x)) (omega arith)).0 past.past)
 

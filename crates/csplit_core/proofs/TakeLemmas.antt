@@ -1,22 +1,22 @@
--- Taking lines in, one by one and stretch by stretch.
-use Rattle.std.proofs.Common.{◌≡◌, ◌⊎◌, inl, inr, ℕ, ◌+◌, ◌-◌, ◌<◌, ◌≤◌, max, Bool, true, Option, Some, None, List, [], ◌∷◌, ◌++◌, length, refl, sym, ◌∙◌, ap, subst, arith, append_assoc, length-append, IfSome, Ok, Err, take, drop}
-use Rattle.std.proofs.lemmas.List.{append-nil, take-append-drop, length-drop}
-use Rattle.std.proofs.lemmas.Bool.{false≢true, cases_lt}
-use Rattle.seg_core.specs.Line.{line_count, delimiters}
+-- Taking lines in, one by one and stretch by stretch, and cutting them as often as operands cut.
+use Rattle.std.proofs.Common.{◌≡◌, ◌⊎◌, inl, inr, ℕ, ◌+◌, ◌-◌, ◌<◌, ◌≤◌, max, Bool, true, Option, Some, None, List, [], ◌∷◌, ◌++◌, length, refl, sym, ◌∙◌, ap, subst, arith, append_assoc, length-append, IfSome, Ok, Err, take, drop, eqb, Result}
+use Rattle.std.proofs.lemmas.List.{take_all, append-nil, take-append-drop, length-drop, take_at, nil_from_length, length-take-le, drop_at, drop-drop}
+use Rattle.std.proofs.lemmas.Bool.{false≢true, cases_lt, eqb-true}
+use Rattle.seg_core.specs.Line.{line_count, delimiters, ends_with}
 use Rattle.seg_core.specs.Window.{Window}
 use Rattle.std.proofs.Math.Nat.{max-le, le-max_left, le-max_right}
 use Rattle.seg_core.proofs.LineCounts.{line_count-le-length}
 use Rattle.ports_core.specs.Part.{Part, Begins}
 use Rattle.ports_core.specs.Slot.{Slot}
 use Rattle.ports_core.specs.declared.fault.Fault.{Fault}
-use Rattle.csplit_core.specs.Input.{newline, all_lines}
+use Rattle.csplit_core.specs.Input.{newline, all_lines, without_newline}
 use Rattle.csplit_core.specs.Operand.{Operand, Line}
-use Rattle.csplit_core.specs.Plan.{State, Step, Ending, below, CutsAt, state_after, Runs, cuts}
+use Rattle.csplit_core.specs.Plan.{State, Ending, below, CutsAt, Runs, search_line}
+use Rattle.std.specs.Option.{is_some}
 use Rattle.csplit_core.specs.Draft.{draft_part}
 use Rattle.csplit_core.specs.Output.{Style}
-use Rattle.csplit_core.specs.Planned.{Plan, plan, plan_within}
-use Rattle.csplit_core.specs.laws.PlanLaws.{runs, line_some, plan_runs}
-use Rattle.csplit_core.specs.inner.PlanLaws.{needed}
+use Rattle.csplit_core.specs.Planned.{Plan, plan}
+use Rattle.csplit_core.specs.laws.PlanLaws.{plan_runs}
 use Rattle.seg_core.proofs.EndLines.{line_count-grows}
 use Rattle.csplit_core.specs.inner.Progress.{GoesPast}
 use Rattle.csplit_core.specs.Progress.{AimsAt}
@@ -26,27 +26,22 @@ use Rattle.csplit_core.specs.Writer.{Writes, IsReady, size_of}
 use Rattle.csplit_core.specs.declared.line_cutter.Cut.{Cut}
 use Rattle.csplit_core.specs.declared.progress.Turn.{Turn}
 use Rattle.csplit_core.specs.declared.progress.Turn.TheVariants.{Below}
-use Rattle.csplit_core.specs.Cutter.{CutterState, suppress_in, state_in, settled_draft, draft_by, AimHolds, IsFit, IsSound, IsAt, IsLive, IsPast, Stands, EndsNow, kept_by, load}
-use Rattle.csplit_core.specs.inner.Cutter.{settled_part, part_at, IsWhole, IsLine, Arrives, Held, Holds, CutsNow, CutsAll, WillCut, TriesNext, search_after, Takes, IsNextFound, Stretches}
+use Rattle.csplit_core.specs.Cutter.{CutterState, suppress_in, state_in, settled_draft, draft_by, IsFit, IsSound, IsAt, IsLive, IsPast, Stands, EndsNow, kept_by, load}
+use Rattle.csplit_core.specs.inner.Cutter.{IsFound, settled_part, part_at, IsWhole, IsLine, Joins, Arrives, Held, Holds, CutsNow, CutsAll, WillCut, TriesNext, search_after, Takes, IsNextFound, Stretches, IsEnd, Tries, IsAfter, CutAt, Spreading, Spread, PassesOver, StopsAt, CutsOn, GoesOn}
 use Rattle.csplit_core.proofs.CutterLemmas.{at_more, part_more, live_part, left_count, few_taken, live_taken, settled_part_is, most_is, aims_past, draft_is, final_count, ended_still, keeps_on, settled_same}
 use Rattle.csplit_core.proofs.LineLemmas.{all_lines-append, all_lines-line, length-all_lines, count-line, whole_count, whole_from, whole-append, whole_drop, rest_all}
 use Rattle.csplit_core.proofs.WriterLemmas.{leaves_still, reaches_as, reaches_still, where_well, reaches_again, stops_wider}
-use Rattle.csplit_core.proofs.StayLemmas.{EndsStill, stays}
+use Rattle.csplit_core.proofs.TryLemmas.{EndsStill, stays}
 use Rattle.csplit_core.specs.declared.line_cutter.Passed.{Passed}
+use Rattle.ports_core.proofs.PartLemmas.{part_trans}
+use Rattle.csplit_core.specs.inner.PlanLaws.{needed}
+use Rattle.csplit_core.specs.inner.Writer.{fault_in}
+use Rattle.std.proofs.Math.Seq.{take-add}
+use Rattle.std.specs.Prelude.{IfOk}
+
+-- Taking lines in, one by one and stretch by stretch.
 
 -- Taking lines in.
-
--- a step of the plan is a cut
-
-first_cuts : {suppress : Bool} {lines : List Line} {state : State} {step : Step} {steps : List Step} {last : State} {ending : Ending} → Runs suppress lines state (step ∷ steps) last ending → CutsAt suppress lines state step.operand step.operand.target step.matched step.cut
-first_cuts (cuts state' operand operands matched cut steps' last' ending' are at from within rest) = at
-
-goes_cuts : {suppress : Bool} {lines : List Line} {state : State} {matched : ℕ} (cut : ℕ) (goes : GoesPast suppress lines state matched cut) → 1 ≤ cut → CutsAt suppress lines state goes.operand goes.operand.target matched cut
-goes_cuts {suppress} {lines} {state} {matched} cut goes some =
-    let next = state_after suppress goes.operand goes.operands state.repetition matched cut in
-    let p = plan_within (needed (length lines) next) suppress lines next in
-    let rest = runs (needed (length lines) next) suppress lines next (omega arith) (let least = line_some suppress cut in omega (arith, least, some)) in
-    first_cuts (goes.runs p.steps p.last p.ending rest)
 
 -- The lines that were left begin no later than a cut.
 
@@ -58,8 +53,7 @@ live_before {cutter} {x} t live matched cut are at =
 
 pub place_before : {cutter : CutterState} {x : List ℕ} (t : List ℕ) {matched : ℕ} (cut : ℕ) (live : IsLive cutter x) → IsWhole x → (goes : GoesPast (suppress_in cutter) (all_lines (x ++ t)) (state_in cutter) matched cut) → IsFit cutter → cutter.progress.current ≤ cut → cutter.progress.current + live.at.taken ≤ cut
 place_before {cutter} {x} t {matched} cut live whole goes fit from =
-    let at = subst (λ lines. CutsAt (suppress_in cutter) lines (state_in cutter) goes.operand goes.operand.target matched cut) (all_lines-append t whole)
-    (goes_cuts cut goes (let s = fit.fits.some in omega (arith, s, from))) in omega (arith, live_taken live, live_before t live matched cut goes.are at, from)
+    let at = subst (λ lines. CutsAt (suppress_in cutter) lines (state_in cutter) goes.operand goes.operand.target matched cut) (all_lines-append t (inl whole)) goes.cuts in omega (arith, live_taken live, live_before t live matched cut goes.are at, from)
 
 -- What arrives where more lines came.
 
@@ -67,7 +61,7 @@ low_none : {cutter : CutterState} {x : List ℕ} (t : List ℕ) (live : IsLive c
 low_none {cutter} {x} t live whole (below operand repetition) run past =
     let here = ends_as _ _ _ _ _ _ run in
     let low : here.2 < cutter.progress.current = here.6 in
-    let before = live_before t live here.1 here.2 here.3 (subst (λ lines. CutsAt (suppress_in cutter) lines (state_in cutter) operand operand.target here.1 here.2) (all_lines-append t whole) here.4) in omega (arith, before, live_taken live, low)
+    let before = live_before t live here.1 here.2 here.3 (subst (λ lines. CutsAt (suppress_in cutter) lines (state_in cutter) operand operand.target here.1 here.2) (all_lines-append t (inl whole)) here.4) in omega (arith, before, live_taken live, low)
 low_none t live whole _ run past = absurd (false≢true past)
 
 enough_left : (lines current taken most : ℕ) {left : ℕ} → 1 ≤ current → current + taken ≤ lines + 1 → taken ≡ lines + 1 - current - most → left ≡ lines - (current + taken - 1) → (taken ≡ 0) ⊎ (most ≤ left)
@@ -77,7 +71,7 @@ enough_left lines current taken most some few is left_is = elim (cases_lt most (
 ]
 
 pub arrives_more : {cutter : CutterState} {lines : ℕ} {aim : Turn} {x : List ℕ} (t : List ℕ) (live : IsLive cutter x) (whole : IsWhole x) (fit : IsFit cutter) (count : lines ≡ line_count newline (x ++ t)) → EndsNow (record cutter { lines = lines; aim = aim }) (x ++ t)
-    → Arrives (record cutter { lines = lines; aim = aim }) (x ++ t) (cutter.window.held ++ t) (at_more cutter lines aim x t cutter.window.held whole fit.fits.some live.at live.ends count)
+    → Arrives (record cutter { lines = lines; aim = aim }) (x ++ t) (cutter.window.held ++ t) (at_more cutter lines aim x t cutter.window.held (inl whole) fit.fits.some live.at live.ends count)
 unfolding at_more
 arrives_more {cutter} {x} t live whole fit count ends =
     let few = few_taken live.at in
@@ -133,16 +127,16 @@ took_held {cutter = cutter} {next} {lines} {aim} {t} {fault = fault} sound fit d
 } where
   reached : (x : List ℕ) → IsWhole x → Stands cutter x → Reached (settled_part cutter x) (more_lines cutter lines aim) (x ++ t) (cutter.window.held ++ t)
   reached x whole stands = let live = live_of differs stands in let there = ends x whole live in record {
-    at = at_more cutter lines aim x t cutter.window.held whole fit.fits.some live.at live.ends there.0;
+    at = at_more cutter lines aim x t cutter.window.held (inl whole) fit.fits.some live.at live.ends there.0;
     arrives = arrives_more t live whole fit there.0 there.1;
-    same = sym (live_part live) ∙ part_more aim t whole fit.fits.some live.at live.ends there.0;
+    same = sym (live_part live) ∙ part_more aim t (inl whole) fit.fits.some live.at live.ends there.0;
   }
 
 -- Once a line came that is cut.
 
 cuts_there : {cutter : CutterState} {lines : ℕ} (aim : Turn) {x : List ℕ} (line : List ℕ) (cut : Cut) (live : IsLive cutter x) (whole : IsWhole x) (fit : IsFit cutter) (one : IsLine line) (count : lines ≡ line_count newline (x ++ line)) → cutter.progress.current ≤ cut.line
     → GoesPast (suppress_in cutter) (all_lines (x ++ line)) (state_in cutter) cut.matched cut.line → lines ≤ search_after (suppress_in cutter) cut
-    → CutsNow (more_lines cutter lines aim) (x ++ line) (cutter.window.held ++ line) line cut (lines - delimiters newline cutter.window.held) (at_more cutter lines aim x line cutter.window.held whole fit.fits.some live.at live.ends count)
+    → CutsNow (more_lines cutter lines aim) (x ++ line) (cutter.window.held ++ line) line cut (lines - delimiters newline cutter.window.held) (at_more cutter lines aim x line cutter.window.held (inl whole) fit.fits.some live.at live.ends count)
 unfolding at_more
 cuts_there {cutter} {lines} aim {x} line cut live whole fit one count from goes near =
     let held = left_count live.at in
@@ -185,19 +179,10 @@ took_cut {cutter = cutter} {next} {lines} {aim} line more {cut} {fault = fault} 
   reached : (x : List ℕ) → IsWhole x → Stands cutter x → CutThere (settled_part cutter x) (more_lines cutter lines aim) (x ++ line) (cutter.window.held ++ line) line cut (lines - delimiters newline cutter.window.held)
   reached x whole stands = let live = live_of differs stands in
       let count : lines ≡ line_count newline (x ++ line) = counted ∙ ap (λ n. n + 1) live.at.counted ∙ sym (count-line line whole one) in record {
-        at = at_more cutter lines aim x line cutter.window.held whole fit.fits.some live.at live.ends count;
+        at = at_more cutter lines aim x line cutter.window.held (inl whole) fit.fits.some live.at live.ends count;
         now = cuts_there aim line cut live whole fit one count will.from (tries x whole live).0 (tries x whole live).1;
-        same = sym (live_part live) ∙ part_more aim line whole fit.fits.some live.at live.ends count;
+        same = sym (live_part live) ∙ part_more aim line (inl whole) fit.fits.some live.at live.ends count;
       }
-
--- What `take_line` owes, where the cutter counted the line and tried the next operand.
-
-pub take_none : {told : Bool} {cutter mid next : CutterState} (line : List ℕ) {old new : List Slot} {fault : Option Fault} → IsFit cutter → (cutter.aim ≡ Below → ⊥) → IsLine line → mid ≡ record cutter { lines = cutter.lines + 1; aim = mid.aim } → IsFit mid
-    → AimHolds mid.operands mid.lines mid.progress mid.aim → TriesNext cutter line mid None → Holds told mid (mid.window.held ++ line) old new next fault → Takes told cutter line old new next fault
-take_none {told} {cutter} {mid} {next} line {old} {new} {fault} fit differs one is fit' aim tries held =
-    took_held (subst IsSound is (record { fit = fit'; aim = aim })) fit differs (let l = line_has line one in omega (arith, l))
-    (λ x whole live. (ap (λ n. n + 1) live.at.counted ∙ sym (count-line line whole one), subst (λ (m : CutterState). TriesNext cutter line m None) is tries x whole live))
-    (subst (λ (m : CutterState). Holds told m (m.window.held ++ line) old new next fault) is held)
 
 -- more lines came after it
 pub take_cut : {told : Bool} {cutter mid next : CutterState} (line more : List ℕ) {cut : Cut} {old new : List Slot} {fault : Option Fault} → IsFit cutter → (cutter.aim ≡ Below → ⊥) → IsLine line → mid ≡ record cutter { lines = cutter.lines + 1; aim = mid.aim }
@@ -205,11 +190,6 @@ pub take_cut : {told : Bool} {cutter mid next : CutterState} (line more : List �
 take_cut {told} {cutter} {next = next} line more {cut} {old} {new} {fault} fit differs one is will tries all =
     took_cut line more fit differs one refl (subst (λ (m : CutterState). WillCut m cut) is will) (subst (λ (m : CutterState). TriesNext cutter line m (Some cut)) is tries)
     (subst (λ (m : CutterState). CutsAll told m cut (m.lines - delimiters newline m.window.held) (m.window.held ++ line) line more old new next fault) is all)
-
-pub take_some : {told : Bool} {cutter mid next : CutterState} (line : List ℕ) {cut : Cut} {old new : List Slot} {fault : Option Fault} → IsFit cutter → (cutter.aim ≡ Below → ⊥) → IsLine line → mid ≡ record cutter { lines = cutter.lines + 1; aim = mid.aim }
-    → WillCut mid cut → TriesNext cutter line mid (Some cut) → CutsAll told mid cut (mid.lines - delimiters newline mid.window.held) (mid.window.held ++ line) line [] old new next fault → Takes told cutter line old new next fault
-take_some {told} {cutter} {next = next} line {old = old} {new} {fault} fit differs one is will tries all =
-    subst (λ those. Takes told cutter those old new next fault) (append-nil line) (take_cut line [] fit differs one is will tries all)
 
 -- Where the cut is below the current line, later lines go nowhere.
 
@@ -222,7 +202,7 @@ final_stays suppress count b total last (below operand repetition) past = tt
 final_stays suppress count b total last _ past = absurd (false≢true past)
 
 pub past_plan : (suppress : Bool) (operands : List Operand) {x : List ℕ} (t : List ℕ) → IsWhole x → is_final (plan suppress operands (all_lines x)).ending ≡ true → plan suppress operands (all_lines (x ++ t)) ≡ plan suppress operands (all_lines x)
-past_plan suppress operands {x} t whole final = ap (plan suppress operands) (all_lines-append t whole) ∙ stays suppress operands (all_lines x) (all_lines t) (final_stays suppress (length (all_lines x)) (all_lines t) (length (all_lines x ++ all_lines t)) _ (plan suppress operands (all_lines x)).ending final)
+past_plan suppress operands {x} t whole final = ap (plan suppress operands) (all_lines-append t (inl whole)) ∙ stays suppress operands (all_lines x) (all_lines t) (final_stays suppress (length (all_lines x)) (all_lines t) (length (all_lines x ++ all_lines t)) _ (plan suppress operands (all_lines x)).ending final)
 
 final_draft : (suppress : Bool) (operands : List Operand) (x : List ℕ) → is_final (plan suppress operands (all_lines x)).ending ≡ true
     → draft_by (all_lines x) (plan suppress operands (all_lines x)).steps (kept_by (plan suppress operands (all_lines x)).last.operands) [] ≡ settled_draft suppress operands (all_lines x)
@@ -234,7 +214,7 @@ past_draft : (style : Style) (operands : List Operand) {x : List ℕ} (t : List 
 past_draft style operands {x} t whole final =
     let same = past_plan style.suppress operands t whole final in
     sym (final_draft style.suppress operands x final)
-    ∙ ended_still style operands t (kept_by (plan style.suppress operands (all_lines x)).last.operands) [] whole (plan_runs style.suppress operands (all_lines x))
+    ∙ ended_still style operands t (kept_by (plan style.suppress operands (all_lines x)).last.operands) [] (inl whole) (plan_runs style.suppress operands (all_lines x))
     ∙ ap (λ (p : Plan). draft_by (all_lines (x ++ t)) p.steps (kept_by p.last.operands) []) (sym same)
     ∙ final_draft style.suppress operands (x ++ t) (ap (λ (p : Plan). is_final p.ending) same ∙ final)
 
@@ -267,8 +247,13 @@ took_past {t = t} aim sound ready = record {
 
 -- Taking a text of complete lines in, stretch by stretch.
 
+-- the pattern was found in the first line
+pub found_first : {cutter : CutterState} (left : List ℕ) {size : ℕ} (found : Option ℕ) → IfSome found (IsNextFound cutter left) → ((k : ℕ) → found ≡ Some k → size ≡ k) → is_some found ≡ true → IsFound cutter (without_newline (take size left)) (cutter.lines + 1) true
+found_first {cutter} left (Some k) is known sure = subst (λ k. IsFound cutter (without_newline (take k left)) (cutter.lines + 1) true) (sym (known k refl)) is.found
+found_first left None is known sure = absurd (false≢true sure)
+
 pub more_settled : (cutter : CutterState) {x : List ℕ} (t : List ℕ) → IsWhole x → Begins (settled_part cutter x) (settled_part cutter (x ++ t))
-more_settled cutter {x} t whole = subst (λ lines. Begins (settled_part cutter x) (Rattle.csplit_core.specs.Csplit.settled_of cutter.writer.style cutter.operands lines)) (sym (all_lines-append t whole)) (grows cutter.writer.style cutter.operands (all_lines x) (all_lines t))
+more_settled cutter {x} t whole = subst (λ lines. Begins (settled_part cutter x) (Rattle.csplit_core.specs.Csplit.settled_of cutter.writer.style cutter.operands lines)) (sym (all_lines-append t (inl whole))) (grows cutter.writer.style cutter.operands (all_lines x) (all_lines t))
 
 -- one text after another
 
@@ -312,20 +297,20 @@ pub takes_all : {told : Bool} {cutter : CutterState} {text : List ℕ} {slots : 
 takes_all whole sound ready = record { front = []; whole = refl; complete = inl refl; rest = whole; took = takes_none sound ready }
 
 module _ {told : Bool} {cutter now : CutterState} {text left : List ℕ} {old mid : List Slot} (so_far : Taking told cutter now text left old mid) where
-  pub takes_more : {next : CutterState} (passed : Passed) {new : List Slot} → Stretches told now left mid new next (Ok passed) → Taking told cutter next text (take (length left - passed.size) (drop passed.size left)) old new
+  pub takes_more : {next : CutterState} {size : ℕ} (passed : Passed) {new : List Slot} → Stretches told now left size mid new next (Ok passed) → Taking told cutter next text (take (length left - passed.size) (drop passed.size left)) old new
   takes_more {next} passed {new} more = record {
     front = so_far.front ++ take n left;
     whole = so_far.whole ∙ ap (λ those. so_far.front ++ those) (sym (take-append-drop n left) ∙ ap (λ those. take n left ++ those) (sym (rest_all n left))) ∙ sym (append_assoc so_far.front (take n left) (take (length left - n) (drop n left)));
-    complete = whole-append (take n left) so_far.complete (subst (λ k. IsWhole (take k left)) (sym more.size) more.whole);
+    complete = whole-append (take n left) so_far.complete (subst (λ k. IsWhole (take k left)) (sym more.size_is) (more.whole so_far.rest));
     rest = subst IsWhole (sym (rest_all n left)) (whole_drop n so_far.rest);
-    took = takes_again so_far.complete so_far.took (subst (λ k. Takes told now (take k left) mid new next None) (sym more.size) more.took);
+    took = takes_again so_far.complete so_far.took (subst (λ k. Takes told now (take k left) mid new next None) (sym more.size_is) more.took);
   } where
     n : ℕ
     n = passed.size
 
-  pub takes_stopped : {next : CutterState} {new : List Slot} {fault : Fault} → Stretches told now left mid new next (Err fault) → Takes told cutter text old new next (Some fault)
-  takes_stopped {next} {new} {fault} more = subst (λ those. Takes told cutter those old new next (Some fault)) (sym so_far.whole)
-      (takes_again so_far.complete so_far.took (subst (λ those. Takes told now those mid new next (Some fault)) (take-append-drop more.n left) (takes_wider (drop more.n left) more.whole more.took)))
+  pub takes_stopped : {next : CutterState} {size : ℕ} {new : List Slot} {fault : Fault} → Stretches told now left size mid new next (Err fault) → Takes told cutter text old new next (Some fault)
+  takes_stopped {next} {new = new} {fault} more = subst (λ those. Takes told cutter those old new next (Some fault)) (sym so_far.whole)
+      (takes_again so_far.complete so_far.took (subst (λ those. Takes told now those mid new next (Some fault)) (take-append-drop more.n left) (takes_wider (drop more.n left) (more.whole so_far.rest) more.took)))
 
   pub takes_end : left ≡ [] → Takes told cutter text old mid now None
   takes_end none = subst (λ those. Takes told cutter those old mid now None) (sym (so_far.whole ∙ ap (λ those. so_far.front ++ those) none ∙ append-nil so_far.front)) so_far.took
@@ -334,11 +319,362 @@ module _ {told : Bool} {cutter now : CutterState} {text left : List ℕ} {old mi
   takes_fit most fits =
       let all : length text ≡ length so_far.front + length left = ap length so_far.whole ∙ length-append so_far.front left in let s = so_far.took.went.size in omega (arith, all, s, fits)
 
-pub found_next : {told : Bool} {now next : CutterState} {left : List ℕ} (passed : Passed) {mid new : List Slot} → Stretches told now left mid new next (Ok passed) → IfSome passed.found (IsNextFound next (take (length left - passed.size) (drop passed.size left)))
+pub found_next : {told : Bool} {now next : CutterState} {left : List ℕ} {size : ℕ} (passed : Passed) {mid new : List Slot} → Stretches told now left size mid new next (Ok passed) → IfSome passed.found (IsNextFound next (take (length left - passed.size) (drop passed.size left)))
 found_next {next = next} {left} passed more =
-    subst (λ those. IfSome passed.found (IsNextFound next those)) (sym (rest_all passed.size left)) (subst (λ k. IfSome passed.found (IsNextFound next (drop k left))) (sym more.size) more.found)
+    subst (λ those. IfSome passed.found (IsNextFound next those)) (sym (rest_all passed.size left)) (subst (λ k. IfSome passed.found (IsNextFound next (drop k left))) (sym more.size_is) more.found)
 
-pub takes_fewer : {told : Bool} {now next : CutterState} {left : List ℕ} (passed : Passed) {mid new : List Slot} → Stretches told now left mid new next (Ok passed) → length (take (length left - passed.size) (drop passed.size left)) < length left
-takes_fewer {left = left} passed more =
+pub takes_fewer : {told : Bool} {now next : CutterState} {left : List ℕ} {size : ℕ} (passed : Passed) {mid new : List Slot} → 0 < size → Stretches told now left size mid new next (Ok passed) → length (take (length left - passed.size) (drop passed.size left)) < length left
+takes_fewer {left = left} passed some more =
     let e : length (take (length left - passed.size) (drop passed.size left)) ≡ length left - passed.size = ap length (rest_all passed.size left) ∙ length-drop passed.size left in
-    let some = more.some in let within = more.within in let is = more.size in omega (arith, e, some, within, is)
+    let least = more.least in let within = more.within in let is = more.size_is in omega (arith, e, some, least, within, is)
+
+-- Cutting as often as operands cut the lines that are left, and then taking in the lines after them that aren't cut.
+
+-- Cutting as often as operands cut the lines that are left.
+
+-- What is said of the sections and of where the run stands doesn't depend on the aim or the lines that wait.
+
+abbrev pub alike : CutterState → Turn → Window → CutterState
+alike cutter aim window = record cutter { aim = aim; window = window }
+
+unfoldable pub at_alike : (cutter : CutterState) (aim : Turn) (window : Window) (x left : List ℕ) → IsAt cutter x left → IsAt (alike cutter aim window) x left
+at_alike cutter aim window x left at = record { steps = at.steps; leads = at.leads; counted = at.counted; taken = at.taken; written = at.written; few = at.few; written_is = at.written_is; left_is = at.left_is; writes = at.writes }
+
+-- Trying the next operand changes the aim alone.
+
+pub spread_fit : {now mid : CutterState} → mid ≡ record now { aim = mid.aim } → IsFit now → IsFit mid
+spread_fit is fit = subst IsFit (sym is) (record { fits = fit.fits; most = fit.most; delim = fit.delim; sought = fit.sought })
+
+pub spread_ready : (now : CutterState) {mid : CutterState} {slots : List Slot} → mid ≡ record now { aim = mid.aim } → IsReady now.writer slots → IsReady mid.writer slots
+spread_ready now {slots} is ready = subst (λ (c : CutterState). IsReady c.writer slots) (sym is) ready
+
+pub spread_fewer : (now : CutterState) {mid : CutterState} {less : ℕ} → mid ≡ record now { aim = mid.aim } → less < needed mid.lines (state_in mid) → less < needed now.lines (state_in now)
+spread_fewer now {less} is fewer = subst (λ (c : CutterState). less < needed c.lines (state_in c)) is fewer
+
+-- the next operand cuts as well
+
+cuts_again : {told : Bool} {cutter now : CutterState} {aim : Turn} (cut : Cut) {x : List ℕ} (line : List ℕ) {left : List ℕ} {low : Part} {old new : List Slot} (after : IsAfter told cutter x line now left low old new) → Tries now line (record now { aim = aim }) (Some cut) → WillCut now cut
+    → CutsNow (record now { aim = aim }) x left line cut now.progress.current (at_alike now aim now.window x left after.now)
+unfolding at_alike
+cuts_again cut {x} line after tries will =
+    let both = tries x after.looked in record {
+      last = after.looked.last;
+      near = both.1 (inl after.near);
+      place_is = (let none = after.none in omega (arith, none));
+      before = will.from;
+      goes = both.0;
+    }
+
+end_again : (left rest waiting : List ℕ) → IsEnd left waiting → IsEnd rest left → IsEnd rest waiting
+end_again left rest waiting (front, is) (more, rest_is) = (front ++ more, is ∙ ap (λ those. front ++ those) rest_is ∙ sym (append_assoc front more rest))
+
+pub spread_more : {told : Bool} {cutter now mid next : CutterState} {cut cut' : Cut} {place : ℕ} {waiting line left rest : List ℕ} {old between new : List Slot} → Spreading told cutter cut place waiting line old between now left
+    → mid ≡ record now { aim = mid.aim } → Tries now line mid (Some cut') → WillCut now cut' → CutAt told mid cut' mid.progress.current left between new next rest → Spreading told cutter cut place waiting line old new next rest
+unfolding at_alike
+spread_more {told} {cutter} {now} {mid} {next} {cut} {cut'} {waiting = waiting} {line} {left} {rest} {between = between} {new} so_far is tries will at_cut =
+    let tried = subst (λ (m : CutterState). Tries now line m (Some cut')) is tries in
+    let once = (subst (λ (m : CutterState). CutAt told m cut' m.progress.current left between new next rest) is at_cut).spreading line in record {
+      keeps = keeps_on so_far.keeps (record { operands = once.keeps.operands; writer = once.keeps.writer });
+      lines = once.lines ∙ so_far.lines;
+      fit = once.fit;
+      held = once.held;
+      after = λ x at here.
+          let after = so_far.after x at here in
+          let again = once.after x (at_alike now mid.aim now.window x left after.now) (cuts_again cut' line after tried will) in record {
+            now = again.now;
+            looked = again.looked;
+            near = again.near;
+            none = again.none;
+            grows = part_trans (part_at cutter x waiting at) (part_at now x left after.now) (part_at next x rest again.now) after.grows again.grows;
+            reaches = reaches_again after.grows after.reaches again.reaches;
+          };
+      size = (let one = once.size in let two = so_far.size in omega (arith, one, two));
+      end = end_again left rest waiting so_far.end once.end;
+    }
+
+pub spread_stopped : {told : Bool} {cutter now mid next : CutterState} {cut cut' : Cut} {place : ℕ} {waiting line left : List ℕ} {old between new : List Slot} {fault : Fault} → Spreading told cutter cut place waiting line old between now left
+    → mid ≡ record now { aim = mid.aim } → Tries now line mid (Some cut') → WillCut now cut' → CutsAll told mid cut' mid.progress.current left line [] between new next (Some fault) → CutsAll told cutter cut place waiting line [] old new next (Some fault)
+unfolding at_alike
+spread_stopped {told} {now = now} {mid} {next} {cut' = cut'} {line = line} {left} {between = between} {new} {fault} so_far is tries will stops =
+    let tried = subst (λ (m : CutterState). Tries now line m (Some cut')) is tries in
+    let stopped = subst (λ (m : CutterState). CutsAll told m cut' m.progress.current left line [] between new next (Some fault)) is stops in record {
+      keeps = keeps_on so_far.keeps (record { operands = stopped.keeps.operands; writer = stopped.keeps.writer });
+      reaches = λ x at here. let after = so_far.after x at here in reaches_again after.grows after.reaches
+          (reaches_as refl (sym (settled_same (x ++ []) so_far.keeps)) (stopped.reaches x (at_alike now mid.aim now.window x left after.now) (cuts_again cut' line after tried will)));
+      went = tt;
+    }
+
+-- Then no operand cuts any more, and the lines that are left are held, perhaps with more.
+
+pub spread_on : {told : Bool} {cutter now next : CutterState} {lines : ℕ} {aim : Turn} {cut : Cut} {place : ℕ} {waiting line left more : List ℕ} {old between new : List Slot} {fault : Option Fault} (so_far : Spreading told cutter cut place waiting line old between now left)
+    → IsSound (more_lines now lines aim) → lines ≤ cutter.lines + length more
+    → ((x : List ℕ) (at : IsAt cutter x waiting) (here : CutsNow cutter x waiting line cut place at) → Reached (part_at now x left (so_far.after x at here).now) (more_lines now lines aim) (x ++ more) (left ++ more))
+    → Holds told (more_lines now lines aim) (left ++ more) between new next fault → CutsAll told cutter cut place waiting line more old new next fault
+spread_on {cutter = cutter} {next = next} {lines} {left = left} {more} {fault = fault} so_far sound few reached held = record {
+  keeps = keeps_on so_far.keeps (record { operands = held.keeps.operands; writer = held.keeps.writer });
+  reaches = λ x at here. let after = so_far.after x at here in let there = reached x at here in
+      reaches_again after.grows after.reaches (reaches_as there.same (sym (settled_same (x ++ more) so_far.keeps)) (held.reaches (x ++ more) there.at there.arrives));
+  went = where_well fault held.went (λ went. record {
+    lines = (let l : next.lines ≡ lines = ap (λ (c : CutterState). c.lines) went.same in omega (arith, l, few));
+    sound = sound_held went sound;
+    stands = λ x at here. let there = reached x at here in went.stands (x ++ more) there.at there.arrives;
+    size = (let one = went.size in let two = so_far.size in let joined : length (left ++ more) ≡ length left + length more = length-append left more in omega (arith, one, two, joined));
+  });
+}
+
+pub spread_held : {told : Bool} {cutter mid next : CutterState} {cut : Cut} {place : ℕ} {waiting line left : List ℕ} {old between new : List Slot} {fault : Option Fault} → Spread told cutter cut place waiting line old between mid left
+    → Holds told mid (mid.window.held ++ left) between new next fault → CutsAll told cutter cut place waiting line [] old new next fault
+unfolding at_alike
+spread_held {told} {cutter} {mid} {next} {left = left} {between = between} {new} {fault} spread held =
+    let now = spread.now in
+    let is : mid ≡ more_lines now now.lines mid.aim = spread.is in
+    let none : mid.window.held ≡ [] = ap (λ (c : CutterState). c.window.held) is ∙ spread.so_far.held in
+    spread_on spread.so_far (subst IsSound is (record { fit = spread_fit spread.is spread.so_far.fit; aim = spread.aim })) (let l = spread.so_far.lines in omega (arith, l))
+    (λ x at here.
+    let after = spread.so_far.after x at here in
+    let low = part_at now x left after.now in
+    let there : Reached low (more_lines now now.lines mid.aim) x left = record {
+      at = at_alike now mid.aim now.window x left after.now;
+      arrives = record { ends = subst (λ (m : CutterState). EndsNow m x) is (spread.tries x after.looked); low = λ past. after.none; enough = inl after.none };
+      same = refl;
+    } in
+    subst (λ those. Reached low (more_lines now now.lines mid.aim) those (left ++ [])) (sym (append-nil x)) (subst (Reached low (more_lines now now.lines mid.aim) x) (sym (append-nil left)) there))
+    (subst (λ those. Holds told (more_lines now now.lines mid.aim) those between new next fault) (sym (append-nil left))
+    (subst (λ (m : CutterState). Holds told m left between new next fault) is (subst (λ those. Holds told mid those between new next fault) (ap (λ those. those ++ left) none) held)))
+
+-- Cutting the lines that wait and one more.
+
+-- where none waits
+
+pub none_there : {held : List ℕ} {empty : Bool} → empty ≡ eqb (length held) 0 → empty ≡ true → held ≡ []
+none_there {held} is true_is = nil_from_length held (eqb-true (length held) 0 (sym is ∙ true_is))
+
+pub alone : (P : ℕ → List ℕ → Type 0) (cutter : CutterState) (line : List ℕ) → cutter.window.held ≡ [] → P cutter.lines line
+    → P (cutter.lines - delimiters newline cutter.window.held) (cutter.window.held ++ line)
+alone P cutter line none holds =
+    subst (λ those. P (cutter.lines - delimiters newline those) (those ++ line)) (sym none)
+    (subst (λ n. P n line) (let e : cutter.lines ≡ cutter.lines - 0 = omega arith in e) holds)
+
+-- and where some do
+
+cuts_alike : {cutter : CutterState} (window : Window) {x left : List ℕ} (line : List ℕ) (cut : Cut) {place : ℕ} {at : IsAt cutter x left} → CutsNow cutter x left line cut place at → CutsNow (alike cutter cutter.aim window) x left line cut place (at_alike cutter cutter.aim window x left at)
+unfolding at_alike
+cuts_alike window line cut now = record { last = now.last; near = now.near; place_is = now.place_is; before = now.before; goes = now.goes }
+
+all_alike : {told : Bool} (cutter : CutterState) {next : CutterState} (window : Window) {cut : Cut} {place : ℕ} {left line : List ℕ} {old new : List Slot} {fault : Option Fault} → CutsAll told (alike cutter cutter.aim window) cut place left line [] old new next fault
+    → CutsAll told cutter cut place left line [] old new next fault
+unfolding at_alike
+all_alike cutter window {cut} {left = left} {line} {fault = fault} all = record {
+  keeps = record { operands = all.keeps.operands; writer = all.keeps.writer };
+  reaches = λ x at now. all.reaches x (at_alike cutter cutter.aim window x left at) (cuts_alike window line cut now);
+  went = where_well fault all.went (λ went. record { lines = went.lines; sound = went.sound; stands = λ x at now. went.stands x (at_alike cutter cutter.aim window x left at) (cuts_alike window line cut now); size = went.size });
+}
+
+pub cut_drained : {told : Bool} {cutter next : CutterState} {window : Window} {cut : Cut} {place : ℕ} {waiting line : List ℕ} {old new : List Slot} {fault : Option Fault} → waiting ≡ cutter.window.held ++ line → place ≡ cutter.lines - delimiters newline cutter.window.held
+    → CutsAll told (record cutter { window = window }) cut place waiting line [] old new next fault → CutsAll told cutter cut (cutter.lines - delimiters newline cutter.window.held) (cutter.window.held ++ line) line [] old new next fault
+cut_drained {told} {cutter} {next} {window} {cut} {waiting = waiting} {line} {old} {new} {fault} waiting_is place_is cuts =
+    all_alike cutter window (subst (λ those. CutsAll told (record cutter { window = window }) cut (cutter.lines - delimiters newline cutter.window.held) those line [] old new next fault) waiting_is
+    (subst (λ n. CutsAll told (record cutter { window = window }) cut n waiting line [] old new next fault) place_is cuts))
+
+-- how many lines wait
+pub waiting_count : (lines : ℕ) (held : List ℕ) {waiting : List ℕ} (line front : List ℕ) {size count place : ℕ} → waiting ≡ held ++ line → size ≡ length held → front ≡ take size waiting → count ≡ delimiters newline front → place ≡ lines - count → place ≡ lines - delimiters newline held
+waiting_count lines held line front {size} waiting_is size_is front_is count_is place_is =
+    place_is ∙ ap (λ n. lines - n) (count_is ∙ ap (delimiters newline) (front_is ∙ ap (take size) waiting_is ∙ take_at held line size (sym size_is)))
+
+pub waiting_size : (held line : List ℕ) {items : List ℕ} {n : ℕ} → items ≡ held ++ line → n ≡ length items → n - length line ≡ length held
+waiting_size held line {items} is long = let e : length items ≡ length held + length line = ap length is ∙ length-append held line in omega (arith, e, long)
+
+-- A line is cut, or isn't, and what is left of it is held together with the lines after it that aren't cut.
+
+-- What was found of the next line stays where lines are held.
+
+found_as : {mid : CutterState} {writer : Rattle.csplit_core.specs.Writer.WriterState} {window : Window} {rest : List ℕ} {size : ℕ} → writer.style ≡ mid.writer.style → IsNextFound mid rest size → IsNextFound (record mid { writer = writer; window = window }) rest size
+found_as {mid} same found = record {
+  some = found.some;
+  within = found.within;
+  line = found.line;
+  ends = found.ends;
+  aim = found.aim;
+  found = record {
+    none = found.found.none;
+    before = λ less. found.found.before (subst (λ (style : Style). mid.lines + 1 < search_line style.suppress (state_in mid)) same less);
+    some = λ pattern sought from. found.found.some pattern sought (subst (λ (style : Style). search_line style.suppress (state_in mid) ≤ mid.lines + 1) same from);
+  };
+}
+
+found_by : {told : Bool} {mid next : CutterState} {left : List ℕ} {old new : List Slot} (rest : List ℕ) (found : Option ℕ) → Holds told mid left old new next None → IfSome found (IsNextFound mid rest) → IfSome found (IsNextFound next rest)
+found_by rest (Some size) held is = subst (λ (those : CutterState). IsNextFound those rest size) (sym held.went.same) (found_as held.keeps.writer.style is)
+found_by rest None held is = is
+
+found_held : {told : Bool} {mid next : CutterState} {left : List ℕ} {old new : List Slot} (rest : List ℕ) (result : Result Passed Fault) → Holds told mid left old new next (fault_in result) → IfOk result (λ passed. IfSome passed.found (IsNextFound mid rest))
+    → IfOk result (λ passed. IfSome passed.found (IsNextFound next rest))
+found_held rest (Ok passed) held found = found_by rest passed.found held found
+found_held rest (Err fault) held found = tt
+
+ok_as : {P Q : Passed → Type 0} (result : Result Passed Fault) → ((passed : Passed) → P passed → Q passed) → IfOk result P → IfOk result Q
+ok_as (Ok passed) follows holds = follows passed holds
+ok_as (Err fault) follows holds = tt
+
+-- What `go_on` owes.
+pub gone_on : {told : Bool} {cutter mid next : CutterState} (text : List ℕ) {rest : List ℕ} (kept : ℕ) {passed : Passed} {old new : List Slot} (result : Result Passed Fault) → kept ≤ length text → rest ≡ drop kept text → StopsAt cutter rest mid passed
+    → Holds told mid (mid.window.held ++ take (kept + passed.size) text) old new next (fault_in result) → IfOk result (λ all. (all.size ≡ kept + passed.size) × (all.found ≡ passed.found)) → GoesOn told cutter (take kept text) (drop kept text) old new next result
+gone_on {told} {cutter} {mid} {next} text kept {passed} {old} {new} result within rest_is stops held are =
+    let stops_there = subst (λ those. StopsAt cutter those mid passed) rest_is stops in record {
+      mid = mid;
+      n = passed.size;
+      over = stops_there.over;
+      held = subst (λ those. Holds told mid (mid.window.held ++ those) old new next (fault_in result)) (take-add kept passed.size text) held;
+      size = ok_as result (λ all both. both.0 ∙ ap (λ k. k + passed.size) (sym (length-take-le kept text within))) are;
+      found = ok_as result (λ all both. subst (λ found. IfSome found (IsNextFound mid (drop passed.size (drop kept text)))) (sym both.1) stops_there.found) are;
+    }
+
+-- The lines after a cut, up to where the next operand cuts: none of the open section is written before them.
+
+there_of : {told : Bool} {now mid : CutterState} {aim : Turn} {x : List ℕ} (line : List ℕ) {left rest : List ℕ} {n : ℕ} {low : Part} {cutter : CutterState} {old new : List Slot} → IsFit now → Joins x (take n rest) → Tries now line (record now { aim = aim }) None → PassesOver (record now { aim = aim }) rest mid n
+    → (after : IsAfter told cutter x line now left low old new) → Reached (part_at now x left after.now) (more_lines now mid.lines aim) (x ++ take n rest) (left ++ take n rest)
+unfolding at_more at_alike
+there_of {now = now} {mid} {aim} {x} line {left} {rest} {n} fit whole tries over after =
+    let here = alike now aim now.window in
+    let at = at_alike now aim now.window x left after.now in
+    let ends : EndsNow here x = tries x after.looked in
+    let both = over.ends x whole after.now.counted ends in record {
+      at = at_more here mid.lines aim x (take n rest) left whole fit.fits.some at ends both.0;
+      arrives = record { ends = subst (λ (c : CutterState). EndsNow c (x ++ take n rest)) over.same both.1; low = λ past. after.none; enough = inl after.none };
+      same = part_more aim (take n rest) whole fit.fits.some at ends both.0;
+    }
+
+-- where the first line is all, or complete
+joins_by : {E : Type 0} {x rest : List ℕ} (n : ℕ) → (rest ≡ []) ⊎ E → (E → IsWhole x) → Joins x (take n rest)
+joins_by n (inl none) ends = inr (ap (take n) none ∙ take_all n [] (omega arith))
+joins_by n (inr so) ends = inl (ends so)
+
+spread_passes : {told : Bool} {cutter mid end next : CutterState} {cut : Cut} {place : ℕ} {line left rest : List ℕ} {n : ℕ} {old between new : List Slot} {fault : Option Fault} → Spread told cutter cut place line line old between mid left → (rest ≡ []) ⊎ (ends_with newline line ≡ true) → PassesOver mid rest end n
+    → Holds told end (end.window.held ++ (left ++ take n rest)) between new next fault → CutsAll told cutter cut place line line (take n rest) old new next fault
+spread_passes {told} {mid = mid} {end} {next} {line = line} {left} {rest} {n} {between = between} {new} {fault} spread complete over held =
+    let now = spread.now in
+    let over_now = subst (λ (m : CutterState). PassesOver m rest end n) spread.is over in
+    let long : length (take n rest) ≡ n = length-take-le n rest over.within in
+    spread_on spread.so_far (subst IsSound over_now.same over.sound) (let few = over_now.few in let s = spread.so_far.lines in omega (arith, few, s, long))
+    (λ x at here. there_of line spread.so_far.fit (joins_by n complete here.last.2) (subst (λ (m : CutterState). Tries now line m None) spread.is spread.tries) over_now (spread.so_far.after x at here))
+    (subst (λ those. Holds told (more_lines now end.lines mid.aim) (those ++ (left ++ take n rest)) between new next fault) spread.so_far.held
+    (subst (λ (m : CutterState). Holds told m (m.window.held ++ (left ++ take n rest)) between new next fault) over_now.same held))
+
+-- The text from what is left of its first line on.
+
+pub from_left : (text left : List ℕ) (size : ℕ) → size ≤ length text → IsEnd left (take size text)
+    → take (length text - (size - length left)) (drop (size - length left) text) ≡ left ++ drop size text
+from_left text left size within (front, is) =
+    let long : length (take size text) ≡ length front + length left = ap length is ∙ length-append front left in
+    let all : length (take size text) ≡ size = length-take-le size text within in
+    let parts : text ≡ front ++ (left ++ drop size text) = sym (take-append-drop size text) ∙ ap (λ those. those ++ drop size text) is ∙ append_assoc front left (drop size text) in
+    rest_all (size - length left) text ∙ ap (drop (size - length left)) parts
+    ∙ drop_at front (left ++ drop size text) (size - length left) (omega (arith, long, all))
+
+left_within : (text left : List ℕ) (size : ℕ) → size ≤ length text → IsEnd left (take size text) → length left ≤ size
+left_within text left size within (front, is) =
+    let long : length (take size text) ≡ length front + length left = ap length is ∙ length-append front left in
+    let all : length (take size text) ≡ size = length-take-le size text within in omega (arith, long, all)
+
+-- What `cut_on` owes.
+
+gone_left : {told : Bool} {mid next : CutterState} {left rest tail : List ℕ} {kept : ℕ} {old new : List Slot} {result : Result Passed Fault} → kept ≡ length left → tail ≡ left ++ rest → GoesOn told mid (take kept tail) (drop kept tail) old new next result → GoesOn told mid left rest old new next result
+gone_left {told} {mid} {next} {left} {rest} {tail} {kept} {old} {new} {result} kept_is is gone =
+    subst (λ those. GoesOn told mid those rest old new next result) (ap (take kept) is ∙ take_at left rest kept (sym kept_is))
+    (subst (λ those. GoesOn told mid (take kept tail) those old new next result) (ap (drop kept) is ∙ drop_at left rest kept (sym kept_is)) gone)
+
+pub cut_on : {told : Bool} {cutter mid next : CutterState} {cut : Cut} (text : List ℕ) {tail left : List ℕ} (size : ℕ) {kept : ℕ} {passed all : Passed} {old between new : List Slot} → size ≤ length text → (drop size text ≡ []) ⊎ (ends_with newline (take size text) ≡ true)
+    → Spread told cutter cut cutter.lines (take size text) (take size text) old between mid left → kept ≡ length left → tail ≡ left ++ drop size text → GoesOn told mid (take kept tail) (drop kept tail) between new next (Ok passed)
+    → all.size ≡ size - kept + passed.size → all.found ≡ passed.found → CutsOn told cutter cut (take size text) (drop size text) old new next (Ok all)
+cut_on {next = next} text {left = left} size {passed = passed} within complete spread kept_is tail_is goes size_is found_is =
+    let gone = gone_left kept_is tail_is goes in
+    let few : length left ≤ size = left_within text left size within spread.so_far.end in
+    let long : length (take size text) ≡ size = length-take-le size text within in record {
+      n = gone.n;
+      within = gone.over.within;
+      whole = gone.over.whole;
+      all = spread_passes spread complete gone.over gone.held;
+      size = (let g = gone.size in omega (arith, size_is, g, few, kept_is, long));
+      found = subst (λ found. IfSome found (IsNextFound next (drop gone.n (drop size text)))) (sym found_is) (found_by (drop gone.n (drop size text)) passed.found gone.held gone.found);
+    }
+
+pub cut_not_on : {told : Bool} {cutter mid next : CutterState} {cut : Cut} {line tail left rest : List ℕ} {kept : ℕ} {old between new : List Slot} {fault : Fault} → (rest ≡ []) ⊎ (ends_with newline line ≡ true) → Spread told cutter cut cutter.lines line line old between mid left
+    → kept ≡ length left → tail ≡ left ++ rest → GoesOn told mid (take kept tail) (drop kept tail) between new next (Err fault) → CutsOn told cutter cut line rest old new next (Err fault)
+cut_not_on complete spread kept_is tail_is goes =
+    let gone = gone_left kept_is tail_is goes in record { n = gone.n; within = gone.over.within; whole = gone.over.whole; all = spread_passes spread complete gone.over gone.held; size = tt; found = tt }
+
+-- a fault at the cut
+pub cut_stopped_on : {told : Bool} {cutter next : CutterState} {cut : Cut} {line rest : List ℕ} {old new : List Slot} {fault : Fault} → CutsAll told cutter cut cutter.lines line line [] old new next (Some fault) → CutsOn told cutter cut line rest old new next (Err fault)
+cut_stopped_on stopped = record { n = 0; within = omega arith; whole = inl refl; all = stopped; size = tt; found = tt }
+
+-- What `stretch` owes. The first line isn't cut.
+
+ends_on : {cutter mid end : CutterState} (line : List ℕ) {rest : List ℕ} {n : ℕ} → IsLine line → (rest ≡ []) ⊎ (ends_with newline line ≡ true) → mid ≡ record cutter { lines = cutter.lines + 1; aim = mid.aim } → TriesNext cutter line mid None → PassesOver mid rest end n
+    → end ≡ more_lines cutter end.lines mid.aim → (x : List ℕ) → IsWhole x → IsLive cutter x → (end.lines ≡ line_count newline (x ++ (line ++ take n rest))) × EndsNow (more_lines cutter end.lines mid.aim) (x ++ (line ++ take n rest))
+ends_on {cutter} {mid} {end} line {rest} {n} one complete mid_is tries over end_is x whole live =
+    let count : mid.lines ≡ line_count newline (x ++ line) = ap (λ (c : CutterState). c.lines) mid_is ∙ ap (λ k. k + 1) live.at.counted ∙ sym (count-line line whole one) in
+    let both = over.ends (x ++ line) (joins_by n complete (λ ends. whole-append line whole (inr ends))) count (tries x whole live) in
+    let is = append_assoc x line (take n rest) in (
+      subst (λ those. end.lines ≡ line_count newline those) is both.0,
+      subst (EndsNow (more_lines cutter end.lines mid.aim)) is (subst (λ (c : CutterState). EndsNow c ((x ++ line) ++ take n rest)) end_is both.1),
+    )
+
+stretched : {told : Bool} {cutter next : CutterState} {text : List ℕ} {size n : ℕ} {old new : List Slot} (result : Result Passed Fault) → size ≤ length text → n ≤ length (drop size text) → (drop size text ≡ []) ⊎ (ends_with newline (take size text) ≡ true) → IsWhole (take n (drop size text))
+    → Takes told cutter (take size text ++ take n (drop size text)) old new next (fault_in result) → IfOk result (λ passed. passed.size ≡ length (take size text) + n) → IfOk result (λ passed. IfSome passed.found (IsNextFound next (drop n (drop size text)))) → Stretches told cutter text size old new next result
+stretched {told} {cutter} {next} {text} {size} {n} {old} {new} result within more complete whole took size_is found = record {
+  n = size + n;
+  least = omega arith;
+  within = (let long = length-drop size text in omega (arith, long, within, more));
+  whole = λ all. subst IsWhole (sym (take-add size n text)) (by complete all);
+  took = subst (λ those. Takes told cutter those old new next (fault_in result)) (sym (take-add size n text)) took;
+  size_is = ok_as result (λ passed is. is ∙ ap (λ k. k + n) (length-take-le size text within)) size_is;
+  found = ok_as result (λ passed found. subst (λ those. IfSome passed.found (IsNextFound next those)) (drop-drop n size text) found) found;
+} where
+  by : (drop size text ≡ []) ⊎ (ends_with newline (take size text) ≡ true) → IsWhole text → IsWhole (take size text ++ take n (drop size text))
+  by (inl none) all = subst IsWhole (sym (ap (λ those. take size text ++ take n those) none ∙ ap (λ those. take size text ++ those) (take_all n [] (omega arith) ∙ sym none) ∙ take-append-drop size text)) all
+  by (inr ends) all = whole-append (take n (drop size text)) (inr ends) whole
+
+pub stretch_on : {told : Bool} {cutter mid next : CutterState} {text : List ℕ} {size : ℕ} {old new : List Slot} (result : Result Passed Fault) → IsFit cutter → (cutter.aim ≡ Below → ⊥) → size ≤ length text → IsLine (take size text) → (drop size text ≡ []) ⊎ (ends_with newline (take size text) ≡ true)
+    → mid ≡ record cutter { lines = cutter.lines + 1; aim = mid.aim } → TriesNext cutter (take size text) mid None → GoesOn told mid (take size text) (drop size text) old new next result → Stretches told cutter text size old new next result
+stretch_on {told} {cutter} {mid} {next} {text} {size} {old} {new} result fit differs within one complete mid_is tries gone =
+    let end = gone.mid in
+    let line = take size text in
+    let more = take gone.n (drop size text) in
+    let end_is : end ≡ more_lines cutter end.lines mid.aim = gone.over.same ∙ ap (λ (c : CutterState). record c { lines = end.lines }) mid_is in
+    let some : 1 ≤ length line = line_has line one in
+    let longer : length (line ++ more) ≡ length line + length more = length-append line more in
+    let rest : length more ≡ gone.n = length-take-le gone.n (drop size text) gone.over.within in
+    let first : mid.lines ≡ cutter.lines + 1 = ap (λ (c : CutterState). c.lines) mid_is in
+    stretched result within gone.over.within complete gone.over.whole (took_held (subst IsSound end_is gone.over.sound) fit differs (let few = gone.over.few in omega (arith, few, longer, rest, first, some))
+    (ends_on line one complete mid_is tries gone.over end_is) (subst (λ (m : CutterState). Holds told m (m.window.held ++ (line ++ more)) old new next (fault_in result)) end_is gone.held)) gone.size (found_held (drop gone.n (drop size text)) result gone.held gone.found)
+
+-- It is cut, and none waits.
+pub stretch_cut : {told : Bool} {cutter mid next : CutterState} {text : List ℕ} {size : ℕ} {cut : Cut} {old new : List Slot} (result : Result Passed Fault) → IsFit cutter → (cutter.aim ≡ Below → ⊥) → size ≤ length text → IsLine (take size text) → (drop size text ≡ []) ⊎ (ends_with newline (take size text) ≡ true)
+    → mid ≡ record cutter { lines = cutter.lines + 1; aim = mid.aim } → mid.window.held ≡ [] → WillCut mid cut → TriesNext cutter (take size text) mid (Some cut) → CutsOn told mid cut (take size text) (drop size text) old new next result → Stretches told cutter text size old new next result
+stretch_cut {told} {cutter} {mid} {next} {text} {size} {cut} {old} {new} result fit differs within one complete mid_is none will tries on =
+    let line = take size text in
+    let more = take on.n (drop size text) in
+    stretched result within on.within complete on.whole (take_cut line more fit differs one mid_is will tries (alone (λ place those. CutsAll told mid cut place those line more old new next (fault_in result)) mid line none on.all)) on.size on.found
+
+-- It is cut, and some wait.
+pub stretch_first : {told : Bool} {cutter mid next : CutterState} {text : List ℕ} {size : ℕ} {cut : Cut} {old new : List Slot} (result : Result Passed Fault) → IsFit cutter → (cutter.aim ≡ Below → ⊥) → size ≤ length text → IsLine (take size text) → (drop size text ≡ []) ⊎ (ends_with newline (take size text) ≡ true)
+    → mid ≡ record cutter { lines = cutter.lines + 1; aim = mid.aim } → WillCut mid cut → TriesNext cutter (take size text) mid (Some cut) → CutsAll told mid cut (mid.lines - delimiters newline mid.window.held) (mid.window.held ++ take size text) (take size text) [] old new next (fault_in result)
+    → IfOk result (λ passed. (passed.size ≡ size) × (passed.found ≡ None)) → Stretches told cutter text size old new next result
+stretch_first {told} {cutter} {next = next} {text} {size} {old = old} {new} result fit differs within one complete mid_is will tries all are =
+    stretched {n = 0} result within (omega arith) complete (inl refl) (take_cut (take size text) [] fit differs one mid_is will tries all)
+    (ok_as result (λ passed both. both.0 ∙ (let long = length-take-le size text within in omega (arith, long))) are) (ok_as result (λ passed both. subst (λ found. IfSome found (IsNextFound next (drop 0 (drop size text)))) (sym both.1) tt) are)
+
+-- All of it goes nowhere.
+pub stretch_past : {told : Bool} {cutter next : CutterState} {text : List ℕ} {size : ℕ} {old new : List Slot} (passed : Passed) → size ≤ length text → Takes told cutter text old new next None → passed.size ≡ length text → passed.found ≡ None → Stretches told cutter text size old new next (Ok passed)
+stretch_past {told} {cutter} {next} {text} {old = old} {new} passed within took size_is none = record {
+  n = length text;
+  least = within;
+  within = omega arith;
+  whole = λ all. subst IsWhole (sym (take_all (length text) text (omega arith))) all;
+  took = subst (λ those. Takes told cutter those old new next None) (sym (take_all (length text) text (omega arith))) took;
+  size_is = size_is;
+  found = subst (λ found. IfSome found (IsNextFound next (drop (length text) text))) (sym none) tt;
+}
+
+-- The text is one line.
+pub stretched_line : {told : Bool} {cutter next : CutterState} {line : List ℕ} {old new : List Slot} {result : Result Passed Fault} → Stretches told cutter line (length line) old new next result → Takes told cutter line old new next (fault_in result)
+stretched_line {told} {cutter} {next} {line} {old} {new} {result} stretch = subst (λ those. Takes told cutter those old new next (fault_in result)) (take_all stretch.n line stretch.least) stretch.took

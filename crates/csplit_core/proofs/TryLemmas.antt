@@ -1,28 +1,290 @@
--- What trying the next operand with the last line says.
-use Rattle.std.proofs.Common.{◌≡◌, inl, inr, ℕ, suc, ◌+◌, ◌-◌, ◌<◌, ◌≤◌, ◌^◌, Bool, true, false, Option, Some, None, List, [], ◌∷◌, ◌++◌, length, get_or, refl, sym, ◌∙◌, ap, subst, arith, length-append, cond}
+-- What stays of a plan when more lines come, what a turn says of it, and what trying the next operand with the last line says.
+use Rattle.std.proofs.Common.{◌≡◌, inl, inr, ℕ, suc, ◌+◌, ◌-◌, ◌<◌, ◌≤◌, max, eqb, ◌&&◌, Bool, true, false, cond, List, [], ◌∷◌, ◌++◌, length, get_or, refl, ◌∙◌, ap, arith, length-append, zero, ◌*◌, ◌^◌, drop, sym, subst, None, Result, Ok, Err, OnOk, IfErr, Option, Some}
+use Rattle.std.proofs.lemmas.Bool.{cases_lt, cases_eq, eqb-true, and_parts, false≢true}
+use Rattle.std.proofs.lemmas.List.{append-nil, drop_more}
+use Rattle.std.proofs.Math.Nat.{max-le, le-max_left, le-max_right, min-eq_left, min-eq_right, min-le_left}
+use Rattle.std.proofs.Math.Seq.{get_or-append_right, get_or-append_seam}
+use Rattle.csplit_core.specs.Operand.{Target, Number, Search, Operand, Line, unmarked, is_match, Offset, moved, has_more}
+use Rattle.csplit_core.specs.Plan.{State, Step, Ending, missed, above, search_line, IsFirst, MatchesNone, Misses, line_after, Runs, is_used_up, misses, is_above, is_below, cuts, used_up, below, CutsAt, operands_after, repetition_after, state_after}
+use Rattle.csplit_core.specs.Planned.{plan}
+use Rattle.csplit_core.specs.laws.PlanLaws.{search_some, match_still, cuts_still, goes_on, plan_runs, plan_once, line_some, fewer_left, fewer_moves, search_past}
 use Rattle.std.specs.Prelude.{min, max, eqb, ◌&&◌}
-use Rattle.std.proofs.lemmas.Bool.{false≢true, cases_lt, eqb-true, and_parts}
-use Rattle.std.proofs.Math.Nat.{le-max_left, min-le_left}
-use Rattle.std.proofs.Math.Seq.{get_or-append_seam}
+use Rattle.bre_core.specs.Pattern.{Pattern}
+use Rattle.csplit_core.specs.Progress.{state_of, EndsHere, AimsAt}
+use Rattle.csplit_core.specs.inner.Progress.{AreSeen, Turns, FallsAt, MovesOn, GoesPast}
+use Rattle.csplit_core.specs.declared.progress.Turn.{Turn}
+use Rattle.csplit_core.specs.declared.progress.Turn.TheVariants.{UsedUp, Missed, Above, Below, Cuts}
+use Rattle.csplit_core.specs.Measure.{Moves, IsRepeatedBy, IsRepeated, Fits}
+use Rattle.csplit_core.specs.declared.progress.Progress.{Progress}
+use Rattle.csplit_core.specs.inner.PlanLaws.{needed, EndsAs}
+use Rattle.csplit_core.proofs.WholeLemmas.{after_within}
+use Rattle.csplit_core.specs.laws.SectionLaws.{front_of, ends_as}
+use Rattle.ports_core.specs.declared.fault.Fault.{Fault}
+use Rattle.csplit_core.specs.Input.{newline, without_newline, marked, all_lines, is_match_of}
+use Rattle.csplit_core.specs.declared.line_cutter.Cut.{Cut}
+use Rattle.csplit_core.specs.Cutter.{CutterState, state_in, most_by, pattern_by, suppress_in, IsFit, pattern_in, AimHolds, IsLive, EndsNow}
+use Rattle.csplit_core.specs.inner.Cutter.{WillCut, PassesOn, WentOn, PassesCut, IsWhole, IsLine, Joins, Looked, IsFound, IsNoCut, search_after, StaysNear, Tries, TriesNext}
+use Rattle.csplit_core.specs.inner.Writer.{fault_in}
+use Rattle.ports_core.specs.declared.fault.Fault.TheVariants.{Memory}
 use Rattle.bre_core.specs.Search.{contains}
 use Rattle.seg_core.specs.Line.{line_count}
-use Rattle.csplit_core.specs.Input.{newline, without_newline, marked, all_lines, is_match_of}
-use Rattle.csplit_core.specs.laws.PlanLaws.{search_past, search_some, match_still, cuts_still}
-use Rattle.csplit_core.specs.Operand.{Target, Number, Search, Operand, Line, unmarked, is_match}
-use Rattle.csplit_core.specs.Plan.{State, Ending, used_up, missed, above, below, search_line, line_after, CutsAt, Misses, Runs, cuts}
-use Rattle.csplit_core.specs.inner.Progress.{AreSeen, Turns, MovesOn, GoesPast, Advances}
-use Rattle.csplit_core.specs.Progress.{AimsAt, EndsHere}
-use Rattle.csplit_core.specs.inner.PlanLaws.{EndsAs}
-use Rattle.csplit_core.specs.laws.SectionLaws.{ends_as, front_of}
-use Rattle.csplit_core.specs.declared.line_cutter.Cut.{Cut}
-use Rattle.csplit_core.specs.declared.progress.Progress.{Progress}
-use Rattle.csplit_core.specs.declared.progress.Turn.{Turn}
-use Rattle.csplit_core.specs.declared.progress.Turn.TheVariants.{Missed, Above, Cuts}
-use Rattle.csplit_core.specs.Cutter.{CutterState, suppress_in, state_in, pattern_in, pattern_by, AimHolds, IsFit, IsLive, EndsNow}
-use Rattle.csplit_core.specs.inner.Cutter.{IsWhole, IsLine, Looked, IsFound, IsNoCut, search_after, StaysNear, Tries, TriesNext}
-use Rattle.csplit_core.proofs.TurnLemmas.{advances, capped}
 use Rattle.csplit_core.proofs.LineLemmas.{all_lines-append, all_lines-line, length-all_lines, count-append, count-line, whole-append}
-use Rattle.csplit_core.proofs.StayLemmas.{NoneFrom, search_grows, ends_still, EndsStill}
+
+-- What stays of a plan when more lines come, and which lines have to be looked at.
+
+-- `count` lines come before these, and none of these has the operand's pattern, from the line on of number `from`
+abbrev pub NoneFrom : Operand → (count : ℕ) → List Line → (from : ℕ) → Type 0
+NoneFrom operand count lines from = (k : ℕ) → k < length lines → from ≤ count + suc k → (get_or lines k unmarked).marks operand ≡ false
+
+-- a search that matched nothing goes on over more lines
+none_from : (operand : Operand) (a b : List Line) (from : ℕ) → 1 ≤ from → MatchesNone operand a from → NoneFrom operand (length a) b from → MatchesNone operand (a ++ b) from
+none_from operand a b from some none those line from_on within = elim (cases_lt (length a) line) [
+  | inl beyond ↦
+      let e : length (a ++ b) ≡ length a + length b = length-append a b in
+      ap (λ (l : Line). l.marks operand) (get_or-append_right a b (line - 1) unmarked (omega (arith, beyond)))
+      ∙ those (line - 1 - length a) (omega (arith, e, beyond, within)) (omega (arith, beyond, from_on))
+  | inr here ↦ match_still operand a b line (omega (arith, some, from_on)) here ∙ none line from_on here
+]
+
+misses_from : (suppress : Bool) (a b : List Line) (state : State) (operand : Operand) (target : Target) → Misses suppress a state operand target → NoneFrom operand (length a) b (search_line suppress state) → Misses suppress (a ++ b) state operand target
+misses_from suppress a b state operand (Number n) none those = none
+misses_from suppress a b state operand (Search pattern kept offset) none those = none_from operand a b (search_line suppress state) (search_some suppress state) none those
+
+-- After a cut, no line before the last one has to be looked at again
+
+abbrev from_of : (current matched : ℕ) → ℕ
+from_of current matched = cond (eqb current 1 && eqb matched 0) 1 (suc (max current matched))
+
+most_from : (current matched : ℕ) (first : Bool) → cond first 1 (suc (max current matched)) ≤ suc (max current matched)
+most_from current matched true = omega arith
+most_from current matched false = omega arith
+
+at_one : {current matched : ℕ} → current ≡ 1 → matched ≡ 0 → from_of current matched ≡ 1
+at_one {matched} is none = ap (λ c. from_of c matched) is ∙ ap (λ f. cond (eqb 1 1 && eqb f 0) 1 (suc (max 1 f))) none
+
+from_first : (current matched cut matched' : ℕ) → 1 ≤ current → current ≤ cut → matched ≤ matched' → (then : Bool) → (eqb cut 1 && eqb matched' 0) ≡ then → from_of current matched ≤ cond then 1 (suc (max cut matched'))
+from_first current matched cut matched' some least more true is =
+    let two = and_parts (eqb cut 1) (eqb matched' 0) is in
+    let cut_is : cut ≡ 1 = eqb-true cut 1 two.0 in
+    let none : matched' ≡ 0 = eqb-true matched' 0 two.1 in
+    let e : from_of current matched ≡ 1 = at_one {current = current} {matched = matched} (omega (arith, some, least, cut_is)) (omega (arith, more, none)) in omega (arith, e)
+from_first current matched cut matched' some least more false is =
+    let most : from_of current matched ≤ suc (max current matched) = most_from current matched (eqb current 1 && eqb matched 0) in
+    let left : cut ≤ max cut matched' = le-max_left cut matched' in
+    let right : matched' ≤ max cut matched' = le-max_right cut matched' in
+    let a : current ≤ max cut matched' = omega (arith, least, left) in
+    let b : matched ≤ max cut matched' = omega (arith, more, right) in
+    let all : max current matched ≤ max cut matched' = max-le a b in omega (arith, most, all)
+
+-- a search after a cut begins no earlier than one that begins where the state was before it
+pub search_grows : (suppress : Bool) (state next : State) (cut : ℕ) → 1 ≤ state.current → state.current ≤ cut → state.matched ≤ next.matched → next.current ≡ line_after suppress cut → search_line suppress state ≤ search_line suppress next
+search_grows true state next cut some least more is =
+    let left : next.current - 1 ≤ max (next.current - 1) next.matched = le-max_left (next.current - 1) next.matched in
+    let right : next.matched ≤ max (next.current - 1) next.matched = le-max_right (next.current - 1) next.matched in
+    let a : state.current - 1 ≤ max (next.current - 1) next.matched = omega (arith, least, left, is) in
+    let b : state.matched ≤ max (next.current - 1) next.matched = omega (arith, more, right) in
+    let all : max (state.current - 1) state.matched ≤ max (next.current - 1) next.matched = max-le a b in omega (arith, all)
+search_grows false state next cut some least more is = from_first state.current state.matched next.current next.matched some (omega (arith, least, is)) more (eqb next.current 1 && eqb next.matched 0) refl
+
+-- where no line before the last one is matched, that line alone decides
+pub looks_last : {operand : Operand} {lines : List Line} {from : ℕ} → ((other : ℕ) → from ≤ other → other < length lines → is_match operand lines other ≡ false) → from ≤ length lines → is_match operand lines (length lines) ≡ true → IsFirst operand lines from (length lines)
+looks_last looked least is = record {
+  not_before = least;
+  within = omega arith;
+  match = is;
+  first = looked;
+}
+
+pub looks_past : (operand : Operand) (lines : List Line) (from : ℕ) → ((other : ℕ) → from ≤ other → other < length lines → is_match operand lines other ≡ false) → (from ≤ length lines → is_match operand lines (length lines) ≡ false) → MatchesNone operand lines from
+looks_past operand lines from looked none line from_on within = elim (cases_eq line (length lines)) [
+  | inl same ↦ ap (is_match operand lines) same ∙ none (omega (arith, from_on, within))
+  | inr other ↦ looked line from_on (omega (arith, within, other))
+]
+
+-- What stays as it is while more lines come
+
+-- what more lines have to be, so that the plan still ends there
+abbrev pub EndsStill : Bool → (count : ℕ) → List Line → (total : ℕ) → State → Ending → Type 0
+EndsStill suppress count b total last (missed operand repetition) = (operand : Operand) (operands : List Operand) → last.operands ≡ operand ∷ operands → NoneFrom operand count b (search_line suppress last)
+EndsStill suppress count b total last (above operand repetition matched cut) = total < cut
+EndsStill suppress count b total last ending = Unit {0}
+
+pub ends_still : {suppress : Bool} {a : List Line} (b : List Line) {first : State} {steps : List Step} {last : State} {ending : Ending} → Runs suppress a first steps last ending → EndsStill suppress (length a) b (length (a ++ b)) last ending
+    → Runs suppress (a ++ b) last [] last ending
+ends_still b (is_used_up state none) still = is_used_up state none
+ends_still {suppress} {a} b (misses state operand operands is none) still =
+    misses state operand operands is (misses_from suppress a b state operand operand.target none (still operand operands is))
+ends_still {suppress} {a} b (is_above state operand operands matched cut is at far) still = is_above state operand operands matched cut is (cuts_still suppress a b state operand operand.target matched cut at) still
+ends_still {suppress} {a} b (is_below state operand operands matched cut is at within low) still =
+    is_below state operand operands matched cut is (cuts_still suppress a b state operand operand.target matched cut at) (let e : length (a ++ b) ≡ length a + length b = length-append a b in omega (arith, e, within)) low
+ends_still b (cuts state operand operands matched cut steps' last' ending' is at from within rest) still = ends_still b rest still
+
+pub stays : (suppress : Bool) (operands : List Operand) (a b : List Line) → EndsStill suppress (length a) b (length (a ++ b)) (plan suppress operands a).last (plan suppress operands a).ending → plan suppress operands (a ++ b) ≡ plan suppress operands a
+stays suppress operands a b so =
+    let here = plan_runs suppress operands a in
+    plan_once suppress operands (a ++ b) _ _ _ (goes_on b _ _ here (ends_still b here so))
+    ∙ ap (λ (steps : List Step). record (plan suppress operands a) { steps = steps }) (append-nil (plan suppress operands a).steps)
+
+-- What a turn says of the plan, and how a run goes on after a cut.
+
+-- What a turn says of the plan.
+
+-- a number that was capped, and is below the cap, is the number
+pub capped : (real cap most total : ℕ) → most ≡ min real cap → most ≤ total → total < cap → most ≡ real
+capped real cap most total is within low = elim (cases_lt cap real) [
+  | inl more ↦ let e : min real cap ≡ cap = min-eq_right (omega (arith, more)) in absurd (omega (arith, is, e, within, low))
+  | inr less ↦ is ∙ min-eq_left less
+]
+
+capped_less : (real cap : ℕ) {most : ℕ} → most ≡ min real cap → most ≤ real
+capped_less real cap is = elim (cases_lt cap real) [
+  | inl more ↦ let e : min real cap ≡ cap = min-eq_right (omega (arith, more)) in omega (arith, is, e, more)
+  | inr less ↦ let e : min real cap ≡ real = min-eq_left less in omega (arith, is, e)
+]
+
+pub falls : (suppress : Bool) (all : List Line) {total : ℕ} (state : State) {operand : Operand} {operands : List Operand} (matched real : ℕ) {most : ℕ} → length all ≡ total → state.operands ≡ operand ∷ operands
+    → CutsAt suppress all state operand operand.target matched real → most ≡ min real (2 ^ 64 - 1) → total < 2 ^ 64 - 1 → (turn : Turn) → FallsAt total state.current matched most turn → Turns suppress all state turn
+falls suppress all state {operand} {operands} matched real {most} count are at_cut is few (Above line cap) at = record {
+  ending = above operand state.repetition matched real;
+  runs = is_above state operand operands matched real are at_cut (let less : most ≤ real = capped_less real (2 ^ 64 - 1) is in omega (arith, less, at.2, count));
+  aims = (at.0, at.1 ∙ is);
+}
+falls suppress all {total} state {operand} {operands} matched real {most} count are at_cut is few Below at =
+    let same : most ≡ real = capped real (2 ^ 64 - 1) most total is at.0 few in
+    record { ending = below operand state.repetition; runs = is_below state operand operands matched real are at_cut (omega (arith, same, at.0, count)) (omega (arith, same, at.1)); aims = tt }
+falls suppress all {total} state {operand} {operands} matched real {most} count are at_cut is few (Cuts line cut) at =
+    let same : most ≡ real = capped real (2 ^ 64 - 1) most total is at.3 few in record {
+      operand = operand;
+      operands = operands;
+      are = are;
+      cuts = subst (λ f. CutsAt suppress all state operand operand.target f cut) (sym at.0) (subst (CutsAt suppress all state operand operand.target matched) (sym (at.1 ∙ same)) at_cut);
+      from = omega (arith, at.1, at.2);
+      within = omega (arith, at.1, at.3, count);
+    }
+falls suppress all state matched real count are at_cut is few turn at = absurd at
+
+pub falls_number : (suppress : Bool) (all : List Line) {total : ℕ} (state : State) {found : Bool} {operand : Operand} {operands : List Operand} (number : ℕ) {most : ℕ} → state.operands ≡ operand ∷ operands → operand.target ≡ Number number → AreSeen suppress all total state found
+    → most ≡ min (number * (state.repetition + 1)) (2 ^ 64 - 1) → total < 2 ^ 64 - 1 → (turn : Turn) → FallsAt total state.current state.matched most turn → Turns suppress all state turn
+falls_number suppress all state {operand = operand} number are target seen is few turn at = falls suppress all state state.matched (number * (state.repetition + 1)) seen.count are
+    (subst (λ t. CutsAt suppress all state operand t state.matched (number * (state.repetition + 1))) (sym target) (refl, refl)) is few turn at
+
+-- where the last line has the operand's pattern, its search ends there
+pub falls_search : (suppress : Bool) (all : List Line) {total : ℕ} (state : State) {found : Bool} {operand : Operand} {operands : List Operand} {pattern : Pattern} {kept : Bool} (offset : Offset) {most : ℕ}
+    → state.operands ≡ operand ∷ operands → operand.target ≡ Search pattern kept offset → AreSeen suppress all total state found → search_line suppress state ≤ total → found ≡ true
+    → most ≡ min (moved offset total) (2 ^ 64 - 1) → total < 2 ^ 64 - 1 → (turn : Turn) → FallsAt total state.current total most turn → Turns suppress all state turn
+falls_search suppress all {total} state {operand = operand} {operands} {pattern} {kept} offset are target seen near is_found is few turn at = falls suppress all state total (moved offset total) seen.count are
+    (subst (λ t. CutsAt suppress all state operand t total (moved offset total)) (sym target)
+    (subst (λ n. CutsAt suppress all state operand (Search pattern kept offset) n (moved offset n)) seen.count (
+      looks_last {operand = operand} {lines = all} {from = search_line suppress state} (λ other from less. seen.others operand operands are other from (omega (arith, less, seen.count))) (omega (arith, seen.count, near))
+          (ap (is_match operand all) seen.count ∙ seen.last operand operands are near ∙ is_found),
+      refl,
+    ))) is few turn at
+
+-- and where it has not, or the search begins after it, no line matches
+pub misses_search : {suppress : Bool} (all : List Line) {total : ℕ} {state : State} {found : Bool} {operand : Operand} {operands : List Operand} {pattern : Pattern} {kept : Bool} {offset : Offset}
+    → state.operands ≡ operand ∷ operands → operand.target ≡ Search pattern kept offset → AreSeen suppress all total state found → (search_line suppress state ≤ total → found ≡ false) → EndsHere suppress all state Missed
+misses_search {suppress} all {total} {state} {operand = operand} {operands} are target seen none = record {
+  ending = missed operand state.repetition;
+  runs = misses state operand operands are (subst (Misses suppress all state operand) (sym target)
+      (looks_past operand all (search_line suppress state) (λ other from less. seen.others operand operands are other from (omega (arith, less, seen.count)))
+      (λ near. let at : search_line suppress state ≤ total = omega (arith, seen.count, near) in ap (is_match operand all) seen.count ∙ seen.last operand operands are at ∙ none at)));
+  aims = tt;
+}
+
+pub used_up_here : {suppress : Bool} {lines : List Line} {state : State} → state.operands ≡ [] → EndsHere suppress lines state UsedUp
+used_up_here {state = state} none = record { ending = used_up; runs = is_used_up state none; aims = tt }
+
+pub left_is : (operands : List Operand) (at : ℕ) {operand : Operand} → at < length operands → operand ≡ get_or operands at operand → drop at operands ≡ operand ∷ drop (at + 1) operands
+left_is operands at {operand} within is = drop_more operands at operand within ∙ ap (λ o. o ∷ drop (at + 1) operands) (sym is)
+
+drop_next : (operands : List Operand) {rest : List Operand} {operand : Operand} (at : ℕ) → drop at operands ≡ operand ∷ rest → drop (suc at) operands ≡ rest
+drop_next [] zero are = absurd (cc)
+drop_next [] at are = absurd (cc)
+drop_next (one ∷ operands) zero are = ap (drop 1) are
+drop_next (one ∷ operands) (suc at) are = drop_next operands at are
+
+pub passes_on : (suppress : Bool) (operands : List Operand) {rest : List Operand} {operand : Operand} (at repetition matched cut : ℕ) {current next : ℕ} → drop at operands ≡ operand ∷ rest → has_more operand.times repetition ≡ false → current ≡ line_after suppress cut → next ≡ at + 1
+    → state_of operands (record { done = next; repetition = 0; current = current; matched = matched }) ≡ state_after suppress operand rest repetition matched cut
+passes_on suppress operands {rest} {operand} at repetition matched cut {current} {next} are none is on =
+    ap (λ n. record { operands = drop n operands; repetition = 0; current = current; matched = matched }) (let e : next ≡ suc at = omega (arith, on) in e)
+    ∙ ap (λ (those : List Operand). record { operands = those; repetition = 0; current = current; matched = matched }) (drop_next operands at are)
+    ∙ ap (λ c. record { operands = rest; repetition = 0; current = c; matched = matched }) is
+    ∙ ap (λ b. record { operands = operands_after b operand rest; repetition = repetition_after b repetition; current = line_after suppress cut; matched = matched }) (sym none)
+
+-- A cut moves on, and the numbers stay small.
+
+repeated_again : (total : ℕ) (state next : State) (target : Target) {matched : ℕ} (cut : ℕ) → Moves total state target matched cut → 1 ≤ cut → cut ≤ total → next.repetition ≡ state.repetition + 1 → next.matched ≡ matched
+    → IsRepeatedBy total state target → IsRepeatedBy total next target
+repeated_again total state next (Number n) cut at some within again same few =
+    let less : total - next.repetition < total - state.repetition = fewer_left total state next (Number n) cut at some within again same in omega (arith, less, again)
+repeated_again total state next (Search pattern kept offset) cut at some within again same few = omega (arith, at.0, few, again, same)
+
+pub repeated_anew : (total : ℕ) (state : State) (operands : List Operand) → state.repetition ≡ 0 → IsRepeated total state operands
+repeated_anew total state [] none = none
+repeated_anew total state (operand ∷ operands) none = by operand.target where
+  by : (target : Target) → IsRepeatedBy total state target
+  by (Number n) = omega (arith, none)
+  by (Search pattern kept offset) = omega (arith, none)
+
+repeated_by : (total : ℕ) (state : State) (operand : Operand) (operands : List Operand) {matched : ℕ} (cut : ℕ) → Moves total state operand.target matched cut → 1 ≤ cut → cut ≤ total → IsRepeated total state (operand ∷ operands)
+    → (more : Bool) (next : State) → next.repetition ≡ repetition_after more state.repetition → next.matched ≡ matched → IsRepeated total next (operands_after more operand operands)
+repeated_by total state operand operands cut at some within few true next again same = repeated_again total state next operand.target cut at some within again same few
+repeated_by total state operand operands cut at some within few false next again same = repeated_anew total next operands again
+
+fits_after : (suppress : Bool) {total : ℕ} {state : State} {operand : Operand} {operands : List Operand} (matched cut : ℕ) → Fits total state → state.operands ≡ operand ∷ operands → Moves total state operand.target matched cut → matched ≤ total → state.current ≤ cut → cut ≤ total
+    → Fits total (state_after suppress operand operands state.repetition matched cut)
+fits_after suppress {total} {state} {operand} {operands} matched cut fits are at few least within = record {
+  some = let more : cut ≤ line_after suppress cut = line_some suppress cut in omega (arith, more, fits.some, least);
+  current = let less : line_after suppress cut ≤ suc total = after_within suppress cut total within in omega (arith, less);
+  matched = few;
+  repeated = repeated_by total state operand operands cut at (omega (arith, fits.some, least)) within (subst (IsRepeated total state) are fits.repeated)
+      (has_more operand.times state.repetition) (state_after suppress operand operands state.repetition matched cut) refl refl;
+}
+
+-- Going on after a cut
+
+module _ {cutter : CutterState} {cut : Cut} {operand : Operand} (progress : Progress) {suppress : Bool} (by : suppress ≡ suppress_in cutter) (fit : IsFit cutter) (none : cutter.window.held ≡ []) (will : WillCut cutter cut) (here : operand ≡ get_or cutter.operands cutter.progress.done operand)
+    (next : (operands rest : List Operand) → drop cutter.progress.done operands ≡ operand ∷ rest → state_of operands progress ≡ state_after suppress operand rest cutter.progress.repetition cut.matched cut.line) where
+  are : (state_in cutter).operands ≡ operand ∷ drop (cutter.progress.done + 1) cutter.operands
+  are = left_is cutter.operands cutter.progress.done will.some here
+
+  at : Moves cutter.lines (state_in cutter) operand.target cut.matched cut.line
+  at = subst (λ (o : Operand). Moves cutter.lines (state_in cutter) o.target cut.matched cut.line) (front_of will.operand operand (sym will.left ∙ are)) will.moves
+
+  fits : Fits cutter.lines (state_of cutter.operands progress)
+  fits = subst (Fits cutter.lines) (sym (next cutter.operands _ are)) (fits_after suppress cut.matched cut.line fit.fits are at will.matched will.from will.within)
+
+  fewer : needed cutter.lines (state_of cutter.operands progress) < needed cutter.lines (state_in cutter)
+  fewer = subst (λ state. needed cutter.lines state < needed cutter.lines (state_in cutter)) (sym (next cutter.operands _ are))
+      (fewer_moves suppress cutter.lines (state_in cutter) cut.matched cut.line are at (omega (arith, fit.fits.some, will.from)) will.within)
+
+  state : PassesOn cutter cut (record cutter { progress = progress })
+  state one more is = subst (λ o. state_of cutter.operands progress ≡ state_after (suppress_in cutter) o more cutter.progress.repetition cut.matched cut.line) (front_of operand one (sym are ∙ is))
+      (next cutter.operands more (subst (λ o. drop cutter.progress.done cutter.operands ≡ o ∷ more) (front_of one operand (sym is ∙ are)) is) ∙ ap (λ s. state_after s operand more cutter.progress.repetition cut.matched cut.line) by)
+
+  -- the same operand is performed again
+  pub passes_again : progress.done ≡ cutter.progress.done → PassesCut cutter cut (record cutter { progress = progress }) None
+  passes_again done = record {
+    same = refl;
+    held = none;
+    fit = record {
+      fits = fits;
+      most = fit.most ∙ ap (λ at. most_by (drop at cutter.operands)) (sym done);
+      delim = fit.delim;
+      sought = fit.sought ∙ ap (λ at. pattern_by (drop at cutter.operands)) (sym done);
+    };
+    fewer = fewer;
+    state = state;
+  }
+
+  -- the next operand has got what it needs
+  pub passes_next : (new : CutterState) (result : Result (Unit {0}) Fault)
+      → OnOk result (new ≡ record cutter { progress = progress; window = record { most = most_by (drop progress.done cutter.operands); delim = newline; held = [] }; sought = pattern_by (drop progress.done cutter.operands) })
+      → IfErr result (λ fault. (fault ≡ Memory) × (new.writer ≡ cutter.writer) × (new.operands ≡ cutter.operands)) → PassesCut cutter cut new (fault_in result)
+  passes_next new (Ok done) is lacks = subst (WentOn cutter cut) (sym is) (record { same = refl; held = refl; fit = record { fits = fits; most = refl; delim = refl; sought = refl }; fewer = fewer; state = state })
+  passes_next new (Err fault) is lacks = lacks
+
+-- What trying the next operand with the last line says.
 
 -- the mark of the last line
 last_mark : (operand : Operand) {lines : List Line} {total : ℕ} (line : List ℕ) (front : List Line) → lines ≡ front ++ marked line ∷ [] → length lines ≡ total → is_match operand lines total ≡ is_match_of line operand.target
@@ -45,9 +307,9 @@ seen_all {cutter} {x} line fit says looked =
       others = looked.others;
     }
 
-pub advance_ends : {suppress : Bool} {lines : List Line} {state : State} (turn : Turn) → IsNoCut turn → Advances suppress lines state turn → EndsHere suppress lines state turn
-advance_ends (Cuts matched line) no_cut ends = absurd no_cut
-advance_ends _ no_cut ends = ends
+pub turn_ends : {suppress : Bool} {lines : List Line} {state : State} (turn : Turn) → IsNoCut turn → Turns suppress lines state turn → EndsHere suppress lines state turn
+turn_ends (Cuts matched line) no_cut ends = absurd no_cut
+turn_ends _ no_cut ends = ends
 
 pub no_cut_aims : (operands : List Operand) (total : ℕ) (progress : Progress) (turn : Turn) → IsNoCut turn → MovesOn operands total progress turn → AimHolds operands total progress turn
 no_cut_aims operands total progress (Above matched line) no_cut moves = moves
@@ -65,35 +327,34 @@ after_cut false cut = by (eqb cut.line 1 && eqb cut.matched 0) refl where
 pub after_matched : (suppress : Bool) (cut : Cut) → cut.matched < search_after suppress cut
 after_matched suppress cut = search_past suppress (record { operands = []; repetition = 0; current = line_after suppress cut.line; matched = cut.matched })
 
-near_by : {cutter : CutterState} {x : List ℕ} (line : List ℕ) (cut : Cut) {operand : Operand} {operands : List Operand} (target : Target) (at : ℕ) → (state_in cutter).operands ≡ operand ∷ operands → operand.target ≡ target → IsFit cutter → Looked cutter x line
-    → CutsAt (suppress_in cutter) (all_lines x) (state_in cutter) operand target cut.matched at → cutter.progress.current ≤ cut.line → StaysNear cutter cut
-near_by {cutter} line cut {operands} (Number n) at are is fit looked at_cut from (inl far) =
+near_by : {cutter : CutterState} {x : List ℕ} (line : List ℕ) (cut : Cut) {operand : Operand} {operands : List Operand} (target : Target) → (state_in cutter).operands ≡ operand ∷ operands → operand.target ≡ target → IsFit cutter → Looked cutter x line
+    → CutsAt (suppress_in cutter) (all_lines x) (state_in cutter) operand target cut.matched cut.line → cutter.progress.current ≤ cut.line → StaysNear cutter cut
+near_by {cutter} line cut {operands} (Number n) are is fit looked at_cut from (inl far) =
     let same : cut.matched ≡ cutter.progress.matched = at_cut.0 in
     let more = search_grows (suppress_in cutter) (state_in cutter) (record { operands = []; repetition = 0; current = line_after (suppress_in cutter) cut.line; matched = cut.matched }) cut.line fit.fits.some from (omega (arith, same)) refl in
     omega (arith, far, more)
-near_by line cut (Number n) at are is fit looked at_cut from (inr searched) = absurd (searched (fit.sought ∙ ap pattern_by are ∙ ap pattern_in is))
-near_by {cutter} line cut {operand} {operands} (Search pattern kept offset) at are is fit looked at_cut from either = elim (cases_lt cut.matched cutter.lines) [
+near_by line cut (Number n) are is fit looked at_cut from (inr searched) = absurd (searched (fit.sought ∙ ap pattern_by are ∙ ap pattern_in is))
+near_by {cutter} line cut {operand} {operands} (Search pattern kept offset) are is fit looked at_cut from either = elim (cases_lt cut.matched cutter.lines) [
   | inl less ↦ absurd (false≢true (sym (looked.others operand operands are cut.matched at_cut.0.not_before less) ∙ at_cut.0.match))
   | inr not_less ↦ let past = after_matched (suppress_in cutter) cut in omega (arith, not_less, past)
 ]
 
-pub cut_near : {cutter : CutterState} {x : List ℕ} (line : List ℕ) (cut : Cut) {turn : Turn} → turn ≡ Cuts cut.matched cut.line → IsFit cutter → Looked cutter x line → Turns (suppress_in cutter) (all_lines x) cutter.lines (state_in cutter) turn → StaysNear cutter cut
+pub cut_near : {cutter : CutterState} {x : List ℕ} (line : List ℕ) (cut : Cut) {turn : Turn} → turn ≡ Cuts cut.matched cut.line → IsFit cutter → Looked cutter x line → Turns (suppress_in cutter) (all_lines x) (state_in cutter) turn → StaysNear cutter cut
 cut_near {cutter} {x} line cut is fit looked turns =
-    let here = subst (Turns (suppress_in cutter) (all_lines x) cutter.lines (state_in cutter)) is turns in
-    near_by line cut here.operand.target here.cut here.are refl fit looked here.cuts here.place.1
+    let here = subst (Turns (suppress_in cutter) (all_lines x) (state_in cutter)) is turns in near_by line cut here.operand.target here.are refl fit looked here.cuts here.from
 
 -- what `try_last` owes
 
 module _ {cutter : CutterState} (line : List ℕ) {found : Bool} (turn : Turn) (fit : IsFit cutter) (says : IsFound cutter (without_newline line) cutter.lines found)
-    (turns : (lines : List Line) → AreSeen (suppress_in cutter) lines cutter.lines (state_in cutter) found → Turns (suppress_in cutter) lines cutter.lines (state_in cutter) turn) (x : List ℕ) (looked : Looked cutter x line) where
-  advanced : Advances (suppress_in cutter) (all_lines x) (state_in cutter) turn
-  advanced = advances (suppress_in cutter) (all_lines x) (state_in cutter) turn (length-all_lines x ∙ sym looked.counted) (turns (all_lines x) (seen_all line fit says looked))
+    (turns : (lines : List Line) → AreSeen (suppress_in cutter) lines cutter.lines (state_in cutter) found → Turns (suppress_in cutter) lines (state_in cutter) turn) (x : List ℕ) (looked : Looked cutter x line) where
+  turned : Turns (suppress_in cutter) (all_lines x) (state_in cutter) turn
+  turned = turns (all_lines x) (seen_all line fit says looked)
 
   pub tries_cut : (cut : Cut) → turn ≡ Cuts cut.matched cut.line → GoesPast (suppress_in cutter) (all_lines x) (state_in cutter) cut.matched cut.line × StaysNear cutter cut
-  tries_cut cut is = (subst (Advances (suppress_in cutter) (all_lines x) (state_in cutter)) is advanced, cut_near line cut is fit looked (turns (all_lines x) (seen_all line fit says looked)))
+  tries_cut cut is = (subst (Turns (suppress_in cutter) (all_lines x) (state_in cutter)) is turned, cut_near line cut is fit looked turned)
 
-  pub tries_none : {before : CutterState} → before ≡ cutter → IsNoCut turn → EndsNow (record before { aim = turn }) x
-  tries_none same no_cut = subst (λ (those : CutterState). EndsHere (suppress_in those) (all_lines x) (state_in those) turn) (sym same) (advance_ends turn no_cut advanced)
+  pub tries_none : IsNoCut turn → EndsNow (record cutter { aim = turn }) x
+  tries_none no_cut = turn_ends turn no_cut turned
 
 -- One more line comes.
 
@@ -115,7 +376,7 @@ still_by x text (Above last line) (above operand repetition matched cut) fit cou
 still_by x text _ _ fit count all aims stays = absurd aims
 
 -- what passing over a text leaves of the plan
-pub ends_over : {cutter : CutterState} {lines : ℕ} (text : List ℕ) → IsFit cutter → lines ≡ cutter.lines + line_count newline text → StaysOver cutter text lines cutter.aim → (x : List ℕ) → IsWhole x → cutter.lines ≡ line_count newline x → EndsNow cutter x
+pub ends_over : {cutter : CutterState} {lines : ℕ} (text : List ℕ) → IsFit cutter → lines ≡ cutter.lines + line_count newline text → StaysOver cutter text lines cutter.aim → (x : List ℕ) → Joins x text → cutter.lines ≡ line_count newline x → EndsNow cutter x
     → (lines ≡ line_count newline (x ++ text)) × EndsNow (record cutter { lines = lines }) (x ++ text)
 ends_over {cutter} {lines} text fit count stays x before counted ends =
     let sum : line_count newline (x ++ text) ≡ line_count newline x + line_count newline text = count-append text before in
@@ -131,12 +392,10 @@ ends_over {cutter} {lines} text fit count stays x before counted ends =
       },
     )
 
-pub next_stays : {cutter before now : CutterState} {x : List ℕ} (line : List ℕ) {turn : Turn} → before ≡ cutter → now ≡ record cutter { lines = cutter.lines + 1 } → IsFit cutter → IsLive cutter x → IsWhole x → IsLine line → before.aim ≡ turn → StaysOver before line (before.lines + 1) turn
-    → EndsNow now (x ++ line)
-next_stays {cutter} {before} {x = x} line same now_is fit live whole one aim stays =
-    let stays' = subst (λ (c : CutterState). StaysOver c line (c.lines + 1) c.aim) same (subst (StaysOver before line (before.lines + 1)) (sym aim) stays) in
+pub next_stays : {cutter : CutterState} {x : List ℕ} (line : List ℕ) {turn : Turn} → IsFit cutter → IsLive cutter x → IsWhole x → IsLine line → cutter.aim ≡ turn → StaysOver cutter line (cutter.lines + 1) turn → EndsNow (record cutter { lines = cutter.lines + 1 }) (x ++ line)
+next_stays {cutter} {x} line fit live whole one aim stays =
     let count : line_count newline line ≡ 1 = ap length one in
-    subst (λ (c : CutterState). EndsNow c (x ++ line)) (sym now_is) (ends_over line fit (omega (arith, count)) stays' x whole live.at.counted live.ends).1
+    (ends_over line fit (omega (arith, count)) (subst (StaysOver cutter line (cutter.lines + 1)) (sym aim) stays) x (inl whole) live.at.counted live.ends).1
 
 -- the lines as they are counted
 lines_are : {cutter : CutterState} {x : List ℕ} (live : IsLive cutter x) → length (all_lines x) ≡ cutter.lines
@@ -154,22 +413,20 @@ above_cuts {suppress} lines line {state} {total} {at} (above operand repetition 
             operand = operand;
             operands = operands;
             are = are;
-            runs = λ steps last ending rest. cuts state operand operands matched' cut steps last ending are (cuts_still suppress lines (line ∷ []) state operand operand.target matched' cut at_cut) (omega (arith, here, within)) (omega (arith, here, all, count)) rest;
+            cuts = cuts_still suppress lines (line ∷ []) state operand operand.target matched' cut at_cut;
+            from = omega (arith, here, within);
+            within = omega (arith, here, all, count);
           })),
       same ∙ here,
     )
 above_cuts lines line _ count within ends aims near few = absurd aims
 
-pub next_cut : {cutter before : CutterState} {x : List ℕ} (line : List ℕ) {matched at total : ℕ} → before ≡ cutter → total ≡ before.lines + 1 → IsFit cutter → IsLive cutter x → IsWhole x → IsLine line → before.aim ≡ Above matched at → at ≤ before.lines + 1 → cutter.lines < 2 ^ 63
-    → GoesPast (suppress_in cutter) (all_lines (x ++ line)) (state_in cutter) matched at × (total ≤ search_after (suppress_in cutter) (record { matched = matched; line = at }))
-next_cut {cutter} {before} {x} line {matched} {at} same total_is fit live whole one aim near few =
-    let aim' : cutter.aim ≡ Above matched at = ap (λ (c : CutterState). c.aim) (sym same) ∙ aim in
-    let lines' : before.lines ≡ cutter.lines = ap (λ (c : CutterState). c.lines) same in
-    let ends = ends_as _ _ _ _ _ _ live.ends.runs in
-    let reached : at ≤ cutter.lines + 1 = omega (arith, near, lines') in
-    let goes = above_cuts (all_lines x) (marked line) live.ends.ending (lines_are live) fit.fits.current ends (subst (λ a. AimsAt a live.ends.ending) aim' live.ends.aims) reached (omega (arith, few)) in (
+pub next_cut : {cutter : CutterState} {x : List ℕ} (line : List ℕ) {matched at : ℕ} → IsFit cutter → IsLive cutter x → IsWhole x → IsLine line → cutter.aim ≡ Above matched at → at ≤ cutter.lines + 1 → cutter.lines < 2 ^ 63
+    → GoesPast (suppress_in cutter) (all_lines (x ++ line)) (state_in cutter) matched at × (cutter.lines + 1 ≤ search_after (suppress_in cutter) (record { matched = matched; line = at }))
+next_cut {cutter} {x} line {matched} {at} fit live whole one aim near few =
+    let goes = above_cuts (all_lines x) (marked line) live.ends.ending (lines_are live) fit.fits.current (ends_as _ _ _ _ _ _ live.ends.runs) (subst (λ a. AimsAt a live.ends.ending) aim live.ends.aims) near (omega (arith, few)) in (
       subst (λ lines. GoesPast (suppress_in cutter) lines (state_in cutter) matched at) (sym (all_lines-line line whole one)) goes.0,
-      (let after = after_cut (suppress_in cutter) (record { matched = matched; line = at }) in omega (arith, after, goes.1, total_is, lines')),
+      (let after = after_cut (suppress_in cutter) (record { matched = matched; line = at }) in omega (arith, after, goes.1)),
     )
 
 -- where a pattern matched no line so far
@@ -186,10 +443,10 @@ missed_looked suppress a line state (missed operand' repetition) (operands', is,
 missed_looked suppress a line state _ ends aims are other from within = absurd aims
 
 missed_sought : (suppress : Bool) (a : List Line) (state : State) (ending : Ending) → EndsAs suppress a state ending → AimsAt Missed ending → pattern_by state.operands ≡ None → ⊥
-missed_sought suppress a state (missed operand repetition) (operands, is, misses, often) aims none = by operand.target misses (sym (ap pattern_by is) ∙ none) where
+missed_sought suppress a state (missed operand repetition) (operands, is, fails, often) aims none = by operand.target fails (sym (ap pattern_by is) ∙ none) where
   by : (target : Target) → Misses suppress a state operand target → pattern_in target ≡ None → ⊥
-  by (Number n) misses none = misses
-  by (Search pattern kept offset) misses none = cc
+  by (Number n) fails none = fails
+  by (Search pattern kept offset) fails none = cc
 missed_sought suppress a state _ ends aims none = absurd aims
 
 pub next_looked : {cutter : CutterState} {x : List ℕ} (line : List ℕ) (live : IsLive cutter x) → IsWhole x → IsLine line → cutter.aim ≡ Missed → Looked (record cutter { lines = cutter.lines + 1 }) (x ++ line) line
@@ -208,13 +465,7 @@ next_sought {cutter} {x} live fit aim none =
     missed_sought (suppress_in cutter) (all_lines x) (state_in cutter) live.ends.ending (ends_as _ _ _ _ _ _ live.ends.runs)
     (subst (λ a. AimsAt a live.ends.ending) aim live.ends.aims) (sym fit.sought ∙ none)
 
-pub next_tries : {cutter before next : CutterState} (line : List ℕ) (result : Option Cut) → before ≡ cutter → IsFit cutter → IsLine line → before.aim ≡ Missed → next ≡ record before { lines = before.lines + 1; aim = next.aim } → Tries (record before { lines = before.lines + 1 }) line next result → TriesNext cutter line next result
-next_tries {cutter} line None same fit one aim next_is tries = λ x whole live.
-    tries (x ++ line) (subst (λ (c : CutterState). Looked (record c { lines = c.lines + 1 }) (x ++ line) line) (sym same) (next_looked line live whole one (ap (λ (c : CutterState). c.aim) (sym same) ∙ aim)))
-next_tries {cutter} {next = next} line (Some cut) same fit one aim next_is tries = λ x whole live.
-    let aim' : cutter.aim ≡ Missed = ap (λ (c : CutterState). c.aim) (sym same) ∙ aim in
-    let both = tries (x ++ line) (subst (λ (c : CutterState). Looked (record c { lines = c.lines + 1 }) (x ++ line) line) (sym same) (next_looked line live whole one aim')) in
-    let near = subst (λ (c : CutterState). StaysNear (record c { lines = c.lines + 1 }) cut) same both.1 (inr (next_sought live fit aim')) in (
-      subst (λ (c : CutterState). GoesPast (suppress_in c) (all_lines (x ++ line)) (state_in c) cut.matched cut.line) same both.0,
-      (let lines' : next.lines ≡ cutter.lines + 1 = ap (λ (c : CutterState). c.lines) next_is ∙ ap (λ (c : CutterState). c.lines + 1) same in omega (arith, near, lines')),
-    )
+pub next_tries : {cutter : CutterState} (next : CutterState) (line : List ℕ) (result : Option Cut) → IsFit cutter → IsLine line → cutter.aim ≡ Missed → next.lines ≡ cutter.lines + 1 → Tries (record cutter { lines = cutter.lines + 1 }) line next result → TriesNext cutter line next result
+next_tries next line None fit one aim counted tries = λ x whole live. tries (x ++ line) (next_looked line live whole one aim)
+next_tries next line (Some cut) fit one aim counted tries = λ x whole live.
+    let both = tries (x ++ line) (next_looked line live whole one aim) in let near = both.1 (inr (next_sought live fit aim)) in (both.0, omega (arith, near, counted))

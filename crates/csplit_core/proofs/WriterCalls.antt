@@ -1,32 +1,284 @@
--- What the calls of the writer of sections do.
-use Rattle.std.proofs.Common.{◌≡◌, ℕ, ◌+◌, ◌<◌, zero, suc, List, [], ◌∷◌, ◌++◌, length, take, drop, replicate, decimal, refl, ◌∙◌, ap, arith, sym, subst, eqb, ◌≤◌, Bool, true, false, not, ◌&&◌, Option, Some, None, IsTrue, length-append, Err}
-use Rattle.std.proofs.Math.Seq.{take-append-add}
-use Rattle.csplit_core.specs.Input.{newline}
-use Rattle.ports_core.specs.Slot.{Slot, FailsToOpen, is_writable, told_of, opened, changed_at, closes, with_broken}
-use Rattle.ports_core.specs.declared.fault.Fault.{Fault}
-use Rattle.ports_core.specs.declared.fault.Fault.TheVariants.{Memory}
-use Rattle.csplit_core.specs.Output.{Style, Contents, is_empty, makes_file, files_of, size_lines, file_at, part_by, size_line}
-use Rattle.csplit_core.specs.Writer.{WriterState, Writes, IsCurrent, IsLast, IsReady, OwnsFiles, IsOpenAt, size_of}
-use Rattle.csplit_core.specs.inner.Writer.{MakesNone, unnamed, failed, Appends, Wrote, Made, Makes, Starts, next_name, begun_after, with_bytes, first_draft, ended_part, with_section, Goes, KeepsOrBreaks, Leaves, KeepsFiles, Pauses, Begun, BegunNot, new_writer, Ends}
-use Rattle.csplit_core.specs.declared.section_writer.Current.{Current}
-use Rattle.std.proofs.lemmas.Bool.{false≢true, eq-eqb}
-use Rattle.std.specs.Prelude.{IfNone}
-use Rattle.ports_core.specs.Part.{Part, OutputsAt, IsNext, File as PartFile, Begins}
-use Rattle.csplit_core.specs.Draft.{Draft, draft_part, last_contents, AreClosed}
-use Rattle.csplit_core.specs.laws.SectionLaws.{made_more}
-use Rattle.csplit_core.specs.declared.section_writer.Current.TheVariants.{Skipped, Unmade, File}
-use Rattle.csplit_core.proofs.WriterLemmas.{leaves_still, reaches_as, reaches_by, reaches_still, where_well, writes_to, leaves_again, stops_in, Becomes, becomes_again, file_of, with_last, file_begins, opens, opens_not, reaches_again, stops_wider, end_begins, in_any, falls_wider, line_begins, close_begins, closes_last, closes_not, tells_line}
-use Rattle.ports_core.proofs.SlotSteps.{KeepsMade, keeps_write, made_write, written_writable, made_short, keeps_same, keeps_open, writable_before, opened_writable, opened_last, none_past, made_same, made_again, made_close, made_break, keeps_close, writable_elsewhere}
-use Rattle.csplit_core.proofs.DraftLemmas.{name_after, part_none, open_part, count_made, closed_files, part_made, count_none, more_begins, closed_part, line_of, all_closed}
-use Rattle.csplit_core.proofs.OwnLemmas.{at_file, last_file, there_same, owned_same, write_breaks, owned_opened, owned_unopened, make_breaks, line_breaks, close_breaks}
-use Rattle.ports_core.specs.Name.{numbered_name}
-use Rattle.ports_core.specs.Swept.{is_among, SweptFrom, Removes}
-use Rattle.ports_core.specs.declared.slot.Mode.TheVariants.{Fresh}
+-- What is written of a draft, whose the files are, and what the calls of the writer of sections do.
+use Rattle.std.proofs.Common.{◌≡◌, ℕ, ◌+◌, suc, Bool, true, false, cond, not, ◌&&◌, List, [], ◌∷◌, ◌++◌, length, decimal, refl, sym, ◌∙◌, ap, subst, arith, length-append, ◌⊎◌, inl, inr, ◌<◌, ◌≤◌, eqb, eq-eqb, ne_eqb, ◌||◌, IsTrue, zero, take, drop, replicate, Option, Some, None, Err}
 use Rattle.std.proofs.lemmas.List.{append-nil}
+use Rattle.ports_core.specs.Name.{numbered_name}
+use Rattle.ports_core.specs.Part.{Part, Begins, IsBeginning, OutputsAt, IsNext, File as PartFile}
 use Rattle.ports_core.specs.inner.Part.{AllClosed}
-use Rattle.ports_core.proofs.SweepLemmas.{all_cleared, left_apart, left_has, left_there, same_size}
 use Rattle.ports_core.specs.declared.slot.State.TheVariants as state
+use Rattle.csplit_core.specs.Input.{newline}
+use Rattle.csplit_core.specs.Output.{Style, Contents, makes_file, file_at, files_of, size_line, size_lines, part_by, is_empty}
+use Rattle.csplit_core.specs.Draft.{Draft, draft_part, last_contents, AreClosed}
+use Rattle.csplit_core.specs.inner.Writer.{with_section, KeepsFiles, MakesNone, unnamed, failed, Made, next_name, Appends, Wrote, Makes, with_bytes, with_kept, first_draft, Goes, KeepsOrBreaks, Leaves, BegunNot, new_writer}
+use Rattle.csplit_core.specs.laws.SectionLaws.{size_lines-append, made_more}
+use Rattle.csplit_core.proofs.WriterLemmas.{file_of, with_last, more_files, reaches_as, reaches_by, where_well, writes_to, leaves_again, stops_in, Becomes, becomes_again, file_begins, opens, opens_not, reaches_again, stops_wider, section_begins, in_any, falls_wider, line_begins, close_begins, closes_last, closes_not, tells_line}
+use Rattle.std.proofs.lemmas.Bool.{false≢true, cases_lt, eq-eqb}
+use Rattle.ports_core.specs.Slot.{Slot, has_file, slot_at, changed_at, opened, unopened, closes, with_broken, is_writable, is_removable, broke, numberless, FailsToOpen, told_of}
+use Rattle.ports_core.specs.Swept.{AreThere, is_among, SweptFrom, Removes}
+use Rattle.ports_core.specs.declared.fault.Fault.{Fault}
 use Rattle.ports_core.specs.declared.fault.Fault.TheVariants as fault
+use Rattle.ports_core.specs.declared.slot.Mode.TheVariants.{Fresh}
+use Rattle.csplit_core.specs.Writer.{WriterState, IsReady, IsOpenAt, IsLast, Breaks, Writes, IsCurrent, OwnsFiles}
+use Rattle.ports_core.specs.inner.Write as short
+use Rattle.csplit_core.specs.declared.section_writer.Current.TheVariants.{File, Unopened, Skipped, Unmade}
+use Rattle.ports_core.proofs.SlotSteps.{KeepsMade, none_past, none_opened, file_before, at_end, opened_last, writable_within, open_rose, write_rose, close_rose, keeps_write, made_write, written_writable, made_short, keeps_same, keeps_open, writable_before, opened_writable, made_same, made_again, made_close, made_break, keeps_close, writable_elsewhere}
+use Rattle.ports_core.proofs.SweepLemmas.{by_place, all_cleared, left_apart, left_has, left_there, same_size}
+use Rattle.ports_core.specs.inner.Write.{WritesShort}
+use Rattle.std.proofs.Math.Seq.{take-append-add}
+use Rattle.ports_core.specs.declared.fault.Fault.TheVariants.{Memory}
+use Rattle.csplit_core.specs.declared.section_writer.Current.{Current}
+use Rattle.std.specs.Prelude.{IfNone}
+
+-- What is written of sections, of which one more was begun or ended.
+
+-- the files of sections, and then of those after them
+
+files_by : (style : Style) (place : ℕ) (one : Contents) (a b : List Contents) (makes : Bool) → files_of style (place + 1) (a ++ b) ≡ files_of style (place + 1) a ++ files_of style (place + 1 + length (files_of style (place + 1) a)) b
+    → files_of style place (a ++ b) ≡ files_of style place a ++ files_of style (place + length (files_of style place a)) b
+    → cond makes (file_at style place one ∷ files_of style (place + 1) (a ++ b)) (files_of style place (a ++ b))
+    ≡ cond makes (file_at style place one ∷ files_of style (place + 1) a) (files_of style place a) ++ files_of style (place + length (cond makes (file_at style place one ∷ files_of style (place + 1) a) (files_of style place a))) b
+files_by style place one a b true rest other =
+    let moved : place + 1 + length (files_of style (place + 1) a) ≡ place + suc (length (files_of style (place + 1) a)) = omega arith in
+    ap (λ those. file_at style place one ∷ those) rest ∙ ap (λ n. file_at style place one ∷ (files_of style (place + 1) a ++ files_of style n b)) moved
+files_by style place one a b false rest other = other
+
+pub files_of-append : (style : Style) (place : ℕ) (a b : List Contents) → files_of style place (a ++ b) ≡ files_of style place a ++ files_of style (place + length (files_of style place a)) b
+files_of-append style place [] b = ap (λ n. files_of style n b) (let e : place ≡ place + 0 = omega arith in e)
+files_of-append style place (one ∷ a) b = files_by style place one a b (makes_file style one) (files_of-append style (place + 1) a b) (files_of-append style place a b)
+
+-- the files of one more section
+files_with : (style : Style) (ended : List Contents) (one : Contents) → files_of style 0 (ended ++ one ∷ []) ≡ files_of style 0 ended ++ cond (makes_file style one) (file_at style (length (files_of style 0 ended)) one ∷ []) []
+files_with style ended one =
+    files_of-append style 0 ended (one ∷ []) ∙ ap (λ n. files_of style 0 ended ++ cond (makes_file style one) (file_at style n one ∷ []) [])
+    (let e : 0 + length (files_of style 0 ended) ≡ length (files_of style 0 ended) = omega arith in e)
+
+abbrev pub name_after : Style → List Contents → List ℕ
+name_after style ended = numbered_name style.prefix style.digits (length (files_of style 0 ended))
+
+abbrev part_with : List ℕ → List PartFile → Part
+part_with out files = record { out = out; files = files }
+
+both : {out out' : List ℕ} {files files' : List PartFile} → out ≡ out' → files ≡ files' → part_with out files ≡ part_with out' files'
+both {out'} {files} first second = ap (λ those. part_with those files) first ∙ ap (λ those. part_with out' those) second
+
+-- a section without a file changes nothing
+
+no_size : {makes : Bool} (other : Bool) (line : List ℕ) → makes ≡ false → cond (makes && other) line [] ≡ []
+no_size other line is = ap (λ m. cond (m && other) line []) is
+
+pub part_none : (style : Style) (ended : List Contents) (one : Contents) → makes_file style one ≡ false → part_by style (ended ++ one ∷ []) ≡ part_by style ended
+part_none style ended one none = both
+    (size_lines-append style ended (one ∷ []) ∙ ap (λ line. size_lines style ended ++ (line ++ [])) (no_size (one.is_closed && not style.quiet) _ none) ∙ append-nil (size_lines style ended))
+    (files_with style ended one ∙ ap (λ makes. files_of style 0 ended ++ cond makes (file_at style (length (files_of style 0 ended)) one ∷ []) []) none ∙ append-nil (files_of style 0 ended))
+
+pub parts_none : (style : Style) (ended : List Contents) (one other : Contents) → makes_file style one ≡ false → makes_file style other ≡ false → part_by style (ended ++ one ∷ []) ≡ part_by style (ended ++ other ∷ [])
+parts_none style ended one other none also = part_none style ended one none ∙ sym (part_none style ended other also)
+
+-- a section with one
+
+pub part_made : (style : Style) (ended : List Contents) (one : Contents) → makes_file style one ≡ true → part_by style (ended ++ one ∷ []) ≡ with_last (size_lines style ended ++ size_line style one) (files_of style 0 ended) (file_at style (length (files_of style 0 ended)) one)
+part_made style ended one makes = both
+    (size_lines-append style ended (one ∷ []) ∙ ap (λ line. size_lines style ended ++ line) (append-nil (size_line style one)))
+    (files_with style ended one ∙ ap (λ made. files_of style 0 ended ++ cond made (file_at style (length (files_of style 0 ended)) one ∷ []) []) makes)
+
+pub open_part : (style : Style) (draft : Draft) → makes_file style (last_contents false draft) ≡ true → draft_part style draft ≡ with_last (size_lines style draft.ended) (files_of style 0 draft.ended) (file_of (name_after style draft.ended) draft.bytes state.Open)
+open_part style draft makes = part_made style draft.ended (last_contents false draft) makes
+    ∙ ap (λ out. with_last out (files_of style 0 draft.ended) (file_of (name_after style draft.ended) draft.bytes state.Open))
+    (ap (λ made. size_lines style draft.ended ++ cond (made && (false && not style.quiet)) (decimal (length draft.bytes) ++ newline ∷ []) []) makes ∙ append-nil (size_lines style draft.ended))
+
+-- once it ended, no section is open
+pub ended_part : (style : Style) (draft : Draft) → draft_part style (with_section false draft) ≡ part_by style (draft.ended ++ last_contents true draft ∷ [])
+ended_part style draft = part_none style (draft.ended ++ last_contents true draft ∷ []) (last_contents false (with_section false draft)) refl
+
+pub closed_part : (style : Style) (draft : Draft) (line : List ℕ) → makes_file style (last_contents true draft) ≡ true → size_line style (last_contents true draft) ≡ line
+    → draft_part style (with_section false draft) ≡ with_last (size_lines style draft.ended ++ line) (files_of style 0 draft.ended) (file_of (name_after style draft.ended) draft.bytes state.Closed)
+closed_part style draft line makes is = ended_part style draft ∙ part_made style draft.ended (last_contents true draft) makes
+    ∙ ap (λ those. with_last (size_lines style draft.ended ++ those) (files_of style 0 draft.ended) (file_of (name_after style draft.ended) draft.bytes state.Closed)) is
+
+pub line_of : (style : Style) (draft : Draft) (quiet : Bool) → makes_file style (last_contents true draft) ≡ true → style.quiet ≡ quiet
+    → size_line style (last_contents true draft) ≡ cond (not quiet) (decimal (length draft.bytes) ++ newline ∷ []) []
+line_of style draft quiet makes is =
+    ap (λ made. cond (made && (true && not style.quiet)) (decimal (length draft.bytes) ++ newline ∷ []) []) makes
+    ∙ ap (λ q. cond (true && (true && not q)) (decimal (length draft.bytes) ++ newline ∷ []) []) is
+
+-- how many files there are
+
+pub count_made : (style : Style) (ended : List Contents) (one : Contents) → makes_file style one ≡ true → length (files_of style 0 (ended ++ one ∷ [])) ≡ length (files_of style 0 ended) + 1
+count_made style ended one makes = ap (λ (part : Part). length part.files) (part_made style ended one makes) ∙ length-append (files_of style 0 ended) (file_at style (length (files_of style 0 ended)) one ∷ [])
+
+pub count_none : (style : Style) (ended : List Contents) (one : Contents) → makes_file style one ≡ false → length (files_of style 0 (ended ++ one ∷ [])) ≡ length (files_of style 0 ended)
+count_none style ended one none = ap (λ (part : Part). length part.files) (part_none style ended one none)
+
+-- the files of sections that ended are closed
+
+closed_by : (style : Style) (place : ℕ) (one : Contents) (makes : Bool) (rest other : List PartFile) → one.is_closed ≡ true → AllClosed rest → AllClosed other → AllClosed (cond makes (file_at style place one ∷ rest) other)
+closed_by style place one true rest other closed all also = (ap (λ c. (file_at style place (record one { is_closed = c })).state) closed, all)
+closed_by style place one false rest other closed all also = also
+
+pub closed_files : (style : Style) (place : ℕ) (ended : List Contents) → AreClosed ended → AllClosed (files_of style place ended)
+closed_files style place [] closed = tt
+closed_files style place (one ∷ ended) closed = closed_by style place one (makes_file style one) _ _ closed.0 (closed_files style (place + 1) ended closed.1) (closed_files style place ended closed.1)
+
+pub all_closed : (ended : List Contents) (one : Contents) → AreClosed ended → one.is_closed ≡ true → AreClosed (ended ++ one ∷ [])
+all_closed [] one closed is = (is, tt)
+all_closed (first ∷ ended) one closed is = (closed.0, all_closed ended one closed.1 is)
+
+-- one more section begins with those before it
+pub more_begins : (style : Style) (ended : List Contents) (one : Contents) → Begins (part_by style ended) (part_by style (ended ++ one ∷ []))
+more_begins style ended one = record {
+  out = (size_lines style (one ∷ []), size_lines-append style ended (one ∷ []));
+  files = subst (λ files. Rattle.ports_core.specs.Part.FilesBegin (files_of style 0 ended) files) (sym (files_with style ended one)) (more_files (files_of style 0 ended) _);
+}
+
+-- The files that the writer made stay its own, its outputs can be written, and which faults come.
+
+-- the file of the open section can be written
+pub at_file : {writer : WriterState} {slot size : ℕ} {slots : List Slot} → writer.current ≡ File slot size → IsReady writer slots → (2 ≤ slot) × IsTrue (is_writable slots slot)
+at_file {slots} is ready = subst (λ current. IsOpenAt current slots) is ready.current
+
+-- and is the last output, where that is known of the open section
+pub last_file : (writer : WriterState) {slot size : ℕ} (slots : List Slot) → writer.current ≡ File slot size → IsLast writer.current slots → suc slot ≡ length slots
+last_file writer slots is last = subst (λ current. IsLast current slots) is last
+
+-- The files are there, and stay the writer's own.
+
+there_still : (files : List ℕ) (old new : List Slot) → ((place : ℕ) → has_file (slot_at new place).state ≡ has_file (slot_at old place).state) → AreThere files old → AreThere files new
+there_still [] old new keeps are = tt
+there_still (place ∷ files) old new keeps are = ((are.0.0, subst IsTrue (sym (keeps place)) are.0.1), are.1, there_still files old new keeps are.2)
+
+pub there_same : (files : List ℕ) {old new : List Slot} → KeepsMade old new → AreThere files old → AreThere files new
+there_same files {old} {new} keeps are = there_still files old new keeps.same are
+
+pub owned_same : {writer next : WriterState} {old new : List Slot} → next.files ≡ writer.files → (IsLast writer.current old → IsLast next.current new) → KeepsMade old new → KeepsFiles writer next old new
+owned_same {writer} {old} {new} same last keeps = record {
+  owns = λ first own. record {
+    streams = own.streams;
+    within = (let size : length new ≡ length old = keeps.size in let within = own.within in omega (arith, size, within));
+    from = λ place among. own.from place (subst (λ files. is_among place files ≡ true) same among);
+    own = λ place above. keeps.same place ∙ own.own place above ∙ sym (ap (is_among place) same);
+    there = subst (λ files. AreThere files new) (sym same) (there_same writer.files keeps own.there);
+    last = last own.last;
+  };
+  there = λ are. subst (λ files. AreThere files new) (sym same) (there_same writer.files keeps are);
+}
+
+-- one file more
+
+with_none : (b : Bool) → (b || false) ≡ b
+with_none true = refl
+with_none false = refl
+
+among_more : (place slot : ℕ) (files : List ℕ) → is_among place (files ++ slot ∷ []) ≡ (is_among place files || eqb place slot)
+among_more place slot [] = with_none (eqb place slot)
+among_more place slot (one ∷ files) = ap (λ b. eqb place one || b) (among_more place slot files) ∙ regroup (eqb place one) (is_among place files) (eqb place slot) where
+  regroup : (a b c : Bool) → (a || (b || c)) ≡ ((a || b) || c)
+  regroup true b c = refl
+  regroup false b c = refl
+
+-- a file that is there stands before the end
+there_within : (place : ℕ) (slots : List Slot) → is_removable slots place → place < length slots
+there_within place slots can =
+    elim (cases_lt place (length slots)) [ inl less ↦ less | inr past ↦ absurd (false≢true (sym (none_past slots place past) ∙ can.1)) ]
+
+there_more : (files : List ℕ) (slots : List Slot) (name : List ℕ) {slot : ℕ} → slot ≡ length slots → 2 ≤ length slots → AreThere files slots → AreThere (files ++ slot ∷ []) (slots ++ opened name Fresh ∷ [])
+there_more [] slots name at two are =
+    ((omega (arith, at, two), subst (λ (one : Slot). IsTrue (has_file one.state)) (sym (ap (slot_at (slots ++ opened name Fresh ∷ [])) at ∙ at_end slots (opened name Fresh))) refl), refl, tt)
+there_more (place ∷ files) slots name {slot} at two are =
+    let within : place < length slots = there_within place slots are.0 in (
+      (are.0.0, subst IsTrue (sym (file_before slots (opened name Fresh) place within)) are.0.1),
+      among_more place slot files ∙ ap (λ b. b || eqb place slot) are.1 ∙ ne_eqb place slot (λ same. omega (arith, within, at, same)),
+      there_more files slots name at two are.2,
+    )
+
+own_more : (files : List ℕ) (slots : List Slot) (name : List ℕ) {slot : ℕ} (place : ℕ) → slot ≡ length slots → has_file (slot_at slots place).state ≡ is_among place files
+    → has_file (slot_at (slots ++ opened name Fresh ∷ []) place).state ≡ is_among place (files ++ slot ∷ [])
+own_more files slots name {slot} place at own = by (cases_lt place (length slots)) where
+  none_among : length slots ≤ place → is_among place files ≡ false
+  none_among past = sym own ∙ none_past slots place past
+
+  by : (place < length slots) ⊎ (length slots ≤ place) → has_file (slot_at (slots ++ opened name Fresh ∷ []) place).state ≡ is_among place (files ++ slot ∷ [])
+  by (inl less) =
+      file_before slots (opened name Fresh) place less ∙ own
+      ∙ sym (among_more place slot files ∙ ap (λ b. is_among place files || b) (ne_eqb place slot (λ same. omega (arith, less, at, same))) ∙ with_none (is_among place files))
+  by (inr past) = by_place place slot
+      (λ same. ap (λ n. has_file (slot_at (slots ++ opened name Fresh ∷ []) n).state) (same ∙ at) ∙ ap (λ (one : Slot). has_file one.state) (at_end slots (opened name Fresh))
+      ∙ sym (among_more place slot files ∙ ap (λ b. b || eqb place slot) (none_among past) ∙ eq-eqb place slot same))
+      (λ other. none_past (slots ++ opened name Fresh ∷ []) place
+      (let size : length (slots ++ opened name Fresh ∷ []) ≡ length slots + 1 = length-append slots (opened name Fresh ∷ []) in
+      let differs : place ≡ slot → ⊥ = (λ same. false≢true (sym other ∙ eq-eqb place slot same)) in
+      elim (cases_lt (length slots) place) [ inl less ↦ omega (arith, size, less) | inr few ↦ absurd (differs (omega (arith, few, past, at))) ])
+      ∙ sym (among_more place slot files ∙ ap (λ b. b || eqb place slot) (none_among past) ∙ other))
+
+pub owned_opened : {writer next : WriterState} {slot : ℕ} {old new : List Slot} → 2 ≤ length old → Made writer old new next slot → KeepsFiles writer next old new
+owned_opened {writer} {next} {slot} {old} {new} two made = record {
+  owns = λ first own. record {
+    streams = own.streams;
+    within = (let within = own.within in omega (arith, size, within));
+    from = λ place among. by_place place slot (λ same. let within = own.within in omega (arith, same, at, within))
+        (λ other. own.from place (sym (ap (λ b. is_among place writer.files || b) other ∙ with_none (is_among place writer.files)) ∙ sym (among_more place slot writer.files) ∙ subst (λ files. is_among place files ≡ true) files among));
+    own = λ place above. ap (λ slots. has_file (slot_at slots place).state) made.added ∙ own_more writer.files old (next_name writer) place at (own.own place above) ∙ sym (ap (is_among place) files);
+    there = there own.there;
+    last = subst (λ current. IsLast current new) (sym (ap (λ (those : WriterState). those.current) made.same)) (opened_last old new slot (next_name writer) Fresh at made.added);
+  };
+  there = there;
+} where
+  at : slot ≡ length old
+  at = made.place
+
+  size : length new ≡ length old + 1
+  size = ap length made.added ∙ length-append old (opened (next_name writer) Fresh ∷ [])
+
+  files : next.files ≡ writer.files ++ slot ∷ []
+  files = ap (λ (those : WriterState). those.files) made.same
+
+  there : AreThere writer.files old → AreThere next.files new
+  there are = subst (λ those. AreThere those new) (sym files) (subst (AreThere (writer.files ++ slot ∷ [])) (sym made.added) (there_more writer.files old (next_name writer) at two are))
+
+unopened_keeps : (kept : List ℕ) (old : List Slot) (place : ℕ) → has_file (slot_at (old ++ unopened kept ∷ []) place).state ≡ has_file (slot_at old place).state
+unopened_keeps kept old place = elim (cases_lt place (length old)) [
+  | inl less ↦ file_before old (unopened kept) place less
+  | inr past ↦ none_opened old kept place past ∙ sym (none_past old place past)
+]
+
+unmade_keeps : {name : List ℕ} {old new : List Slot} {f : Fault} → MakesNone old name new f → (place : ℕ) → has_file (slot_at new place).state ≡ has_file (slot_at old place).state
+unmade_keeps (unnamed same) place = ap (λ slots. has_file (slot_at slots place).state) same
+unmade_keeps {old} (failed _ (broke slot kept number is added)) place = ap (λ slots. has_file (slot_at slots place).state) added ∙ unopened_keeps kept old place
+unmade_keeps (failed _ (numberless full same)) place = ap (λ slots. has_file (slot_at slots place).state) same
+
+unmade_size : {name : List ℕ} {old new : List Slot} {f : Fault} → MakesNone old name new f → length old ≤ length new
+unmade_size {old} {new} (unnamed same) = (let size : length new ≡ length old = ap length same in omega (arith, size))
+unmade_size {old} {new} (failed _ (broke slot kept number is added)) = (let size : length new ≡ length old + 1 = ap length added ∙ length-append old (unopened kept ∷ []) in omega (arith, size))
+unmade_size {old} {new} (failed _ (numberless full same)) = (let size : length new ≡ length old = ap length same in omega (arith, size))
+
+pub owned_unopened : {writer : WriterState} {name : List ℕ} {old new : List Slot} {f : Fault} → MakesNone old name new f → KeepsFiles writer (record writer { current = Unopened }) old new
+owned_unopened {writer} {old} {new} none = record {
+  owns = λ first own. record {
+    streams = own.streams;
+    within = (let within = own.within in let size = unmade_size none in omega (arith, size, within));
+    from = own.from;
+    own = λ place above. unmade_keeps none place ∙ own.own place above;
+    there = there_still writer.files old new (unmade_keeps none) own.there;
+    last = tt;
+  };
+  there = there_still writer.files old new (unmade_keeps none);
+}
+
+-- Which faults come
+
+pub make_breaks : (style : Style) {name : List ℕ} {old new : List Slot} {f : Fault} → MakesNone old name new f → Breaks style old new f
+make_breaks style (unnamed same) = tt
+make_breaks style {old} {new} (failed _ (broke slot kept number is added)) = open_rose slot kept old new number added
+make_breaks style (failed _ (numberless full same)) = tt
+
+pub write_breaks : (told : Bool) (style : Style) {slot : ℕ} {bytes : List ℕ} {old new : List Slot} {f : Fault} → 2 ≤ slot → IsTrue (is_writable old slot) → WritesShort told slot bytes old new f → Breaks style old new f
+write_breaks told style {slot} {bytes} {old} {new} streams can (short.broke n cut) = (λ none. absurd (omega (arith, streams, none)), write_rose told slot bytes n old new can cut)
+
+pub line_breaks : (told : Bool) (style : Style) (line : List ℕ) {old new : List Slot} {f : Fault} → style.quiet ≡ false → IsTrue (is_writable old 0) → WritesShort told 0 line old new f → Breaks style old new f
+line_breaks told style line {old} {new} said_so can (short.broke n cut) = (λ here. said_so, write_rose told 0 line n old new can cut)
+
+pub close_breaks : (style : Style) (slot : ℕ) (old : List Slot) {new : List Slot} → 2 ≤ slot → IsTrue (is_writable old slot) → new ≡ with_broken slot (changed_at slot closes old) → Breaks style old new (fault.Write slot)
+close_breaks style slot old {new} streams can is = (λ none. absurd (omega (arith, streams, none)), close_rose slot old new can (writable_within slot old can) is)
+
+-- What the calls of the writer of sections do.
 
 -- The line with a file's size.
 
@@ -53,10 +305,6 @@ not_opened {old} {new} {fault} is fails = failed fault (subst (λ those. FailsTo
 abbrev pub state_of : Style → List ℕ → Current → WriterState
 state_of style files current = record { style = style; files = files; current = current }
 
--- where there is room for one more
-pub with_room : {style : Style} {files now : List ℕ} (current : Current) {writer : WriterState} → now ≡ files → state_of style files current ≡ writer → state_of style now current ≡ writer
-with_room {style} current same is = ap (λ those. state_of style those current) same ∙ is
-
 -- More bytes of the open section
 
 -- What the open section is
@@ -74,23 +322,23 @@ elides_file style one elide none = ap (λ bytes. one.is_kept && not (style.elide
   never true = refl
   never false = refl
 
--- Nothing is written of a section that is skipped
+-- Nothing is written, since neither what the open section was nor what it is makes a file
 
-skipped_part : (writer : WriterState) (bytes : List ℕ) (draft : Draft) → draft.is_kept ≡ false → draft_part writer.style draft ≡ draft_part writer.style (with_bytes bytes draft)
-skipped_part writer bytes draft kept =
-    part_none writer.style draft.ended (last_contents false draft) (skips_file writer.style (last_contents false draft) kept)
-    ∙ sym (part_none writer.style draft.ended (last_contents false (with_bytes bytes draft)) (skips_file writer.style (last_contents false (with_bytes bytes draft)) kept))
+pub goes_still : {told : Bool} {writer : WriterState} {change : Draft → Draft} (current : Current) {slots : List Slot} → IsReady writer slots → IsOpenAt current slots → (IsLast writer.current slots → IsLast current slots)
+    → ((draft : Draft) → Writes writer draft → (draft_part writer.style draft ≡ draft_part writer.style (change draft)) × AreClosed (change draft).ended × IsCurrent writer.style (change draft).is_kept (change draft).bytes current)
+    → Goes told writer change slots slots (record writer { current = current }) None
+goes_still {told} {writer} current {slots} ready at last stays = record {
+  leaves = record { style = refl; owns = owned_same refl last (made_same slots); slots = keeps_same slots slots refl; ready = record { streams = ready.streams; output = ready.output; files = ready.files; current = at } };
+  reaches = λ draft writes. reaches_by (owned_same refl last (made_same slots)) (λ before. record { gets = λ these outputs. subst (λ part. OutputsAt told these part slots) (stays draft writes).0 outputs });
+  writes = λ draft writes. let so = stays draft writes in record { closed = so.1; made = writes.made ∙ ap (λ (part : Part). length part.files) so.0; current = so.2 };
+}
 
 pub put_skipped : {told : Bool} {writer : WriterState} (bytes : List ℕ) {slots : List Slot} → writer.current ≡ Skipped → IsReady writer slots → Goes told writer (with_bytes bytes) slots slots writer None
-put_skipped {writer = writer} bytes is ready = record {
-  leaves = leaves_still ready;
-  reaches = λ draft writes. reaches_still (skipped_part writer bytes draft (now_is is writes));
-  writes = λ draft writes. record {
-    closed = writes.closed;
-    made = writes.made ∙ ap (λ (part : Part). length part.files) (skipped_part writer bytes draft (now_is is writes));
-    current = subst (λ current. IsCurrent writer.style draft.is_kept (draft.bytes ++ bytes) current) (sym is) (now_is is writes);
-  };
-}
+put_skipped {writer = writer} bytes is ready = goes_still writer.current ready ready.current (λ last. last) (λ draft writes. let kept = now_is is writes in (
+  parts_none writer.style draft.ended _ _ (skips_file writer.style (last_contents false draft) kept) (skips_file writer.style (last_contents false (with_bytes bytes draft)) kept),
+  writes.closed,
+  subst (IsCurrent writer.style draft.is_kept (draft.bytes ++ bytes)) (sym is) kept,
+))
 
 -- The file of the open section gets more bytes, or breaks.
 
@@ -210,106 +458,95 @@ first_makes style draft bytes kept elide none some =
     ap (λ those. draft.is_kept && not (style.elide && is_empty (those ++ bytes))) none ∙ ap (λ e. draft.is_kept && not (style.elide && e)) some
     ∙ ap (λ e. draft.is_kept && not (e && false)) elide ∙ ap (λ k. k && true) kept
 
--- what is known of a draft whose section has no file yet
-record Unwritten (writer : WriterState) (bytes : List ℕ) (draft : Draft) : Type 0 where
-  makes : makes_file writer.style (last_contents false (with_bytes bytes draft)) ≡ true
+-- what is known where a draft has no file of the open section, and one is made of it for another
+record Unwritten (writer : WriterState) (draft next : Draft) : Type 0 where
+  same : next.ended ≡ draft.ended
   none : makes_file writer.style (last_contents false draft) ≡ false
-  count : length writer.files ≡ length (files_of writer.style 0 draft.ended)
-  high : draft_part writer.style (with_bytes bytes draft) ≡ with_last (size_lines writer.style draft.ended) (files_of writer.style 0 draft.ended) (file_of (name_after writer.style draft.ended) bytes state.Open)
-  size : 0 + length bytes ≡ length (draft.bytes ++ bytes)
+  makes : makes_file writer.style (last_contents false next) ≡ true
 
-unwritten : {writer : WriterState} {bytes : List ℕ} {draft : Draft} → writer.current ≡ Unmade → is_empty bytes ≡ false → Writes writer draft → Unwritten writer bytes draft
-unwritten {writer} {bytes} {draft} is some writes = record {
-  makes = makes;
-  none = none;
-  count = writes.made ∙ count_none writer.style draft.ended (last_contents false draft) none;
-  high = open_part writer.style (with_bytes bytes draft) makes ∙ ap (λ those. with_last (size_lines writer.style draft.ended) (files_of writer.style 0 draft.ended) (file_of (name_after writer.style draft.ended) (those ++ bytes) state.Open)) now.2;
-  size = (let e : 0 + length bytes ≡ length bytes = omega arith in e) ∙ sym (ap (λ those. length (those ++ bytes)) now.2);
-} where
-  now : (draft.is_kept ≡ true) × (writer.style.elide ≡ true) × (draft.bytes ≡ [])
-  now = now_is is writes
+made_count : {writer : WriterState} {draft : Draft} → makes_file writer.style (last_contents false draft) ≡ false → Writes writer draft → length writer.files ≡ length (files_of writer.style 0 draft.ended)
+made_count {writer} {draft} none writes = writes.made ∙ count_none writer.style draft.ended (last_contents false draft) none
 
-  makes : makes_file writer.style (last_contents false (with_bytes bytes draft)) ≡ true
-  makes = first_makes writer.style draft bytes now.0 now.1 now.2 some
+unwritten : {writer : WriterState} (bytes : List ℕ) {draft : Draft} → writer.current ≡ Unmade → is_empty bytes ≡ false → Writes writer draft → Unwritten writer draft (with_bytes bytes draft)
+unwritten {writer} bytes {draft} is some writes = let now = now_is is writes in record {
+  same = refl;
+  none = elides_file writer.style (last_contents false draft) now.1 now.2;
+  makes = first_makes writer.style draft bytes now.0 now.1 now.2 some;
+}
 
-  none : makes_file writer.style (last_contents false draft) ≡ false
-  none = elides_file writer.style (last_contents false draft) now.1 now.2
+-- it could not be made
+goes_unmade : {told : Bool} {writer next : WriterState} {change : Draft → Draft} {old new : List Slot} {f : Fault} → ((draft : Draft) → Writes writer draft → Unwritten writer draft (change draft)) → Makes writer old new next (Err f) → Goes told writer change old new next (Some f)
+goes_unmade {told} {writer} {change = change} {old} {new} {f} of makes = record {
+  leaves = unmade_leaves makes;
+  reaches = λ draft writes. let so = of draft writes in reaches_as (part_none writer.style draft.ended (last_contents false draft) so.none) (ap (λ ended. part_by writer.style (ended ++ last_contents false (change draft) ∷ [])) so.same)
+      (reaches_by (unmade_leaves makes).owns (λ last. unmade_falls writer draft.ended (last_contents false (change draft)) so.makes writes.closed (made_count so.none writes) makes.1));
+  writes = tt;
+}
 
 pub put_first : {told : Bool} {writer made next : WriterState} {slot : ℕ} (bytes : List ℕ) {old mid new : List Slot} {fault : Option Fault} → writer.current ≡ Unmade → is_empty bytes ≡ false → IsReady writer old → Made writer old mid made slot
     → Appends told made slot 0 bytes mid new next fault → Goes told writer (with_bytes bytes) old new next fault
 put_first {told} {writer} {made} {next} {slot} bytes {old} {mid} {new} {fault} is some ready makes appends = record {
   leaves = leaves;
-  reaches = λ draft writes. let so = unwritten is some writes in reaches_as (part_none writer.style draft.ended (last_contents false draft) so.none) so.high
-      (reaches_by leaves.owns (λ last. becomes_again (file_begins (files_of writer.style 0 draft.ended) (file_of (name_after writer.style draft.ended) [] state.Open)) (made_becomes draft.ended so.count makes)
+  reaches = λ draft writes. let so = unwritten bytes is some writes in reaches_as (part_none writer.style draft.ended (last_contents false draft) so.none)
+      (open_part writer.style (with_bytes bytes draft) so.makes ∙ ap (λ those. with_last (size_lines writer.style draft.ended) (files_of writer.style 0 draft.ended) (file_of (name_after writer.style draft.ended) (those ++ bytes) state.Open)) (now_is is writes).2)
+      (reaches_by leaves.owns (λ last. becomes_again (file_begins (files_of writer.style 0 draft.ended) (file_of (name_after writer.style draft.ended) [] state.Open)) (made_becomes draft.ended (made_count so.none writes) makes)
       (writes_to told (size_lines writer.style draft.ended) (files_of writer.style 0 draft.ended) (name_after writer.style draft.ended) [] bytes mid fault
       (closed_files writer.style 0 draft.ended writes.closed) (opened_last old mid slot (next_name writer) Fresh makes.place makes.added) appends.wrote)));
-  writes = where_well fault appends.current (λ current draft writes. let so = unwritten is some writes in
+  writes = where_well fault appends.current (λ current draft writes. let so = unwritten bytes is some writes in
       subst (λ those. Writes those (with_bytes bytes draft)) (sym (appends.same ∙ ap (λ (those : WriterState). record those { current = next.current }) makes.same ∙ ap (λ current. record writer { files = writer.files ++ slot ∷ []; current = current }) current)) (record {
         closed = writes.closed;
-        made = length-append writer.files (slot ∷ []) ∙ ap (λ n. n + 1) so.count ∙ sym (count_made writer.style draft.ended (last_contents false (with_bytes bytes draft)) so.makes);
-        current = (so.makes, so.size);
+        made = length-append writer.files (slot ∷ []) ∙ ap (λ n. n + 1) (made_count so.none writes) ∙ sym (count_made writer.style draft.ended (last_contents false (with_bytes bytes draft)) so.makes);
+        current = (so.makes, (let e : 0 + length bytes ≡ length bytes = omega arith in e) ∙ sym (ap (λ those. length (those ++ bytes)) (now_is is writes).2));
       }));
 } where
   leaves : Leaves writer next old new fault
   leaves = leaves_again (made_leaves ready makes) (appends_leaves (current_made makes) (made_ready ready makes) appends)
 
 pub put_unmade : {told : Bool} {writer next : WriterState} (bytes : List ℕ) {old new : List Slot} {f : Fault} → writer.current ≡ Unmade → is_empty bytes ≡ false → Makes writer old new next (Err f) → Goes told writer (with_bytes bytes) old new next (Some f)
-put_unmade {writer = writer} bytes is some makes = record {
-  leaves = unmade_leaves makes;
-  reaches = λ draft writes. let so = unwritten is some writes in reaches_as (part_none writer.style draft.ended (last_contents false draft) so.none) refl
-      (reaches_by (unmade_leaves makes).owns (λ last. unmade_falls writer draft.ended (last_contents false (with_bytes bytes draft)) so.makes writes.closed so.count makes.1));
-  writes = tt;
-}
+put_unmade bytes is some makes = goes_unmade (λ draft writes. unwritten bytes is some writes) makes
 
--- A section begins
+-- A section begins, where none is open
 
 abbrev pub begun : Bool → Contents
 begun kept = record { is_kept = kept; is_closed = false; bytes = [] }
 
 -- one without a file
-pub begun_none : {told : Bool} {writer : WriterState} {kept : Bool} {current : Current} {slots : List Slot} → makes_file writer.style (begun kept) ≡ false → Rattle.csplit_core.specs.Writer.IsCurrent writer.style kept [] current → IsOpenAt current slots → IsLast current slots → size_of current ≡ 0
-    → IsReady writer slots → Starts told writer kept slots slots (record writer { current = current }) None
-begun_none {told} {writer} {kept} {slots = slots} none is at last size ready = record {
-  leaves = record {
-    style = refl;
-    owns = owned_same refl (λ before. last) (made_same slots);
-    slots = keeps_same slots slots refl;
-    ready = record { streams = ready.streams; output = ready.output; files = ready.files; current = at };
-  };
-  reaches = λ ended pauses. reaches_by (owned_same refl (λ before. last) (made_same slots))
-      (λ before. record { gets = λ these outputs. subst (λ part. OutputsAt told these part slots) (sym (part_none writer.style ended (begun kept) none)) outputs });
-  writes = λ ended pauses. record { closed = pauses.closed; made = pauses.made ∙ sym (count_none writer.style ended (begun kept) none); current = is };
-  size = size;
-  none_made = tt;
-}
+pub begun_none : {told : Bool} {writer : WriterState} {kept : Bool} (current : Current) {slots : List Slot} → writer.current ≡ Skipped → makes_file writer.style (begun kept) ≡ false → IsCurrent writer.style kept [] current → IsOpenAt current slots → IsLast current slots
+    → IsReady writer slots → Goes told writer (with_kept kept) slots slots (record writer { current = current }) None
+begun_none {writer = writer} current is none is_current at last ready = goes_still current ready at (λ before. last)
+    (λ draft writes. (parts_none writer.style draft.ended _ _ (skips_file writer.style (last_contents false draft) (now_is is writes)) none, writes.closed, is_current))
 
 -- one with a file
-begun_makes : (style : Style) {kept : Bool} → kept ≡ true → style.elide ≡ false → makes_file style (begun kept) ≡ true
-begun_makes style is elide = ap (λ k. k && not (style.elide && true)) is ∙ ap (λ e. true && not (e && true)) elide
+begun_file : {writer : WriterState} {kept : Bool} → writer.current ≡ Skipped → kept ≡ true → writer.style.elide ≡ false → (draft : Draft) → Writes writer draft → Unwritten writer draft (with_kept kept draft)
+begun_file {writer} is kept_is elide draft writes = record {
+  same = refl;
+  none = skips_file writer.style (last_contents false draft) (now_is is writes);
+  makes = ap (λ k. k && not (writer.style.elide && true)) kept_is ∙ ap (λ e. true && not (e && true)) elide;
+}
 
-pub begin_made : {told : Bool} {writer next : WriterState} {kept : Bool} {slot : ℕ} {old new : List Slot} → kept ≡ true → writer.style.elide ≡ false → IsReady writer old → Made writer old new next slot → Starts told writer kept old new next None
-begin_made {writer = writer} {kept = kept} {slot} is elide ready made = let makes = begun_makes writer.style is elide in record {
+pub begin_made : {told : Bool} {writer next : WriterState} {kept : Bool} {slot : ℕ} {old new : List Slot} → writer.current ≡ Skipped → kept ≡ true → writer.style.elide ≡ false → IsReady writer old → Made writer old new next slot → Goes told writer (with_kept kept) old new next None
+begin_made {writer = writer} {kept = kept} {slot} is kept_is elide ready made = record {
   leaves = made_leaves ready made;
-  reaches = λ ended pauses. reaches_as refl (open_part writer.style (begun_after ended kept) makes) (reaches_by (owned_opened ready.streams made) (λ last. made_becomes ended pauses.made made));
-  writes = λ ended pauses. subst (λ those. Writes those (begun_after ended kept)) (sym made.same) (record {
-    closed = pauses.closed;
-    made = length-append writer.files (slot ∷ []) ∙ ap (λ n. n + 1) pauses.made ∙ sym (count_made writer.style ended (begun kept) makes);
-    current = (makes, refl);
+  reaches = λ draft writes. let so = begun_file is kept_is elide draft writes in reaches_as (part_none writer.style draft.ended (last_contents false draft) so.none) (open_part writer.style (with_kept kept draft) so.makes)
+      (reaches_by (owned_opened ready.streams made) (λ last. made_becomes draft.ended (made_count so.none writes) made));
+  writes = λ draft writes. let so = begun_file is kept_is elide draft writes in subst (λ those. Writes those (with_kept kept draft)) (sym made.same) (record {
+    closed = writes.closed;
+    made = length-append writer.files (slot ∷ []) ∙ ap (λ n. n + 1) (made_count so.none writes) ∙ sym (count_made writer.style draft.ended (begun kept) so.makes);
+    current = (so.makes, refl);
   });
-  size = ap size_of (current_made made);
-  none_made = tt;
 }
 
-pub begin_not : {told : Bool} {writer next : WriterState} {kept : Bool} {old new : List Slot} {f : Fault} → kept ≡ true → writer.style.elide ≡ false → Makes writer old new next (Err f) → Starts told writer kept old new next (Some f)
-begin_not {writer = writer} {kept = kept} is elide makes = record {
-  leaves = unmade_leaves makes;
-  reaches = λ ended pauses. reaches_by (unmade_leaves makes).owns (λ last. unmade_falls writer ended (begun kept) (begun_makes writer.style is elide) pauses.closed pauses.made makes.1);
-  writes = tt;
-  size = tt;
-  none_made = ap (λ (those : WriterState). those.files) makes.0;
-}
+pub begin_not : {told : Bool} {writer next : WriterState} {kept : Bool} {old new : List Slot} {f : Fault} → writer.current ≡ Skipped → kept ≡ true → writer.style.elide ≡ false → Makes writer old new next (Err f) → Goes told writer (with_kept kept) old new next (Some f)
+begin_not is kept_is elide makes = goes_unmade (begun_file is kept_is elide) makes
 
 -- The first section
+
+-- before it there is a section that is skipped and has no bytes
+abbrev pub no_draft : Draft
+no_draft = record { ended = []; is_kept = false; bytes = [] }
+
+pub new_writes : (style : Style) → Writes (new_writer style) no_draft
+new_writes style = record { closed = tt; made = refl; current = refl }
 
 pub new_owns : (style : Style) {slots : List Slot} → 2 ≤ length slots → OwnsFiles (new_writer style) (length slots) slots
 new_owns style {slots} two = record {
@@ -321,58 +558,37 @@ new_owns style {slots} two = record {
   last = tt;
 }
 
-new_pauses : (style : Style) → Pauses (new_writer style) []
-new_pauses style = record { closed = tt; made = refl }
-
--- The same of a writer whose list of files is empty
-
-pub empty_ready : (style : Style) {files : List ℕ} {slots : List Slot} → files ≡ [] → 2 ≤ length slots → IsTrue (is_writable slots 0) → IsReady (state_of style files Skipped) slots
-empty_ready style {files} {slots} none two can =
-    subst (λ those. IsReady (state_of style those Skipped) slots) (sym none) (record { streams = two; output = can; files = tt; current = tt })
-
-pub opens_begun : {told : Bool} {style : Style} {files : List ℕ} {kept : Bool} {old new : List Slot} {next : WriterState} → files ≡ [] → 2 ≤ length old → Starts told (state_of style files Skipped) kept old new next None → Begun told style kept old new next
-opens_begun {told} {style} {kept = kept} {old} {new} {next} none two begun =
-    let started = subst (λ those. Starts told (state_of style those Skipped) kept old new next None) none begun in record {
-      asked = started.leaves.style;
-      writes = started.writes [] (new_pauses style);
-      reaches = started.reaches [] (new_pauses style);
-      size = started.size;
-      owns = started.leaves.owns.owns (length old) (new_owns style two);
-      ready = started.leaves.ready;
-    }
-
-pub opens_not_begun : {told : Bool} {style : Style} {files : List ℕ} {kept : Bool} {old new : List Slot} {next : WriterState} {f : Fault} → files ≡ [] → 2 ≤ length old → Starts told (state_of style files Skipped) kept old new next (Some f)
+pub begun_not : {told : Bool} {style : Style} {kept : Bool} {old new : List Slot} {next : WriterState} {f : Fault} → 2 ≤ length old → Goes told (new_writer style) (with_kept kept) old new next (Some f) → next.files ≡ []
     → BegunNot told style (draft_part style (first_draft kept)) old new f
-opens_not_begun {told} {style} {kept = kept} {old} {new} {next} {f} none two not_begun =
-    let started = subst (λ those. Starts told (state_of style those Skipped) kept old new next (Some f)) none not_begun in record {
-      reaches = stops_in (started.reaches [] (new_pauses style));
-      breaks = started.leaves.slots;
-      none = λ place past. (started.leaves.owns.owns (length old) (new_owns style two)).own place past ∙ ap (is_among place) started.none_made;
-    }
+begun_not {style = style} {old = old} two goes none = record {
+  reaches = stops_in (goes.reaches no_draft (new_writes style));
+  breaks = goes.leaves.slots;
+  none = λ place past. (goes.leaves.owns.owns (length old) (new_owns style two)).own place past ∙ ap (is_among place) none;
+}
 
 -- A section ends, and the next begins.
 
 -- A section without a file
 
-pub end_none : {told : Bool} {writer : WriterState} {slots : List Slot} → ((draft : Draft) → Writes writer draft → (closed : Bool) → makes_file writer.style (last_contents closed draft) ≡ false) → IsReady writer slots → Ends told writer slots slots writer None
-end_none {writer = writer} none ready = record {
-  leaves = leaves_still ready;
-  reaches = λ draft writes. reaches_still (part_none writer.style draft.ended (last_contents false draft) (none draft writes false) ∙ sym (part_none writer.style draft.ended (last_contents true draft) (none draft writes true)));
-  pauses = λ draft writes. record {
-    closed = all_closed draft.ended (last_contents true draft) writes.closed refl;
-    made = writes.made ∙ count_none writer.style draft.ended (last_contents false draft) (none draft writes false) ∙ sym (count_none writer.style draft.ended (last_contents true draft) (none draft writes true));
-  };
-}
-
--- A section with one
-
 abbrev pub ended_writer : WriterState → WriterState
 ended_writer writer = record writer { current = Skipped }
 
-file_pauses : {writer : WriterState} {draft : Draft} (slot size : ℕ) → writer.current ≡ File slot size → Writes writer draft → Pauses (ended_writer writer) (draft.ended ++ last_contents true draft ∷ [])
-file_pauses {writer} {draft} slot size is writes = record {
+pub end_none : {told : Bool} {writer : WriterState} (current : Current) {slots : List Slot} → current ≡ Skipped → ((draft : Draft) → Writes writer draft → (closed : Bool) → makes_file writer.style (last_contents closed draft) ≡ false) → IsReady writer slots
+    → Goes told writer (with_section false) slots slots (record writer { current = current }) None
+end_none {writer = writer} current {slots} is none ready = goes_still current ready (subst (λ now. IsOpenAt now slots) (sym is) tt) (λ last. subst (λ now. IsLast now slots) (sym is) tt) (λ draft writes. (
+  parts_none writer.style draft.ended _ _ (none draft writes false) (none draft writes true) ∙ sym (ended_part writer.style draft),
+  all_closed draft.ended (last_contents true draft) writes.closed refl,
+  subst (IsCurrent writer.style false []) (sym is) refl,
+))
+
+-- A section with one
+
+file_ends : {writer : WriterState} {draft : Draft} (slot size : ℕ) → writer.current ≡ File slot size → Writes writer draft → Writes (ended_writer writer) (with_section false draft)
+file_ends {writer} {draft} slot size is writes = record {
   closed = all_closed draft.ended (last_contents true draft) writes.closed refl;
-  made = writes.made ∙ count_made writer.style draft.ended (last_contents false draft) (now_is is writes).0 ∙ sym (count_made writer.style draft.ended (last_contents true draft) (now_is is writes).0);
+  made = writes.made ∙ count_made writer.style draft.ended (last_contents false draft) (now_is is writes).0
+      ∙ sym (ap (λ (part : Part). length part.files) (ended_part writer.style draft) ∙ count_made writer.style draft.ended (last_contents true draft) (now_is is writes).0);
+  current = refl;
 }
 
 file_closed : {writer : WriterState} {old new : List Slot} → KeepsMade old new → KeepsFiles writer (ended_writer writer) old new
@@ -409,34 +625,34 @@ line_leaves told writer line {old} {new} (Some why) said_so ready cut =
 
 -- the part of the ended section, with its size line
 size_part : {writer : WriterState} {draft : Draft} (slot size : ℕ) → writer.current ≡ File slot size → writer.style.quiet ≡ false → Writes writer draft
-    → ended_part writer.style draft ≡ with_last (size_lines writer.style draft.ended ++ (decimal size ++ newline ∷ [])) (files_of writer.style 0 draft.ended) (file_of (name_after writer.style draft.ended) draft.bytes state.Closed)
+    → draft_part writer.style (with_section false draft) ≡ with_last (size_lines writer.style draft.ended ++ (decimal size ++ newline ∷ [])) (files_of writer.style 0 draft.ended) (file_of (name_after writer.style draft.ended) draft.bytes state.Closed)
 size_part {writer} {draft} slot size is said_so writes =
     closed_part writer.style draft (decimal size ++ newline ∷ []) (now_is is writes).0
     (line_of writer.style draft false (now_is is writes).0 said_so ∙ ap (λ n. decimal n ++ newline ∷ []) (sym (now_is is writes).1))
 
 quiet_part : {writer : WriterState} {draft : Draft} (slot size : ℕ) → writer.current ≡ File slot size → writer.style.quiet ≡ true → Writes writer draft
-    → ended_part writer.style draft ≡ with_last (size_lines writer.style draft.ended) (files_of writer.style 0 draft.ended) (file_of (name_after writer.style draft.ended) draft.bytes state.Closed)
+    → draft_part writer.style (with_section false draft) ≡ with_last (size_lines writer.style draft.ended) (files_of writer.style 0 draft.ended) (file_of (name_after writer.style draft.ended) draft.bytes state.Closed)
 quiet_part {writer} {draft} slot size is quiet writes =
     closed_part writer.style draft [] (now_is is writes).0 (line_of writer.style draft true (now_is is writes).0 quiet)
     ∙ ap (λ out. with_last out (files_of writer.style 0 draft.ended) (file_of (name_after writer.style draft.ended) draft.bytes state.Closed)) (append-nil (size_lines writer.style draft.ended))
 
-pub end_quiet : {told : Bool} {writer : WriterState} (slot size : ℕ) {old new : List Slot} → writer.current ≡ File slot size → IsReady writer old → writer.style.quiet ≡ true → new ≡ changed_at slot closes old → Ends told writer old new (ended_writer writer) None
+pub end_quiet : {told : Bool} {writer : WriterState} (slot size : ℕ) {old new : List Slot} → writer.current ≡ File slot size → IsReady writer old → writer.style.quiet ≡ true → new ≡ changed_at slot closes old → Goes told writer (with_section false) old new (ended_writer writer) None
 end_quiet {told} {writer} slot size {old} {new} is ready quiet closed = record {
   leaves = closed_leaves slot size is ready closed;
   reaches = λ draft writes. reaches_as (open_part writer.style draft (now_is is writes).0) (quiet_part slot size is quiet writes) (reaches_by (closed_leaves slot size is ready closed).owns
       (λ last. closes_last told (size_lines writer.style draft.ended) (files_of writer.style 0 draft.ended) (name_after writer.style draft.ended) draft.bytes old (last_file writer old is last) closed));
-  pauses = λ draft writes. file_pauses slot size is writes;
+  writes = λ draft writes. file_ends slot size is writes;
 }
 
 -- the file breaks as it is closed
 pub close_not : {told : Bool} {writer : WriterState} (slot size : ℕ) {old new : List Slot} {f : Fault} → writer.current ≡ File slot size → IsReady writer old → f ≡ fault.Write slot → new ≡ with_broken slot (changed_at slot closes old)
-    → Ends told writer old new (ended_writer writer) (Some f)
-close_not {told} {writer} slot size {old} {new} is ready which broken = subst (λ f. Ends told writer old new (ended_writer writer) (Some f)) (sym which) (record {
+    → Goes told writer (with_section false) old new (ended_writer writer) (Some f)
+close_not {told} {writer} slot size {old} {new} is ready which broken = subst (λ f. Goes told writer (with_section false) old new (ended_writer writer) (Some f)) (sym which) (record {
   leaves = record { style = refl; owns = owns; slots = close_breaks writer.style slot old (at_file is ready).0 (at_file is ready).1 broken; ready = tt };
   reaches = λ draft writes. reaches_as (open_part writer.style draft (now_is is writes).0) (closed_part writer.style draft (size_line writer.style (last_contents true draft)) (now_is is writes).0 refl)
       (reaches_by owns (λ last. falls_wider (closes_not told (size_lines writer.style draft.ended) (files_of writer.style 0 draft.ended) (name_after writer.style draft.ended) draft.bytes old
       (closed_files writer.style 0 draft.ended writes.closed) (last_file writer old is last) broken) (line_begins (size_line writer.style (last_contents true draft)))));
-  pauses = tt;
+  writes = tt;
 }) where
   owns : KeepsFiles writer (ended_writer writer) old new
   owns = file_closed (made_again old (changed_at slot closes old) new (made_close slot old _ (at_file is ready).1 refl) (made_break slot _ new broken))
@@ -447,7 +663,7 @@ last_closed (first ∷ files) file closed is = (closed.0, last_closed files file
 
 -- the size is written, or standard output breaks
 pub end_sized : {told : Bool} {writer : WriterState} (slot size : ℕ) {old mid new : List Slot} {fault : Option Fault} → writer.current ≡ File slot size → IsReady writer old → writer.style.quiet ≡ false → mid ≡ changed_at slot closes old
-    → Wrote told 0 (decimal size ++ newline ∷ []) mid new fault → Ends told writer old new (ended_writer writer) fault
+    → Wrote told 0 (decimal size ++ newline ∷ []) mid new fault → Goes told writer (with_section false) old new (ended_writer writer) fault
 end_sized {told} {writer} slot size {old} {mid} {new} {fault} is ready said_so closed wrote = record {
   leaves = leaves;
   reaches = λ draft writes. reaches_as (open_part writer.style draft (now_is is writes).0) (size_part slot size is said_so writes) (reaches_by leaves.owns (λ last. becomes_again
@@ -456,27 +672,38 @@ end_sized {told} {writer} slot size {old} {mid} {new} {fault} is ready said_so c
       (tells_line told (size_lines writer.style draft.ended) _ (decimal size ++ newline ∷ []) mid fault
       (last_closed (files_of writer.style 0 draft.ended) (file_of (name_after writer.style draft.ended) draft.bytes state.Closed) (closed_files writer.style 0 draft.ended writes.closed) refl)
       (let two = (closed_ready slot size is ready closed).streams in omega (arith, two)) wrote)));
-  pauses = in_any fault (λ draft writes. file_pauses slot size is writes);
+  writes = in_any fault (λ draft writes. file_ends slot size is writes);
 } where
   leaves : Leaves writer (ended_writer writer) old new fault
   leaves = leaves_again (closed_leaves slot size is ready closed) (line_leaves told writer (decimal size ++ newline ∷ []) fault said_so (closed_ready slot size is ready closed) wrote)
 
--- One section ends, and the next begins.
+-- One change after another
 
-next_begins : (style : Style) (kept : Bool) (draft : Draft) → Begins (ended_part style draft) (draft_part style (with_section kept draft))
-next_begins style kept draft = more_begins style (draft.ended ++ last_contents true draft ∷ []) (last_contents false (with_section kept draft))
-
-pub next_not_ended : {told : Bool} {writer next : WriterState} (kept : Bool) {old new : List Slot} {f : Fault} → Ends told writer old new next (Some f) → Goes told writer (with_section kept) old new next (Some f)
-next_not_ended {writer = writer} kept ended = record { leaves = ended.leaves; reaches = λ draft writes. stops_wider (ended.reaches draft writes) (next_begins writer.style kept draft); writes = tt }
-
-pub next_begun : {told : Bool} {writer mid next : WriterState} {kept : Bool} {old between new : List Slot} {fault : Option Fault} → Ends told writer old between mid None → Starts told mid kept between new next fault → Goes told writer (with_section kept) old new next fault
-next_begun {writer = writer} {kept = kept} {fault = fault} ended start = record {
-  leaves = leaves_again ended.leaves start.leaves;
-  reaches = λ draft writes. reaches_again (end_begins writer.style draft) (ended.reaches draft writes)
-      (reaches_as (ap (λ style. part_by style (draft.ended ++ last_contents true draft ∷ [])) (sym ended.leaves.style)) (ap (λ style. draft_part style (with_section kept draft)) (sym ended.leaves.style))
-      (start.reaches (draft.ended ++ last_contents true draft ∷ []) (ended.pauses draft writes)));
-  writes = where_well fault start.writes (λ started draft writes. started (draft.ended ++ last_contents true draft ∷ []) (ended.pauses draft writes));
+pub goes_again : {told : Bool} {one two three : WriterState} {first second : Draft → Draft} (both : Draft → Draft) {old mid new : List Slot} {fault : Option Fault} → ((draft : Draft) → second (first draft) ≡ both draft) → ((draft : Draft) → Begins (draft_part one.style draft) (draft_part one.style (first draft)))
+    → Goes told one first old mid two None → Goes told two second mid new three fault → Goes told one both old new three fault
+goes_again {one = one} {three = three} {first} {second} both {fault = fault} is begins before after = record {
+  leaves = leaves_again before.leaves after.leaves;
+  reaches = λ draft writes. reaches_again (begins draft) (before.reaches draft writes)
+      (reaches_as (ap (λ s. draft_part s (first draft)) (sym before.leaves.style)) (ap (draft_part one.style) (sym (is draft)) ∙ ap (λ s. draft_part s (second (first draft))) (sym before.leaves.style))
+      (after.reaches (first draft) (before.writes draft writes)));
+  writes = where_well fault after.writes (λ more draft writes. subst (Writes three) (is draft) (more (first draft) (before.writes draft writes)));
 }
+
+-- it was stopped on its way to more
+pub goes_wider : {told : Bool} {writer next : WriterState} {low : Draft → Draft} (high : Draft → Draft) {old new : List Slot} {fault : Fault} → ((draft : Draft) → Begins (draft_part writer.style (low draft)) (draft_part writer.style (high draft)))
+    → Goes told writer low old new next (Some fault) → Goes told writer high old new next (Some fault)
+goes_wider high begins stopped = record { leaves = stopped.leaves; reaches = λ draft writes. stops_wider (stopped.reaches draft writes) (begins draft); writes = tt }
+
+-- one section ends, and the next begins
+next_begins : (style : Style) (kept : Bool) (draft : Draft) → Begins (draft_part style (with_section false draft)) (draft_part style (with_section kept draft))
+next_begins style kept draft =
+    subst (λ part. Begins part (draft_part style (with_section kept draft))) (sym (ended_part style draft)) (more_begins style (draft.ended ++ last_contents true draft ∷ []) (last_contents false (with_section kept draft)))
+
+pub next_not_ended : {told : Bool} {writer next : WriterState} (kept : Bool) {old new : List Slot} {f : Fault} → Goes told writer (with_section false) old new next (Some f) → Goes told writer (with_section kept) old new next (Some f)
+next_not_ended {writer = writer} kept ended = goes_wider (with_section kept) (next_begins writer.style kept) ended
+
+pub next_begun : {told : Bool} {writer mid next : WriterState} {kept : Bool} {old between new : List Slot} {fault : Option Fault} → Goes told writer (with_section false) old between mid None → Goes told mid (with_kept kept) between new next fault → Goes told writer (with_section kept) old new next fault
+next_begun {writer = writer} {kept = kept} ended start = goes_again (with_section kept) (λ draft. refl) (section_begins writer.style false) ended start
 
 -- The files are removed.
 

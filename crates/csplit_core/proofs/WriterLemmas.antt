@@ -9,7 +9,7 @@ use Rattle.ports_core.specs.declared.slot.State.{State}
 use Rattle.ports_core.proofs.SlotLemmas.{length-changed_at}
 use Rattle.ports_core.proofs.FileLemmas.{gets, ended, file_more, last_changes, write_makes, close_makes}
 use Rattle.ports_core.proofs.PartLemmas.{begins_itself, begins_more, take_begins_after, files_begin_themselves, part_begins_itself, out_more, outputs_count, turn_between, turn_last, turn_next}
-use Rattle.csplit_core.specs.inner.Writer.{MakesNone, unnamed, failed, Wrote, ended_part, with_bytes, with_section, At, IsThere, KeepsFiles, KeepsOrBreaks, Leaves, Reaches, fault_in}
+use Rattle.csplit_core.specs.inner.Writer.{MakesNone, unnamed, failed, Wrote, with_bytes, with_section, At, IsThere, KeepsFiles, KeepsOrBreaks, Leaves, Reaches, fault_in}
 use Rattle.std.specs.Prelude.{IfNone}
 use Rattle.std.proofs.lemmas.List.{append-nil}
 use Rattle.ports_core.specs.inner.Slot.{KeepsBroken}
@@ -196,9 +196,6 @@ reaches_still {told} {slots = slots} {writer = writer} is = record { there = λ 
 
 pub bytes_begin : (style : Style) (bytes : List ℕ) (draft : Draft) → Begins (draft_part style draft) (draft_part style (with_bytes bytes draft))
 bytes_begin style bytes draft = part_grows style draft.ended (last_contents false draft) (last_contents false (with_bytes bytes draft)) [] refl refl bytes refl
-
-pub end_begins : (style : Style) (draft : Draft) → Begins (draft_part style draft) (ended_part style draft)
-end_begins style draft = part_grows style draft.ended (last_contents false draft) (last_contents true draft) [] refl refl [] (sym (append-nil draft.bytes))
 
 pub section_begins : (style : Style) (kept : Bool) (draft : Draft) → Begins (draft_part style draft) (draft_part style (with_section kept draft))
 section_begins style kept draft =

@@ -12,7 +12,8 @@ use Rattle.csplit_core.specs.Plan.{State, start, Step, Ending, Runs}
 use Rattle.csplit_core.specs.Planned.{plan}
 use Rattle.csplit_core.specs.Progress.{state_of, EndsHere, WillMove}
 use Rattle.csplit_core.specs.Section.{section_of, lines_between, is_last_kept, settled_end, is_final, most_waiting, bytes_of}
-use Rattle.csplit_core.specs.Writer.{WriterState, Writes, size_of}
+use Rattle.csplit_core.specs.Writer.{WriterState, Writes, seen_writer, size_of}
+use Rattle.csplit_core.specs.declared.line_cutter.LineCutter.{LineCutter}
 use Rattle.csplit_core.specs.declared.progress.Progress.{Progress}
 use Rattle.csplit_core.specs.declared.progress.Turn.{Turn}
 use Rattle.csplit_core.specs.declared.progress.Turn.TheVariants.{UsedUp, Missed, Above, Below, Cuts}
@@ -29,6 +30,18 @@ pub record CutterState : Type 0 where
   pub window : Window
   -- the pattern that is searched for
   pub sought : Option Pattern
+
+-- what contracts see of it
+abbrev pub seen : LineCutter → CutterState
+seen cutter = record {
+  operands = cutter.operands.now;
+  writer = seen_writer cutter.writer;
+  progress = cutter.progress;
+  aim = cutter.aim;
+  lines = cutter.lines;
+  window = cutter.window;
+  sought = cutter.matcher;
+}
 
 abbrev pub suppress_in : CutterState → Bool
 suppress_in cutter = cutter.writer.style.suppress

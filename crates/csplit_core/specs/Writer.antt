@@ -7,6 +7,7 @@ use Rattle.ports_core.specs.declared.fault.Fault.TheVariants.{Memory, Write, Rea
 use Rattle.csplit_core.specs.Draft.{Draft, draft_part, AreClosed}
 use Rattle.csplit_core.specs.Output.{Style, makes_file}
 use Rattle.csplit_core.specs.declared.section_writer.Current.{Current}
+use Rattle.csplit_core.specs.declared.section_writer.SectionWriter.{SectionWriter}
 use Rattle.csplit_core.specs.declared.section_writer.Current.TheVariants.{Skipped, Unmade, File, Unopened}
 
 pub record WriterState : Type 0 where
@@ -15,6 +16,10 @@ pub record WriterState : Type 0 where
   pub files : List ℕ
   -- the section that is open
   pub current : Current
+
+-- what contracts see of it
+abbrev pub seen_writer : SectionWriter → WriterState
+seen_writer writer = record { style = writer.style; files = writer.files.items; current = writer.current }
 
 -- how many bytes the file of the open section has
 abbrev pub size_of : Current → ℕ

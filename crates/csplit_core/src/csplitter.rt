@@ -39,13 +39,14 @@ pub struct Csplitter<'o> {
 impl<'o> Model for Csplitter<'o> {
     ghost use Rattle.bre_core.specs.Code.{pattern_code};
     ghost use Rattle.csplit_core.specs.CsplitState.{CsplitState};
+    ghost use Rattle.csplit_core.specs.Cutter.{seen};
     ghost use Rattle.std.specs.Coded.{codes};
 
     ghost Value = { CsplitState };
 
     ghost coded = { Prim.hlevel (codes, pattern_code) };
 
-    ghost view = { λ s. record { cutter = s.cutter; rest = s.rest.items; taken = s.taken } };
+    ghost view = { λ s. record { cutter = seen s.cutter; rest = s.rest.items; taken = s.taken } };
 }
 
 impl<'o> Csplitter<'o> {

@@ -3,7 +3,7 @@ ghost use Rattle.std.specs.Prelude.{◌≡◌, ◌+◌, ◌<◌, ◌≤◌, ◌^
 ghost use Rattle.seg_core.specs.Line.{but_last_lines, last_lines};
 ghost use Rattle.seg_core.specs.Window.{without_first};
 ghost use Rattle.csplit_core.specs.inner.Writer.{with_bytes, Goes, fault_in};
-ghost use Rattle.csplit_core.specs.Writer.{IsReady, size_of};
+ghost use Rattle.csplit_core.specs.Writer.{IsReady, seen_writer, size_of};
 
 use crate::section_writer::SectionWriter;
 use ports_core::{Fault, Outs};
@@ -23,10 +23,10 @@ pub(crate) fn hold_last<O: Outs>(
     outs: &mut O,
 ) -> Result<(), Fault>
     requires fits { size_of writer.old.current + length window.old.held + length text.now < 2 ^ 64 }
-    requires ready { IsReady writer.old (O.slots outs.old) }
-    ensures goes { Goes O.told writer.old (with_bytes (but_last_lines window.old.delim window.old.most (window.old.held ++ text.now))) (O.slots outs.old) (O.slots outs.new) writer.new (fault_in result) }
+    requires ready { IsReady (seen_writer writer.old) (O.slots outs.old) }
+    ensures goes { Goes O.told (seen_writer writer.old) (with_bytes (but_last_lines window.old.delim window.old.most (window.old.held ++ text.now))) (O.slots outs.old) (O.slots outs.new) (seen_writer writer.new) (fault_in result) }
     ensures window { OnOk result (window.new ≡ record { most = window.old.most; delim = window.old.delim; held = last_lines window.old.delim window.old.most (window.old.held ++ text.now) }) }
-    ensures size { OnOk result (size_of writer.new.current + length window.new.held ≤ size_of writer.old.current + length window.old.held + length text.now) }
+    ensures size { OnOk result (size_of writer.new.current + length window.new.held ≤ size_of writer.old.current + length (window.old.held ++ text.now)) }
 {
     let over = window.over(text);
     let front = over.min(window.len());
@@ -45,8 +45,8 @@ pub(crate) fn write_front<O: Outs>(
 ) -> Result<(), Fault>
     requires held { n ≤ length window.old.held }
     requires fits { size_of writer.old.current + length window.old.held < 2 ^ 64 }
-    requires ready { IsReady writer.old (O.slots outs.old) }
-    ensures goes { Goes O.told writer.old (with_bytes (take n window.old.held)) (O.slots outs.old) (O.slots outs.new) writer.new (fault_in result) }
+    requires ready { IsReady (seen_writer writer.old) (O.slots outs.old) }
+    ensures goes { Goes O.told (seen_writer writer.old) (with_bytes (take n window.old.held)) (O.slots outs.old) (O.slots outs.new) (seen_writer writer.new) (fault_in result) }
     ensures window { OnOk result (window.new ≡ without_first window.old n) }
     ensures size { OnOk result (size_of writer.new.current + length window.new.held ≤ size_of writer.old.current + length window.old.held) }
 {

@@ -1,5 +1,5 @@
 //! Cutting lines into sections as they come in: what is settled of them goes to the sections, and the others wait.
-ghost use Rattle.std.specs.Prelude.{◌≡◌, ◌≢◌, ◌+◌, ◌-◌, ◌<◌, ◌≤◌, ◌^◌, ◌++◌, List, ℕ, [], length, drop, take, Some, None, IfOk, IfErr, IfSome, IfNone, OnOk, IsTrue, true, false};
+ghost use Rattle.std.specs.Prelude.{◌≡◌, ◌≢◌, ◌⊎◌, ◌+◌, ◌-◌, ◌<◌, ◌≤◌, ◌^◌, ◌++◌, List, ℕ, [], length, drop, take, Some, None, IfOk, IfErr, IfSome, IfNone, OnOk, IsTrue, true, false};
 ghost use Rattle.bre_core.specs.Pattern.{Pattern};
 ghost use Rattle.seg_core.specs.Line.{delimiters, ends_with};
 ghost use Rattle.ports_core.specs.Engine.{is_verdict};
@@ -8,7 +8,7 @@ ghost use Rattle.csplit_core.specs.Csplit.{verdict_of};
 ghost use Rattle.csplit_core.specs.Plan.{above, missed};
 ghost use Rattle.csplit_core.specs.Planned.{plan};
 ghost use Rattle.ports_core.specs.Swept.{AreThere};
-ghost use Rattle.csplit_core.specs.Cutter.{AimHolds, IsFit, IsSound, load, most_by, pattern_by, state_in, suppress_in};
+ghost use Rattle.csplit_core.specs.Cutter.{AimHolds, IsFit, IsSound, load, most_by, pattern_by, seen, state_in, suppress_in};
 ghost use Rattle.csplit_core.specs.inner.Cutter.{AreClear, Clears, CutAt, CutsAll, CutsOn, EndsAll, GoesOn, IsJudged, Opens, Holds, IsFound, IsLine, IsNextFound, IsNoCut, IsWhole, PassesClear, PassesCut, PassesOver, Spread, StopsAt, Stretches, Takes, Tries, TriesNext, WillCut};
 ghost use Rattle.csplit_core.specs.Input.{all_lines, newline, without_newline};
 ghost use Rattle.csplit_core.specs.Measure.{Fits};
@@ -31,7 +31,6 @@ use seg_core::line::{NEWLINE, count_delimiters, next_line, reach};
 use seg_core::line_reach::Reach;
 use seg_core::line_window::LineWindow;
 use std::alloc::Global;
-use std::marker::Model;
 
 /// A cut: the line that the last pattern matched, and the line of the cut.
 #[derive(Clone, Copy)]
@@ -68,18 +67,6 @@ pub struct LineCutter<'o> {
     matcher: Option<Matcher<'o>>,
 }
 
-impl<'o> Model for LineCutter<'o> {
-    ghost use Rattle.bre_core.specs.Code.{pattern_code};
-    ghost use Rattle.std.specs.Coded.{codes};
-    ghost use Rattle.csplit_core.specs.Cutter.{CutterState};
-
-    ghost Value = { CutterState };
-
-    ghost coded = { Prim.hlevel (codes, pattern_code) };
-
-    ghost view = { λ c. record { operands = c.operands.now; writer = c.writer; progress = c.progress; aim = c.aim; lines = c.lines; window = c.window; sought = c.matcher } };
-}
-
 impl<'o> LineCutter<'o> {
     /// A cutter to which no line came, and which has begun the first section.
     ///
@@ -101,7 +88,8 @@ impl<'o> LineCutter<'o> {
         let matcher = find_matcher(alloc, next)?;
         let window = find_window(alloc, next)?;
         let suppress = style.suppress;
-        let writer = SectionWriter::open(alloc, style, is_kept(next), outs)?;
+        let mut writer = SectionWriter::new(alloc, style);
+        writer.begin(is_kept(next), outs)?;
         let progress = Progress::start();
         let aim = progress.turn(suppress, operands, 0, false);
         Ok(LineCutter {
@@ -136,10 +124,10 @@ impl<'o> LineCutter<'o> {
     ///
     /// Those of `take`.
     pub(crate) fn end<O: Outs>(&mut self, outs: &mut O) -> Result<(), Fault>
-        requires fits { load self.old < 2 ^ 63 }
-        requires sound { IsSound self.old }
-        requires ready { IsReady self.old.writer (O.slots outs.old) }
-        ensures { EndsAll O.told self.old (O.slots outs.old) (O.slots outs.new) self.new (fault_in result) }
+        requires fits { load (seen self.old) < 2 ^ 63 }
+        requires sound { IsSound (seen self.old) }
+        requires ready { IsReady (seen self.old).writer (O.slots outs.old) }
+        ensures { EndsAll O.told (seen self.old) (O.slots outs.old) (O.slots outs.new) (seen self.new) (fault_in result) }
     {
         let held = self.window.len();
         write_front(&mut self.window, held, &mut self.writer, outs)?;
@@ -148,7 +136,7 @@ impl<'o> LineCutter<'o> {
 
     /// The fault with which the work itself ends where the input ends here, if it ends with one.
     pub(crate) fn verdict(&self) -> Option<Fault>
-        ensures judges { (x : List ℕ) → IsJudged self.now x → result ≡ verdict_of (plan (suppress_in self.now) self.now.operands (all_lines x)).ending }
+        ensures judges { (x : List ℕ) → IsJudged (seen self.now) x → result ≡ verdict_of (plan (suppress_in (seen self.now)) (seen self.now).operands (all_lines x)).ending }
         ensures kind { IfSome result (λ fault. is_verdict fault ≡ true) }
     {
         let operand = self.operands.get(self.progress.done)?;
@@ -164,8 +152,8 @@ impl<'o> LineCutter<'o> {
     /// Removes all files that are still there, in order. One that can't be removed is broken and closed, and the next
     /// is tried.
     pub(crate) fn clear<O: Outs>(&mut self, outs: &mut O)
-        requires { AreThere self.old.writer.files (O.slots outs.old) }
-        ensures { Clears self.old (O.slots outs.old) (O.slots outs.new) self.new }
+        requires { AreThere (seen self.old).writer.files (O.slots outs.old) }
+        ensures { Clears (seen self.old) (O.slots outs.old) (O.slots outs.new) (seen self.new) }
     {
         self.writer.clear(outs);
     }
@@ -178,15 +166,16 @@ impl<'o> LineCutter<'o> {
     /// lines that wait, for a name, or for what the next pattern needs.
     pub(crate) fn take<O: Outs>(&mut self, text: &[u8], outs: &mut O) -> Result<(), Fault>
         requires whole { IsWhole text.now }
-        requires fits { load self.old + length text.now < 2 ^ 63 }
-        requires sound { IsSound self.old }
-        requires ready { IsReady self.old.writer (O.slots outs.old) }
-        ensures { Takes O.told self.old text.now (O.slots outs.old) (O.slots outs.new) self.new (fault_in result) }
+        requires fits { load (seen self.old) + length text.now < 2 ^ 63 }
+        requires sound { IsSound (seen self.old) }
+        requires ready { IsReady (seen self.old).writer (O.slots outs.old) }
+        ensures { Takes O.told (seen self.old) text.now (O.slots outs.old) (O.slots outs.new) (seen self.new) (fault_in result) }
     {
         let mut left = text;
         let mut found = None;
         'stretches: while !left.is_empty() {
-            let passed = self.stretch(left, found, outs)?;
+            let size = first_size(left, found);
+            let passed = self.stretch(left, size, found.is_some(), outs)?;
             left = &left[passed.size..];
             found = passed.found;
         }
@@ -201,29 +190,32 @@ impl<'o> LineCutter<'o> {
         matches!(self.aim, Turn::Below)
     }
 
-    /// Takes in a beginning of a text of complete lines, which isn't empty: its first line, and the lines after it that the
-    /// next operand doesn't cut. `found` says how long the first line is where the pattern that is searched for was found
-    /// in it. Returns how far that is, and the same of the next line. Where lines go nowhere any more, that is all of it.
+    /// Takes in a beginning of a text: its first line, which has `size` bytes and may lack its newline if it is the only one, and
+    /// the lines after it that the next operand doesn't cut. `is_found` says that the pattern that is searched for was found in the
+    /// first line. Returns how far that is, and how long the next line is where it was found in that. Where lines go nowhere any
+    /// more, that is all of it.
     fn stretch<O: Outs>(
         &mut self,
         text: &[u8],
-        found: Option<usize>,
+        size: usize,
+        is_found: bool,
         outs: &mut O,
     ) -> Result<Passed, Fault>
-        requires some { 0 < length text.now }
-        requires whole { IsWhole text.now }
-        requires found { IfSome found (IsNextFound self.old text.now) }
-        requires fits { load self.old + length text.now < 2 ^ 63 }
-        requires sound { IsSound self.old }
-        requires ready { IsReady self.old.writer (O.slots outs.old) }
-        ensures { Stretches O.told self.old text.now (O.slots outs.old) (O.slots outs.new) self.new result }
+        requires within { size ≤ length text.now }
+        requires line { IsLine (take size text.now) }
+        requires rest { IsWhole (drop size text.now) }
+        requires complete { (drop size text.now ≡ []) ⊎ (ends_with newline (take size text.now) ≡ true) }
+        requires found { is_found ≡ true → IsFound (seen self.old) (without_newline (take size text.now)) (self.old.lines + 1) true }
+        requires fits { load (seen self.old) + length text.now < 2 ^ 63 }
+        requires sound { IsSound (seen self.old) }
+        requires ready { IsReady (seen self.old).writer (O.slots outs.old) }
+        ensures { Stretches O.told (seen self.old) text.now size (O.slots outs.old) (O.slots outs.new) (seen self.new) result }
     {
         if self.is_past() {
             return Ok(unfound(text.len()));
         }
-        let size = first_size(text, found);
         let line = &text[..size];
-        let Some(cut) = self.try_line(line, found.is_some()) else {
+        let Some(cut) = self.try_line(line, is_found) else {
             return self.go_on(text, size, outs);
         };
         if self.window.is_empty() {
@@ -246,14 +238,14 @@ impl<'o> LineCutter<'o> {
         requires within { size ≤ length text.now }
         requires line { IsLine (take size text.now) }
         requires rest { IsWhole (drop size text.now) }
-        requires complete { ends_with newline (take size text.now) ≡ true }
+        requires complete { (drop size text.now ≡ []) ⊎ (ends_with newline (take size text.now) ≡ true) }
         requires lines { self.old.lines + (length text.now - size) < 2 ^ 63 }
         requires fits { size_of self.old.writer.current + length text.now < 2 ^ 63 }
-        requires fit { IsFit self.old }
+        requires fit { IsFit (seen self.old) }
         requires none { self.old.window.held ≡ [] }
-        requires cuts { WillCut self.old cut }
-        requires ready { IsReady self.old.writer (O.slots outs.old) }
-        ensures { CutsOn O.told self.old cut (take size text.now) (drop size text.now) (O.slots outs.old) (O.slots outs.new) self.new result }
+        requires cuts { WillCut (seen self.old) cut }
+        requires ready { IsReady (seen self.old).writer (O.slots outs.old) }
+        ensures { CutsOn O.told (seen self.old) cut (take size text.now) (drop size text.now) (O.slots outs.old) (O.slots outs.new) (seen self.new) result }
     {
         let line = &text[..size];
         let left = self.cut_often(cut, self.lines, line, line, outs)?;
@@ -273,9 +265,9 @@ impl<'o> LineCutter<'o> {
         requires rest { IsWhole (drop kept text.now) }
         requires lines { self.old.lines + (length text.now - kept) < 2 ^ 63 }
         requires fits { size_of self.old.writer.current + length self.old.window.held + length text.now < 2 ^ 63 }
-        requires sound { IsSound self.old }
-        requires ready { IsReady self.old.writer (O.slots outs.old) }
-        ensures { GoesOn O.told self.old (take kept text.now) (drop kept text.now) (O.slots outs.old) (O.slots outs.new) self.new result }
+        requires sound { IsSound (seen self.old) }
+        requires ready { IsReady (seen self.old).writer (O.slots outs.old) }
+        ensures { GoesOn O.told (seen self.old) (take kept text.now) (drop kept text.now) (O.slots outs.old) (O.slots outs.new) (seen self.new) result }
     {
         let passed = self.pass_over(&text[kept..]);
         let size = kept + passed.size;
@@ -289,26 +281,21 @@ impl<'o> LineCutter<'o> {
     /// Takes in one line, which may lack its newline.
     pub(crate) fn take_line<O: Outs>(&mut self, line: &[u8], outs: &mut O) -> Result<(), Fault>
         requires line { IsLine line.now }
-        requires fits { load self.old + length line.now < 2 ^ 63 }
-        requires sound { IsSound self.old }
-        requires ready { IsReady self.old.writer (O.slots outs.old) }
-        ensures { Takes O.told self.old line.now (O.slots outs.old) (O.slots outs.new) self.new (fault_in result) }
+        requires fits { load (seen self.old) + length line.now < 2 ^ 63 }
+        requires sound { IsSound (seen self.old) }
+        requires ready { IsReady (seen self.old).writer (O.slots outs.old) }
+        ensures { Takes O.told (seen self.old) line.now (O.slots outs.old) (O.slots outs.new) (seen self.new) (fault_in result) }
     {
-        if self.is_past() {
-            return Ok(());
-        }
-        match self.try_line(line, false) {
-            None => self.hold(line, outs),
-            Some(cut) => self.cut_line(cut, line, outs),
-        }
+        self.stretch(line, line.len(), false, outs)?;
+        Ok(())
     }
 
     /// Counts the lines at the beginning of a text of complete lines after which the next operand stands as it does now.
     fn pass_over(&mut self, text: &[u8]) -> Passed
         requires whole { IsWhole text.now }
         requires fits { self.old.lines + length text.now < 2 ^ 63 }
-        requires sound { IsSound self.old }
-        ensures { StopsAt self.old text.now self.new result }
+        requires sound { IsSound (seen self.old) }
+        ensures { StopsAt (seen self.old) text.now (seen self.new) result }
     {
         match self.aim {
             Turn::Above(_, line) => unfound(self.pass_below(line, text)),
@@ -322,9 +309,9 @@ impl<'o> LineCutter<'o> {
     fn pass_all(&mut self, text: &[u8]) -> usize
         requires whole { IsWhole text.now }
         requires fits { self.old.lines + length text.now < 2 ^ 63 }
-        requires sound { IsSound self.old }
+        requires sound { IsSound (seen self.old) }
         requires aim { self.old.aim ≡ turn_is.UsedUp }
-        ensures { PassesOver self.old text.now self.new result }
+        ensures { PassesOver (seen self.old) text.now (seen self.new) result }
     {
         self.lines += count_delimiters(text, NEWLINE) as u64;
         text.len()
@@ -334,9 +321,9 @@ impl<'o> LineCutter<'o> {
     fn pass_below(&mut self, line: u64, text: &[u8]) -> usize
         requires whole { IsWhole text.now }
         requires fits { self.old.lines + length text.now < 2 ^ 63 }
-        requires sound { IsSound self.old }
+        requires sound { IsSound (seen self.old) }
         requires aim { (matched : ℕ) × (self.old.aim ≡ turn_is.Above matched line) }
-        ensures { PassesOver self.old text.now self.new result }
+        ensures { PassesOver (seen self.old) text.now (seen self.new) result }
     {
         let count = match reach(text, line - 1 - self.lines, NEWLINE) {
             Reach::Ends(end) => {
@@ -353,9 +340,9 @@ impl<'o> LineCutter<'o> {
     fn pass_unmatched(&mut self, text: &[u8]) -> Passed
         requires whole { IsWhole text.now }
         requires fits { self.old.lines + length text.now < 2 ^ 63 }
-        requires sound { IsSound self.old }
+        requires sound { IsSound (seen self.old) }
         requires aim { self.old.aim ≡ turn_is.Missed }
-        ensures { StopsAt self.old text.now self.new result }
+        ensures { StopsAt (seen self.old) text.now (seen self.new) result }
     {
         let clear = self.pass_clear(text);
         let mut left = &text[clear..];
@@ -379,7 +366,7 @@ impl<'o> LineCutter<'o> {
     fn pass_clear(&mut self, text: &[u8]) -> usize
         requires whole { IsWhole text.now }
         requires fits { self.old.lines + length text.now < 2 ^ 64 }
-        ensures { PassesClear self.old text.now self.new result }
+        ensures { PassesClear (seen self.old) text.now (seen self.new) result }
     {
         let size = self.clear_lines(text);
         self.lines += count_delimiters(&text[..size], NEWLINE) as u64;
@@ -392,8 +379,8 @@ impl<'o> LineCutter<'o> {
         requires whole { IsWhole text.now }
         ensures within { result ≤ length text.now }
         ensures whole { IsWhole (take result text.now) }
-        ensures clear { (pattern : Pattern) → self.old.sought ≡ Some pattern → AreClear pattern (take result text.now) }
-        ensures same { self.new ≡ self.old }
+        ensures clear { (pattern : Pattern) → (seen self.old).sought ≡ Some pattern → AreClear pattern (take result text.now) }
+        ensures same { seen self.new ≡ seen self.old }
     {
         match &mut self.matcher {
             Some(matcher) => matcher.clear_lines(text),
@@ -405,15 +392,15 @@ impl<'o> LineCutter<'o> {
     /// found in it. Returns its cut, if it makes one.
     fn try_line(&mut self, line: &[u8], is_found: bool) -> Option<Cut>
         requires line { IsLine line.now }
-        requires found { is_found ≡ true → IsFound self.old (without_newline line.now) (self.old.lines + 1) true }
+        requires found { is_found ≡ true → IsFound (seen self.old) (without_newline line.now) (self.old.lines + 1) true }
         requires few { self.old.lines < 2 ^ 63 }
-        requires sound { IsSound self.old }
+        requires sound { IsSound (seen self.old) }
         requires live { self.old.aim ≢ turn_is.Below }
-        ensures same { self.new ≡ record self.old { lines = self.old.lines + 1; aim = self.new.aim } }
-        ensures fit { IsFit self.new }
-        ensures aim { IfNone result (AimHolds self.new.operands self.new.lines self.new.progress self.new.aim) }
-        ensures cuts { IfSome result (WillCut self.new) }
-        ensures tries { TriesNext self.old line.now self.new result }
+        ensures same { seen self.new ≡ record (seen self.old) { lines = self.old.lines + 1; aim = self.new.aim } }
+        ensures fit { IsFit (seen self.new) }
+        ensures aim { IfNone result (AimHolds (seen self.new).operands self.new.lines self.new.progress self.new.aim) }
+        ensures cuts { IfSome result (WillCut (seen self.new)) }
+        ensures tries { TriesNext (seen self.old) line.now (seen self.new) result }
     {
         self.lines += 1;
         match self.aim {
@@ -433,13 +420,13 @@ impl<'o> LineCutter<'o> {
     /// says that its pattern was found there. Returns its cut, if it makes one.
     fn try_last(&mut self, line: &[u8], is_found: bool) -> Option<Cut>
         requires line { IsLine line.now }
-        requires found { is_found ≡ true → IsFound self.old (without_newline line.now) self.old.lines true }
+        requires found { is_found ≡ true → IsFound (seen self.old) (without_newline line.now) self.old.lines true }
         requires few { self.old.lines ≤ 2 ^ 63 }
-        requires fit { IsFit self.old }
-        ensures same { self.new ≡ record self.old { aim = self.new.aim } }
-        ensures aim { IfNone result (AimHolds self.new.operands self.new.lines self.new.progress self.new.aim) }
-        ensures cuts { IfSome result (WillCut self.old) }
-        ensures tries { Tries self.old line.now self.new result }
+        requires fit { IsFit (seen self.old) }
+        ensures same { seen self.new ≡ record (seen self.old) { aim = self.new.aim } }
+        ensures aim { IfNone result (AimHolds (seen self.new).operands self.new.lines self.new.progress self.new.aim) }
+        ensures cuts { IfSome result (WillCut (seen self.old)) }
+        ensures tries { Tries (seen self.old) line.now (seen self.new) result }
     {
         if is_found {
             return self.turn_last(true);
@@ -452,11 +439,11 @@ impl<'o> LineCutter<'o> {
     /// Returns its cut, if it makes one.
     fn turn_last(&mut self, found: bool) -> Option<Cut>
         requires few { self.old.lines ≤ 2 ^ 63 }
-        requires fit { IsFit self.old }
-        ensures same { self.new ≡ record self.old { aim = self.new.aim } }
-        ensures aim { IfNone result (AimHolds self.new.operands self.new.lines self.new.progress self.new.aim) }
-        ensures cuts { IfSome result (WillCut self.old) }
-        ensures tries { (line : List ℕ) → IsFound self.old (without_newline line) self.old.lines found → Tries self.old line self.new result }
+        requires fit { IsFit (seen self.old) }
+        ensures same { seen self.new ≡ record (seen self.old) { aim = self.new.aim } }
+        ensures aim { IfNone result (AimHolds (seen self.new).operands self.new.lines self.new.progress self.new.aim) }
+        ensures cuts { IfSome result (WillCut (seen self.old)) }
+        ensures tries { (line : List ℕ) → IsFound (seen self.old) (without_newline line) self.old.lines found → Tries (seen self.old) line (seen self.new) result }
     {
         let turn = self.find_turn(found);
         match cut_of(turn) {
@@ -471,9 +458,9 @@ impl<'o> LineCutter<'o> {
     /// What the next operand does, where `found` says whether the last line has its pattern.
     fn find_turn(&self, found: bool) -> Turn
         requires few { self.now.lines ≤ 2 ^ 63 }
-        requires fit { IsFit self.now }
-        ensures says { (lines : List Line) → AreSeen (suppress_in self.now) lines self.now.lines (state_in self.now) found → Turns (suppress_in self.now) lines self.now.lines (state_in self.now) result }
-        ensures moves { MovesOn self.now.operands self.now.lines self.now.progress result }
+        requires fit { IsFit (seen self.now) }
+        ensures says { (lines : List Line) → AreSeen (suppress_in (seen self.now)) lines self.now.lines (state_in (seen self.now)) found → Turns (suppress_in (seen self.now)) lines (state_in (seen self.now)) result }
+        ensures moves { MovesOn (seen self.now).operands self.now.lines self.now.progress result }
     {
         self.progress.turn(
             self.writer.style().suppress,
@@ -488,8 +475,8 @@ impl<'o> LineCutter<'o> {
     fn is_match(&mut self, text: &[u8], line: u64) -> bool
         requires current { self.old.progress.current < 2 ^ 64 - 1 }
         requires matched { self.old.progress.matched < 2 ^ 64 - 1 }
-        ensures same { self.new ≡ self.old }
-        ensures found { IsFound self.old text.now line result }
+        ensures same { seen self.new ≡ seen self.old }
+        ensures found { IsFound (seen self.old) text.now line result }
     {
         if line < self.progress.search_line(self.writer.style().suppress) {
             return false;
@@ -505,44 +492,20 @@ impl<'o> LineCutter<'o> {
         requires line { IsLine line.now }
         requires few { self.old.lines ≤ 2 ^ 63 }
         requires fits { size_of self.old.writer.current + length self.old.window.held + length line.now < 2 ^ 63 }
-        requires fit { IsFit self.old }
-        requires cuts { WillCut self.old cut }
-        requires ready { IsReady self.old.writer (O.slots outs.old) }
-        ensures { CutsAll O.told self.old cut (self.old.lines - delimiters newline self.old.window.held) (self.old.window.held ++ line.now) line.now [] (O.slots outs.old) (O.slots outs.new) self.new (fault_in result) }
+        requires fit { IsFit (seen self.old) }
+        requires cuts { WillCut (seen self.old) cut }
+        requires ready { IsReady (seen self.old).writer (O.slots outs.old) }
+        ensures { CutsAll O.told (seen self.old) cut (self.old.lines - delimiters newline self.old.window.held) (self.old.window.held ++ line.now) line.now [] (O.slots outs.old) (O.slots outs.new) (seen self.new) (fault_in result) }
     {
-        if self.window.is_empty() {
-            return self.cut_all(cut, self.lines, line, line, outs);
-        }
         let waiting = drain(self.alloc, &mut self.window, line)?;
         let lines = count_delimiters(&waiting[..waiting.len() - line.len()], NEWLINE);
         let place = self.lines.saturating_sub(lines as u64);
-        self.cut_all(cut, place, &waiting, line, outs)
-    }
-
-    /// Cuts the last lines that came in, which begin with the line of number `place`, as often as operands cut them. No
-    /// line waits.
-    fn cut_all<O: Outs>(
-        &mut self,
-        cut: Cut,
-        place: u64,
-        waiting: &[u8],
-        line: &[u8],
-        outs: &mut O,
-    ) -> Result<(), Fault>
-        requires line { IsLine line.now }
-        requires few { self.old.lines ≤ 2 ^ 63 }
-        requires fits { size_of self.old.writer.current + length waiting.now < 2 ^ 63 }
-        requires fit { IsFit self.old }
-        requires none { self.old.window.held ≡ [] }
-        requires cuts { WillCut self.old cut }
-        requires ready { IsReady self.old.writer (O.slots outs.old) }
-        ensures { CutsAll O.told self.old cut place waiting.now line.now [] (O.slots outs.old) (O.slots outs.new) self.new (fault_in result) }
-    {
-        let left = self.cut_often(cut, place, waiting, line, outs)?;
+        let left = self.cut_often(cut, place, &waiting, line, outs)?;
         self.hold(left, outs)
     }
 
-    /// The same, but that what is left is returned, and isn't held yet.
+    /// Cuts the last lines that came in, which begin with the line of number `place`, as often as operands cut them. No
+    /// line waits. Returns what is left, which isn't held yet.
     fn cut_often<'l, O: Outs>(
         &mut self,
         cut: Cut,
@@ -554,12 +517,12 @@ impl<'o> LineCutter<'o> {
         requires line { IsLine line.now }
         requires few { self.old.lines ≤ 2 ^ 63 }
         requires fits { size_of self.old.writer.current + length waiting.now < 2 ^ 63 }
-        requires fit { IsFit self.old }
+        requires fit { IsFit (seen self.old) }
         requires none { self.old.window.held ≡ [] }
-        requires cuts { WillCut self.old cut }
-        requires ready { IsReady self.old.writer (O.slots outs.old) }
-        ensures ok { IfOk result (λ left. Spread O.told self.old cut place waiting.now line.now (O.slots outs.old) (O.slots outs.new) self.new left.now) }
-        ensures err { IfErr result (λ fault. CutsAll O.told self.old cut place waiting.now line.now [] (O.slots outs.old) (O.slots outs.new) self.new (Some fault)) }
+        requires cuts { WillCut (seen self.old) cut }
+        requires ready { IsReady (seen self.old).writer (O.slots outs.old) }
+        ensures ok { IfOk result (λ left. Spread O.told (seen self.old) cut place waiting.now line.now (O.slots outs.old) (O.slots outs.new) (seen self.new) left.now) }
+        ensures err { IfErr result (λ fault. CutsAll O.told (seen self.old) cut place waiting.now line.now [] (O.slots outs.old) (O.slots outs.new) (seen self.new) (Some fault)) }
     {
         let mut left = self.cut_at(cut, place, waiting, outs)?;
         while let Some(cut) = self.try_last(line, false) {
@@ -579,12 +542,12 @@ impl<'o> LineCutter<'o> {
     ) -> Result<&'l [u8], Fault>
         requires few { self.old.lines ≤ 2 ^ 63 }
         requires fits { size_of self.old.writer.current + length waiting.now < 2 ^ 63 }
-        requires fit { IsFit self.old }
+        requires fit { IsFit (seen self.old) }
         requires none { self.old.window.held ≡ [] }
-        requires cuts { WillCut self.old cut }
-        requires ready { IsReady self.old.writer (O.slots outs.old) }
-        ensures ok { IfOk result (λ rest. CutAt O.told self.old cut place waiting.now (O.slots outs.old) (O.slots outs.new) self.new rest.now) }
-        ensures err { IfErr result (λ fault. (line : List ℕ) → CutsAll O.told self.old cut place waiting.now line [] (O.slots outs.old) (O.slots outs.new) self.new (Some fault)) }
+        requires cuts { WillCut (seen self.old) cut }
+        requires ready { IsReady (seen self.old).writer (O.slots outs.old) }
+        ensures ok { IfOk result (λ rest. CutAt O.told (seen self.old) cut place waiting.now (O.slots outs.old) (O.slots outs.new) (seen self.new) rest.now) }
+        ensures err { IfErr result (λ fault. (line : List ℕ) → CutsAll O.told (seen self.old) cut place waiting.now line [] (O.slots outs.old) (O.slots outs.new) (seen self.new) (Some fault)) }
     {
         let (before, rest) = split_lines(waiting, cut.line.saturating_sub(place));
         self.writer.put(before, outs)?;
@@ -597,10 +560,10 @@ impl<'o> LineCutter<'o> {
     /// Goes on after a cut of the next operand, where no line waits.
     fn pass(&mut self, cut: Cut) -> Result<(), Fault>
         requires few { self.old.lines ≤ 2 ^ 63 }
-        requires fit { IsFit self.old }
+        requires fit { IsFit (seen self.old) }
         requires none { self.old.window.held ≡ [] }
-        requires cuts { WillCut self.old cut }
-        ensures { PassesCut self.old cut self.new (fault_in result) }
+        requires cuts { WillCut (seen self.old) cut }
+        ensures { PassesCut (seen self.old) cut (seen self.new) (fault_in result) }
     {
         let done = self.progress.done;
         let suppress = self.writer.style().suppress;
@@ -615,8 +578,8 @@ impl<'o> LineCutter<'o> {
 
     /// Gets what the next operand needs.
     fn equip(&mut self) -> Result<(), Fault>
-        ensures same { OnOk result (self.new ≡ record self.old { window = record { most = most_by (state_in self.old).operands; delim = newline; held = [] }; sought = pattern_by (state_in self.old).operands }) }
-        ensures err { IfErr result (λ fault. (fault ≡ Fault.Memory) × (self.new.writer ≡ self.old.writer) × (self.new.operands ≡ self.old.operands)) }
+        ensures same { OnOk result (seen self.new ≡ record (seen self.old) { window = record { most = most_by (state_in (seen self.old)).operands; delim = newline; held = [] }; sought = pattern_by (state_in (seen self.old)).operands }) }
+        ensures err { IfErr result (λ fault. (fault ≡ Fault.Memory) × ((seen self.new).writer ≡ (seen self.old).writer) × ((seen self.new).operands ≡ (seen self.old).operands)) }
     {
         let next = next_operand(self.operands, self.progress.done);
         self.matcher = find_matcher(self.alloc, next)?;
@@ -627,9 +590,9 @@ impl<'o> LineCutter<'o> {
     /// Writes what is settled of the lines that wait and of those after them, and keeps the others.
     fn hold<O: Outs>(&mut self, text: &[u8], outs: &mut O) -> Result<(), Fault>
         requires fits { size_of self.old.writer.current + length self.old.window.held + length text.now < 2 ^ 63 }
-        requires fit { IsFit self.old }
-        requires ready { IsReady self.old.writer (O.slots outs.old) }
-        ensures { Holds O.told self.old (self.old.window.held ++ text.now) (O.slots outs.old) (O.slots outs.new) self.new (fault_in result) }
+        requires fit { IsFit (seen self.old) }
+        requires ready { IsReady (seen self.old).writer (O.slots outs.old) }
+        ensures { Holds O.told (seen self.old) (self.old.window.held ++ text.now) (O.slots outs.old) (O.slots outs.new) (seen self.new) (fault_in result) }
     {
         if self.is_past() {
             self.window.drop_front(self.window.len());

@@ -73,7 +73,7 @@ impl Progress {
         requires matched { self.now.matched < 2 ^ 64 - 1 }
         requires repetition { self.now.repetition < 2 ^ 64 - 1 }
         requires few { total < 2 ^ 64 - 1 }
-        ensures says { (lines : List Line) → AreSeen suppress lines total (state_of operands.now self.now) found → Turns suppress lines total (state_of operands.now self.now) result }
+        ensures says { (lines : List Line) → AreSeen suppress lines total (state_of operands.now self.now) found → Turns suppress lines (state_of operands.now self.now) result }
         ensures moves { self.now.matched ≤ total → MovesOn operands.now total self.now result }
     {
         let Some(operand) = operands.get(self.done) else {

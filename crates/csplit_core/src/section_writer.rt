@@ -1,17 +1,16 @@
 //! Writing sections: a file for each that is kept, and its size on standard output.
-ghost use Rattle.std.specs.Prelude.{◌≡◌, ◌+◌, ◌<◌, ◌≤◌, ◌^◌, ◌++◌, ◌∷◌, [], length, decimal, vec_capacity, vec_len, IsTrue, OnOk};
+ghost use Rattle.std.specs.Prelude.{◌≡◌, ◌+◌, ◌<◌, ◌≤◌, ◌^◌, ◌++◌, ◌∷◌, [], false, length, decimal, vec_capacity, vec_len, IfErr, IsTrue, OnOk};
 ghost use Rattle.ports_core.specs.Slot.{is_writable};
 ghost use Rattle.ports_core.specs.Swept.{AreThere, Removes};
-ghost use Rattle.csplit_core.specs.inner.Writer.{with_bytes, with_section, Begins, Ends, Goes, fault_in, Appends, Makes, Starts, Wrote};
+ghost use Rattle.csplit_core.specs.inner.Writer.{with_bytes, with_kept, with_section, Goes, fault_in, new_writer, Appends, Makes, Wrote};
 ghost use Rattle.csplit_core.specs.Input.{newline};
-ghost use Rattle.csplit_core.specs.Writer.{IsReady, size_of};
-ghost use Rattle.csplit_core.specs.declared.section_writer.Current.TheVariants.{File};
+ghost use Rattle.csplit_core.specs.Writer.{IsReady, seen_writer, size_of};
+ghost use Rattle.csplit_core.specs.declared.section_writer.Current.TheVariants.{File, Skipped};
 
 use crate::Style;
 use itoa::Buffer;
 use ports_core::{Fault, Mode, Outs, numbered, sweep_files, write_whole};
 use std::alloc::Global;
-use std::marker::Model;
 
 /// The section that is open.
 #[derive(Clone, Copy)]
@@ -41,38 +40,17 @@ pub struct SectionWriter {
     current: Current,
 }
 
-impl Model for SectionWriter {
-    ghost use Rattle.csplit_core.specs.Writer.{WriterState};
-
-    ghost Value = { WriterState };
-
-    ghost view = { λ w. record { style = w.style; files = w.files.items; current = w.current } };
-}
-
 impl SectionWriter {
-    /// A writer that has begun its first section, which is kept or skipped.
-    ///
-    /// # Errors
-    ///
-    /// `Memory` where there is no room for a name, `Open` where the section's file can't be opened.
-    pub(crate) fn open<O: Outs>(
-        alloc: Global,
-        style: Style,
-        is_kept: bool,
-        outs: &mut O,
-    ) -> Result<SectionWriter, Fault>
-        requires streams { 2 ≤ length (O.slots outs.old) }
-        requires output { IsTrue (is_writable (O.slots outs.old) 0) }
-        ensures { Begins O.told style is_kept (O.slots outs.old) (O.slots outs.new) result }
+    /// A writer that has begun no section.
+    pub(crate) fn new(alloc: Global, style: Style) -> SectionWriter
+        ensures { seen_writer result ≡ new_writer style }
     {
-        let mut writer = SectionWriter {
+        SectionWriter {
             alloc,
             style,
             files: Vec::new(alloc),
             current: Current::Skipped,
-        };
-        writer.begin(is_kept, outs)?;
-        Ok(writer)
+        }
     }
 
     /// How files are made.
@@ -89,9 +67,9 @@ impl SectionWriter {
     /// `Write` where the section's file broke; `Memory` and `Open` where it gets its file now, and there is no room for
     /// its name, or it can't be opened.
     pub(crate) fn put<O: Outs>(&mut self, bytes: &[u8], outs: &mut O) -> Result<(), Fault>
-        requires ready { IsReady self.old (O.slots outs.old) }
+        requires ready { IsReady (seen_writer self.old) (O.slots outs.old) }
         requires fits { size_of self.old.current + length bytes.now < 2 ^ 64 }
-        ensures goes { Goes O.told self.old (with_bytes bytes.now) (O.slots outs.old) (O.slots outs.new) self.new (fault_in result) }
+        ensures goes { Goes O.told (seen_writer self.old) (with_bytes bytes.now) (O.slots outs.old) (O.slots outs.new) (seen_writer self.new) (fault_in result) }
         ensures size { OnOk result (size_of self.new.current ≤ size_of self.old.current + length bytes.now) }
     {
         match self.current {
@@ -108,14 +86,38 @@ impl SectionWriter {
         }
     }
 
+    /// Begins a section, which is kept or skipped, where none is open.
+    ///
+    /// # Errors
+    ///
+    /// `Memory` where there is no room for a name, `Open` where the section's file can't be opened.
+    pub(crate) fn begin<O: Outs>(&mut self, is_kept: bool, outs: &mut O) -> Result<(), Fault>
+        requires none { self.old.current ≡ Skipped }
+        requires ready { IsReady (seen_writer self.old) (O.slots outs.old) }
+        ensures goes { Goes O.told (seen_writer self.old) (with_kept is_kept) (O.slots outs.old) (O.slots outs.new) (seen_writer self.new) (fault_in result) }
+        ensures size { OnOk result (size_of self.new.current ≡ 0) }
+        ensures made { IfErr result (λ fault. (seen_writer self.new).files ≡ (seen_writer self.old).files) }
+    {
+        if !is_kept {
+            self.current = Current::Skipped;
+            return Ok(());
+        }
+        if self.style().elide {
+            self.current = Current::Unmade;
+            return Ok(());
+        }
+        self.make_file(outs)?;
+        Ok(())
+    }
+
     /// Ends the open section, and begins another, which is kept or skipped.
     ///
     /// # Errors
     ///
-    /// `Write` where the file or standard output broke, `Memory` and `Open` as `open`.
+    /// `Write` where the file or standard output broke, `Memory` and `Open` as `begin`.
     pub(crate) fn next<O: Outs>(&mut self, is_kept: bool, outs: &mut O) -> Result<(), Fault>
-        requires { IsReady self.old (O.slots outs.old) }
-        ensures goes { Goes O.told self.old (with_section is_kept) (O.slots outs.old) (O.slots outs.new) self.new (fault_in result) }
+        requires { IsReady (seen_writer self.old) (O.slots outs.old) }
+        ensures goes { Goes O.told (seen_writer self.old) (with_section is_kept) (O.slots outs.old) (O.slots outs.new) (seen_writer self.new) (fault_in result) }
         ensures size { OnOk result (size_of self.new.current ≡ 0) }
     {
         self.end(outs)?;
@@ -128,12 +130,16 @@ impl SectionWriter {
     ///
     /// `Write` where the file or standard output broke.
     pub(crate) fn end<O: Outs>(&mut self, outs: &mut O) -> Result<(), Fault>
-        requires { IsReady self.old (O.slots outs.old) }
-        ensures { Ends O.told self.old (O.slots outs.old) (O.slots outs.new) self.new (fault_in result) }
+        requires { IsReady (seen_writer self.old) (O.slots outs.old) }
+        ensures goes { Goes O.told (seen_writer self.old) (with_section false) (O.slots outs.old) (O.slots outs.new) (seen_writer self.new) (fault_in result) }
+        ensures none { OnOk result (self.new.current ≡ Skipped) }
     {
         match self.current {
             Current::Skipped => Ok(()),
-            Current::Unmade => Ok(()),
+            Current::Unmade => {
+                self.current = Current::Skipped;
+                Ok(())
+            }
             Current::File { slot, size } => self.end_file(slot, size, outs),
             Current::Unopened => Err(Fault::Failed),
         }
@@ -142,41 +148,25 @@ impl SectionWriter {
     /// Removes all files that are still there, in order. One that can't be removed is broken and closed, and the next
     /// is tried.
     pub(crate) fn clear<O: Outs>(&mut self, outs: &mut O)
-        requires { AreThere self.old.files (O.slots outs.old) }
-        ensures same { self.new ≡ record self.old { files = self.new.files } }
-        ensures removes { Removes self.old.files (O.slots outs.old) self.new.files (O.slots outs.new) }
+        requires { AreThere (seen_writer self.old).files (O.slots outs.old) }
+        ensures same { seen_writer self.new ≡ record (seen_writer self.old) { files = (seen_writer self.new).files } }
+        ensures removes { Removes (seen_writer self.old).files (O.slots outs.old) (seen_writer self.new).files (O.slots outs.new) }
     {
         let left = sweep_files(&mut self.files, outs);
         self.files.truncate(left);
     }
 
-    /// Begins a section, where none is open.
-    fn begin<O: Outs>(&mut self, is_kept: bool, outs: &mut O) -> Result<(), Fault>
-        requires { IsReady self.old (O.slots outs.old) }
-        ensures { Starts O.told self.old is_kept (O.slots outs.old) (O.slots outs.new) self.new (fault_in result) }
-    {
-        if !is_kept {
-            self.current = Current::Skipped;
-            return Ok(());
-        }
-        if self.style.elide {
-            self.current = Current::Unmade;
-            return Ok(());
-        }
-        self.make_file(outs)?;
-        Ok(())
-    }
-
     /// Makes the next file, which is that of the open section, and returns its output.
     fn make_file<O: Outs>(&mut self, outs: &mut O) -> Result<usize, Fault>
-        requires { IsReady self.old (O.slots outs.old) }
-        ensures { Makes self.old (O.slots outs.old) (O.slots outs.new) self.new result }
+        requires { IsReady (seen_writer self.old) (O.slots outs.old) }
+        ensures { Makes (seen_writer self.old) (O.slots outs.old) (O.slots outs.new) (seen_writer self.new) result }
     {
         self.current = Current::Unopened;
+        let style = self.style();
         let name = numbered(
             self.alloc,
-            &self.style.prefix,
-            self.style.digits,
+            &style.prefix,
+            style.digits,
             self.files.len() as u64,
         )?;
         self.files.reserve(1)?;
@@ -196,7 +186,7 @@ impl SectionWriter {
     ) -> Result<(), Fault>
         requires writable { IsTrue (is_writable (O.slots outs.old) slot) }
         requires fits { size + length bytes.now < 2 ^ 64 }
-        ensures { Appends O.told self.old slot size bytes.now (O.slots outs.old) (O.slots outs.new) self.new (fault_in result) }
+        ensures { Appends O.told (seen_writer self.old) slot size bytes.now (O.slots outs.old) (O.slots outs.new) (seen_writer self.new) (fault_in result) }
     {
         write_whole(outs, slot, bytes)?;
         self.current = Current::File {
@@ -208,13 +198,14 @@ impl SectionWriter {
 
     /// Closes the file of the open section, and writes its size.
     fn end_file<O: Outs>(&mut self, slot: usize, size: u64, outs: &mut O) -> Result<(), Fault>
-        requires ready { IsReady self.old (O.slots outs.old) }
+        requires ready { IsReady (seen_writer self.old) (O.slots outs.old) }
         requires file { self.old.current ≡ File slot size }
-        ensures { Ends O.told self.old (O.slots outs.old) (O.slots outs.new) self.new (fault_in result) }
+        ensures goes { Goes O.told (seen_writer self.old) (with_section false) (O.slots outs.old) (O.slots outs.new) (seen_writer self.new) (fault_in result) }
+        ensures none { self.new.current ≡ Skipped }
     {
         self.current = Current::Skipped;
         outs.close(slot)?;
-        if self.style.quiet {
+        if self.style().quiet {
             return Ok(());
         }
         write_size(size, outs)

@@ -1,5 +1,5 @@
 -- Words are read in one way.
-use Rattle.std.proofs.Common.{◌≡◌, ℕ, List, [], ◌∷◌, ◌++◌, refl, subst}
+use Rattle.std.proofs.Common.{◌≡◌, ℕ, List, [], ◌∷◌, ◌++◌, refl, subst, rules}
 use Rattle.bre_core.specs.declared.fault.BreFault.{BreFault}
 use Rattle.bre_core.specs.declared.fault.BreFault.TheVariants.{TooLarge, Memory}
 use Rattle.bre_core.proofs.Existence.{one_tree_alone}
@@ -43,7 +43,7 @@ aim_not_both (line n) target fault hits refused = refused
 aim_not_both (match has text by) (Number a) fault hits refused = hits
 aim_not_both (match has text by) (Search pattern kept offset) TooLarge hits large = read_or_too_large hits.0 large
 aim_not_both (match has text by) (Search pattern kept offset) Memory hits refused = refused
-aim_not_both (match has text by) (Search pattern kept offset) fault hits none = none pattern hits.0.reads
+aim_not_both (match has text by) (Search pattern kept offset) fault hits none = search rules
 
 pub reads_or_fails : (words : List (List ℕ)) (operands : List Operand) (fault : OperandFault) → Asks words operands → IsFault words fault → IsOfWords fault.kind → ⊥
 reads_or_fails words operands fault asks (is_wrong other read at are) is = cc (asks.well, at)

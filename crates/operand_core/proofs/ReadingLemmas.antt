@@ -1,5 +1,6 @@
 -- Reading a list of words.
-use Rattle.std.proofs.Common.{◌≡◌, ℕ, suc, ◌+◌, ◌-◌, ◌<◌, ◌≤◌, Bor, get_or, List, [], ◌∷◌, ◌++◌, map, length, drop, length-drop, Option, Some, None, Result, Ok, Err, refl, sym, ◌∙◌, ap, subst, arith, append_assoc}
+use Rattle.std.proofs.lemmas.Grind.{common_steps}
+use Rattle.std.proofs.Common.{◌≡◌, ℕ, suc, ◌+◌, ◌-◌, ◌<◌, ◌≤◌, Bor, get_or, List, [], ◌∷◌, ◌++◌, map, length, drop, length-drop, Option, Some, None, Result, Ok, Err, refl, sym, ◌∙◌, ap, subst, arith, append_assoc, rules}
 use Rattle.std.proofs.lemmas.List.{append-nil, drop-map}
 use Rattle.std.proofs.lemmas.Bool.{eqb-true}
 use Rattle.std.specs.Prelude.{◌==◌, true}
@@ -19,14 +20,14 @@ after_front front words = record { operands = front ++ words.operands; fault = w
 -- a step over an operand and the words that say how often it is performed again
 pub step_over : (index least : ℕ) (word : List ℕ) {words : List (List ℕ)} {aim : Aim} {times : Times} {said : ℕ} → aim_of least (spelling word) ≡ aims aim → SayTimes words times said
     → words_from index least (word ∷ words) ≡ with_operand index aim times (words_from (index + (1 + said)) (least_after least aim) (drop said words))
-step_over index least word is no_word = rw (is, words_from) refl
-step_over index least word is (again next rest times' says) = rw (is, says, words_from) refl
-step_over index least word is (other next rest says) = rw (is, says, words_from) refl
+step_over index least word is no_word = cc
+step_over index least word is (again next rest times' says) = cc
+step_over index least word is (other next rest says) = cc
 
 -- a word that is wrong ends the list
 pub stop_at : {index : ℕ} (least : ℕ) (word : List ℕ) (words : List (List ℕ)) {what : OperandFaultKind} → aim_of least (spelling word) ≡ fails what → words_from index least (word ∷ words) ≡ failed what index
-stop_at least word [] is = rw (is, words_from) refl
-stop_at least word (next ∷ words) is = rw (is, words_from) refl
+stop_at least word [] is = cc
+stop_at least word (next ∷ words) is = cc
 
 -- the words as texts
 abbrev pub texts : List (Bor (List ℕ)) → List (List ℕ)
@@ -34,16 +35,16 @@ texts words = map (λ word. word.now) words
 
 pub no_first : (words : List (Bor (List ℕ))) → length words < 1 → SayTimes (texts words) (Count 0) 0
 no_first [] none = no_word
-no_first (word ∷ words) none = absurd (omega (arith, none))
+no_first (word ∷ words) none = search rules
 
 pub first_says : (words : List (Bor (List ℕ))) {text : List ℕ} (default : Bor (List ℕ)) {says : Option Times} {times : Times} → 1 ≤ length words → text ≡ (get_or words 0 default).now
     → says ≡ times_by (spelling text) → says ≡ Some times → SayTimes (texts words) times 1
-first_says [] default some is reads at = absurd (omega (arith, some))
+first_says [] default some is reads at = search rules
 first_says (word ∷ words) default {times} some is reads at = again word.now (texts words) times (sym (ap (λ those. times_by (spelling those)) is) ∙ sym reads ∙ at)
 
 pub first_is_other : (words : List (Bor (List ℕ))) {text : List ℕ} (default : Bor (List ℕ)) {says : Option Times} → 1 ≤ length words → text ≡ (get_or words 0 default).now
     → says ≡ times_by (spelling text) → says ≡ None → SayTimes (texts words) (Count 0) 0
-first_is_other [] default some is reads at = absurd (omega (arith, some))
+first_is_other [] default some is reads at = search rules
 first_is_other (word ∷ words) default some is reads at = other word.now (texts words) (sym (ap (λ those. times_by (spelling those)) is) ∙ sym reads ∙ at)
 
 -- Some words were read, and these are left.
@@ -81,14 +82,12 @@ ends_by words read front index least word left what are asks no_memory = reading
 pub ends_at : {words : List (Bor (List ℕ))} {read : List Operand} {least : ℕ} (left : List (Bor (List ℕ))) {text : List ℕ} (default : Bor (List ℕ)) {result : Result Target OperandFaultKind} {what : OperandFaultKind}
     → Reads words read least left → 1 ≤ length left → text ≡ (get_or left 0 default).now → IsAimed (aim_of least (spelling text)) result → result ≡ Err what
     → IsFault (texts words) (record { kind = what; index = length words - length left })
-ends_at [] default reads some is aimed at = absurd (omega (arith, some))
-ends_at {words} {read} {least} (word ∷ left) default {result} {what} reads some is aimed at =
-    ends_by (texts words) read reads.front (length words - length (word ∷ left)) least word.now (texts left) what reads.are reads.asks
-    (subst (IsAimed (aim_of least (spelling word.now))) at (subst (λ those. IsAimed (aim_of least (spelling those)) result) is aimed))
+ends_at [] default reads some is aimed at = search rules
+ends_at {words} {read} {least} (word ∷ left) default {result} {what} reads some is aimed at = grind (arith, common_steps, ends_by)
 
 pub no_operand : (words : List (Bor (List ℕ))) → (length words == 0) ≡ true → IsFault (texts words) (record { kind = kind.Missing; index = 0 })
 no_operand [] none = reading.is_wrong (record { kind = kind.Missing; index = 0 }) [] refl tt
-no_operand (word ∷ words) none = absurd (omega (arith, eqb-true (length (word ∷ words)) 0 none))
+no_operand (word ∷ words) none = grind (arith, common_steps)
 
 are_more : (front : List Spelled) (read : List Operand) {spelled : Spelled} {operand : Operand} → AreRead front read → IsRead spelled operand → AreRead (front ++ spelled ∷ []) (read ++ operand ∷ [])
 are_more [] [] are is = (is, tt)
@@ -118,19 +117,5 @@ pub reads_next : {words : List (Bor (List ℕ))} {read : List Operand} {least : 
     → Reads words read least left → 1 ≤ length left → text ≡ (get_or left 0 default).now → IsAimed (aim_of least (spelling text)) result → result ≡ Ok target
     → rest ≡ drop 1 left → SayTimes (texts rest) times said → said ≤ length rest → now ≡ read ++ record { index = length words - length left; target = target; times = times } ∷ []
     → after ≡ drop said rest → least' ≡ least_by least target → Reads words now least' after
-reads_next [] default reads some is aimed at rest_is says within now_is after_is least_is = absurd (omega (arith, some))
-reads_next {words} {read} {least} (word ∷ left) default {result} {target} {times} {said} {after} {least'} reads some is aimed at rest_is says within now_is after_is least_is =
-    let next = next_by (texts words) read reads.front (length words - suc (length left)) least word.now reads.are reads.asks
-    (subst (IsAimed (aim_of least (spelling word.now))) at (subst (λ those. IsAimed (aim_of least (spelling those)) result) is aimed))
-    (subst (λ those. SayTimes (texts those) times said) rest_is says) in
-    let length_is : length after ≡ length left - said = ap length (after_is ∙ ap (drop said) rest_is) ∙ length-drop said left in
-    let enough : suc (length left) ≤ length words = reads.within in
-    let few : said ≤ length left = subst (λ those. said ≤ length those) rest_is within in record {
-      front = next.0;
-      are = subst (AreRead next.0) (sym now_is) next.1;
-      within = omega (arith, length_is, enough);
-      asks = next.2
-          ∙ ap (λ n. after_front next.0 (words_from n (least_by least target) (drop said (texts left)))) (let e : length words - suc (length left) + (1 + said) ≡ length words - length after = omega (arith, length_is, enough, few) in e)
-          ∙ ap (λ n. after_front next.0 (words_from (length words - length after) n (drop said (texts left)))) (sym least_is)
-          ∙ ap (λ those. after_front next.0 (words_from (length words - length after) least' those)) (drop-map (λ word. word.now) said left ∙ ap texts (sym (after_is ∙ ap (drop said) rest_is)));
-    }
+reads_next [] default reads some is aimed at rest_is says within now_is after_is least_is = search rules
+reads_next {words} {read} {least} (word ∷ left) default {result} {target} {times} {said} {after} {least'} reads some is aimed at rest_is says within now_is after_is least_is = grind (arith, common_steps, next_by, says, drop-map)

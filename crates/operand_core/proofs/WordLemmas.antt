@@ -1,5 +1,5 @@
 -- Lemmas on what a word spells.
-use Rattle.std.proofs.Common.{◌≡◌, ℕ, suc, ◌+◌, ◌-◌, take, drop, add-one, ◌<◌, ◌&&◌, Bool, true, false, not, cond, List, [], ◌∷◌, ◌++◌, Option, Some, None, refl, sym, ◌∙◌, ap, arith}
+use Rattle.std.proofs.Common.{◌≡◌, ℕ, suc, ◌+◌, ◌-◌, take, drop, add-one, ◌<◌, ◌&&◌, Bool, true, false, not, cond, List, [], ◌∷◌, ◌++◌, Option, Some, None, refl, sym, ◌∙◌, ap, arith, rules}
 use Rattle.std.proofs.lemmas.Bool.{eq-eqb, ne_eqb}
 use Rattle.std.proofs.lemmas.List.{take_rest}
 use Rattle.std.specs.Prelude.{◌==◌, ◌≢◌, option_map, length, IfSome}
@@ -28,7 +28,7 @@ one_more first inner false = refl
 
 before_brace_at : (inner : List ℕ) (byte : ℕ) → before_brace (inner ++ byte ∷ []) ≡ cond (byte == 125) (Some inner) None
 before_brace_at [] byte = refl
-before_brace_at (first ∷ []) byte = one_more first [] (byte == 125)
+before_brace_at (first ∷ []) byte = search rules
 before_brace_at (first ∷ next ∷ inner) byte =
     ap (option_map (λ those. first ∷ those)) (before_brace_at (next ∷ inner) byte) ∙ one_more first (next ∷ inner) (byte == 125)
 

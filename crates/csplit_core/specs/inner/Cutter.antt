@@ -25,12 +25,17 @@ use Rattle.csplit_core.specs.inner.Writer.{BegunNot, Leaves, Reaches, fault_in, 
 use Rattle.csplit_core.specs.declared.progress.Turn.{Turn}
 use Rattle.csplit_core.specs.declared.progress.Turn.TheVariants.{UsedUp, Missed, Above, Below, Cuts}
 use Rattle.csplit_core.specs.declared.line_cutter.Cut.{Cut}
+use Rattle.csplit_core.specs.declared.line_cutter.LineCutter.{LineCutter}
 use Rattle.csplit_core.specs.declared.line_cutter.Passed.{Passed}
-use Rattle.csplit_core.specs.Cutter.{CutterState, AimHolds, suppress_in, state_in, kept_by, IsFit, IsSound, load, draft_by, IsAt, EndsNow, IsLive, Stands}
+use Rattle.csplit_core.specs.Cutter.{CutterState, AimHolds, seen, suppress_in, state_in, kept_by, IsFit, IsSound, load, draft_by, IsAt, EndsNow, IsLive, Stands}
 
 -- a text of complete lines
 abbrev pub IsWhole : List ℕ → Type 0
 IsWhole x = (x ≡ []) ⊎ (ends_with newline x ≡ true)
+
+-- a text may follow: this one is of complete lines, or nothing follows
+abbrev pub Joins : List ℕ → List ℕ → Type 0
+Joins x t = IsWhole x ⊎ (t ≡ [])
 
 -- a text of one line, which may lack its newline
 abbrev pub IsLine : List ℕ → Type 0
@@ -242,7 +247,7 @@ pub record PassesOver (cutter : CutterState) (text : List ℕ) (next : CutterSta
   pub whole : IsWhole (take n text)
   pub few : next.lines ≤ cutter.lines + n
   pub sound : IsSound next
-  pub ends : (x : List ℕ) → IsWhole x → cutter.lines ≡ line_count newline x → EndsNow cutter x
+  pub ends : (x : List ℕ) → Joins x (take n text) → cutter.lines ≡ line_count newline x → EndsNow cutter x
       → (next.lines ≡ line_count newline (x ++ take n text)) × EndsNow next (x ++ take n text)
 
 -- the pattern that is searched for was found in the first of these lines, which has this many bytes
@@ -272,16 +277,16 @@ pub record PassesClear (cutter : CutterState) (text : List ℕ) (next : CutterSt
   pub count : next.lines ≡ cutter.lines + line_count newline (take n text)
   pub clear : (pattern : Pattern) → cutter.sought ≡ Some pattern → AreClear pattern (take n text)
 
--- A stretch of the text was taken in, of this many bytes; or a fault came among them. Returned are these, and how many bytes
--- the next line is, where the pattern that is searched for was found in it.
-pub record Stretches (told : Bool) (cutter : CutterState) (text : List ℕ) (old new : List Slot) (next : CutterState)
+-- A stretch of the text was taken in, of this many bytes, with its first line at least; or a fault came among them. Returned
+-- are these, and how many bytes the next line is, where the pattern that is searched for was found in it.
+pub record Stretches (told : Bool) (cutter : CutterState) (text : List ℕ) (size : ℕ) (old new : List Slot) (next : CutterState)
     (result : Result Passed Fault) : Type 0 where
   pub n : ℕ
-  pub some : 0 < n
+  pub least : size ≤ n
   pub within : n ≤ length text
-  pub whole : IsWhole (take n text)
+  pub whole : IsWhole text → IsWhole (take n text)
   pub took : Takes told cutter (take n text) old new next (fault_in result)
-  pub size : IfOk result (λ passed. passed.size ≡ n)
+  pub size_is : IfOk result (λ passed. passed.size ≡ n)
   pub found : IfOk result (λ passed. IfSome passed.found (IsNextFound next (drop n text)))
 
 -- The lines of a text were passed over, and then held together with what is left before them.
@@ -320,8 +325,8 @@ pub record Opened (told : Bool) (style : Style) (operands : List Operand) (old n
   pub sound : IsSound cutter
   pub size : load cutter ≡ 0
 
-abbrev pub Opens : Bool → Style → List Operand → List Slot → List Slot → Result CutterState Fault → Type 0
-Opens told style operands old new (Ok cutter) = Opened told style operands old new cutter
+abbrev pub Opens : Bool → Style → List Operand → List Slot → List Slot → Result LineCutter Fault → Type 0
+Opens told style operands old new (Ok cutter) = Opened told style operands old new (seen cutter)
 Opens told style operands old new (Err fault) = BegunNot told style (settled_of style operands []) old new fault
 
 -- The last section ended, or a fault came before that. How the plan ends stays.

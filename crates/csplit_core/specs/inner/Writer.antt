@@ -1,14 +1,14 @@
 -- What private calls say: what contracts see of the writer of sections, and what its calls do.
 use Rattle.std.specs.Prelude.{Bool, true, List, [], ◌∷◌, ◌++◌, ℕ, ◌≡◌, length, Option, Some, None, IfNone, Result, Ok, Err, ◌+◌, IfSome}
 use Rattle.ports_core.specs.Part.{Part, OutputsAt, nothing}
-use Rattle.csplit_core.specs.Output.{Style, part_by, Contents, files_of}
-use Rattle.csplit_core.specs.Draft.{Draft, last_contents, draft_part, AreClosed}
+use Rattle.csplit_core.specs.Output.{Style}
+use Rattle.csplit_core.specs.Draft.{Draft, last_contents, draft_part}
 use Rattle.ports_core.specs.inner.Part.{StoppedInTurn}
 use Rattle.ports_core.specs.Slot.{Slot, FailsToOpen, opened, told_of, with_written}
 use Rattle.ports_core.specs.inner.Slot.{KeepsBroken}
 use Rattle.ports_core.specs.Swept.{AreThere, HasNoFiles}
 use Rattle.ports_core.specs.declared.fault.Fault.{Fault}
-use Rattle.csplit_core.specs.Writer.{WriterState, size_of, Writes, OwnsFiles, IsReady, Breaks}
+use Rattle.csplit_core.specs.Writer.{WriterState, Writes, OwnsFiles, IsReady, Breaks}
 use Rattle.csplit_core.specs.declared.section_writer.Current.TheVariants.{Skipped, File, Unopened}
 use Rattle.ports_core.specs.Name.{numbered_name}
 use Rattle.ports_core.specs.inner.Write.{WritesShort}
@@ -17,9 +17,7 @@ use Rattle.ports_core.specs.declared.slot.Mode.TheVariants.{Fresh}
 
 -- What private calls say: what stands of all sections at some moment: those that ended, and the one that is open.
 
--- what is written of it once the open section ended as well
-abbrev pub ended_part : Style → Draft → Part
-ended_part style draft = part_by style (draft.ended ++ last_contents true draft ∷ [])
+-- Where no section is open, one that is skipped and has no bytes stands for it.
 
 -- before anything: no section ended, and one is open
 abbrev pub first_draft : Bool → Draft
@@ -32,6 +30,10 @@ with_bytes bytes draft = record { ended = draft.ended; is_kept = draft.is_kept; 
 -- the open section ends, and another begins
 abbrev pub with_section : Bool → Draft → Draft
 with_section kept draft = record { ended = draft.ended ++ last_contents true draft ∷ []; is_kept = kept; bytes = [] }
+
+-- a section begins where none is open
+abbrev pub with_kept : Bool → Draft → Draft
+with_kept kept draft = record { ended = draft.ended; is_kept = kept; bytes = [] }
 
 -- What private calls say: what contracts see of the writer of sections, and what its calls do.
 
@@ -83,39 +85,12 @@ pub record Goes (told : Bool) (writer : WriterState) (change : Draft → Draft) 
       → Reaches told writer next (draft_part writer.style draft) (draft_part writer.style (change draft)) old new fault
   pub writes : IfNone fault ((draft : Draft) → Writes writer draft → Writes next (change draft))
 
--- these sections ended, and no other began
-pub record Pauses (writer : WriterState) (ended : List Contents) : Type 0 where
-  pub closed : AreClosed ended
-  pub made : length writer.files ≡ length (files_of writer.style 0 ended)
-
--- The open section ended, and no other begins; or a fault stopped that.
-pub record Ends (told : Bool) (writer : WriterState) (old new : List Slot) (next : WriterState) (fault : Option Fault) : Type 0 where
-  pub leaves : Leaves writer next old new fault
-  pub reaches : (draft : Draft) → Writes writer draft
-      → Reaches told writer next (draft_part writer.style draft) (ended_part writer.style draft) old new fault
-  pub pauses : IfNone fault ((draft : Draft) → Writes writer draft → Pauses next (draft.ended ++ last_contents true draft ∷ []))
-
--- a writer was made, with its first section
-pub record Begun (told : Bool) (style : Style) (is_kept : Bool) (old new : List Slot)
-    (writer : WriterState) : Type 0 where
-  pub asked : writer.style ≡ style
-  pub writes : Writes writer (first_draft is_kept)
-  pub reaches : Reaches told (new_writer style) writer nothing (draft_part style (first_draft is_kept)) old new None
-  pub size : size_of writer.current ≡ 0
-  pub owns : OwnsFiles writer (length old) new
-  pub ready : IsReady writer new
-
 -- The first section could not begin, of which this part is due: a file could not be made, or there was no memory.
 pub record BegunNot (told : Bool) (style : Style) (part : Part) (old new : List Slot) (fault : Fault) : Type 0 where
   pub reaches : Reaches told (new_writer style) (new_writer style) nothing part old new (Some fault)
   pub breaks : Breaks style old new fault
   -- no file was made
   pub none : HasNoFiles (length old) new
-
-abbrev pub Begins : Bool → Style → Bool → List Slot → List Slot → Result WriterState Fault → Type 0
-Begins told style is_kept old new (Ok writer) = Begun told style is_kept old new writer
-Begins told style is_kept old new (Err fault) =
-    BegunNot told style (draft_part style (first_draft is_kept)) old new fault
 
 -- What the steps of the writer of sections do.
 
@@ -149,16 +124,3 @@ abbrev pub Makes : WriterState → List Slot → List Slot → WriterState → R
 Makes writer old new next (Ok slot) = Made writer old new next slot
 Makes writer old new next (Err fault) = (next ≡ record writer { current = Unopened })
     × MakesNone old (next_name writer) new fault
-
--- these sections, and one more that began
-abbrev pub begun_after : List Contents → Bool → Draft
-begun_after ended kept = record { ended = ended; is_kept = kept; bytes = [] }
-
--- A section began, after those that ended; or it could not, since its file wasn't made.
-pub record Starts (told : Bool) (writer : WriterState) (kept : Bool) (old new : List Slot) (next : WriterState) (fault : Option Fault) : Type 0 where
-  pub leaves : Leaves writer next old new fault
-  pub reaches : (ended : List Contents) → Pauses writer ended
-      → Reaches told writer next (part_by writer.style ended) (draft_part writer.style (begun_after ended kept)) old new fault
-  pub writes : IfNone fault ((ended : List Contents) → Pauses writer ended → Writes next (begun_after ended kept))
-  pub size : IfNone fault (size_of next.current ≡ 0)
-  pub none_made : IfSome fault (λ why. next.files ≡ writer.files)

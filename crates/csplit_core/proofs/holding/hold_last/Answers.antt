@@ -1,20 +1,19 @@
+use Rattle.ports_core.proofs.HandedOn.{handed_on}
 use Rattle.std.proofs.Common.{◌≡◌, ◌++◌, drop, min, OnOk, ◌∙◌, ap, subst, arith}
 use Rattle.std.proofs.lemmas.Grind.{common_steps}
 use Rattle.seg_core.specs.Line.{but_last_lines}
 use Rattle.seg_core.specs.Window.{Window}
-use Rattle.csplit_core.specs.inner.Writer.{Goes}
-use Rattle.csplit_core.proofs.HoldLemmas.{goes_or_lacks, hold_on, hold_short, kept_window, parted, rest_fits}
-use Rattle.csplit_core.proofs.WriterLemmas.{stop_is}
+use Rattle.csplit_core.proofs.CutterLemmas.{goes_or_lacks, hold_on, hold_short, kept_window, parted, rest_fits}
 use Rattle.csplit_core.proofs.holding.hold_last.Goals as goal
 
 pub returns-in_err-write_front-clause-goes : goal.returns-in_err-write_front-clause-goes
-returns-in_err-write_front-clause-goes g c = stop_is (Goes _ _ _ _ _ _) _ _ c.from_residual.ensures.1 (hold_short (parted c.over-over.ensures (c.min-front.ensures ∙ ap (min c.over-over.result) c.len.ensures.len)) c.in_err-write_front.ensures.goes)
+returns-in_err-write_front-clause-goes g c = rw (handed_on _ _ c.from_residual.ensures.1) (hold_short (parted c.over-over.ensures (c.min-front.ensures ∙ ap (min c.over-over.result) c.len.ensures.len)) c.in_err-write_front.ensures.goes)
 
 pub split_at-requires : goal.split_at-requires
 split_at-requires g c = let parts = parted {delim = c.args.window.now.delim} {most = c.args.window.now.most} c.over-over.ensures (c.min-front.ensures ∙ ap (min c.over-over.result) c.len.ensures.len) in parts.within
 
 pub returns-in_err-put-clause-goes : goal.returns-in_err-put-clause-goes
-returns-in_err-put-clause-goes g c = stop_is (Goes _ _ _ _ _ _) _ _ c.from_residual-in_err-put.ensures.1
+returns-in_err-put-clause-goes g c = rw (handed_on _ _ c.from_residual-in_err-put.ensures.1)
     (hold_on (parted c.over-over.ensures (c.min-front.ensures ∙ ap (min c.over-over.result) c.len.ensures.len)) c.split_at.ensures.front c.in_ok-write_front.ensures.goes c.in_err-put.ensures.goes)
 
 pub keep-requires : goal.keep-requires

@@ -1,8 +1,7 @@
+use Rattle.ports_core.proofs.HandedOn.{handed_on}
 use Rattle.std.proofs.Common.{◌<◌, ◌^◌, length, arith}
 use Rattle.std.proofs.lemmas.Grind.{common_steps}
-use Rattle.csplit_core.specs.inner.Writer.{Goes}
-use Rattle.csplit_core.proofs.HoldLemmas.{starts, fits_front, empties, empties_short, emptied_went, emptied_window, left_within}
-use Rattle.csplit_core.proofs.WriterLemmas.{stop_is}
+use Rattle.csplit_core.proofs.CutterLemmas.{starts, fits_front, empties, empties_short, emptied_went, emptied_window, left_within}
 use Rattle.csplit_core.proofs.holding.write_front.Goals as goal
 
 pub loop-left-init : goal.loop-left-init
@@ -15,7 +14,7 @@ pub put-requires-clause-fits : goal.put-requires-clause-fits
 put-requires-clause-fits g c = fits_front c.loop-left.invariant c.min-bytes.result (2 ^ 64) c.front-front.result.now _ c.front-front.ensures.front.1 (omega (arith, c.min-bytes.ensures)) c.requires.fits
 
 pub returns-in_err-put-clause-goes : goal.returns-in_err-put-clause-goes
-returns-in_err-put-clause-goes g c = stop_is (Goes _ _ _ _ _ _) _ _ c.from_residual.ensures.1
+returns-in_err-put-clause-goes g c = rw (handed_on _ _ c.from_residual.ensures.1)
     (empties_short c.loop-left.invariant c.min-bytes.result c.front-front.result.now _ c.front-front.ensures.front.1 (omega (arith, c.min-bytes.ensures)) (omega (arith, c.min-bytes.ensures)) c.in_err-put.ensures.goes)
 
 pub drop_front-requires : goal.drop_front-requires

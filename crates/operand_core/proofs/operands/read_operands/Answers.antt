@@ -1,4 +1,4 @@
-use Rattle.std.proofs.Common.{arith, sym}
+use Rattle.std.proofs.Common.{arith, sym, rules}
 use Rattle.std.proofs.lemmas.Grind.{common_steps}
 use Rattle.std.proofs.lemmas.List.{take_rest}
 use Rattle.operand_core.specs.Reading.{no_memory}
@@ -9,17 +9,13 @@ pub returns-then-is_empty-clause-err : goal.returns-then-is_empty-clause-err
 returns-then-is_empty-clause-err c = no_operand c.args.words.now (sym c.if-is_empty.ensures)
 
 pub returns-in-Err-clause-err : goal.returns-in-Err-clause-err
-returns-in-Err-clause-err c =
-    ends_at c.loop-left.left.now _ c.loop-left.invariant c.in-len1-up.len_at_least c.as_bytes.ensures.value c.read_target.ensures c.in-Err.is
+returns-in-Err-clause-err c = search (rules, ends_at)
 
 pub returns-in-Err-keep-clause-err : goal.returns-in-Err-keep-clause-err
 returns-in-Err-keep-clause-err c = rw c.in-Err-keep.ensures.err (no_memory _)
 
 pub loop-left-preserved : goal.loop-left-preserved
-loop-left-preserved c =
-    reads_next c.loop-left.left.now _
-    c.loop-left.invariant c.in-len1-up.len_at_least c.as_bytes.ensures.value c.read_target.ensures c.in-Ok.is (take_rest c.loop-left.left.now 1) c.times_before-times.ensures.says c.times_before-times.ensures.within
-    c.in_default-keep.ensures.ok (take_rest _ c.times_before-times.result.1) c.least_after-least.ensures
+loop-left-preserved c = grind (arith, common_steps, reads_next, take_rest)
 
 pub loop-left-init : goal.loop-left-init
 loop-left-init c = grind (arith, common_steps)

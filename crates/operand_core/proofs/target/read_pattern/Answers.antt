@@ -1,4 +1,5 @@
-use Rattle.std.proofs.Common.{◌∙◌, Err, ap}
+use Rattle.std.proofs.lemmas.Grind.{common_steps}
+use Rattle.std.proofs.Common.{◌∙◌, Err, ap, arith}
 use Rattle.std.specs.Prelude.{◌==◌}
 use Rattle.operand_core.specs.Word.{unescaped}
 use Rattle.operand_core.proofs.AimLemmas.{lacks, is_refused_so, is_read}
@@ -13,6 +14,4 @@ returns-in_err-pattern c =
     (c.deref.ensures.value ∙ c.in_ok-text.ensures) c.in_err-pattern.ensures.refused (λ e. c.in_err-pattern.ensures.large (ap Err e)) c.from_residual-in_err-pattern.ensures.1
 
 pub returns : goal.returns
-returns c =
-    is_read (c.args.delimiter == 47) (unescaped c.args.delimiter c.args.text.now) c.deref.result.now c.args.offset c.in_ok-pattern.pattern
-    (c.deref.ensures.value ∙ c.in_ok-text.ensures) c.in_ok-pattern.ensures.reads c.in_ok-pattern.ensures.groups c.in_ok-pattern.ensures.size
+returns c = grind (arith, common_steps, is_read)

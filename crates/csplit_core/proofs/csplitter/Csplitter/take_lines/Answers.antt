@@ -1,8 +1,7 @@
+use Rattle.ports_core.proofs.HandedOn.{handed_on}
 use Rattle.std.proofs.Common.{◌∙◌, arith, sym}
 use Rattle.std.proofs.lemmas.Grind.{common_steps}
-use Rattle.csplit_core.proofs.WriterLemmas.{stop_is}
 use Rattle.seg_core.proofs.LineCounts.{ends_with-some}
-use Rattle.csplit_core.specs.inner.Cutter.{Takes}
 use Rattle.csplit_core.specs.Input.{newline}
 use Rattle.csplit_core.proofs.LineLemmas.{first_line, others_whole}
 use Rattle.csplit_core.proofs.StageLemmas.{lines_alone, lines_stop, lines_after}
@@ -21,7 +20,7 @@ pub take_open-requires-clause-line : goal.take_open-requires-clause-line
 take_open-requires-clause-line g c = first_line c.args.lines.now c.next_line.result.0.now c.next_line.result.1.now (c.next_line.ensures.first (ends_with-some newline c.args.lines.now c.requires.whole))
 
 pub returns-in_err-take_open-clause-takes : goal.returns-in_err-take_open-clause-takes
-returns-in_err-take_open-clause-takes g c = stop_is (Takes _ _ _ _ _ _) _ _ c.from_residual.ensures.1
+returns-in_err-take_open-clause-takes g c = rw (handed_on _ _ c.from_residual.ensures.1)
     (lines_stop c.args.self.now.rest c.next_line.result.0.now c.next_line.ensures.joined c.next_line.ensures.last c.requires.whole c.in_err-take_open.ensures.takes)
 
 pub take-requires-2-clause-whole : goal.take-requires-2-clause-whole

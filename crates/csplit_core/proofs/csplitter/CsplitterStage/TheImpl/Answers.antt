@@ -1,8 +1,7 @@
 use Rattle.std.proofs.Common.{arith}
 use Rattle.csplit_core.specs.Csplit.{csplit_work}
 use Rattle.csplit_core.proofs.CutterLemmas.{same_by}
-use Rattle.csplit_core.proofs.HeldBytes.{held_is}
-use Rattle.csplit_core.proofs.StageLemmas.{cuts_off, end_cut, end_met, end_outputs, end_own, end_same, end_there, end_writable, pass_met, pass_ready, puts_out, takes_in}
+use Rattle.csplit_core.proofs.StageLemmas.{held_is, cuts_off, end_cut, end_met, end_outputs, end_own, end_same, end_there, end_writable, pass_met, pass_ready, puts_out, takes_in}
 use Rattle.csplit_core.proofs.csplitter.CsplitterStage.TheImpl.Goals as goal
 
 pub pass-tells : goal.pass-tells

@@ -1,24 +1,25 @@
 use Rattle.std.proofs.Common.{ap, subst}
-use Rattle.ports_core.proofs.HandedOn.{result_is}
+use Rattle.ports_core.proofs.HandedOn.{handed_on}
 use Rattle.csplit_core.specs.CsplitState.{CsplitState}
-use Rattle.csplit_core.specs.inner.CsplitState.{Closes, Judges, ended_well, ended_short}
+use Rattle.csplit_core.specs.Cutter.{seen}
+use Rattle.csplit_core.specs.inner.CsplitState.{Judges, ended_well, ended_short}
 use Rattle.csplit_core.proofs.StageLemmas.{closed_on, closed_short, judged_by}
 use Rattle.csplit_core.proofs.csplitter.CsplitterStage.finish.Goals as goal
 
 pub returns-in_err-take_last-clause-closes : goal.returns-in_err-take_last-clause-closes
-returns-in_err-take_last-clause-closes g c = result_is (Closes g.O.Outs.told c.args.self.now _ _ c.take_last.new.self) c.from_residual.result _ c.from_residual.ensures.1 (ended_short _ (closed_short c.in_err-take_last.ensures.takes))
+returns-in_err-take_last-clause-closes g c = rw (handed_on _ _ c.from_residual.ensures.1) (ended_short _ (closed_short c.in_err-take_last.ensures.takes))
 
 pub returns-in_err-end-clause-closes : goal.returns-in_err-end-clause-closes
-returns-in_err-end-clause-closes g c = result_is (Closes g.O.Outs.told c.args.self.now _ _ _) c.from_residual-in_err-end.result _ c.from_residual-in_err-end.ensures.1
+returns-in_err-end-clause-closes g c = rw (handed_on _ _ c.from_residual-in_err-end.ensures.1)
     (ended_short _ (closed_on c.take_last.new.self (ap (λ (stage : CsplitState). stage.cutter) c.self.view_is) c.in_ok-take_last.ensures.takes c.in_err-end.ensures))
 
 pub returns-in-None-clause-closes : goal.returns-in-None-clause-closes
 returns-in-None-clause-closes g c =
-    ended_well (closed_on c.take_last.new.self (ap (λ (stage : CsplitState). stage.cutter) c.self.view_is) c.in_ok-take_last.ensures.takes c.in_ok-end.ensures) (subst (Judges c.end.new.self) c.in-None.is c.verdict.ensures.judges)
+    ended_well (closed_on c.take_last.new.self (ap (λ (stage : CsplitState). stage.cutter) c.self.view_is) c.in_ok-take_last.ensures.takes c.in_ok-end.ensures) (subst (Judges (seen c.end.new.self)) c.in-None.is c.verdict.ensures.judges)
 
 pub returns-in-Some-clause-closes : goal.returns-in-Some-clause-closes
 returns-in-Some-clause-closes g c =
-    judged_by {stage = c.args.self.now} {mid = record { cutter = c.end.new.self; rest = c.self.inside.rest.items; taken = c.self.inside.taken }} {next = c.clear.new.self} {verdict = c.verdict.result} {fault = c.in-Some.fault}
+    judged_by {stage = c.args.self.now} {mid = record { cutter = seen c.end.new.self; rest = c.self.inside.rest.items; taken = c.self.inside.taken }} {next = c.clear.new.self} {verdict = c.verdict.result} {fault = c.in-Some.fault}
     (closed_on c.take_last.new.self (ap (λ (stage : CsplitState). stage.cutter) c.self.view_is) c.in_ok-take_last.ensures.takes c.in_ok-end.ensures)
     c.in-Some.is c.verdict.ensures.judges c.in-Some.ensures.kind
     (record { same = c.clear.ensures.same; removes = c.clear.ensures.removes; swept = c.clear.ensures.swept; owns = c.clear.ensures.owns; there = c.clear.ensures.there })

@@ -1,12 +1,11 @@
 use Rattle.std.proofs.Common.{◌≡◌, arith, refl, subst, sym}
 use Rattle.std.proofs.lemmas.Grind.{common_steps}
 use Rattle.seg_core.specs.Line.{delimiters}
-use Rattle.ports_core.proofs.HandedOn.{result_is}
+use Rattle.ports_core.proofs.HandedOn.{handed_on}
 use Rattle.csplit_core.specs.CsplitState.{CsplitState}
 use Rattle.csplit_core.specs.Cutter.{IsSound}
 use Rattle.csplit_core.specs.Input.{newline}
 use Rattle.csplit_core.specs.Writer.{IsReady}
-use Rattle.csplit_core.specs.inner.CsplitState.{Passes}
 use Rattle.csplit_core.proofs.LineLemmas.{piece_ends, rest_all}
 use Rattle.csplit_core.proofs.StageLemmas.{none_passes, past_passes, some_passes, some_stopped}
 use Rattle.csplit_core.proofs.csplitter.CsplitterStage.pass.Goals as goal
@@ -24,7 +23,7 @@ take_lines-requires g c = record {
 }
 
 pub returns-in_err-take_lines-in-Some-clause-passes : goal.returns-in_err-take_lines-in-Some-clause-passes
-returns-in_err-take_lines-in-Some-clause-passes g c = result_is (Passes g.O.Outs.told c.args.self.now c.args.piece.now _ _ c.take_lines.new.self) c.from_residual.result _ c.from_residual.ensures.1
+returns-in_err-take_lines-in-Some-clause-passes g c = rw (handed_on _ _ c.from_residual.ensures.1)
     (some_stopped c.take_lines.new.self c.in-Some.end c.self.view_is c.in-Some.ensures.some refl c.in_err-take_lines-in-Some.ensures.takes)
 
 pub returns-in-None-clause-passes : goal.returns-in-None-clause-passes

@@ -1,38 +1,30 @@
-use Rattle.std.proofs.Common.{refl, sym, subst, ◌∙◌, arith}
+use Rattle.ports_core.proofs.HandedOn.{handed_on}
+use Rattle.std.proofs.Common.{◌+◌, length, ap, refl, sym, ◌∙◌, arith}
 use Rattle.std.proofs.lemmas.Grind.{common_steps}
 use Rattle.csplit_core.specs.Cutter.{CutterState}
-use Rattle.csplit_core.specs.Writer.{IsReady}
-use Rattle.csplit_core.specs.inner.Cutter.{CutsAll}
+use Rattle.csplit_core.specs.Writer.{size_of}
 use Rattle.csplit_core.proofs.CutLemmas.{cut_put_stopped}
-use Rattle.csplit_core.proofs.HoldLemmas.{goes_lacking}
-use Rattle.csplit_core.proofs.SpreadLemmas.{none_there, cut_alone, cut_drained, waiting_count, waiting_size}
-use Rattle.csplit_core.proofs.WriterLemmas.{stop_is}
+use Rattle.csplit_core.proofs.CutterLemmas.{goes_lacking}
+use Rattle.csplit_core.proofs.TakeLemmas.{cut_drained, spread_held, spread_fit, spread_ready, waiting_count, waiting_size}
 use Rattle.csplit_core.proofs.line_cutter.LineCutter.cut_line.Goals as goal
 
-pub cut_all-requires-clause-none : goal.cut_all-requires-clause-none
-cut_all-requires-clause-none g c = grind (arith, common_steps)
-
-pub returns-then-is_empty : goal.returns-then-is_empty
-returns-then-is_empty g c = cut_alone c.self.view_is c.cut_all.view_is (none_there c.is_empty.ensures c.if-is_empty.true) c.cut_all-then-is_empty.ensures
-
 pub returns-in_err-waiting : goal.returns-in_err-waiting
-returns-in_err-waiting g c = stop_is (CutsAll _ _ _ _ _ _ _ _ _ _) _ _ c.from_residual.ensures.1
-    (cut_put_stopped c.self.view_is c.requires.fit c.requires.cuts refl c.args.line.now refl (goes_lacking (subst (λ (cutter : CutterState). IsReady cutter.writer (g.O.Outs.slots c.args.outs.now)) (sym c.self.view_is) c.requires.ready) c.in_err-waiting.ensures.err))
+returns-in_err-waiting g c = rw (handed_on _ _ c.from_residual.ensures.1) (cut_put_stopped c.requires.fit c.requires.cuts refl c.args.line.now refl (goes_lacking c.requires.ready c.in_err-waiting.ensures.err))
 
 pub slice_bounds-count_delimiters-count : goal.slice_bounds-count_delimiters-count
 slice_bounds-count_delimiters-count g c = grind (arith, common_steps)
 
-pub cut_all-requires-2 : goal.cut_all-requires-2
-cut_all-requires-2 g c = record {
-  line = c.requires.line;
-  few = grind (arith, common_steps);
-  fits = grind (arith, common_steps);
-  fit = grind (arith, common_steps);
-  none = grind (arith, common_steps);
-  cuts = grind (arith, common_steps);
-  ready = subst (λ (cutter : CutterState). IsReady cutter.writer (g.O.Outs.slots c.args.outs.now)) (sym c.self.view_is) c.requires.ready;
-}
+pub returns-in_err-left : goal.returns-in_err-left
+returns-in_err-left g c = rw (handed_on _ _ c.from_residual-in_err-left.ensures.1) (cut_drained (c.deref-2.ensures.value ∙ c.in_ok-waiting.ensures.ok) (waiting_count c.args.self.now.lines c.args.self.now.window.held c.args.line.now _ (c.deref.ensures.value ∙ c.in_ok-waiting.ensures.ok) (waiting_size c.args.self.now.window.held c.args.line.now (c.deref.ensures.value ∙ c.in_ok-waiting.ensures.ok) (c.len.ensures ∙ sym c.deref.ensures.len)) refl c.count_delimiters-lines.ensures c.saturating_sub-place.ensures) c.in_err-left.ensures.err)
+
+pub hold-requires : goal.hold-requires
+hold-requires g c =
+    let spread = c.in_ok-left.ensures.ok in
+    let same = ap (λ (cutter : CutterState). size_of cutter.writer.current + length cutter.window.held) spread.is in record {
+      fits = grind (arith, common_steps, same, ap length spread.so_far.held, spread.so_far.size);
+      fit = spread_fit spread.is spread.so_far.fit;
+      ready = spread_ready spread.now spread.is spread.so_far.keeps.writer.ready;
+    }
 
 pub returns : goal.returns
-returns g c = cut_drained c.self.view_is (c.deref-2.ensures.value ∙ c.in_ok-waiting.ensures.ok)
-    (waiting_count c.self.inside.lines c.self.inside.window.held c.args.line.now _ (c.deref.ensures.value ∙ c.in_ok-waiting.ensures.ok) (waiting_size c.self.inside.window.held c.args.line.now (c.deref.ensures.value ∙ c.in_ok-waiting.ensures.ok) (c.len.ensures ∙ sym c.deref.ensures.len)) refl c.count_delimiters-lines.ensures c.saturating_sub-place.ensures) c.cut_all-2.ensures
+returns g c = cut_drained (c.deref-2.ensures.value ∙ c.in_ok-waiting.ensures.ok) (waiting_count c.args.self.now.lines c.args.self.now.window.held c.args.line.now _ (c.deref.ensures.value ∙ c.in_ok-waiting.ensures.ok) (waiting_size c.args.self.now.window.held c.args.line.now (c.deref.ensures.value ∙ c.in_ok-waiting.ensures.ok) (c.len.ensures ∙ sym c.deref.ensures.len)) refl c.count_delimiters-lines.ensures c.saturating_sub-place.ensures) (spread_held c.in_ok-left.ensures.ok c.hold.ensures)

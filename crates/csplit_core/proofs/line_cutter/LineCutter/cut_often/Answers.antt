@@ -1,7 +1,7 @@
 use Rattle.std.proofs.Common.{◌∙◌, ap, arith, rules}
 use Rattle.ports_core.proofs.HandedOn.{fault_is}
-use Rattle.csplit_core.specs.Cutter.{CutterState}
-use Rattle.csplit_core.proofs.SpreadLemmas.{spread_more, spread_stopped, spread_fit, spread_ready, spread_fewer}
+use Rattle.csplit_core.specs.Cutter.{CutterState, seen}
+use Rattle.csplit_core.proofs.TakeLemmas.{spread_more, spread_stopped, spread_fit, spread_ready, spread_fewer}
 use Rattle.csplit_core.proofs.line_cutter.LineCutter.cut_often.Goals as goal
 use Rattle.csplit_core.specs.Writer.{size_of}
 
@@ -24,18 +24,18 @@ cut_at-requires-in-Some g c = let same = c.try_last.ensures.same in record {
   fit = spread_fit same c.loop-cut.invariant.fit;
   none = ap (λ (cutter : CutterState). cutter.window.held) same ∙ c.loop-cut.invariant.held;
   cuts = search rules;
-  ready = spread_ready c.loop-cut.self same c.loop-cut.invariant.keeps.writer.ready;
+  ready = spread_ready (seen c.loop-cut.self) same c.loop-cut.invariant.keeps.writer.ready;
 }
 
 pub returns-in_err-left-2-clause-err : goal.returns-in_err-left-2-clause-err
 returns-in_err-left-2-clause-err g c = fault_is _ _ _ c.from_residual-in_err-left-2.ensures.1
-    (spread_stopped (ap (λ (cutter : CutterState). cutter.progress.current) c.cut_at-in-Some.view_is) c.loop-cut.invariant c.try_last.ensures.same c.in-Some.ensures.tries c.in-Some.ensures.cuts (c.in_err-left-2.ensures.err c.args.line.now))
+    (spread_stopped c.loop-cut.invariant c.try_last.ensures.same c.in-Some.ensures.tries c.in-Some.ensures.cuts (c.in_err-left-2.ensures.err c.args.line.now))
 
 pub loop-cut-smaller : goal.loop-cut-smaller
-loop-cut-smaller g c = spread_fewer c.loop-cut.self c.try_last.ensures.same c.in_ok-left-2.ensures.ok.fewer
+loop-cut-smaller g c = spread_fewer (seen c.loop-cut.self) c.try_last.ensures.same c.in_ok-left-2.ensures.ok.fewer
 
 pub loop-cut-preserved : goal.loop-cut-preserved
-loop-cut-preserved g c = spread_more (ap (λ (cutter : CutterState). cutter.progress.current) c.cut_at-in-Some.view_is) c.loop-cut.invariant c.try_last.ensures.same c.in-Some.ensures.tries c.in-Some.ensures.cuts c.in_ok-left-2.ensures.ok
+loop-cut-preserved g c = spread_more c.loop-cut.invariant c.try_last.ensures.same c.in-Some.ensures.tries c.in-Some.ensures.cuts c.in_ok-left-2.ensures.ok
 
 pub returns-clause-ok : goal.returns-clause-ok
-returns-clause-ok g c = record { now = c.loop-cut.self; so_far = c.loop-cut.invariant; is = c.try_last.ensures.same; tries = c.in_default.ensures.tries; aim = c.in_default.ensures.aim }
+returns-clause-ok g c = record { now = seen c.loop-cut.self; so_far = c.loop-cut.invariant; is = c.try_last.ensures.same; tries = c.in_default.ensures.tries; aim = c.in_default.ensures.aim }

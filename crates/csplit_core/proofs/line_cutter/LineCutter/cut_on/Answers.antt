@@ -1,12 +1,11 @@
 use Rattle.std.proofs.Common.{arith, refl}
 use Rattle.std.proofs.lemmas.Grind.{common_steps}
-use Rattle.ports_core.proofs.HandedOn.{result_is}
-use Rattle.csplit_core.specs.inner.Cutter.{CutsOn}
-use Rattle.csplit_core.proofs.SpreadLemmas.{cut_on, cut_not_on, cut_stopped_on, from_left, spread_fit, spread_ready}
+use Rattle.ports_core.proofs.HandedOn.{handed_on}
+use Rattle.csplit_core.proofs.TakeLemmas.{cut_on, cut_not_on, cut_stopped_on, from_left, spread_fit, spread_ready}
 use Rattle.csplit_core.proofs.line_cutter.LineCutter.cut_on.Goals as goal
 
 pub returns-in_err-left : goal.returns-in_err-left
-returns-in_err-left g c = result_is (CutsOn _ _ _ _ _ _ _ _) _ _ c.from_residual.ensures.1 (cut_stopped_on c.cut_often.view_is c.in_err-left.ensures.err)
+returns-in_err-left g c = rw (handed_on _ _ c.from_residual.ensures.1) (cut_stopped_on c.in_err-left.ensures.err)
 
 pub overflow_sub-size : goal.overflow_sub-size
 overflow_sub-size g c = grind (arith, common_steps)
@@ -23,8 +22,8 @@ go_on-requires g c =
     }
 
 pub returns-in_err-passed : goal.returns-in_err-passed
-returns-in_err-passed g c = result_is (CutsOn _ _ _ _ _ _ _ _) _ _ c.from_residual-in_err-passed.ensures.1
-    (cut_not_on c.cut_often.view_is c.requires.complete c.in_ok-left.ensures.ok refl
+returns-in_err-passed g c = rw (handed_on _ _ c.from_residual-in_err-passed.ensures.1)
+    (cut_not_on c.requires.complete c.in_ok-left.ensures.ok refl
     (from_left c.args.text.now c.in_ok-left.left.now c.args.size c.requires.within c.in_ok-left.ensures.ok.so_far.end) c.in_err-passed.ensures)
 
 pub overflow_sub-result : goal.overflow_sub-result
@@ -34,5 +33,5 @@ pub overflow_add-result : goal.overflow_add-result
 overflow_add-result g c = grind (arith, common_steps)
 
 pub returns : goal.returns
-returns g c = cut_on c.args.text.now c.args.size c.cut_often.view_is c.requires.within c.requires.complete c.in_ok-left.ensures.ok refl
+returns g c = cut_on c.args.text.now c.args.size c.requires.within c.requires.complete c.in_ok-left.ensures.ok refl
     (from_left c.args.text.now c.in_ok-left.left.now c.args.size c.requires.within c.in_ok-left.ensures.ok.so_far.end) c.in_ok-passed.ensures refl refl

@@ -1,8 +1,8 @@
-use Rattle.csplit_core.proofs.PassLemmas.{passes_below_at, passes_short_at}
+use Rattle.csplit_core.proofs.PassLemmas.{passes_below, passes_short}
 use Rattle.csplit_core.proofs.line_cutter.LineCutter.pass_below.Goals as goal
 
 pub returns-in-Ends : goal.returns-in-Ends
-returns-in-Ends c = passes_below_at _ _ c.self.view_is c.requires.sound c.requires.aim c.in-Ends.ensures
+returns-in-Ends c = passes_below _ _ c.requires.sound c.requires.aim c.in-Ends.ensures
 
 pub returns : goal.returns
-returns c = passes_short_at _ c.self.view_is c.requires.sound c.requires.whole c.requires.aim c.in-Short.ensures
+returns c = passes_short _ c.requires.sound c.requires.whole c.requires.aim c.in-Short.ensures

@@ -1,9 +1,9 @@
-use Rattle.std.proofs.Common.{arith, ◌∙◌}
+use Rattle.std.proofs.Common.{arith}
 use Rattle.csplit_core.proofs.PassLemmas.{counts_clear, fits_clear}
 use Rattle.csplit_core.proofs.line_cutter.LineCutter.pass_clear.Goals as goal
 
 pub overflow_add-self : goal.overflow_add-self
-overflow_add-self c = let few = fits_clear c.args.text.now (c.self.view_is ∙ c.clear_lines-size.ensures.same) c.requires.fits c.clear_lines-size.ensures.within c.count_delimiters.ensures in omega (arith, few)
+overflow_add-self c = let few = fits_clear c.args.text.now c.clear_lines-size.ensures.same c.requires.fits c.clear_lines-size.ensures.within c.count_delimiters.ensures in omega (arith, few)
 
 pub returns : goal.returns
-returns c = counts_clear (c.self.view_is ∙ c.clear_lines-size.ensures.same) c.clear_lines-size.ensures.within c.clear_lines-size.ensures.whole c.count_delimiters.ensures c.clear_lines-size.ensures.clear
+returns c = counts_clear c.clear_lines-size.ensures.same c.clear_lines-size.ensures.within c.clear_lines-size.ensures.whole c.count_delimiters.ensures c.clear_lines-size.ensures.clear

@@ -1,11 +1,12 @@
-use Rattle.std.proofs.Common.{refl, ◌∙◌, arith}
+use Rattle.std.proofs.Common.{refl, ap, arith}
 use Rattle.std.proofs.lemmas.Grind.{common_steps}
-use Rattle.csplit_core.proofs.PassLemmas.{none_yet, few_counted_at, all_left, one_more_at, more_clear, few_left, left_whole, all_passed_at, next_found, stops_unfound}
-use Rattle.csplit_core.proofs.line_cutter.LineCutter.pass_unmatched.Goals as goal
+use Rattle.csplit_core.specs.Cutter.{CutterState}
 use Rattle.csplit_core.proofs.LineLemmas.{rest_all}
+use Rattle.csplit_core.proofs.PassLemmas.{none_yet, few_counted, all_left, one_more_at, more_clear, few_left, left_whole, all_passed_at, next_found, stops_unfound}
+use Rattle.csplit_core.proofs.line_cutter.LineCutter.pass_unmatched.Goals as goal
 
 pub loop-end-init : goal.loop-end-init
-loop-end-init c = more_clear (none_yet) refl c.pass_clear-clear.ensures (rest_all c.pass_clear-clear.result c.args.text.now)
+loop-end-init c = more_clear (none_yet) c.pass_clear-clear.ensures (rest_all c.pass_clear-clear.result c.args.text.now)
 
 pub overflow_sub-result : goal.overflow_sub-result
 overflow_sub-result c = grind (arith, common_steps)
@@ -15,33 +16,28 @@ overflow_add-result c = grind (arith, common_steps)
 
 pub returns-then-is_match : goal.returns-then-is_match
 returns-then-is_match c = let place = c.in-Some.ensures in record {
-  over = all_passed_at c.requires.sound c.requires.aim c.loop-end.invariant c.is_match-in-Some.ensures.same;
-  found = next_found c.in-Some.end c.requires.aim c.loop-end.invariant c.is_match.view_is c.is_match-in-Some.ensures.same place.0.high place.1 place.0.before c.is_match-in-Some.ensures.found c.if-is_match.true;
+  over = all_passed_at c.requires.sound c.requires.aim c.loop-end.invariant c.is_match.ensures.same;
+  found = next_found c.in-Some.end c.requires.aim c.loop-end.invariant c.is_match.ensures.same place.0.high place.1 place.0.before c.is_match.ensures.found c.if-is_match.true;
 }
 
 pub returns : goal.returns
 returns c = stops_unfound c.unfound.result (all_passed_at c.requires.sound c.requires.aim c.loop-end.invariant refl) c.unfound.ensures.size c.unfound.ensures.found
 
 pub overflow_add-self : goal.overflow_add-self
-overflow_add-self c = let few = few_counted_at c.loop-end.invariant c.is_match.view_is c.requires.fits in omega (arith, few)
+overflow_add-self c = omega (arith, few_counted c.loop-end.invariant, c.requires.fits)
 
 pub overflow_add-self-in-Some : goal.overflow_add-self-in-Some
-overflow_add-self-in-Some c = let few = few_counted_at c.loop-end.invariant (c.self.view_is ∙ c.is_match-in-Some.ensures.same) c.requires.fits in omega (arith, few)
+overflow_add-self-in-Some c = omega (arith, few_counted c.loop-end.invariant, ap (λ (cutter : CutterState). cutter.lines) c.is_match.ensures.same, c.requires.fits)
 
-pub pass_clear-clear-requires-in-Some-clause-whole : goal.pass_clear-clear-requires-in-Some-clause-whole
-pass_clear-clear-requires-in-Some-clause-whole c =
+pub pass_clear-clear-requires-in-Some : goal.pass_clear-clear-requires-in-Some
+pass_clear-clear-requires-in-Some c =
     let place = c.in-Some.ensures in
-    left_whole c.requires.whole (one_more_at c.in-Some.end c.loop-end.invariant c.is_match.view_is c.is_match-in-Some.ensures.same c.self.view_is place.0.high place.1 place.0.before c.is_match-in-Some.ensures.found c.if-is_match.false (all_left c.loop-end.left.now c.in-Some.end refl))
-
-pub pass_clear-clear-requires-in-Some-clause-fits : goal.pass_clear-clear-requires-in-Some-clause-fits
-pass_clear-clear-requires-in-Some-clause-fits c =
-    let place = c.in-Some.ensures in
-    few_left (one_more_at c.in-Some.end c.loop-end.invariant c.is_match.view_is c.is_match-in-Some.ensures.same c.self.view_is place.0.high place.1 place.0.before c.is_match-in-Some.ensures.found c.if-is_match.false (all_left c.loop-end.left.now c.in-Some.end refl)) c.requires.fits
+    let so = one_more_at c.in-Some.end c.loop-end.invariant c.is_match.ensures.same place.0.high place.1 place.0.before c.is_match.ensures.found c.if-is_match.false (all_left c.loop-end.left.now c.in-Some.end refl) in
+    record { whole = left_whole c.requires.whole so; fits = few_left so c.requires.fits }
 
 pub overflow_add-left : goal.overflow_add-left
 overflow_add-left c = grind (arith, common_steps)
 
 pub loop-end-preserved : goal.loop-end-preserved
 loop-end-preserved c =
-    let place = c.in-Some.ensures in
-    more_clear (one_more_at c.in-Some.end c.loop-end.invariant c.is_match.view_is c.is_match-in-Some.ensures.same c.self.view_is place.0.high place.1 place.0.before c.is_match-in-Some.ensures.found c.if-is_match.false (all_left c.loop-end.left.now c.in-Some.end refl)) refl c.pass_clear-clear-in-Some.ensures (rest_all c.pass_clear-clear-in-Some.result _)
+    let place = c.in-Some.ensures in more_clear (one_more_at c.in-Some.end c.loop-end.invariant c.is_match.ensures.same place.0.high place.1 place.0.before c.is_match.ensures.found c.if-is_match.false (all_left c.loop-end.left.now c.in-Some.end refl)) c.pass_clear-clear-in-Some.ensures (rest_all c.pass_clear-clear-in-Some.result _)

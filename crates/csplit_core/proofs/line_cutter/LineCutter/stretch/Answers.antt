@@ -1,23 +1,18 @@
-use Rattle.std.proofs.Common.{Ok, Err, take, ap, arith, sym, ◌∙◌, subst}
+use Rattle.std.proofs.Common.{Err, Ok, arith, subst, sym}
 use Rattle.std.proofs.lemmas.Grind.{common_steps}
-use Rattle.ports_core.proofs.HandedOn.{result_is}
+use Rattle.ports_core.proofs.HandedOn.{handed_on}
 use Rattle.csplit_core.specs.Cutter.{CutterState}
 use Rattle.csplit_core.specs.Writer.{IsReady}
-use Rattle.csplit_core.specs.inner.Cutter.{IsWhole, Stretches}
-use Rattle.csplit_core.proofs.SpreadLemmas.{none_there, stretch_cut, stretch_first, stretch_on}
-use Rattle.csplit_core.proofs.LineLemmas.{whole_drop}
-use Rattle.std.proofs.Math.Seq.{take-length}
-use Rattle.csplit_core.proofs.TakeLemmas.{take_some, took_past}
+use Rattle.csplit_core.proofs.TakeLemmas.{none_there, stretch_cut, stretch_first, stretch_on, stretch_past, took_past}
 use Rattle.csplit_core.proofs.line_cutter.LineCutter.stretch.Goals as goal
 
 pub returns-then-is_past : goal.returns-then-is_past
-returns-then-is_past g c = stretch_first (Ok c.unfound.result) c.requires.some (omega arith) (subst IsWhole (sym (take-length c.args.text.now)) c.requires.whole)
-    (took_past (c.is_past.ensures.past c.if-is_past.true) c.requires.sound c.requires.ready) (c.unfound.ensures.size, c.unfound.ensures.found)
+returns-then-is_past g c = stretch_past c.unfound.result c.requires.within (took_past (c.is_past.ensures.past c.if-is_past.true) c.requires.sound c.requires.ready) c.unfound.ensures.size c.unfound.ensures.found
 
 pub go_on-requires : goal.go_on-requires
 go_on-requires g c = record {
-  within = c.first_size-size.ensures.within;
-  rest = whole_drop c.first_size-size.result c.requires.whole;
+  within = c.requires.within;
+  rest = c.requires.rest;
   lines = grind (arith, common_steps);
   fits = grind (arith, common_steps);
   sound = record { fit = c.try_line.ensures.fit; aim = c.in_default.ensures.aim };
@@ -25,15 +20,14 @@ go_on-requires g c = record {
 }
 
 pub returns-in_default : goal.returns-in_default
-returns-in_default g c = stretch_on c.go_on.result c.requires.sound.fit (c.is_past.ensures.live c.if-is_past.false) c.first_size-size.ensures.some c.first_size-size.ensures.within
-    c.first_size-size.ensures.line c.first_size-size.ensures.whole c.try_line.ensures.same c.in_default.ensures.tries c.go_on.ensures
+returns-in_default g c = stretch_on c.go_on.result c.requires.sound.fit (c.is_past.ensures.live c.if-is_past.false) c.requires.within c.requires.line c.requires.complete c.try_line.ensures.same c.in_default.ensures.tries c.go_on.ensures
 
 pub cut_on-requires : goal.cut_on-requires
 cut_on-requires g c = record {
-  within = c.first_size-size.ensures.within;
-  line = c.first_size-size.ensures.line;
-  rest = whole_drop c.first_size-size.result c.requires.whole;
-  complete = grind (arith, common_steps);
+  within = c.requires.within;
+  line = c.requires.line;
+  rest = c.requires.rest;
+  complete = c.requires.complete;
   lines = grind (arith, common_steps);
   fits = grind (arith, common_steps);
   fit = c.try_line.ensures.fit;
@@ -43,13 +37,12 @@ cut_on-requires g c = record {
 }
 
 pub returns-then-is_empty : goal.returns-then-is_empty
-returns-then-is_empty g c = stretch_cut c.cut_on.result c.requires.sound.fit (c.is_past.ensures.live c.if-is_past.false) c.first_size-size.ensures.some c.first_size-size.ensures.within
-    c.first_size-size.ensures.line c.first_size-size.ensures.whole c.try_line.ensures.same
-    (sym (ap (λ (cutter : CutterState). cutter.window.held) c.self.view_is) ∙ none_there c.is_empty.ensures c.if-is_empty.true) c.in-Some.ensures.cuts c.in-Some.ensures.tries c.cut_on.ensures
+returns-then-is_empty g c = stretch_cut c.cut_on.result c.requires.sound.fit (c.is_past.ensures.live c.if-is_past.false) c.requires.within c.requires.line c.requires.complete c.try_line.ensures.same
+    (none_there c.is_empty.ensures c.if-is_empty.true) c.in-Some.ensures.cuts c.in-Some.ensures.tries c.cut_on.ensures
 
 pub cut_line-requires : goal.cut_line-requires
 cut_line-requires g c = record {
-  line = c.first_size-size.ensures.line;
+  line = c.requires.line;
   few = grind (arith, common_steps);
   fits = grind (arith, common_steps);
   fit = c.try_line.ensures.fit;
@@ -58,10 +51,9 @@ cut_line-requires g c = record {
 }
 
 pub returns-in_err-cut_line : goal.returns-in_err-cut_line
-returns-in_err-cut_line g c = result_is (Stretches _ _ _ _ _ _) _ _ c.from_residual.ensures.1
-    (stretch_first (Err c.in_err-cut_line.field-0.0) c.first_size-size.ensures.some c.first_size-size.ensures.within c.first_size-size.ensures.whole
-    (take_some (take c.first_size-size.result c.args.text.now) c.requires.sound.fit (c.is_past.ensures.live c.if-is_past.false) c.first_size-size.ensures.line c.try_line.ensures.same c.in-Some.ensures.cuts c.in-Some.ensures.tries c.in_err-cut_line.ensures) tt)
+returns-in_err-cut_line g c = rw (handed_on _ _ c.from_residual.ensures.1)
+    (stretch_first (Err c.in_err-cut_line.field-0.0) c.requires.sound.fit (c.is_past.ensures.live c.if-is_past.false) c.requires.within c.requires.line c.requires.complete c.try_line.ensures.same c.in-Some.ensures.cuts c.in-Some.ensures.tries c.in_err-cut_line.ensures tt)
 
 pub returns : goal.returns
-returns g c = stretch_first (Ok c.unfound-2.result) c.first_size-size.ensures.some c.first_size-size.ensures.within c.first_size-size.ensures.whole
-    (take_some (take c.first_size-size.result c.args.text.now) c.requires.sound.fit (c.is_past.ensures.live c.if-is_past.false) c.first_size-size.ensures.line c.try_line.ensures.same c.in-Some.ensures.cuts c.in-Some.ensures.tries c.in_ok-cut_line.ensures) (c.unfound-2.ensures.size, c.unfound-2.ensures.found)
+returns g c = stretch_first (Ok c.unfound-2.result) c.requires.sound.fit (c.is_past.ensures.live c.if-is_past.false) c.requires.within c.requires.line c.requires.complete c.try_line.ensures.same c.in-Some.ensures.cuts c.in-Some.ensures.tries c.in_ok-cut_line.ensures
+    (c.unfound-2.ensures.size, c.unfound-2.ensures.found)

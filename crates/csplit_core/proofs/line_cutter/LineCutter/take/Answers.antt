@@ -1,9 +1,8 @@
-use Rattle.std.proofs.Common.{◌^◌, arith}
-use Rattle.std.proofs.lemmas.Grind.{common_steps}
-use Rattle.csplit_core.specs.inner.Cutter.{Takes}
-use Rattle.csplit_core.proofs.SpreadLemmas.{none_there}
-use Rattle.csplit_core.proofs.TakeLemmas.{takes_all, takes_more, takes_stopped, takes_end, takes_fit, takes_fewer, found_next}
-use Rattle.csplit_core.proofs.WriterLemmas.{stop_is}
+use Rattle.ports_core.proofs.HandedOn.{handed_on}
+use Rattle.std.proofs.Common.{◌^◌, ◌∙◌, inr, sym, take, arith}
+use Rattle.std.proofs.lemmas.List.{length-take-le}
+use Rattle.csplit_core.proofs.TakeLemmas.{found_first, none_there, takes_all, takes_more, takes_stopped, takes_end, takes_fit, takes_fewer, found_next}
+use Rattle.csplit_core.proofs.LineLemmas.{ends_by, whole_drop}
 use Rattle.csplit_core.proofs.line_cutter.LineCutter.take.Goals as goal
 
 pub stretches-init : goal.stretches-init
@@ -11,19 +10,21 @@ stretches-init g c = (takes_all c.requires.whole c.requires.sound c.requires.rea
 
 pub stretch-requires : goal.stretch-requires
 stretch-requires g c = let so_far = c.stretches.invariant.0 in record {
-  some = grind (arith, common_steps);
-  whole = so_far.rest;
-  found = c.stretches.invariant.1;
+  within = c.first_size-size.ensures.within;
+  line = c.first_size-size.ensures.line;
+  rest = whole_drop c.first_size-size.result so_far.rest;
+  complete = inr (ends_by (take c.first_size-size.result c.stretches.left.now) c.first_size-size.ensures.whole (omega (arith, length-take-le c.first_size-size.result c.stretches.left.now c.first_size-size.ensures.within, c.first_size-size.ensures.some)));
+  found = λ given. found_first c.stretches.left.now c.stretches.found c.stretches.invariant.1 c.first_size-size.ensures.known (sym c.is_some.ensures ∙ given);
   fits = takes_fit so_far (2 ^ 63) c.requires.fits;
   sound = so_far.took.went.sound;
   ready = so_far.took.keeps.writer.ready;
 }
 
 pub returns-in_err-passed : goal.returns-in_err-passed
-returns-in_err-passed g c = stop_is (Takes _ _ _ _ _ _) _ _ c.from_residual.ensures.1 (takes_stopped c.stretches.invariant.0 c.in_err-passed.ensures)
+returns-in_err-passed g c = rw (handed_on _ _ c.from_residual.ensures.1) (takes_stopped c.stretches.invariant.0 c.in_err-passed.ensures)
 
 pub stretches-smaller : goal.stretches-smaller
-stretches-smaller g c = takes_fewer c.in_ok-passed.passed c.in_ok-passed.ensures
+stretches-smaller g c = takes_fewer c.in_ok-passed.passed c.first_size-size.ensures.some c.in_ok-passed.ensures
 
 pub stretches-preserved : goal.stretches-preserved
 stretches-preserved g c = (takes_more c.stretches.invariant.0 c.in_ok-passed.passed c.in_ok-passed.ensures, found_next c.in_ok-passed.passed c.in_ok-passed.ensures)

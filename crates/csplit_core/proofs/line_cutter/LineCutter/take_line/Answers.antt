@@ -1,11 +1,24 @@
-use Rattle.csplit_core.proofs.TakeLemmas.{take_none, take_some, took_past}
+use Rattle.ports_core.proofs.HandedOn.{handed_on}
+use Rattle.std.proofs.Common.{inl, rules, subst, sym, length, arith}
+use Rattle.std.proofs.lemmas.List.{drop_all, take_all}
+use Rattle.csplit_core.specs.inner.Cutter.{IsLine}
+use Rattle.csplit_core.proofs.TakeLemmas.{stretched_line}
 use Rattle.csplit_core.proofs.line_cutter.LineCutter.take_line.Goals as goal
 
-pub returns-then-is_past : goal.returns-then-is_past
-returns-then-is_past g c = took_past (c.is_past.ensures.past c.if-is_past.true) c.requires.sound c.requires.ready
+pub stretch-requires : goal.stretch-requires
+stretch-requires g c = let none = drop_all (length c.args.line.now) c.args.line.now (omega arith) in record {
+  within = omega arith;
+  line = subst IsLine (sym (take_all (length c.args.line.now) c.args.line.now (omega arith))) c.requires.line;
+  rest = inl none;
+  complete = inl none;
+  found = search rules;
+  fits = c.requires.fits;
+  sound = c.requires.sound;
+  ready = c.requires.ready;
+}
 
-pub returns-in-None : goal.returns-in-None
-returns-in-None g c = take_none c.args.line.now c.requires.sound.fit (c.is_past.ensures.live c.if-is_past.false) c.requires.line c.try_line.ensures.same c.try_line.ensures.fit c.in-None.ensures.aim c.in-None.ensures.tries c.hold.ensures
+pub returns-in_err-stretch : goal.returns-in_err-stretch
+returns-in_err-stretch g c = rw (handed_on _ _ c.from_residual.ensures.1) (stretched_line c.in_err-stretch.ensures)
 
-pub returns-in-Some : goal.returns-in-Some
-returns-in-Some g c = take_some c.args.line.now c.requires.sound.fit (c.is_past.ensures.live c.if-is_past.false) c.requires.line c.try_line.ensures.same c.in-Some.ensures.cuts c.in-Some.ensures.tries c.cut_line.ensures
+pub returns : goal.returns
+returns g c = stretched_line c.in_ok-stretch.ensures

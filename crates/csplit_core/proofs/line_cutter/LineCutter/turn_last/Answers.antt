@@ -5,4 +5,4 @@ pub returns-in-Some-clause-tries : goal.returns-in-Some-clause-tries
 returns-in-Some-clause-tries c = λ line finds x looked. tries_cut line _ c.requires.fit finds c.find_turn-turn.ensures.says x looked c.in-Some.cut c.in-Some.ensures.some
 
 pub returns-in-None-clause-tries : goal.returns-in-None-clause-tries
-returns-in-None-clause-tries c = λ line finds x looked. tries_none line _ c.requires.fit finds c.find_turn-turn.ensures.says x looked c.self.view_is c.in-None.ensures.none
+returns-in-None-clause-tries c = λ line finds x looked. tries_none line _ c.requires.fit finds c.find_turn-turn.ensures.says x looked c.in-None.ensures.none

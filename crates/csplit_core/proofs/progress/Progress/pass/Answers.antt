@@ -1,5 +1,5 @@
 use Rattle.std.proofs.Common.{◌∙◌, refl, sym}
-use Rattle.csplit_core.proofs.TurnLemmas.{passes_on}
+use Rattle.csplit_core.proofs.TryLemmas.{passes_on}
 use Rattle.csplit_core.proofs.progress.Progress.pass.Goals as goal
 
 pub returns : goal.returns

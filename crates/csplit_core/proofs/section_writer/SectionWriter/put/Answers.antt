@@ -1,24 +1,22 @@
-use Rattle.std.proofs.Common.{◌∙◌, ap, sym, arith}
+use Rattle.ports_core.proofs.HandedOn.{handed_on}
+use Rattle.std.proofs.Common.{arith}
 use Rattle.std.proofs.lemmas.Grind.{common_steps}
-use Rattle.csplit_core.proofs.WriterLemmas.{stop_is}
-use Rattle.csplit_core.specs.inner.Writer.{with_bytes, Goes}
-use Rattle.csplit_core.specs.Writer.{WriterState}
 use Rattle.csplit_core.proofs.WriterCalls.{put_skipped, put_file, some_bytes, put_first, put_unmade}
 use Rattle.csplit_core.proofs.section_writer.SectionWriter.put.Goals as goal
 
 pub returns-in-Skipped-clause-goes : goal.returns-in-Skipped-clause-goes
-returns-in-Skipped-clause-goes g c = put_skipped c.args.bytes.now (sym (ap (λ (w : WriterState). w.current) c.self.view_is) ∙ c.in-Skipped.is) c.requires.ready
+returns-in-Skipped-clause-goes g c = put_skipped c.args.bytes.now c.in-Skipped.is c.requires.ready
 
 pub returns-in_err-slot-in-Unmade-clause-goes : goal.returns-in_err-slot-in-Unmade-clause-goes
-returns-in_err-slot-in-Unmade-clause-goes g c = stop_is (Goes g.O.Outs.told c.args.self.now (with_bytes c.args.bytes.now) _ _ c.make_file.new.self) _ _ c.from_residual.ensures.1
-    (put_unmade c.args.bytes.now (sym (ap (λ (w : WriterState). w.current) c.self.view_is) ∙ c.in-Unmade.is) (some_bytes c.args.bytes.now c.if-is_empty.ensures) c.in_err-slot-in-Unmade.ensures)
+returns-in_err-slot-in-Unmade-clause-goes g c = rw (handed_on _ _ c.from_residual.ensures.1)
+    (put_unmade c.args.bytes.now c.in-Unmade.is (some_bytes c.args.bytes.now c.if-is_empty.ensures) c.in_err-slot-in-Unmade.ensures)
 
 pub returns-in_ok-slot-in-Unmade-clause-goes : goal.returns-in_ok-slot-in-Unmade-clause-goes
 returns-in_ok-slot-in-Unmade-clause-goes g c =
-    put_first c.args.bytes.now (sym (ap (λ (w : WriterState). w.current) c.self.view_is) ∙ c.in-Unmade.is) (some_bytes c.args.bytes.now c.if-is_empty.ensures) c.requires.ready c.in_ok-slot-in-Unmade.ensures c.append.ensures
+    put_first c.args.bytes.now c.in-Unmade.is (some_bytes c.args.bytes.now c.if-is_empty.ensures) c.requires.ready c.in_ok-slot-in-Unmade.ensures c.append.ensures
 
 pub returns-in-File-clause-goes : goal.returns-in-File-clause-goes
-returns-in-File-clause-goes g c = put_file c.args.bytes.now (sym (ap (λ (w : WriterState). w.current) c.self.view_is) ∙ c.in-File.is) c.requires.ready c.append-in-File.ensures
+returns-in-File-clause-goes g c = put_file c.args.bytes.now c.in-File.is c.requires.ready c.append-in-File.ensures
 
 pub returns-then-is_empty-clause-goes : goal.returns-then-is_empty-clause-goes
 returns-then-is_empty-clause-goes g c = grind (arith, common_steps)
