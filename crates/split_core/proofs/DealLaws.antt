@@ -1,6 +1,7 @@
 -- How the lines of a text that goes on are dealt, and which files have a line.
-use Rattle.std.proofs.Common.{◌≡◌, ℕ, ◌+◌, ◌%◌, ◌≤◌, Bool, true, false, cond, eqb, List, [], ◌∷◌, ◌++◌, refl, sym, ◌∙◌, ap, arith}
-use Rattle.std.proofs.Math.Nat.{mod-add-mod}
+use Rattle.std.proofs.Common.{◌≡◌, ℕ, ◌+◌, ◌%◌, ◌<◌, ◌≤◌, Bool, true, false, cond, eqb, List, [], ◌∷◌, ◌++◌, refl, sym, ◌∙◌, ap, arith}
+use Rattle.std.proofs.Math.Nat.{mod-add-mod, mod-lt}
+use Rattle.std.proofs.lemmas.Bool.{ne_eqb}
 use Rattle.split_core.specs.Parts.{dealt}
 use Rattle.split_core.specs.Round.{opened_by}
 
@@ -14,3 +15,9 @@ dealt_same n file one other (line ∷ lines) same = ap (λ place. cond (eqb plac
 pub opened_by-most : (delim : ℕ) (elide : Bool) (n : ℕ) (x : List ℕ) → opened_by delim elide n x ≤ n
 opened_by-most delim true n x = omega arith
 opened_by-most delim false n x = omega arith
+
+-- of n files those past the last get none
+pub dealt_past : (n file place : ℕ) (lines : List (List ℕ)) → 0 < n → n ≤ file → dealt n file place lines ≡ []
+dealt_past n file place [] some past = refl
+dealt_past n file place (line ∷ lines) some past =
+    cc (ne_eqb (place % n) file (λ is. omega (arith, is, mod-lt place some)), dealt_past n file (place + 1) lines some past)

@@ -4,16 +4,16 @@ use Rattle.std.proofs.Common.{◌≡◌, ℕ, ◌+◌, ◌≤◌, zero, suc, Lis
 use Rattle.std.proofs.Math.Nat.{add-zero, zero-add}
 use Rattle.std.proofs.lemmas.Bool.{cond_both, false≢true}
 use Rattle.std.proofs.lemmas.Result.{IfErr-weaker, on_ok_weaker}
-use Rattle.ports_core.specs.Name.{Naming, next_name}
+use Rattle.ports_core.specs.Name.{Naming, next_name, has_next}
 use Rattle.ports_core.specs.Slot.{Slot, changed_at, opened, unopened, adds, closes, with_written, with_broken, told_of, is_writable}
 use Rattle.ports_core.specs.inner.Slot.{KeepsBroken}
 use Rattle.ports_core.specs.declared.slot.Mode.TheVariants.{Fresh}
 use Rattle.ports_core.specs.declared.slot.State.TheVariants as state
-use Rattle.ports_core.specs.Part.{File, OutputsAt, IsBeginning, IsNext, Marks, IsAt, file_of, told_file}
+use Rattle.ports_core.specs.Part.{File, OutputsAt, IsBeginning, Marks, IsAt, file_of, told_file}
 use Rattle.ports_core.specs.inner.Part.{AllClosed, InTurn}
 use Rattle.ports_core.specs.Engine.{IsMet, is_verdict}
 use Rattle.ports_core.specs.declared.fault.Fault.{Fault}
-use Rattle.ports_core.specs.declared.fault.Fault.TheVariants.{Memory, Write, Open, Suffixes}
+use Rattle.ports_core.specs.declared.fault.Fault.TheVariants.{Write, Suffixes}
 use Rattle.ports_core.proofs.PartLemmas.{begins_itself, begins_more, take_begins_after, turn_between, turn_last, turn_next, outputs_count, part_begins_itself}
 use Rattle.ports_core.proofs.FileLemmas.{file_more, last_changes, gets, ended, write_makes, close_makes}
 use Rattle.ports_core.proofs.SlotLemmas.{length-changed_at}
@@ -25,7 +25,7 @@ use Rattle.split_core.proofs.ShareLaws.{shares_more, shares_themselves, shares_t
 use Rattle.split_core.specs.laws.ShareLaws.{part_begins, one_on, shares_fewer}
 use Rattle.split_core.specs.inner.PartsState.{IsAtEnd}
 use Rattle.split_core.specs.PartsState.{PartsState, OwnsFile}
-use Rattle.split_core.specs.inner.Moves.{part_of, Goes, Reaches, RunsShort, Keeps, KeepsFile, Breaks, CannotClose, OpensNone, wants_memory, breaks_write, breaks_open, lacks_names}
+use Rattle.split_core.specs.inner.Moves.{part_of, Goes, Reaches, RunsShort, Keeps, KeepsFile, Breaks, CannotClose, OpensNone, no_memory, no_file, no_name, wants_memory, breaks_write, breaks_open, lacks_names}
 
 -- names
 
@@ -97,11 +97,21 @@ breaks_later keeps lacks_names = lacks_names
 pub write_breaks : (told : Bool) {slot : ℕ} {bytes : List ℕ} {old new : List Slot} {fault : Fault} → 2 ≤ slot → IsTrue (is_writable old slot) → WritesShort told slot bytes old new fault → Breaks old new fault
 write_breaks told {slot} {bytes} {old} {new} two can (broke n cut) = breaks_write slot two (write_rose told slot bytes n old new can cut)
 
-pub open_breaks : (names : Naming) {old new : List Slot} (fault : Fault) → OpensNone names old new fault → Breaks old new fault
-open_breaks names Memory none = wants_memory
-open_breaks names {old} {new} (Open slot) none = breaks_open slot (open_rose slot none.2.0 old new none.0 none.2.2)
-open_breaks names Suffixes none = lacks_names
-open_breaks names fault none = absurd none
+pub open_breaks : {names next : Naming} {old new : List Slot} {fault : Fault} → OpensNone names next old new fault → Breaks old new fault
+open_breaks (no_memory same) = wants_memory
+open_breaks {old = old} {new} (no_file slot kept at has drew is made) = breaks_open slot (open_rose slot kept old new at made)
+open_breaks (no_name none same) = lacks_names
+
+-- what an open that failed leaves, and where it failed
+pub opens_marks : (IsName : List ℕ → Type 0) {names next : Naming} {old new : List Slot} {fault : Fault} → (IsTrue (has_next names) → IsName (next_name names)) → OpensNone names next old new fault → Marks IsName fault old new
+opens_marks IsName named (no_memory same) = same
+opens_marks IsName {names} named (no_file slot kept at has drew is made) = (at, (next_name names, kept, named has, is, made))
+opens_marks IsName named (no_name none same) = same
+
+pub opens_at : {names next : Naming} {old new : List Slot} {fault : Fault} (first : ℕ) {place count : ℕ} → place ≡ count → OpensNone names next old new fault → IsAt fault first place count
+opens_at first here (no_memory same) = tt
+opens_at first here (no_file slot kept at has drew is made) = here
+opens_at first here (no_name none same) = tt
 
 -- they are no verdict but for want of names
 pub unjudged : {old new : List Slot} {fault : Fault} → Breaks old new fault → (fault ≡ Suffixes → ⊥) → is_verdict fault ≡ false
@@ -147,11 +157,10 @@ owned_opened one old {new} at is first owns =
     let size : length new ≡ length old + 1 = ap length is ∙ length-append old (one ∷ []) in (omega (arith, owns, at), omega (arith, owns, at))
 
 -- the file could not be opened
-pub owned_unopened : (names : Naming) (old new : List Slot) (fault : Fault) → OpensNone names old new fault → KeepsFile None old None new
-owned_unopened names old new Memory none first owns = owned_same None old new (ap length none.1) first owns
-owned_unopened names old new (Open slot) none first owns = omega (arith, owns, ap length none.2.2 ∙ length-append old (unopened none.2.0 ∷ []))
-owned_unopened names old new Suffixes none first owns = owned_same None old new (ap length none.1) first owns
-owned_unopened names old new fault none first owns = absurd none
+pub owned_unopened : {names next : Naming} {old new : List Slot} {fault : Fault} → OpensNone names next old new fault → KeepsFile None old None new
+owned_unopened {old = old} {new} (no_memory same) first owns = owned_same None old new (ap length same) first owns
+owned_unopened {old = old} (no_file slot kept at has drew is made) first owns = omega (arith, owns, ap length made ∙ length-append old (unopened kept ∷ []))
+owned_unopened {old = old} {new} (no_name none same) first owns = owned_same None old new (ap length same) first owns
 
 pub on_ok : {P : Type 0} (result : Result (Unit {0}) Fault) → P → OnOk result P
 on_ok (Ok done) is = is
@@ -300,9 +309,9 @@ open_goes told names current shares old new is made = record {
 }
 
 -- or it could not be opened
-pub open_stops : (told : Bool) (names : Naming) (current : Option ℕ) (shares more : List Share) (one : Share) (old new : List Slot) (fault : Fault) → AllShut shares
-    → names.drawn ≡ length shares → OpensNone names old new fault → Goes told (from_start names) current shares (shares ++ one ∷ more) old new (Err fault)
-open_stops told names current shares more one old new fault shut drawn none = record {
+pub open_stops : (told : Bool) {names next : Naming} (current : Option ℕ) (shares more : List Share) (one : Share) {old new : List Slot} {fault : Fault} → AllShut shares
+    → names.drawn ≡ length shares → OpensNone names next old new fault → Goes told (from_start names) current shares (shares ++ one ∷ more) old new (Err fault)
+open_stops told {names} {next} current shares more one {old} {new} shut drawn none = record {
   grows = shares_more shares (one ∷ more);
   moves = λ last before at. record {
     part = part_of (from_start names) shares;
@@ -312,47 +321,24 @@ open_stops told names current shares more one old new fault shut drawn none = re
     turn = turn_next _ (shut_files (from_start names) 0 shares shut);
     reached = old;
     outputs = at;
-    marks = marks fault none;
-    from = from fault none before;
+    marks = opens_marks _ (λ has. record {
+      front = named (from_start names) 0 shares;
+      file = file_at (from_start names) (length shares) one;
+      rest = named (from_start names) (length shares + 1) more;
+      files = named_at (from_start names) shares more one (subst (λ n. is_named names n ≡ true) drawn has);
+      place = refl;
+      name_is = ap (name_of names) (sym drawn);
+    }) none;
+    from = opens_at (length before) refl none;
   };
-  short = λ is. ran (subst (OpensNone names old new) is none);
+  short = λ is. ran (subst (OpensNone names next old new) is none);
 } where
-  marks : (fault : Fault) → OpensNone names old new fault
-      → Marks (IsNext (part_of (from_start names) shares) (part_of (from_start names) (shares ++ one ∷ more))) fault old new
-  marks Memory none = none.1
-  marks (Open slot) none = (
-    none.0,
-    (
-      next_name names,
-      none.2.0,
-      record {
-        front = named (from_start names) 0 shares;
-        file = file_at (from_start names) (length shares) one;
-        rest = named (from_start names) (length shares + 1) more;
-        files = named_at (from_start names) shares more one (subst (λ n. is_named names n ≡ true) drawn none.1);
-        place = refl;
-        name_is = ap (name_of names) (sym drawn);
-      },
-      none.2.1,
-      none.2.2,
-    ),
-  )
-  marks Suffixes none = none.1
-  marks fault none = absurd none
-
-  from : (fault : Fault) → OpensNone names old new fault → (before : List Slot)
-      → IsAt fault (length before) (length (named (from_start names) 0 shares)) (length (named (from_start names) 0 shares))
-  from Memory none before = tt
-  from (Open slot) none before = refl
-  from Suffixes none before = tt
-  from fault none before = absurd none
-
-  ran : OpensNone names old new Suffixes → RunsShort told (from_start names) current shares (shares ++ one ∷ more) old new
-  ran none = record {
+  ran : OpensNone names next old new Suffixes → RunsShort told (from_start names) current shares (shares ++ one ∷ more) old new
+  ran (no_name none same) = record {
     those = shares;
     shut = shut;
-    none = subst (λ n. is_named names n ≡ false) drawn none.0;
+    none = subst (λ n. is_named names n ≡ false) drawn none;
     begins = shares_more shares (one ∷ more);
     fewer = omega (arith, length-append shares (one ∷ more));
-    moves = λ last before at. rw none.1 at;
+    moves = λ last before at. rw same at;
   }

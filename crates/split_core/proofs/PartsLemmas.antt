@@ -205,10 +205,10 @@ no_file told parts bytes {old} {new} {next} f some none = record {
     names = ap from_start none.names_same;
     owned = subst (λ current. KeepsFile current old next.current new) (sym none.none)
         (subst (λ current. KeepsFile None old current new) (sym (ap (λ (those : PartsState). those.current) none.same ∙ none.none))
-        (owned_unopened parts.names old new f none.opens));
+        (owned_unopened none.opens));
     sound = tt;
     ready = tt;
-    breaks = open_breaks parts.names f none.opens;
+    breaks = open_breaks none.opens;
   };
   begun = tt;
   goes = λ shares begun has. rw (
@@ -216,6 +216,6 @@ no_file told parts bytes {old} {new} {next} f some none = record {
     append-nil shares,
     written_some shares (parts.waiting ++ bytes) (some_bytes parts.waiting bytes some),
   )
-      (open_stops told parts.names parts.current shares [] (share state.Open (parts.waiting ++ bytes)) old new f has.shut
+      (open_stops told parts.current shares [] (share state.Open (parts.waiting ++ bytes)) has.shut
       (begun_yet has none.none).1 none.opens);
 }

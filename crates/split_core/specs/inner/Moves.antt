@@ -8,7 +8,7 @@ use Rattle.ports_core.specs.declared.slot.State.TheVariants as state
 use Rattle.ports_core.specs.Part.{Part, OutputsAt}
 use Rattle.ports_core.specs.inner.Part.{StoppedInTurn}
 use Rattle.ports_core.specs.declared.fault.Fault.{Fault}
-use Rattle.ports_core.specs.declared.fault.Fault.TheVariants.{Memory, Write, Read, Open, Suffixes, NoMatch, Range, Usage, Failed, TooLong}
+use Rattle.ports_core.specs.declared.fault.Fault.TheVariants.{Memory, Write, Open, Suffixes}
 use Rattle.split_core.specs.Parts.{most, unless_empty}
 use Rattle.split_core.specs.Split.{Share, share, is_some, is_named, named, are_named, from_start, only_files, settled_parts}
 use Rattle.split_core.specs.inner.ShareLaws.{AllShut, SharesBegin, whole_parts}
@@ -30,19 +30,12 @@ pub data Breaks (old new : List Slot) : Fault → Type 0 where
   breaks_open : (slot : ℕ) → Rose slot old new → Breaks old new (Open slot)
   lacks_names : Breaks old new Suffixes
 
--- why the next file wasn't opened
-abbrev pub OpensNone : Naming → List Slot → List Slot → Fault → Type 0
-OpensNone names old new Memory = IsTrue (has_next names) × (new ≡ old)
-OpensNone names old new (Open slot) = (slot ≡ length old) × IsTrue (has_next names)
-    × ((kept : List ℕ) × ((kept ≡ next_name names) ⊎ (kept ≡ [])) × (new ≡ old ++ unopened kept ∷ []))
-OpensNone names old new Suffixes = (has_next names ≡ false) × (new ≡ old)
-OpensNone names old new (Write slot) = ⊥
-OpensNone names old new (Read slot) = ⊥
-OpensNone names old new (NoMatch operand repetition) = ⊥
-OpensNone names old new (Range operand repetition) = ⊥
-OpensNone names old new (Usage kind word) = ⊥
-OpensNone names old new Failed = ⊥
-OpensNone names old new TooLong = ⊥
+-- why the next file wasn't opened; a name was drawn for one that can't be
+pub data OpensNone (names next : Naming) (old new : List Slot) : Fault → Type 0 where
+  no_memory : new ≡ old → OpensNone names next old new Memory
+  no_file : (slot : ℕ) (kept : List ℕ) → slot ≡ length old → IsTrue (has_next names) → next ≡ with_one_drawn names
+      → (kept ≡ next_name names) ⊎ (kept ≡ []) → new ≡ old ++ unopened kept ∷ [] → OpensNone names next old new (Open slot)
+  no_name : has_next names ≡ false → new ≡ old → OpensNone names next old new Suffixes
 
 -- What a call leaves, whatever it is for: the limit, the names but for how many were drawn, and the place of the file of
 -- the part that was begun stay.
@@ -119,7 +112,7 @@ pub data HasFile (parts : PartsState) (old new : List Slot) (next : PartsState) 
 -- the file of the part that was begun couldn't be opened
 pub record HasNone (parts : PartsState) (old new : List Slot) (next : PartsState) (fault : Fault) : Type 0 where
   pub none : parts.current ≡ None
-  pub opens : OpensNone parts.names old new fault
+  pub opens : OpensNone parts.names next.names old new fault
   pub same : next ≡ record parts { names = next.names }
   pub names_same : next.names ≡ record parts.names { drawn = next.names.drawn }
 
