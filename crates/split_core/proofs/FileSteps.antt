@@ -1,5 +1,5 @@
 -- One file is opened, written or closed.
-use Rattle.std.proofs.Common.{◌≡◌, ℕ, ◌+◌, ◌<◌, ◌≤◌, max, Bool, true, cond, ltb, List, [], ◌∷◌, ◌++◌, length, map, take, drop, get_or, ◌⊎◌, inl, inr, refl, sym, ◌∙◌, ap, subst, arith, append_assoc, length-append, IsTrue, Ok, Err, Result, OnOk, IfErr}
+use Rattle.std.proofs.Common.{◌≡◌, ℕ, ◌+◌, ◌<◌, ◌≤◌, max, Bool, true, cond, ltb, List, [], ◌∷◌, ◌++◌, length, map, take, drop, get_or, ◌⊎◌, inl, inr, refl, sym, ◌∙◌, ap, subst, arith, append_assoc, length-append, IsTrue, Ok, Err, Result}
 use Rattle.std.specs.List.{range_with_len}
 use Rattle.std.proofs.Math.Nat.{zero-add}
 use Rattle.std.proofs.Math.Path.{fun_ext}
@@ -11,7 +11,6 @@ use Rattle.std.proofs.lemmas.List.FromFn.{map-range_with_len_more}
 use Rattle.ports_core.specs.Name.{Naming, next_name, has_next}
 use Rattle.ports_core.specs.Slot.{Slot, slot_at, changed_at, opened, adds, closes, is_closable, with_written, with_broken, told_of}
 use Rattle.ports_core.specs.inner.Write as short
-use Rattle.ports_core.specs.inner.Write.{WritesShort}
 use Rattle.ports_core.specs.Part.{File, OutputsAt}
 use Rattle.ports_core.specs.declared.slot.Mode.TheVariants.{Fresh}
 use Rattle.ports_core.specs.declared.slot.State.TheVariants.{Open, Closed}
@@ -26,7 +25,7 @@ use Rattle.split_core.specs.Split.{Share, share, name_of, is_named, from_start, 
 use Rattle.split_core.specs.FilesState.{FilesState}
 use Rattle.split_core.specs.Round.{AreReady, output_at}
 use Rattle.split_core.specs.inner.Sharing.{part_by, all_open, closed_first, only_at, StandAt, KeepsFiles, Grow, Adds, Opens, HaltedAt, HaveClosed, ClosesAll, with_opened, IsOfFiles}
-use Rattle.split_core.specs.inner.Moves.{OpensNone, no_memory, no_name, no_file}
+use Rattle.split_core.specs.inner.Moves.{WritesTo, OpensNone, no_memory, no_name, no_file}
 use Rattle.ports_core.specs.Engine.{is_verdict}
 use Rattle.ports_core.specs.inner.Slot.{KeepsBroken}
 use Rattle.split_core.specs.inner.Moves.{wants_memory, breaks_write, breaks_open}
@@ -171,9 +170,9 @@ writes told {files} {had = had} {has} place bytes within is at are = changes tol
 
 -- bytes were written to a file that is open, or it broke among them
 pub written : (told : Bool) {files : FilesState} {old new : List Slot} (place : ℕ) (bytes : List ℕ) (result : Result (Unit {0}) Fault) → AreReady files old → place < length files.outputs
-    → OnOk result (new ≡ with_written (output_at files place) (told_of told bytes) old) → IfErr result (WritesShort told (output_at files place) bytes old new)
+    → WritesTo told (output_at files place) bytes old new result
     → Adds told files (only_at place bytes) place (place + 1) old files new result
-written told {files} {old} {new} place bytes (Ok done) ready within is short = record {
+written told {files} {old} {new} place bytes (Ok done) ready within is = record {
   names = refl;
   owned = owned_same (written_size (output_at files place) _ old new is);
   ready = ready_written (output_at files place) _ ready is;
@@ -183,7 +182,7 @@ written told {files} {old} {new} place bytes (Ok done) ready within is short = r
   outside = none_outside place bytes;
   leaves = λ before had has at are. outputs_as told (from_start files.names) (λ i inside. refl) (omega arith) (writes told place bytes within is at are);
 }
-written told {files} {old} {new} place bytes (Err _) ready within is (short.broke n cut) = record {
+written told {files} {old} {new} place bytes (Err _) ready within (short.broke n cut) = record {
   names = refl;
   owned = owned_same (short_size told slot bytes old new _ (short.broke n cut));
   ready = tt;
@@ -333,11 +332,9 @@ sent_within reached = omega (arith, reached.adds.opened)
 
 pub sent : {told : Bool} {files between : FilesState} {old mid new : List Slot} {place slot : ℕ} (bytes : List ℕ) (result : Result (Unit {0}) Fault)
     → Opens told files place (place + 1) old between mid (Ok tt) → slot ≡ output_at between place
-    → OnOk result (new ≡ with_written slot (told_of told bytes) mid)
-    → IfErr result (WritesShort told slot bytes mid new) → Adds told files (only_at place bytes) place (place + 1) old between new result
-sent {told} {files} {between} {old} {mid} {new} {place} bytes result reached slot_is ok err = adds_then result reached.adds (written told place bytes result reached.adds.ready (sent_within reached)
-    (subst (λ at. OnOk result (new ≡ with_written at (told_of told bytes) mid)) slot_is ok)
-    (subst (λ at. IfErr result (WritesShort told at bytes mid new)) slot_is err)) (omega arith) (omega arith) (omega arith)
+    → WritesTo told slot bytes mid new result → Adds told files (only_at place bytes) place (place + 1) old between new result
+sent {told} {between = between} {mid = mid} {new} {place} bytes result reached slot_is wrote = adds_then result reached.adds (written told place bytes result reached.adds.ready (sent_within reached)
+    (subst (λ at. WritesTo told at bytes mid new result) slot_is wrote)) (omega arith) (omega arith) (omega arith)
 
 -- a file that couldn't be reached stops the write to it as well
 pub sent_unreached : {told : Bool} {files next : FilesState} {old new : List Slot} {place : ℕ} (bytes : List ℕ) {why : Fault} → Opens told files place (place + 1) old next new (Err why)

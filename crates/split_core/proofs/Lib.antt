@@ -2,9 +2,7 @@ pub mod StepLemmas
 pub mod HeldLemmas
 pub mod MoveLemmas
 pub mod PartsLemmas
-pub mod TurnLemmas
 pub mod TakenLemmas
-pub mod PassLemmas
 pub mod PartStageLemmas
 pub mod AheadLemmas
 pub mod DealLemmas

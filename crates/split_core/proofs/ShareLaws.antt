@@ -1,10 +1,9 @@
 -- Laws of what files get: what is written once more came in, and in the end.
-use Rattle.std.proofs.Common.{◌≡◌, ℕ, List, [], ◌∷◌, ◌++◌, map, ◌⊎◌, inl, inr, refl, ap}
+use Rattle.std.proofs.Common.{◌≡◌, ℕ, List, [], ◌∷◌, ◌++◌, map, ◌⊎◌, inr, refl, ap}
 use Rattle.ports_core.specs.Part.{IsBeginning}
 use Rattle.ports_core.specs.declared.slot.State.{State}
 use Rattle.ports_core.specs.declared.slot.State.TheVariants.{Open, Closed}
 use Rattle.ports_core.proofs.PartLemmas.{begins_itself, begins_trans, kept_trans}
-use Rattle.split_core.specs.Parts.{unless_empty}
 use Rattle.split_core.specs.Split.{Share, share}
 use Rattle.split_core.specs.inner.ShareLaws.{SharesBegin, AllShut}
 use Rattle.split_core.specs.laws.ShareLaws.{shares_after}
@@ -39,9 +38,3 @@ shut_map (one ∷ bytes) = (refl, shut_map bytes)
 pub shut_more : (shares : List Share) (one : Share) → AllShut shares → one.state ≡ Closed → AllShut (shares ++ one ∷ [])
 shut_more [] one shut is = (is, tt)
 shut_more (share ∷ shares) one shut is = (shut.0, shut_more shares one shut.1 is)
-
--- a part that was begun, or wasn't yet, begins the same part with more bytes
-pub begun_grows : (front others : List Share) (now : State) (begun more : List ℕ) → IsBeginning begun more
-    → SharesBegin (front ++ map (share Open) (unless_empty begun)) (front ++ share now more ∷ others)
-begun_grows front others now [] more begins = shares_after front [] (share now more ∷ others) tt
-begun_grows front others now (byte ∷ begun) more begins = shares_after front (share Open (byte ∷ begun) ∷ []) (share now more ∷ others) (inl refl, begins, tt)

@@ -21,5 +21,4 @@ write_bytes-requires g c = record {
 pub returns : goal.returns
 returns g c = sent c.args.bytes.now c.write_bytes.result c.in_ok-reach.ensures
     (output_is c.reach.new.self c.args.place (ap (λ (files : FilesState). files.outputs) c.self.view_is)
-    (sent_within c.in_ok-reach.ensures) c.index.ensures)
-    c.write_bytes.ensures.ok c.write_bytes.ensures.err
+    (sent_within c.in_ok-reach.ensures) c.index.ensures) c.write_bytes.ensures
