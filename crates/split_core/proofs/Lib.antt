@@ -9,14 +9,11 @@ pub mod DealLemmas
 pub mod FileSteps
 pub mod FilesLemmas
 pub mod RoundLemmas
-pub mod WaysLemmas
 pub mod SectionLemmas
 pub mod PlaceLemmas
-pub mod WaitingLemmas
 pub mod AgreedLemmas
 pub mod UndecidedLemmas
 pub mod PlacedLemmas
 pub mod RoundPlacedLemmas
 pub mod CutLaws
-pub mod DealLaws
-pub mod ShareLaws
+pub mod WaysLemmas

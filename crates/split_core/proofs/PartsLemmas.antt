@@ -17,10 +17,10 @@ use Rattle.split_core.specs.Parts.{most, unless_empty}
 use Rattle.split_core.specs.Split.{Share, share, is_some, is_named, are_named, from_start, name_of}
 use Rattle.split_core.specs.laws.DealLaws.{is_some_of}
 use Rattle.split_core.specs.laws.ShareLaws.{shares_after}
-use Rattle.split_core.proofs.ShareLaws.{shut_more}
+use Rattle.split_core.proofs.CutLaws.{shut_more}
 use Rattle.split_core.specs.PartsState.{PartsState, IsReady, is_given}
 use Rattle.split_core.specs.inner.PartsState.{Fits}
-use Rattle.split_core.specs.inner.ShareLaws.{AllShut}
+use Rattle.split_core.specs.inner.CutLaws.{AllShut}
 use Rattle.split_core.specs.inner.Moves.{Keeps, KeepsFile, Breaks, Draft, draft, written, Begun, gets, turns, Moves, Found, HasNone, Extends, Turns, Shuts, WritesTo, breaks_write}
 use Rattle.split_core.proofs.MoveLemmas.{close_goes, goes_same, goes_then, goes_wider, keeps_still, keeps_then, moves_then, on_ok, open_breaks, open_goes, open_stops, owned_ended, owned_opened, owned_same, owned_unopened, write_breaks, write_goes}
 use Rattle.ports_core.proofs.SlotSteps as slot_steps

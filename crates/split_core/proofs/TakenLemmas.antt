@@ -17,12 +17,10 @@ use Rattle.ports_core.specs.declared.fault.Fault.TheVariants as fault
 use Rattle.split_core.specs.declared.step.Step.{Step}
 use Rattle.split_core.specs.declared.step.Step.TheVariants.{Goes, Ends, Begins, Waits}
 use Rattle.split_core.specs.Parts.{CutUp, most, cut_up, settled_rest, unless_empty, waiting_rest}
-use Rattle.split_core.specs.inner.CutLaws.{cut_so}
+use Rattle.split_core.specs.inner.CutLaws.{cut_so, AllShut, SharesBegin, whole_parts}
 use Rattle.split_core.specs.laws.CutLaws.{cut_on, cut_none, first_some, settled_some, settled_then_waiting}
-use Rattle.split_core.proofs.CutLaws.{cut_two}
+use Rattle.split_core.proofs.CutLaws.{cut_two, shut_map, shares_trans}
 use Rattle.split_core.specs.Split.{Share, share, is_some, are_named, from_start, named, settled_parts}
-use Rattle.split_core.specs.inner.ShareLaws.{AllShut, SharesBegin, whole_parts}
-use Rattle.split_core.proofs.ShareLaws.{shut_map, shares_trans}
 use Rattle.split_core.specs.laws.ShareLaws.{part_begins, settled_on, settled_grow, shares_after}
 use Rattle.split_core.specs.inner.Step.{IsTurned, Leads}
 use Rattle.split_core.specs.PartsState.{PartsState, Lacks, Stands, IsReady, is_given}

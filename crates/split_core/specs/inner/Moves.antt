@@ -10,7 +10,7 @@ use Rattle.ports_core.specs.declared.fault.Fault.{Fault}
 use Rattle.ports_core.specs.declared.fault.Fault.TheVariants.{Memory, Write, Open, Suffixes}
 use Rattle.split_core.specs.Parts.{most, unless_empty}
 use Rattle.split_core.specs.Split.{Share, share, is_some, is_named, named, are_named, from_start, only_files, settled_parts}
-use Rattle.split_core.specs.inner.ShareLaws.{AllShut, SharesBegin, whole_parts}
+use Rattle.split_core.specs.inner.CutLaws.{AllShut, SharesBegin, whole_parts}
 use Rattle.split_core.specs.PartsState.{PartsState, Stands, IsReady, OwnsFile, is_given}
 use Rattle.split_core.specs.inner.PartsState.{IsAtEnd}
 
