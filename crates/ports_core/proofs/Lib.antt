@@ -18,3 +18,4 @@ pub mod MessageLemmas
 pub mod SlotSteps
 pub mod AgreedLemmas
 pub mod Runs
+pub mod PartSteps

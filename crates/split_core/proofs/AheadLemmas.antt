@@ -11,8 +11,7 @@ use Rattle.std.proofs.lemmas.List.{get_or-drop, get_or-take, take_min, take_more
 use Rattle.seg_core.specs.Line.{HasNone, lines_of, delimiters}
 use Rattle.seg_core.proofs.Delimiters.{delimiters-append, delimiters-one_yes}
 use Rattle.seg_core.proofs.LinesOf.{lines_of-complete}
-use Rattle.split_core.specs.inner.FirstLine.{IsFirstLine}
-use Rattle.split_core.specs.inner.Ahead.{Sees, delimiter_mask}
+use Rattle.split_core.specs.inner.Ahead.{IsFirstLine, Sees, delimiter_mask}
 use Rattle.split_core.specs.declared.complete_lines.Ahead.{Ahead}
 use Rattle.seg_core.proofs.NextLine.{delimiters-none}
 

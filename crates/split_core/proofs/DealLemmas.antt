@@ -14,8 +14,8 @@ use Rattle.ports_core.specs.Slot.{changed_at}
 use Rattle.ports_core.proofs.SlotLemmas.{length-changed_at, set-changed}
 use Rattle.split_core.specs.Parts.{dealt}
 use Rattle.split_core.specs.inner.Dealt.{dealt_piece, Gathers}
-use Rattle.split_core.specs.inner.FirstLine.{IsFirstLine}
-use Rattle.split_core.proofs.DealLaws.{dealt_same}
+use Rattle.split_core.specs.inner.Ahead.{IsFirstLine}
+use Rattle.split_core.proofs.CutLaws.{dealt_same}
 use Rattle.ports_core.proofs.CounterLemmas.{no_length}
 
 -- of a piece what is left is still to be gathered

@@ -1,120 +1,88 @@
 -- One file is opened, written or closed.
-use Rattle.std.proofs.Common.{◌≡◌, ◌≢◌, ℕ, ◌+◌, ◌<◌, ◌≤◌, zero, suc, Bool, List, [], ◌∷◌, ◌++◌, length, map, take, drop, get_or, ◌⊎◌, inl, inr, refl, sym, ◌∙◌, ap, subst, arith, length-append, IsTrue, Ok, Err, Result, OnOk, IfErr}
+use Rattle.std.proofs.Common.{◌≡◌, ℕ, ◌+◌, ◌<◌, ◌≤◌, max, Bool, true, cond, ltb, List, [], ◌∷◌, ◌++◌, length, map, take, drop, get_or, ◌⊎◌, inl, inr, refl, sym, ◌∙◌, ap, subst, arith, append_assoc, length-append, IsTrue, Ok, Err, Result}
+use Rattle.std.specs.List.{range_with_len}
+use Rattle.std.proofs.Math.Nat.{zero-add}
+use Rattle.std.proofs.Math.Path.{fun_ext}
 use Rattle.std.proofs.Math.Seq.{get_or-append_seam}
-use Rattle.std.proofs.lemmas.Bool.{cases_lt, false≢true}
-use Rattle.std.proofs.lemmas.List.{map-append, length-map, length-take, take_all, get_or_append_left, take-append-drop, take-take}
-use Rattle.ports_core.specs.Name.{Naming, next_name, with_one_drawn}
-use Rattle.ports_core.specs.Slot.{Slot, slot_at, changed_at, opened, adds, breaks, closes, is_writable, is_closable, with_written, with_broken, told_of, broke, numberless, Rose}
+use Rattle.std.proofs.lemmas.Bool.{cases_lt, false≢true, eq-eqb, ne_eqb}
+use Rattle.std.proofs.lemmas.Bool.Decides.{nat_tests}
+use Rattle.std.proofs.lemmas.List.{append-nil, get_or_append_left, take-append-drop}
+use Rattle.std.proofs.lemmas.List.FromFn.{map-range_with_len_more}
+use Rattle.ports_core.specs.Name.{Naming, next_name, has_next}
+use Rattle.ports_core.specs.Slot.{Slot, slot_at, changed_at, opened, adds, closes, is_closable, with_written, with_broken, told_of}
 use Rattle.ports_core.specs.inner.Write as short
-use Rattle.ports_core.specs.inner.Write.{WritesShort}
-use Rattle.ports_core.specs.Part.{OutputsAt, Begins, Marks, IsAt}
+use Rattle.ports_core.specs.Part.{File, OutputsAt}
 use Rattle.ports_core.specs.declared.slot.Mode.TheVariants.{Fresh}
-use Rattle.ports_core.specs.declared.slot.State.TheVariants.{Open}
+use Rattle.ports_core.specs.declared.slot.State.TheVariants.{Open, Closed}
 use Rattle.ports_core.specs.declared.fault.Fault.{Fault}
 use Rattle.ports_core.specs.declared.fault.Fault.TheVariants as fault
-use Rattle.ports_core.proofs.PartLemmas.{nothing_begins, sound_at}
+use Rattle.ports_core.proofs.PartLemmas.{begins_itself, sound_at}
 use Rattle.ports_core.proofs.SlotLemmas.{length-changed_at}
 use Rattle.ports_core.proofs.WriteLemmas.{writable-written}
-use Rattle.ports_core.proofs.FileLemmas.{file_more, file_changes, write_makes, close_makes, gets, ended}
-use Rattle.ports_core.proofs.SlotSteps.{keeps_again, keeps_close, keeps_open, keeps_same, keeps_write, open_rose, rose_later, write_rose, writable_within, writable_before, opened_writable, broken_there}
-use Rattle.split_core.specs.Split.{share, name_of, from_start, file_at, only_files}
+use Rattle.ports_core.proofs.FileLemmas.{Makes, file_more, file_changes, write_makes, close_makes, gets, ended}
+use Rattle.ports_core.proofs.SlotSteps.{keeps_again, keeps_close, keeps_open, keeps_same, keeps_write, open_rose, rose_later, write_rose, writable_elsewhere, writable_within, writable_before, opened_writable, broken_there, written_size, short_size, broken_size}
+use Rattle.split_core.specs.Split.{Share, share, name_of, is_named, from_start, file_at, only_files}
 use Rattle.split_core.specs.FilesState.{FilesState}
-use Rattle.split_core.specs.Round.{AreReady, OwnsFiles, output_at}
-use Rattle.split_core.specs.inner.Sharing.{added, only_at, filed, closed_first, open_part, closing_part, StandAt, KeepsFiles, Adds, IsDue, HaveClosed, ClosesShort, with_opened, FailsToFollow, could_not, unnamed, IsOfFiles}
-use Rattle.split_core.specs.inner.Moves.{CannotClose}
+use Rattle.split_core.specs.Round.{AreReady, output_at}
+use Rattle.split_core.specs.inner.Sharing.{part_by, all_open, closed_first, only_at, StandAt, KeepsFiles, Grow, Adds, Opens, HaltedAt, HaveClosed, ClosesAll, with_opened, IsOfFiles}
+use Rattle.split_core.specs.inner.Moves.{WritesTo, OpensNone, no_memory, no_name, no_file}
 use Rattle.ports_core.specs.Engine.{is_verdict}
 use Rattle.ports_core.specs.inner.Slot.{KeepsBroken}
 use Rattle.split_core.specs.inner.Moves.{wants_memory, breaks_write, breaks_open}
 use Rattle.split_core.specs.Sharing.{CannotOpen}
-use Rattle.split_core.proofs.FilesLemmas.{added_none, filed_more, filed_gets, filed_ends, parts_begin, closed_shares, length-added, take_begin, length-only, only_begin, only_before, only_again, idle_before, idle_at, new_at, added_next, adds_then, adds_wider, take_filed, drop_filed}
+use Rattle.split_core.proofs.MoveLemmas.{opens_marks, opens_at}
+use Rattle.split_core.proofs.FilesLemmas.{adds_idle, adds_not, adds_then, adds_wider, changed_by, grow_by, outputs_as, stops_in_order}
 use Rattle.ports_core.proofs.CounterLemmas.{same_default}
 
 -- Opening
 
--- the output that was added, and those before it
-
-last_output : (outputs : List ℕ) {slot : ℕ} (place : ℕ) → place ≡ length outputs → get_or (outputs ++ slot ∷ []) place 0 ≡ slot
-last_output outputs {slot} place is = ap (λ n. get_or (outputs ++ slot ∷ []) n 0) is ∙ get_or-append_seam outputs slot [] 0
-
-output_before : (outputs : List ℕ) (slot place : ℕ) → place < length outputs → get_or (outputs ++ slot ∷ []) place 0 ≡ get_or outputs place 0
-output_before outputs slot place within = get_or_append_left outputs (slot ∷ []) 0 place within
+-- what is so of each output and of one more
+each_output : (P : ℕ → ℕ → Type 0) (outputs : List ℕ) (slot : ℕ) → ((place : ℕ) → place < length outputs → P place (get_or outputs place 0)) → P (length outputs) slot
+    → (place : ℕ) → place < length (outputs ++ slot ∷ []) → P place (get_or (outputs ++ slot ∷ []) place 0)
+each_output P outputs slot before last place within = elim (cases_lt place (length outputs)) [
+  | inl less ↦ subst (P place) (sym (get_or_append_left outputs (slot ∷ []) 0 place less)) (before place less)
+  | inr past ↦
+      let here : length outputs ≡ place = omega (arith, past, length-append outputs (slot ∷ [])) in
+      subst (λ n. P n (get_or (outputs ++ slot ∷ []) n 0)) here (subst (P (length outputs)) (sym (get_or-append_seam outputs slot [] 0)) last)
+]
 
 -- each output is one of the slots
 output_within : {files : FilesState} {slots : List Slot} (place : ℕ) → AreReady files slots → place < length files.outputs → output_at files place < length slots
 output_within {files} {slots} place ready within = writable_within (output_at files place) slots (ready.closable place within).1
 
-ready_opened : {files next : FilesState} {old new : List Slot} (name : List ℕ) → AreReady files old → next ≡ with_opened (length old) files → new ≡ old ++ opened name Fresh ∷ [] → AreReady next new
-ready_opened {files} {old} name ready made is = rw (made, is) (record {
+ready_opened : {files : FilesState} {old new : List Slot} (name : List ℕ) → AreReady files old → new ≡ old ++ opened name Fresh ∷ [] → AreReady (with_opened (length old) files) new
+ready_opened {files} {old} name ready is = rw is (record {
   streams = omega (arith, length-append old (opened name Fresh ∷ []), ready.streams);
   drawn = ap (λ n. n + 1) ready.drawn ∙ sym (length-append files.outputs (length old ∷ []));
-  apart = λ place other less within. apart place other less (cases_lt other (length files.outputs)) (omega (arith, length-append files.outputs (length old ∷ []), within));
-  closable = λ place within. closable place (cases_lt place (length files.outputs)) (omega (arith, length-append files.outputs (length old ∷ []), within));
-}) where
-  outputs : List ℕ
-  outputs = files.outputs ++ length old ∷ []
-
-  apart : (place other : ℕ) → place < other → (other < length files.outputs) ⊎ (length files.outputs ≤ other) → other < length files.outputs + 1 → get_or (files.outputs ++ length old ∷ []) place 0 < get_or (files.outputs ++ length old ∷ []) other 0
-  apart place other less (inl before) within =
-      rw (output_before files.outputs (length old) place (omega arith), output_before files.outputs (length old) other before) (ready.apart place other less before)
-  apart place other less (inr past) within =
-      rw (output_before files.outputs (length old) place (omega arith), last_output files.outputs other (omega arith)) (output_within place ready (omega arith))
-
-  closable : (place : ℕ) → (place < length files.outputs) ⊎ (length files.outputs ≤ place) → place < length files.outputs + 1 → is_closable (old ++ opened name Fresh ∷ []) (get_or (files.outputs ++ length old ∷ []) place 0)
-  closable place (inl before) within = rw (output_before files.outputs (length old) place before)
-      ((ready.closable place before).0, writable_before old (old ++ opened name Fresh ∷ []) (output_at files place) (opened name Fresh) (output_within place ready before) refl (ready.closable place before).1)
-  closable place (inr past) within = rw (last_output files.outputs place (omega arith)) (ready.streams, opened_writable old (old ++ opened name Fresh ∷ []) (length old) name Fresh refl refl)
-
-owned_opened : {files next : FilesState} {old new : List Slot} (name : List ℕ) → files.names.drawn ≡ length files.outputs → next ≡ with_opened (length old) files → new ≡ old ++ opened name Fresh ∷ [] → KeepsFiles files old next new
-owned_opened {files} {old} name drawn made is first owns = rw (made, is) (record {
-  stand = λ place within. stand place (cases_lt place (length files.outputs)) (omega (arith, length-append files.outputs (length old ∷ []), within));
-  last = λ same. (omega (arith, length-append files.outputs (length old ∷ []), length-append old (opened name Fresh ∷ []), owns.last drawn));
-}) where
-  stand : (place : ℕ) → (place < length files.outputs) ⊎ (length files.outputs ≤ place) → place < length files.outputs + 1 → get_or (files.outputs ++ length old ∷ []) place 0 ≡ first + place
-  stand place (inl before) within = output_before files.outputs (length old) place before ∙ owns.stand place before
-  stand place (inr past) within = let all = owns.last drawn in let here : length old ≡ first + place = omega arith in last_output files.outputs place (omega arith) ∙ here
-
--- the file could not be opened: then a name was drawn for it, or nothing changed
-owned_unopened : {files next : FilesState} {old new : List Slot} {why : Fault} → files.names.drawn ≡ length files.outputs → FailsToFollow files old next new why → KeepsFiles files old next new
-owned_unopened drawn (could_not why fails made) first owns = rw made (record {
-  stand = owns.stand;
-  last = λ same. absurd (omega (arith, same, drawn));
+  apart = λ place other less within. each_output (λ at out. (place : ℕ) → place < at → get_or (files.outputs ++ length old ∷ []) place 0 < out) files.outputs (length old)
+      (λ other inside place less. rw (get_or_append_left files.outputs (length old ∷ []) 0 place (omega arith)) (ready.apart place other less inside))
+      (λ place less. rw (get_or_append_left files.outputs (length old ∷ []) 0 place less) (output_within place ready less)) other within place less;
+  closable = each_output (λ at out. is_closable (old ++ opened name Fresh ∷ []) out) files.outputs (length old)
+      (λ place within. ((ready.closable place within).0, writable_before old _ _ (opened name Fresh) (output_within place ready within) refl (ready.closable place within).1))
+      (ready.streams, opened_writable old _ (length old) name Fresh refl refl);
 })
-owned_unopened {next} {old} drawn (unnamed same made) first owns = subst (λ slots. OwnsFiles next first slots) (sym same) (subst (λ those. OwnsFiles those first old) (sym made) owns)
 
-opens : (told : Bool) (files : FilesState) (before : List Slot) (these : List (List ℕ)) (old new : List Slot) (place : ℕ) → files.names.drawn ≡ place → length these ≡ place
-    → new ≡ old ++ opened (next_name files.names) Fresh ∷ [] → OutputsAt told before (open_part files.names these) old
-    → OutputsAt told before (open_part files.names (added these (only_at place []))) new
-opens told files before these old new place drawn count is at = subst (λ those. OutputsAt told before (only_files those) new) (sym files_are)
-    (file_more told before (open_part files.names these) old new (name_of names place) Fresh at (is ∙ ap (λ place. old ++ opened (name_of names place) Fresh ∷ []) drawn)) where
-      names : Naming
-      names = from_start files.names
+owned_opened : {files : FilesState} {old new : List Slot} (name : List ℕ) → files.names.drawn ≡ length files.outputs → new ≡ old ++ opened name Fresh ∷ [] → KeepsFiles files old (with_opened (length old) files) new
+owned_opened {files} {old} name drawn is first owns = rw is (record {
+  stand = each_output (λ place out. out ≡ first + place) files.outputs (length old) owns.stand (sym (owns.last drawn));
+  last = λ same. (omega (arith, length-append files.outputs (length old ∷ []), length-append old (opened name Fresh ∷ []), owns.last drawn));
+})
 
-      place_is : 0 + length (map (share Open) these) ≡ place
-      place_is = omega (arith, length-map these (share Open))
+-- the file could not be opened: then a name was drawn for it, or no output was added
+owned_unopened : (files : FilesState) (names : Naming) {old new : List Slot} {why : Fault} → files.names.drawn ≡ length files.outputs → OpensNone files.names names old new why
+    → KeepsFiles files old (record files { names = names }) new
+owned_unopened files names drawn (no_memory same) first owns = record { stand = owns.stand; last = λ also. owns.last drawn ∙ sym (ap length same) }
+owned_unopened files names drawn (no_name has same) first owns = record { stand = owns.stand; last = λ also. owns.last drawn ∙ sym (ap length same) }
+owned_unopened files names drawn (no_file slot kept at has drew is made) first owns =
+    record { stand = owns.stand; last = λ also. absurd (omega (arith, also, drawn, ap (λ (those : Naming). those.drawn) drew)) }
 
-      files_are : filed names 0 (map (share Open) (added these (only_at place []))) ≡ filed names 0 (map (share Open) these) ++ file_at names place (share Open []) ∷ []
-      files_are = cc (new_at place these count, map-append (share Open) these ([] ∷ []), filed_more names 0 (map (share Open) these) (share Open []), place_is)
+fails_caused : {names next : Naming} {old new : List Slot} {why : Fault} → IsTrue (has_next names) → OpensNone names next old new why → CannotOpen old new why
+fails_caused has (no_memory same) = inl refl
+fails_caused {old = old} {new} has (no_file slot kept at _ drew is made) = inr (slot, refl, open_rose slot kept old new at made)
+fails_caused has (no_name none same) = absurd (false≢true (sym none ∙ has))
 
-marks_failed : (IsName : List ℕ → Type 0) {files next : FilesState} {old new : List Slot} {why : Fault} → IsName (next_name files.names) → FailsToFollow files old next new why → Marks IsName why old new
-marks_failed IsName {files} named (could_not _ (broke slot kept is kept_is made) drew) = (is, (next_name files.names, kept, named, kept_is, made))
-marks_failed IsName named (could_not _ (numberless full same) drew) = same
-marks_failed IsName named (unnamed same made) = same
-
-from_next : {files next : FilesState} {old new : List Slot} {why : Fault} (first : ℕ) {place count : ℕ} → place ≡ count → FailsToFollow files old next new why → IsAt why first place count
-from_next first here (could_not _ (broke slot kept is kept_is made) drew) = here
-from_next first here (could_not _ (numberless full same) drew) = tt
-from_next first here (unnamed same made) = tt
-
-pub fails_caused : {files next : FilesState} {old new : List Slot} (why : Fault) → FailsToFollow files old next new why → CannotOpen old new why
-fails_caused {old} {new} _ (could_not _ (broke slot kept is kept_is made) drew) = inr (slot, refl, open_rose slot kept old new is made)
-fails_caused _ (could_not _ (numberless full same) drew) = inl refl
-fails_caused _ (unnamed same made) = inl refl
-
-pub no_memory : {old new : List Slot} → IsOfFiles old new fault.Memory
-no_memory = (wants_memory, λ named. false≢true (ap is_verdict named))
-
-pub of_files : {old new : List Slot} {why : Fault} → CannotOpen old new why → IsOfFiles old new why
-of_files {old} {new} (inl none) = subst (IsOfFiles old new) (sym none) no_memory
+of_files : {old new : List Slot} {why : Fault} → CannotOpen old new why → IsOfFiles old new why
+of_files {old} {new} (inl none) = subst (IsOfFiles old new) (sym none) (wants_memory, λ named. false≢true (ap is_verdict named))
 of_files {old} {new} (inr (slot, is, rose)) = subst (IsOfFiles old new) (sym is) (breaks_open slot rose, λ named. false≢true (ap is_verdict named))
 
 pub cannot_later : (old mid new : List Slot) {why : Fault} → KeepsBroken old mid → CannotOpen mid new why → CannotOpen old new why
@@ -122,57 +90,49 @@ cannot_later old mid new stay (inl none) = inl none
 cannot_later old mid new stay (inr (slot, is, rose)) = inr (slot, is, rose_later slot old mid new stay rose)
 
 -- the file is open already
-pub reached_before : (told : Bool) {files : FilesState} {old : List Slot} {place : ℕ} → AreReady files old → place < length files.outputs
-    → Adds told files (only_at place []) place place old files old (Ok tt)
-reached_before told {files} {old} {place} ready within = record {
-  names = refl;
-  owned = λ first owns. owns;
-  ready = ready;
-  opened = omega (arith, length-only place []);
-  sound = keeps_same old old refl;
-  caused = tt;
-  leaves = λ before these at. subst (λ those. OutputsAt told before (open_part files.names those) old) (sym (idle_at place these (omega (arith, within, at.count)))) at.outputs;
-}
+pub reached_before : (told : Bool) {files : FilesState} {old : List Slot} (place : ℕ) → AreReady files old → place < length files.outputs → Opens told files place (place + 1) old files old (Ok tt)
+reached_before told place ready within = record { adds = adds_idle told _ place (place + 1) (λ i. refl) (omega arith) ready; caused = tt }
 
--- the next file was opened, or it couldn't be
-pub reached : (told : Bool) {files next : FilesState} {old new : List Slot} {place : ℕ} (result : Result (Unit {0}) Fault) → AreReady files old → place ≡ length files.outputs
-    → from_start next.names ≡ from_start files.names → OnOk result (next ≡ with_opened (length old) files) → OnOk result (new ≡ old ++ opened (next_name files.names) Fresh ∷ [])
-    → IfErr result (FailsToFollow files old next new) → Adds told files (only_at place []) place place old next new result
-reached told {files} {next} {old} {new} {place} (Ok done) ready here names made is fails = record {
-  names = names;
-  owned = owned_opened (next_name files.names) ready.drawn made is;
-  ready = ready_opened (next_name files.names) ready made is;
-  opened = ap (λ (those : FilesState). length those.outputs) made ∙ length-append files.outputs (length old ∷ []) ∙ omega (arith, length-only place [], here);
-  sound = keeps_open (opened (next_name files.names) Fresh) old new is;
+-- the next file was opened
+pub reached : (told : Bool) (files : FilesState) {old new : List Slot} (place : ℕ) → AreReady files old → place ≡ length files.outputs
+    → new ≡ old ++ opened (next_name files.names) Fresh ∷ [] → Opens told files place (place + 1) old (with_opened (length old) files) new (Ok tt)
+reached told files {old} {new} place ready here is = record {
+  adds = record {
+    names = refl;
+    owned = owned_opened (next_name files.names) ready.drawn is;
+    ready = ready_opened (next_name files.names) ready is;
+    opened = omega (arith, length-append files.outputs (length old ∷ []), here);
+    sound = keeps_open (opened (next_name files.names) Fresh) old new is;
+    caused = tt;
+    outside = λ i out. refl;
+    leaves = λ before had has at are.
+        let count : max (length files.outputs) (place + 1) ≡ length files.outputs + 1 = omega (arith, here) in
+        subst (λ n. OutputsAt told before (part_by (from_start files.names) (all_open has) n) new) (sym count)
+        (subst (λ files. OutputsAt told before (only_files files) new) (list before had has at are)
+        (file_more told before (part_by (from_start files.names) (all_open had) (length files.outputs)) old new (name_of files.names files.names.drawn) Fresh at.outputs is));
+  };
   caused = tt;
-  leaves = λ before these at. opens told files before these old new place (ready.drawn ∙ sym here) (at.count ∙ sym here) is at.outputs;
-}
-reached told {files} {old} {place} (Err why) ready here names made is fails = record {
-  names = names;
-  owned = owned_unopened ready.drawn fails;
-  ready = tt;
-  opened = tt;
-  sound = tt;
-  caused = of_files (fails_caused why fails);
-  leaves = λ before these at.
-      let long : length these ≡ place = at.count ∙ sym here in
-      let idle : added these (take place (only_at place [])) ≡ these = idle_before place [] these (omega arith) in record {
-        place = place;
-        after = omega arith;
-        within = omega arith;
-        some = take place (only_at place []);
-        few = omega (arith, length-take place (only_at place []));
-        begin = take_begin place (only_at place []);
-        done = take-take place place (only_at place []) (omega arith);
-        reached = old;
-        outputs = rw idle at.outputs;
-        marks = rw idle (marks_failed (IsDue files.names these (added these (only_at place []))) (
-          ap (name_of (from_start files.names)) (ready.drawn ∙ sym at.count),
-          omega (arith, length-added these (only_at place []), length-only place [], long),
-        ) fails);
-        from = rw idle (from_next (length before) (sym long) fails);
-      };
-}
+} where
+  file : (ℕ → List ℕ) → ℕ → File
+  file had i = file_at (from_start files.names) i (all_open had i)
+
+  list : (before : List Slot) (had has : ℕ → List ℕ) → StandAt told files before had old → ((i : ℕ) → has i ≡ had i ++ [])
+      → map (file had) (range_with_len 0 (length files.outputs)) ++ file_at files.names files.names.drawn (share Open []) ∷ [] ≡ map (file has) (range_with_len 0 (length files.outputs + 1))
+  list before had has at are =
+      let same : ◌≡◌ {A = ℕ → List ℕ} has had = fun_ext (λ i. are i ∙ append-nil (had i)) in
+      sym (map-range_with_len_more (file has) 0 (length files.outputs) (length files.outputs) (zero-add (length files.outputs))
+      ∙ cc (same, at.none (length files.outputs) (omega arith), ready.drawn))
+
+-- or it couldn't be
+pub reached_not : (told : Bool) (files : FilesState) {names : Naming} {old new : List Slot} (place : ℕ) {why : Fault} → AreReady files old → place ≡ length files.outputs → is_named files.names place ≡ true
+    → names ≡ record files.names { drawn = names.drawn } → OpensNone files.names names old new why → Opens told files place (place + 1) old (record files { names = names }) new (Err why)
+reached_not told files {names} {old} {new} place {why} ready here named same fails = record {
+  adds = adds_not told files _ place (place + 1) why (omega arith) (omega arith) (omega arith) (ap from_start same) (owned_unopened files names ready.drawn fails) (of_files caused) (λ i out. refl)
+      (opens_marks _ (λ has. (ap (name_of files.names) ready.drawn, omega arith)) fails) (λ first. opens_at first here fails);
+  caused = caused;
+} where
+  caused : CannotOpen old new why
+  caused = fails_caused (subst (λ n. is_named files.names n ≡ true) (here ∙ sym ready.drawn) named) fails
 
 -- Writing
 
@@ -185,53 +145,80 @@ ready_written {files} slot bytes {old} ready is = rw is (record {
 })
 
 -- there are as many slots as before
-pub owned_same : {files : FilesState} {old new : List Slot} → length new ≡ length old → KeepsFiles files old files new
+owned_same : {files : FilesState} {old new : List Slot} → length new ≡ length old → KeepsFiles files old files new
 owned_same size first owns = record { stand = owns.stand; last = λ drawn. owns.last drawn ∙ sym size }
 
-writes : (told : Bool) {files : FilesState} {before : List Slot} {these : List (List ℕ)} {old new : List Slot} (place : ℕ) (bytes : List ℕ) → place < length files.outputs
-    → new ≡ with_written (output_at files place) (told_of told bytes) old → StandAt told files before these old
-    → OutputsAt told before (open_part files.names (added these (only_at place bytes))) new
-writes told {files} {before} {these} {old} {new} place bytes within is at =
-    subst (λ those. OutputsAt told before (only_files those) new) (filed_gets (from_start files.names) 0 place bytes these (omega (arith, within, at.count)))
-    (file_changes told (adds (told_of told bytes)) (gets bytes) (write_makes told bytes) before (open_part files.names these) old new place at.outputs
-    (is ∙ ap (λ slot. with_written slot (told_of told bytes) old) (at.owns.stand place within)))
+-- the file at a place changed
+changes : (told : Bool) (change : Slot → Slot) (makes : File → File) → Makes told change makes → (files : FilesState) {before now new : List Slot} {low : ℕ → Share} (high : ℕ → Share) (place : ℕ)
+    → output_at files place ≡ length before + place → OutputsAt told before (part_by (from_start files.names) low (length files.outputs)) now → place < length files.outputs → new ≡ changed_at (output_at files place) change now
+    → ((i : ℕ) → (i ≡ place → ⊥) → low i ≡ high i) → makes (file_at (from_start files.names) place (low place)) ≡ file_at (from_start files.names) place (high place)
+    → OutputsAt told before (part_by (from_start files.names) high (length files.outputs)) new
+changes told change makes fits files {before} {now} {new} {low} high place stands at within is other here =
+    subst (λ those. OutputsAt told before (only_files those) new) (changed_by makes _ _ 0 (length files.outputs) place (zero-add place) within (λ i differs. ap (file_at (from_start files.names) i) (other i differs)) here)
+    (file_changes told change makes fits before (part_by (from_start files.names) low (length files.outputs)) now new place at
+    (is ∙ ap (λ slot. changed_at slot change now) stands))
+
+none_outside : (place : ℕ) (bytes : List ℕ) (i : ℕ) → (i < place) ⊎ (place + 1 ≤ i) → only_at place bytes i ≡ []
+none_outside place bytes i out = ap (λ is. cond is bytes []) (ne_eqb i place (λ same. omega (arith, out, same)))
+
+writes : (told : Bool) {files : FilesState} {before : List Slot} {had has : ℕ → List ℕ} {old new : List Slot} (place : ℕ) (bytes : List ℕ) → place < length files.outputs
+    → new ≡ with_written (output_at files place) (told_of told bytes) old → StandAt told files before had old → ((i : ℕ) → has i ≡ had i ++ only_at place bytes i)
+    → OutputsAt told before (part_by (from_start files.names) (all_open has) (length files.outputs)) new
+writes told {files} {had = had} {has} place bytes within is at are = changes told (adds (told_of told bytes)) (gets bytes) (write_makes told bytes) files (all_open has) place (at.owns.stand place within) at.outputs within is
+    (λ i differs. ap (share Open) (sym (are i ∙ ap (λ is. had i ++ cond is bytes []) (ne_eqb i place differs) ∙ append-nil (had i))))
+    (ap (λ bytes. file_at (from_start files.names) place (share Open bytes)) (sym (are place ∙ ap (λ is. had place ++ cond is bytes []) (eq-eqb place place refl))))
 
 -- bytes were written to a file that is open, or it broke among them
 pub written : (told : Bool) {files : FilesState} {old new : List Slot} (place : ℕ) (bytes : List ℕ) (result : Result (Unit {0}) Fault) → AreReady files old → place < length files.outputs
-    → OnOk result (new ≡ with_written (output_at files place) (told_of told bytes) old) → IfErr result (WritesShort told (output_at files place) bytes old new)
-    → Adds told files (only_at place bytes) place place old files new result
-written told {files} {old} {new} place bytes (Ok done) ready within is short = record {
+    → WritesTo told (output_at files place) bytes old new result
+    → Adds told files (only_at place bytes) place (place + 1) old files new result
+written told {files} {old} {new} place bytes (Ok done) ready within is = record {
   names = refl;
-  owned = owned_same (ap length is ∙ length-changed_at (output_at files place) _ old);
-  ready = ready_written (output_at files place) (told_of told bytes) ready is;
-  opened = omega (arith, length-only place bytes);
-  sound = keeps_write (output_at files place) (told_of told bytes) old new is;
+  owned = owned_same (written_size (output_at files place) _ old new is);
+  ready = ready_written (output_at files place) _ ready is;
+  opened = omega arith;
+  sound = keeps_write (output_at files place) _ old new is;
   caused = tt;
-  leaves = λ before these at. writes told place bytes within is at;
+  outside = none_outside place bytes;
+  leaves = λ before had has at are. outputs_as told (from_start files.names) (λ i inside. refl) (omega arith) (writes told place bytes within is at are);
 }
-written told {files} {old} {new} place bytes (Err _) ready within is (short.broke n cut) = record {
+written told {files} {old} {new} place bytes (Err _) ready within (short.broke n cut) = record {
   names = refl;
-  owned = owned_same (ap length cut.slots ∙ length-changed_at slot breaks _ ∙ length-changed_at slot (adds (told_of told (take n bytes))) old);
+  owned = owned_same (short_size told slot bytes old new _ (short.broke n cut));
   ready = tt;
   opened = tt;
   sound = tt;
   caused = (breaks_write slot (ready.closable place within).0 (write_rose told slot bytes n old new (ready.closable place within).1 cut), λ named. false≢true (ap is_verdict named));
-  leaves = λ before these at. record {
+  outside = none_outside place bytes;
+  leaves = λ before had has at are. record {
     place = place;
     after = omega arith;
     within = omega arith;
-    some = only_at place (take n bytes);
-    few = omega (arith, length-only place (take n bytes));
-    begin = only_begin place (take n bytes) bytes (drop n bytes, sym (take-append-drop n bytes));
-    done = only_before place place (take n bytes) bytes (omega arith);
+    part = all_open (λ i. had i ++ only_at place (take n bytes) i);
+    some = length files.outputs;
+    inside = omega arith;
+    above = subst (λ many. Grow place (place + 1) (all_open had) (length files.outputs) (all_open (λ i. had i ++ only_at place (take n bytes) i)) many) count
+        (grow_by place (place + 1) (only_at place (take n bytes)) (length files.outputs) (none_outside place (take n bytes)) (λ i. refl));
+    below = grow_by place (place + 1) (only_at place (drop n bytes)) (length files.outputs) (none_outside place (drop n bytes))
+        (λ i. are i ∙ ap (λ those. had i ++ those) (parted i) ∙ sym (append_assoc (had i) (only_at place (take n bytes) i) (only_at place (drop n bytes) i)));
     reached = with_written slot (told_of told (take n bytes)) old;
-    outputs = writes told place (take n bytes) within refl at;
+    outputs = writes told place (take n bytes) within refl at (λ i. refl);
     marks = ((omega (arith, length-changed_at slot (adds (told_of told (take n bytes))) old, output_within place ready within)), cut.slots);
-    from = inr (at.owns.stand place within);
+    came = inr (at.owns.stand place within);
   };
 } where
   slot : ℕ
   slot = output_at files place
+
+  count : max (length files.outputs) (place + 1) ≡ length files.outputs
+  count = omega arith
+
+  parted : (i : ℕ) → only_at place bytes i ≡ only_at place (take n bytes) i ++ only_at place (drop n bytes) i
+  parted i = grind (arith, nat_tests, take-append-drop n bytes)
+
+-- there was no room for any of it
+pub no_room : (told : Bool) (files : FilesState) (more : ℕ → List ℕ) (to : ℕ) {slots : List Slot} → ((i : ℕ) → to ≤ i → more i ≡ []) → Adds told files more 0 to slots files slots (Err fault.Memory)
+no_room told files more to none = adds_not told files more 0 to fault.Memory (omega arith) (omega arith) (omega arith) refl (λ first owns. owns) (of_files (inl refl)) (λ i out. none i (omega (arith, out))) refl (λ first. tt)
 
 -- Closing
 
@@ -242,168 +229,118 @@ pub record Closing (told : Bool) (files : FilesState) (place : ℕ) (old now : L
   pub closed : HaveClosed told files place old now
   pub sound : KeepsBroken old now
 
-writable_other : (slots : List Slot) (place other : ℕ) → place ≢ other → is_writable (changed_at place closes slots) other ≡ is_writable slots other
-writable_other (one ∷ slots) zero zero differs = absurd (differs refl)
-writable_other (one ∷ slots) (suc place) (suc other) differs = writable_other slots place other (λ is. differs (ap suc is))
-writable_other slots place other differs = refl
+still_open : (i n : ℕ) → n ≤ i → cond (ltb i n) Closed Open ≡ Open
+still_open i n past = grind (arith, nat_tests, past)
 
-closes_next : (told : Bool) {files : FilesState} {before : List Slot} {these : List (List ℕ)} {old now new : List Slot} {place : ℕ} → Closing told files place old now → place < length files.outputs
-    → new ≡ changed_at (output_at files place) closes now → StandAt told files before these old → OutputsAt told before (closing_part files.names (suc place) these) new
-closes_next told {files} {before} {these} {now} {new} {place} so_far within is at =
-    subst (λ those. OutputsAt told before (only_files those) new) (filed_ends (from_start files.names) 0 place these)
-    (file_changes told closes ended (close_makes told) before (closing_part files.names place these) now new place (so_far.closed before these at)
-    (is ∙ ap (λ slot. changed_at slot closes now) (at.owns.stand place within)))
+pub shut_now : (i n : ℕ) → i < n → cond (ltb i n) Closed Open ≡ Closed
+shut_now i n less = grind (arith, nat_tests, less)
 
-pub one_closed : (told : Bool) {files : FilesState} {place : ℕ} {old now new : List Slot} → AreReady files old → place < length files.outputs → Closing told files place old now → new ≡ changed_at (output_at files place) closes now → Closing told files (place + 1) old new
-one_closed told {files} {place} {old} {now} {new} ready within so_far is = record {
-  size = ap length is ∙ length-changed_at (output_at files place) closes now ∙ so_far.size;
-  left = λ other past inside. (let can = so_far.left other (omega arith) inside in let apart = ready.apart place other (omega arith) inside in
-      (can.0, ap (λ slots. is_writable slots (output_at files other)) is ∙ writable_other now (output_at files place) (output_at files other) (λ same. omega (arith, same)) ∙ can.1));
-  closed = λ before these at. subst (λ n. OutputsAt told before (closing_part files.names n these) new) further (closes_next told so_far within is at);
-  sound = keeps_again old now new so_far.sound (keeps_close (output_at files place) now new is);
-} where
-  further : suc place ≡ place + 1
-  further = omega arith
+closed_as : (had : ℕ → List ℕ) (i n m : ℕ) → (i < n → i < m) → (i < m → i < n) → closed_first n had i ≡ closed_first m had i
+closed_as had i n m there back = ap (λ now. share now (had i)) (grind (arith, nat_tests, there, back))
 
-closing_begins : (names : Naming) (these : List (List ℕ)) (n m : ℕ) → n ≤ m → Begins (closing_part names n these) (closing_part names m these)
-closing_begins names these n m few = parts_begin (from_start names) _ _ (closed_shares n m these few)
-
--- which files are closed by then
-
-take_closed : (place n : ℕ) (these : List (List ℕ)) → place ≤ n → take place (closed_first (suc place) these) ≡ take place (closed_first n these)
-take_closed (suc place) zero these few = absurd (omega arith)
-take_closed (suc place) (suc n) (bytes ∷ these) few = ap (λ rest. share Rattle.ports_core.specs.declared.slot.State.TheVariants.Closed bytes ∷ rest) (take_closed place n these (omega arith))
-take_closed place n these few = refl
-
-drop_closed : (n : ℕ) (these : List (List ℕ)) → drop n (closed_first n these) ≡ drop n (map (share Open) these)
-drop_closed (suc n) (bytes ∷ these) = drop_closed n these
-drop_closed n these = refl
-
-pub stops_closing : (told : Bool) {files : FilesState} {place : ℕ} {old now new : List Slot} → AreReady files old → place < length files.outputs → Closing told files place old now
-    → new ≡ with_broken (output_at files place) (changed_at (output_at files place) closes now) → ClosesShort told files (length files.outputs) old new (fault.Write (output_at files place))
-stops_closing told {files} {place} {old} {now} ready within so_far is before these at = record {
-  part = closing_part files.names (suc place) these;
-  above = closing_begins files.names these 0 (suc place) (omega arith);
-  below = closing_begins files.names these (suc place) (length files.outputs) (omega (arith, within));
-  place = place;
-  order = record {
-    done = take_filed place (from_start files.names) 0 (closed_first (suc place) these) ∙ ap (filed (from_start files.names) 0) (take_closed place (length files.outputs) these (omega (arith, within)))
-        ∙ sym (take_filed place (from_start files.names) 0 (closed_first (length files.outputs) these));
-    untouched = drop_filed (suc place) (from_start files.names) 0 (closed_first (suc place) these) ∙ ap (filed (from_start files.names) (0 + suc place)) (drop_closed (suc place) these)
-        ∙ sym (drop_filed (suc place) (from_start files.names) 0 (map (share Open) these));
-  };
-  reached = changed_at (output_at files place) closes now;
-  outputs = closes_next told so_far within refl at;
-  marks = ((omega (arith, length-changed_at (output_at files place) closes now, so_far.size, output_within place ready within)), is);
-  from = inr (at.owns.stand place within);
+pub none_closed : (told : Bool) {files : FilesState} {slots : List Slot} → AreReady files slots → Closing told files 0 slots slots
+none_closed told {files} ready = record {
+  size = refl;
+  left = λ other past inside. ready.closable other inside;
+  closed = λ before had at. outputs_as told (from_start files.names) (λ i inside. ap (λ now. share now (had i)) (sym (still_open i 0 (omega arith)))) refl at.outputs;
+  sound = keeps_same _ _ refl;
 }
 
-pub rose_closing : (told : Bool) {files : FilesState} {place : ℕ} {old now new : List Slot} → AreReady files old → place < length files.outputs → Closing told files place old now
-    → new ≡ with_broken (output_at files place) (changed_at (output_at files place) closes now) → Rose (output_at files place) old new
-rose_closing told {files} {place} {old} {now} ready within so_far is = (
-  so_far.sound (output_at files place) (sound_at (output_at files place) now (so_far.left place (omega arith) within).1),
-  ap (λ slots. (slot_at slots (output_at files place)).is_broken) is ∙ broken_there (output_at files place) _
-      (omega (arith, output_within place ready within, so_far.size, length-changed_at (output_at files place) closes now)),
-)
-
--- there was no room for any of it
-pub no_room : (told : Bool) (files : FilesState) (more : List (List ℕ)) {slots : List Slot} → Adds told files more 0 (length more) slots files slots (Err fault.Memory)
-no_room told files more {slots} = record {
-  names = refl;
-  owned = λ first owns. owns;
-  ready = tt;
-  opened = tt;
-  sound = tt;
-  caused = no_memory;
-  leaves = λ before these at. record {
-    place = 0;
-    after = omega arith;
-    within = omega arith;
-    some = [];
-    few = omega arith;
-    begin = tt;
-    done = refl;
-    reached = slots;
-    outputs = subst (λ those. OutputsAt told before (open_part files.names those) slots) (sym (added_none these)) at.outputs;
-    marks = refl;
-    from = tt;
-  };
+pub all_closed : {told : Bool} {files : FilesState} {place : ℕ} {old now : List Slot} → Closing told files place old now → place ≡ length files.outputs → ClosesAll told files old now (Ok tt)
+all_closed {told} {files} {old = old} {now} so_far all = record {
+  closed = subst (λ n. HaveClosed told files n old now) all so_far.closed;
+  cut = tt;
+  caused = tt;
+  owned = owned_same so_far.size;
 }
 
--- a file was reached, and then written to
+module _ (told : Bool) {files : FilesState} {place : ℕ} {old now : List Slot} (ready : AreReady files old) (within : place < length files.outputs) (so_far : Closing told files place old now) where
+  closes_next : {new : List Slot} → new ≡ changed_at (output_at files place) closes now → {before : List Slot} {had : ℕ → List ℕ} → StandAt told files before had old
+      → OutputsAt told before (part_by (from_start files.names) (closed_first (place + 1) had) (length files.outputs)) new
+  closes_next is {before} {had} at = changes told closes ended (close_makes told) files (closed_first (place + 1) had) place (at.owns.stand place within) (so_far.closed before had at) within is
+      (λ i differs. closed_as had i place (place + 1) (λ less. omega arith) (λ less. omega (arith, differs)))
+      (ap (λ now. file_at (from_start files.names) place (share now (had place))) (sym (shut_now place (place + 1) (omega arith))))
+
+  pub one_closed : {new : List Slot} → new ≡ changed_at (output_at files place) closes now → Closing told files (place + 1) old new
+  one_closed {new} is = record {
+    size = ap length is ∙ length-changed_at (output_at files place) closes now ∙ so_far.size;
+    left = λ other past inside. (let can = so_far.left other (omega arith) inside in let apart = ready.apart place other (omega arith) inside in
+        (can.0, writable_elsewhere now new (output_at files other) (output_at files place) closes (λ same. omega (arith, same, apart)) is can.1));
+    closed = λ before had at. closes_next is at;
+    sound = keeps_again old now new so_far.sound (keeps_close (output_at files place) now new is);
+  }
+
+  pub not_closed : {new : List Slot} {slot : ℕ} {why : Fault} → slot ≡ output_at files place → (why ≡ fault.Write slot) × (new ≡ with_broken slot (changed_at slot closes now)) → ClosesAll told files old new (Err why)
+  not_closed {new} {slot} {why} slot_is failed = subst (λ those. ClosesAll told files old new (Err those)) (sym (failed.0 ∙ ap fault.Write slot_is)) (record {
+    closed = tt;
+    cut = λ before had at. stops_in_order _ (halted before had at);
+    caused = (output_at files place, refl, can.0, (so_far.sound (output_at files place) (sound_at (output_at files place) now can.1), risen));
+    owned = owned_same (broken_size (output_at files place) now new is ∙ so_far.size);
+  }) where
+    can : is_closable now (output_at files place)
+    can = so_far.left place (omega arith) within
+
+    is : new ≡ with_broken (output_at files place) (changed_at (output_at files place) closes now)
+    is = failed.1 ∙ ap (λ at. with_broken at (changed_at at closes now)) slot_is
+
+    there : output_at files place < length (changed_at (output_at files place) closes now)
+    there = omega (arith, length-changed_at (output_at files place) closes now, so_far.size, output_within place ready within)
+
+    risen : (slot_at new (output_at files place)).is_broken ≡ true
+    risen = ap (λ slots. (slot_at slots (output_at files place)).is_broken) is ∙ broken_there (output_at files place) _ there
+
+    shut_grow : (had : ℕ → List ℕ) (from to n m : ℕ) → from ≤ n → n ≤ m → m ≤ to → Grow from to (closed_first n had) (length files.outputs) (closed_first m had) (length files.outputs)
+    shut_grow had from to n m low few high = record {
+      more = omega arith;
+      new = omega arith;
+      begin = λ i. elim (cases_lt i n) [
+        | inl less ↦ inr (closed_as had i n m (λ is. omega (arith, is)) (λ is. less))
+        | inr past ↦ inl (still_open i n past)
+      ];
+      bytes = λ i. begins_itself (had i);
+      same = λ i out. closed_as had i n m (λ is. omega (arith, is)) (λ is. omega (arith, out, is));
+    }
+
+    halted : (before : List Slot) (had : ℕ → List ℕ) → StandAt told files before had old
+        → HaltedAt told before (from_start files.names) (all_open had) (length files.outputs) (closed_first (length files.outputs) had) (length files.outputs) 0 (length files.outputs) (fault.Write (output_at files place)) new
+    halted before had at = record {
+      place = place;
+      after = omega arith;
+      within = omega arith;
+      part = closed_first (place + 1) had;
+      some = length files.outputs;
+      inside = omega arith;
+      above = record {
+        more = omega arith;
+        new = omega arith;
+        begin = λ i. inl refl;
+        bytes = λ i. begins_itself (had i);
+        same = λ i out. ap (λ now. share now (had i)) (sym (still_open i (place + 1) (omega (arith, out))));
+      };
+      below = shut_grow had place (length files.outputs) (place + 1) (length files.outputs) (omega arith) (omega arith) (omega arith);
+      reached = changed_at (output_at files place) closes now;
+      outputs = closes_next refl at;
+      marks = (there, is);
+      came = inr (at.owns.stand place within);
+    }
+
+-- A file was reached, and then written to.
 
 -- there is such a file once it was reached
-pub sent_within : {told : Bool} {files between : FilesState} {old mid : List Slot} {place low high : ℕ} → Adds told files (only_at place []) low high old between mid (Ok tt) → place < length between.outputs
-sent_within {files} {between} {place} adds = omega (arith, adds.opened, length-only place [])
-
-pub sent_writable : {told : Bool} {files between : FilesState} {old mid : List Slot} (place : ℕ) {low high slot : ℕ} → Adds told files (only_at place []) low high old between mid (Ok tt)
-    → slot ≡ output_at between place → IsTrue (is_writable mid slot)
-sent_writable {mid} place adds slot_is = subst (λ at. IsTrue (is_writable mid at)) (sym slot_is) (adds.ready.closable place (sent_within adds)).1
+pub sent_within : {told : Bool} {files between : FilesState} {old mid : List Slot} {place low : ℕ} → Opens told files low (place + 1) old between mid (Ok tt) → place < length between.outputs
+sent_within reached = omega (arith, reached.adds.opened)
 
 pub sent : {told : Bool} {files between : FilesState} {old mid new : List Slot} {place slot : ℕ} (bytes : List ℕ) (result : Result (Unit {0}) Fault)
-    → Adds told files (only_at place []) place place old between mid (Ok tt) → slot ≡ output_at between place
-    → OnOk result (new ≡ with_written slot (told_of told bytes) mid)
-    → IfErr result (WritesShort told slot bytes mid new) → Adds told files (only_at place bytes) place place old between new result
-sent {told} {files} {between} {old} {mid} {new} {place} bytes result before slot_is ok err =
-    subst (λ more. Adds told files more place place old between new result) (only_again place bytes)
-    (adds_then result place place before (written told place bytes result before.ready (sent_within before)
-    (subst (λ at. OnOk result (new ≡ with_written at (told_of told bytes) mid)) slot_is ok)
-    (subst (λ at. IfErr result (WritesShort told at bytes mid new)) slot_is err))
-    (omega (arith, length-only place [])) (omega arith) (omega arith))
+    → Opens told files place (place + 1) old between mid (Ok tt) → slot ≡ output_at between place
+    → WritesTo told slot bytes mid new result → Adds told files (only_at place bytes) place (place + 1) old between new result
+sent {told} {between = between} {mid = mid} {new} {place} bytes result reached slot_is wrote = adds_then result reached.adds (written told place bytes result reached.adds.ready (sent_within reached)
+    (subst (λ at. WritesTo told at bytes mid new result) slot_is wrote)) (omega arith) (omega arith) (omega arith)
 
 -- a file that couldn't be reached stops the write to it as well
-pub sent_unreached : {told : Bool} {files next : FilesState} {old new : List Slot} {place : ℕ} (bytes : List ℕ) {why : Fault} → Adds told files (only_at place []) place place old next new (Err why)
-    → Adds told files (only_at place bytes) place place old next new (Err why)
-sent_unreached {place} bytes adds =
-    adds_wider place adds (only_begin place [] bytes (nothing_begins bytes)) (omega arith) (λ n few. only_before n place [] bytes few)
-
--- the loop over all files
-
-pub sent_next : {told : Bool} {files between next : FilesState} {old mid new : List Slot} {place : ℕ} {bytes : List ℕ} (more : List (List ℕ)) (result : Result (Unit {0}) Fault)
-    → Adds told files (take place more) 0 place old between mid (Ok tt) → place < length more → bytes ≡ get_or more place bytes
-    → Adds told between (only_at place bytes) place place mid next new result → Adds told files (take (place + 1) more) 0 (place + 1) old next new result
-sent_next {told} {files} {next} {old} {new} {place} more result before within is after =
-    let further : suc place ≡ place + 1 = omega arith in
-    subst (λ those. Adds told files those 0 (place + 1) old next new result) (added_next place more within is ∙ ap (λ n. take n more) further)
-    (adds_then result 0 (place + 1) before after (omega (arith, length-take place more)) (omega arith) (omega arith))
-
-pub sent_stops : {told : Bool} {files between next : FilesState} {old mid new : List Slot} {place most : ℕ} {bytes : List ℕ} (more : List (List ℕ)) {why : Fault} → length more ≡ most
-    → Adds told files (take place more) 0 place old between mid (Ok tt) → place < most → bytes ≡ get_or more place bytes
-    → Adds told between (only_at place bytes) place place mid next new (Err why) → Adds told files more 0 most old next new (Err why)
-sent_stops {place} {most} more {why} all before within is after =
-    adds_wider most (sent_next more (Err why) before (omega (arith, all, within)) is after) (take_begin (place + 1) more) (omega (arith, within))
-    (λ n few. take-take n (place + 1) more few)
-
--- all of them were reached
-pub sent_all : {told : Bool} {files next : FilesState} {old new : List Slot} (place : ℕ) {most : ℕ} (more : List (List ℕ)) → length more ≡ most → place ≡ most
-    → Adds told files (take place more) 0 place old next new (Ok tt) → Adds told files more 0 most old next new (Ok tt)
-sent_all {told} {files} {next} {old} {new} place {most} more all is adds =
-    subst (λ those. Adds told files those 0 most old next new (Ok tt)) (take_all most more (omega (arith, all)))
-    (subst (λ n. Adds told files (take n more) 0 n old next new (Ok tt)) is adds)
-
--- closing, by the fault
-
-pub closes_short : (told : Bool) {files : FilesState} {place slot : ℕ} {old now new : List Slot} {why : Fault} → AreReady files old → place < length files.outputs → Closing told files place old now → slot ≡ output_at files place
-    → (why ≡ fault.Write slot) × (new ≡ with_broken slot (changed_at slot closes now)) → ClosesShort told files (length files.outputs) old new why
-closes_short told {files} {old} {now} {new} ready within so_far slot_is failed =
-    subst (λ those. ClosesShort told files (length files.outputs) old new those) (sym (failed.0 ∙ ap fault.Write slot_is))
-    (stops_closing told ready within so_far (failed.1 ∙ ap (λ at. with_broken at (changed_at at closes now)) slot_is))
-
-pub closes_caused : (told : Bool) {files : FilesState} {place slot : ℕ} {old now new : List Slot} {why : Fault} → AreReady files old → place < length files.outputs → Closing told files place old now → slot ≡ output_at files place
-    → (why ≡ fault.Write slot) × (new ≡ with_broken slot (changed_at slot closes now)) → CannotClose old new why
-closes_caused told {files} {place} {now} ready within so_far slot_is failed =
-    (output_at files place, failed.0 ∙ ap fault.Write slot_is, (ready.closable place within).0, rose_closing told ready within so_far (failed.1 ∙ ap (λ at. with_broken at (changed_at at closes now)) slot_is))
-
-pub closes_owned : (told : Bool) {files : FilesState} {place : ℕ} (slot : ℕ) {old now new : List Slot} → Closing told files place old now → new ≡ with_broken slot (changed_at slot closes now) → KeepsFiles files old files new
-closes_owned told slot {now} so_far is = owned_same (ap length is ∙ length-changed_at slot breaks _ ∙ length-changed_at slot closes now ∙ so_far.size)
+pub sent_unreached : {told : Bool} {files next : FilesState} {old new : List Slot} {place : ℕ} (bytes : List ℕ) {why : Fault} → Opens told files place (place + 1) old next new (Err why)
+    → Adds told files (only_at place bytes) place (place + 1) old next new (Err why)
+sent_unreached {place = place} bytes reached = adds_wider place (place + 1) (only_at place bytes) reached.adds (λ i. refl) (none_outside place bytes) (omega arith) (omega arith) (omega arith)
 
 -- what a field of the list of outputs shows
-
 pub output_is : (files : FilesState) {items : List ℕ} (place : ℕ) {slot : ℕ} → items ≡ files.outputs → place < length files.outputs → slot ≡ get_or items place slot → slot ≡ output_at files place
 output_is files place {slot} same within is = is ∙ ap (λ those. get_or those place slot) same ∙ same_default files.outputs place slot 0 within
-
-pub unchanged : {files : FilesState} {names next : Naming} {items reserved : List ℕ} → record { names = names; outputs = items } ≡ files → reserved ≡ items → next ≡ names → record { names = next; outputs = reserved } ≡ files
-unchanged is same names_same = cc (is, same, names_same)
-
-pub drew_one : {files : FilesState} {names next : Naming} {items reserved : List ℕ} → record { names = names; outputs = items } ≡ files → reserved ≡ items → next ≡ with_one_drawn names → record { names = next; outputs = reserved } ≡ record files { names = with_one_drawn files.names }
-drew_one is same drew = cc (is, same, drew)

@@ -1,340 +1,305 @@
 -- Lemmas on files that are opened, written and closed in order.
-use Rattle.std.proofs.Common.{◌≡◌, ℕ, ◌+◌, ◌<◌, ◌≤◌, zero, suc, max, Bool, List, [], ◌∷◌, ◌++◌, length, map, take, drop, get_or, Result, Ok, Err, append_assoc, inl, inr, refl, sym, ◌∙◌, ap, subst, arith}
-use Rattle.std.proofs.Math.Seq.{drop-nil}
-use Rattle.std.proofs.lemmas.List.{append-nil, drop_all, drop-map, length-map, take-map}
+use Rattle.std.proofs.Common.{◌≡◌, ℕ, ◌+◌, ◌-◌, ◌<◌, ◌≤◌, zero, suc, max, Bool, cond, ltb, List, [], ◌++◌, ◌⊎◌, length, map, take, drop, Result, Ok, Err, append_assoc, inl, inr, refl, sym, ◌∙◌, ap, subst, arith}
+use Rattle.std.specs.List.{range_with_len}
+use Rattle.std.proofs.Math.Nat.{zero-add}
+use Rattle.std.proofs.Math.Path.{fun_ext}
+use Rattle.std.proofs.lemmas.Bool.Decides.{nat_tests}
+use Rattle.std.proofs.lemmas.List.{append-nil, take-append-drop}
+use Rattle.std.proofs.lemmas.List.FromFn.{length-map-range_with_len, take-map-range_with_len}
 use Rattle.std.proofs.lemmas.Result.{IfErr-weaker, on_ok_weaker}
 use Rattle.ports_core.specs.Name.{Naming}
 use Rattle.ports_core.specs.Slot.{Slot, changed_at}
-use Rattle.ports_core.specs.Part.{File, OutputsAt, StoppedBetween, IsBeginning, FilesBegin, Begins, IsNext, IsAt, Marks}
-use Rattle.ports_core.specs.declared.slot.State.TheVariants.{Open, Closed}
+use Rattle.ports_core.specs.Part.{File, Part, OutputsAt, StoppedBetween, FilesBegin, Begins, IsNext, IsAt, Marks}
+use Rattle.ports_core.specs.declared.slot.State.TheVariants.{Open}
 use Rattle.ports_core.specs.declared.fault.Fault.{Fault}
-use Rattle.ports_core.proofs.PartLemmas.{begins_itself, begins_more, begins_trans, nothing_begins, marks_by}
-use Rattle.ports_core.proofs.FileLemmas.{gets, ended}
-use Rattle.split_core.specs.Split.{Share, share, name_of, from_start, file_at, only_files}
+use Rattle.ports_core.proofs.PartLemmas.{begins_itself, begins_trans, kept_trans, nothing_begins, marks_by}
+use Rattle.ports_core.proofs.SlotSteps.{keeps_again, keeps_same}
+use Rattle.split_core.specs.Split.{Share, share, from_start, file_at, only_files}
 use Rattle.split_core.specs.FilesState.{FilesState}
 use Rattle.split_core.specs.Round.{AreReady}
-use Rattle.split_core.specs.laws.RoundLaws.{all_begin_themselves}
-use Rattle.split_core.specs.inner.ShareLaws.{SharesBegin}
 use Rattle.split_core.specs.laws.ShareLaws.{kept_file}
-use Rattle.split_core.proofs.ShareLaws.{bytes_of_shares}
-use Rattle.ports_core.proofs.SlotSteps.{keeps_again, keeps_same}
 use Rattle.split_core.proofs.MoveLemmas.{breaks_later}
-use Rattle.split_core.specs.inner.Sharing.{AllBegin, added, only_at, filed, open_part, closed_first, StandAt, Adds, Leaves, IsDue, HaltedAt}
+use Rattle.split_core.specs.inner.Sharing.{part_by, all_open, only_at, StandAt, KeepsFiles, IsOfFiles, Adds, Leaves, Grow, IsDue, HaltedAt}
 
--- Beginnings
+-- Files by their places
 
-abbrev pub bytes_of : List Share → List (List ℕ)
-bytes_of shares = map (λ (file : Share). file.bytes) shares
+pub same_by : {X : Type 0} (f g : ℕ → X) (start n : ℕ) → ((i : ℕ) → start ≤ i → i < start + n → f i ≡ g i)
+    → map f (range_with_len start n) ≡ map g (range_with_len start n)
+same_by f g start zero same = refl
+same_by f g start (suc n) same =
+    cc (same start (omega arith) (omega arith), same_by f g (start + 1) n (λ i from to. same i (omega arith) (omega arith)))
 
-pub bytes_closed : (n : ℕ) (these : List (List ℕ)) → bytes_of (closed_first n these) ≡ these
-bytes_closed zero these = bytes_of_shares Open these
-bytes_closed (suc n) [] = refl
-bytes_closed (suc n) (bytes ∷ these) = ap (λ rest. bytes ∷ rest) (bytes_closed n these)
+pub changed_by : {X : Type 0} (change : X → X) (f g : ℕ → X) (start n place : ℕ) {at : ℕ} → start + place ≡ at → place < n
+    → ((i : ℕ) → (i ≡ at → ⊥) → f i ≡ g i) → change (f at) ≡ g at
+    → changed_at place change (map f (range_with_len start n)) ≡ map g (range_with_len start n)
+changed_by change f g start zero place is within other here = absurd (omega arith)
+changed_by change f g start (suc n) zero {at} is within other here =
+    let first : start ≡ at = omega arith in
+    cc (first, here, same_by f g (start + 1) n (λ i from to. other i (λ same. omega arith)))
+changed_by change f g start (suc n) (suc place) is within other here =
+    cc (other start (λ same. omega arith), changed_by change f g (start + 1) n place (omega arith) (omega arith) other here)
 
-filed_begin : (names : Naming) (place : ℕ) (shares others : List Share) → SharesBegin shares others → FilesBegin (filed names place shares) (filed names place others)
-filed_begin names place [] others begin = tt
-filed_begin names place (one ∷ shares) [] begin = absurd begin
-filed_begin names place (one ∷ shares) (other ∷ others) begin = (refl, refl, refl, kept_file names place one other begin.0, begin.1, filed_begin names (place + 1) shares others begin.2)
+drop_by : {X : Type 0} (f : ℕ → X) (k start n : ℕ) {at : ℕ} → start + k ≡ at → drop k (map f (range_with_len start n)) ≡ map f (range_with_len at (n - k))
+drop_by f zero start n {at} is = let first : start ≡ at = omega arith in let all : n ≡ n - 0 = omega arith in cc
+drop_by f (suc k) start zero {at} is = let none : 0 ≡ 0 - suc k = omega arith in ap (λ count. map f (range_with_len at count)) none
+drop_by f (suc k) start (suc n) {at} is =
+    let rest : n - k ≡ suc n - suc k = omega arith in
+    drop_by f k (start + 1) n (omega arith) ∙ ap (λ count. map f (range_with_len at count)) rest
 
-pub parts_begin : (names : Naming) (shares others : List Share) → SharesBegin shares others → Begins (only_files (filed names 0 shares)) (only_files (filed names 0 others))
-parts_begin names shares others begin = record { out = nothing_begins []; files = filed_begin names 0 shares others begin }
+-- From some files to others
 
--- files that are open may be closed by then
-pub open_shares : (these : List (List ℕ)) (others : List Share) → AllBegin these (bytes_of others) → SharesBegin (map (share Open) these) others
-open_shares [] others begin = tt
-open_shares (bytes ∷ these) [] begin = absurd begin
-open_shares (bytes ∷ these) (other ∷ others) begin = (inl refl, begin.0, open_shares these others begin.1)
+grow_begins : (names : Naming) {from to few many : ℕ} {low high : ℕ → Share} → Grow from to low few high many → Begins (part_by names low few) (part_by names high many)
+grow_begins names {few = few} {many} {low} {high} grow = record { out = nothing_begins []; files = by 0 few many grow.more } where
+  by : (start m n : ℕ) → m ≤ n → FilesBegin (map (λ i. file_at names i (low i)) (range_with_len start m)) (map (λ i. file_at names i (high i)) (range_with_len start n))
+  by start zero n fewer = tt
+  by start (suc m) zero fewer = absurd (omega arith)
+  by start (suc m) (suc n) fewer = (refl, refl, refl, kept_file names start (low start) (high start) (grow.begin start), grow.bytes start, by (start + 1) m n (omega arith))
 
-pub open_begins : (names : Naming) (these those : List (List ℕ)) → AllBegin these those → Begins (open_part names these) (open_part names those)
-open_begins names these those begin = parts_begin (from_start names) _ _ (open_shares these (map (share Open) those) (subst (AllBegin these) (sym (bytes_of_shares Open those)) begin))
+wider : {from from_here to_here to i : ℕ} → from ≤ from_here → to_here ≤ to → (i < from) ⊎ (to ≤ i) → (i < from_here) ⊎ (to_here ≤ i)
+wider less more (inl before) = inl (omega arith)
+wider less more (inr past) = inr (omega arith)
 
--- where more of them are closed
-pub closed_shares : (n m : ℕ) (these : List (List ℕ)) → n ≤ m → SharesBegin (closed_first n these) (closed_first m these)
-closed_shares zero m these few = open_shares these (closed_first m these) (subst (AllBegin these) (sym (bytes_closed m these)) (all_begin_themselves these))
-closed_shares (suc n) zero these few = absurd (omega (arith, few))
-closed_shares (suc n) (suc m) [] few = tt
-closed_shares (suc n) (suc m) (bytes ∷ these) few = (inr refl, begins_itself bytes, closed_shares n m these (omega arith))
+pub grow_trans : (from to : ℕ) {a b c d few some many : ℕ} {low mid high : ℕ → Share} → Grow a b low few mid some → Grow c d mid some high many
+    → from ≤ a → from ≤ c → b ≤ to → d ≤ to → Grow from to low few high many
+grow_trans from to {low = low} {mid} {high} first second here there before after = record {
+  more = omega (arith, first.more, second.more);
+  new = omega (arith, first.new, second.new);
+  begin = λ i. kept_trans (λ (those : Share). those.state) (low i) (mid i) (high i) (first.begin i) (second.begin i);
+  bytes = λ i. begins_trans _ _ _ (first.bytes i) (second.bytes i);
+  same = λ i out. first.same i (wider here before out) ∙ second.same i (wider there after out);
+}
 
-pub all_trans : (low middle high : List (List ℕ)) → AllBegin low middle → AllBegin middle high → AllBegin low high
-all_trans [] middle high first second = tt
-all_trans (bytes ∷ low) [] high first second = absurd first
-all_trans (bytes ∷ low) (mid ∷ middle) [] first second = absurd second
-all_trans (bytes ∷ low) (mid ∷ middle) (whole ∷ high) first second = (begins_trans _ _ _ first.0 second.0, all_trans low middle high first.1 second.1)
+pub grow_same : (from to : ℕ) (shares : ℕ → Share) (count : ℕ) → Grow from to shares count shares count
+grow_same from to shares count = record {
+  more = omega arith;
+  new = omega arith;
+  begin = λ i. inr refl;
+  bytes = λ i. begins_itself (shares i).bytes;
+  same = λ i out. refl;
+}
 
--- What is added
+pub grow_by : (from to : ℕ) {had has : ℕ → List ℕ} (more : ℕ → List ℕ) (count : ℕ) → ((i : ℕ) → (i < from) ⊎ (to ≤ i) → more i ≡ []) → ((i : ℕ) → has i ≡ had i ++ more i)
+    → Grow from to (all_open had) count (all_open has) (max count to)
+grow_by from to {had} {has} more count outside are = record {
+  more = omega arith;
+  new = omega arith;
+  begin = λ i. inl refl;
+  bytes = λ i. (more i, are i);
+  same = λ i out. ap (share Open) (sym (are i ∙ ap (λ bytes. had i ++ bytes) (outside i out) ∙ append-nil (had i)));
+}
 
-pub added_none : (these : List (List ℕ)) → added these [] ≡ these
-added_none [] = refl
-added_none (bytes ∷ these) = refl
+-- A fault that stopped them
 
-pub added_begin : (these more : List (List ℕ)) → AllBegin these (added these more)
-added_begin [] more = tt
-added_begin (bytes ∷ these) [] = all_begin_themselves (bytes ∷ these)
-added_begin (bytes ∷ these) (next ∷ more) = (begins_more bytes next, added_begin these more)
+pub halts_after : {told : Bool} {before : List Slot} {names : Naming} {low mid high : ℕ → Share} {a b few some many from to : ℕ} {why : Fault} {now : List Slot}
+    → Grow a b low few mid some → HaltedAt told before names mid some high many from to why now → a ≤ from → b ≤ suc from → HaltedAt told before names low few high many a to why now
+halts_after {a = a} grow stop less next = record {
+  place = stop.place;
+  after = omega (arith, stop.after);
+  within = stop.within;
+  part = stop.part;
+  some = stop.some;
+  inside = stop.inside;
+  above = grow_trans a (stop.place + 1) grow stop.above (omega arith) less (omega (arith, stop.after)) (omega arith);
+  below = stop.below;
+  reached = stop.reached;
+  outputs = stop.outputs;
+  marks = stop.marks;
+  came = stop.came;
+}
 
--- where less is added, files begin those that get more
-pub added_less : (these some more : List (List ℕ)) → AllBegin some more → AllBegin (added these some) (added these more)
-added_less [] some more begin = begin
-added_less (bytes ∷ these) [] more begin = added_begin (bytes ∷ these) more
-added_less (bytes ∷ these) (one ∷ some) [] begin = absurd begin
-added_less (bytes ∷ these) (one ∷ some) (next ∷ more) begin =
-    ((begin.0.0, ap (λ rest. bytes ++ rest) begin.0.1 ∙ sym (append_assoc bytes one begin.0.0)), added_less these some more begin.1)
+halts_wider : {told : Bool} {before : List Slot} {names : Naming} {low mid high : ℕ → Share} {c few some many from to : ℕ} (most : ℕ) {why : Fault} {now : List Slot}
+    → HaltedAt told before names low few mid some from to why now → Grow c most mid some high many → to ≤ suc c → to ≤ most → HaltedAt told before names low few high many from most why now
+halts_wider most {why} stop grow next more = record {
+  place = stop.place;
+  after = stop.after;
+  within = omega (arith, stop.within);
+  part = stop.part;
+  some = stop.some;
+  inside = stop.inside;
+  above = stop.above;
+  below = grow_trans stop.place most stop.below grow (omega arith) (omega (arith, stop.within)) more (omega arith);
+  reached = stop.reached;
+  outputs = stop.outputs;
+  marks = marks_by _ _ why stop.reached _ (λ name due. (due.0, omega (arith, due.1, grow.more))) stop.marks;
+  came = stop.came;
+}
 
-pub length-added : (these more : List (List ℕ)) → length (added these more) ≡ max (length these) (length more)
-length-added [] more = omega arith
-length-added (bytes ∷ these) [] = omega arith
-length-added (bytes ∷ these) (next ∷ more) = omega (arith, length-added these more)
+next_due : (names : Naming) (part high : ℕ → Share) {some many : ℕ} (name : List ℕ) → IsDue names some many name → IsNext (part_by names part some) (part_by names high many) name
+next_due names part high {some} {many} name due = record {
+  front = map file (range_with_len 0 some);
+  file = file some;
+  rest = map file (range_with_len (some + 1) (many - suc some));
+  files = let left : many - some ≡ suc (many - suc some) = omega (arith, due.1) in
+      sym (take-append-drop some (map file (range_with_len 0 many)))
+      ∙ cc (take-map-range_with_len file 0 many some (omega (arith, due.1)), drop_by file some 0 many (zero-add some), left);
+  place = length-map-range_with_len file 0 some ∙ sym (length-map-range_with_len (λ i. file_at names i (part i)) 0 some);
+  name_is = sym due.0;
+} where
+  file : ℕ → File
+  file i = file_at names i (high i)
 
-pub added_again : (these first second : List (List ℕ)) → added (added these first) second ≡ added these (added first second)
-added_again [] first second = refl
-added_again (bytes ∷ these) [] second = refl
-added_again (bytes ∷ these) (one ∷ first) [] = refl
-added_again (bytes ∷ these) (one ∷ first) (next ∷ second) = cc (append_assoc bytes one next, added_again these first second)
+-- the files are in order where the fault stopped them
+pub stops_in_order : {told : Bool} {before : List Slot} {names : Naming} {low high : ℕ → Share} {few many from to : ℕ} (why : Fault) {now : List Slot}
+    → HaltedAt told before names low few high many from to why now → StoppedBetween told before (part_by names low few) (part_by names high many) why now
+stops_in_order {before = before} {names} {low} {high} {few} {many} {to = to} why {now} stop = record {
+  part = part_by names stop.part stop.some;
+  above = grow_begins names stop.above;
+  below = grow_begins names stop.below;
+  place = stop.place;
+  order = record { done = done; untouched = untouched };
+  reached = stop.reached;
+  outputs = stop.outputs;
+  marks = marks_by (IsDue names stop.some many) _ why stop.reached now (next_due names stop.part high) stop.marks;
+  from = subst (IsAt why (length before) stop.place) (sym (length-map-range_with_len (λ i. file_at names i (stop.part i)) 0 stop.some)) stop.came;
+} where
+  done : take stop.place (map (λ i. file_at names i (stop.part i)) (range_with_len 0 stop.some)) ≡ take stop.place (map (λ i. file_at names i (high i)) (range_with_len 0 many))
+  done = take-map-range_with_len _ 0 stop.some stop.place stop.inside
+      ∙ same_by _ _ 0 stop.place (λ i past before. ap (file_at names i) (stop.below.same i (inl (omega arith))))
+      ∙ sym (take-map-range_with_len _ 0 many stop.place (omega (arith, stop.inside, stop.below.more)))
 
-take_added : (n : ℕ) (these more : List (List ℕ)) → take n (added these more) ≡ added (take n these) (take n more)
-take_added (suc n) [] more = refl
-take_added (suc n) (bytes ∷ these) [] = refl
-take_added (suc n) (bytes ∷ these) (next ∷ more) = ap (λ rest. (bytes ++ next) ∷ rest) (take_added n these more)
-take_added n these more = refl
+  untouched : drop (suc stop.place) (map (λ i. file_at names i (stop.part i)) (range_with_len 0 stop.some)) ≡ drop (suc stop.place) (map (λ i. file_at names i (low i)) (range_with_len 0 few))
+  untouched =
+      let left : stop.some - suc stop.place ≡ few - suc stop.place = omega (arith, stop.above.more, stop.above.new) in
+      drop_by _ (suc stop.place) 0 stop.some (zero-add (suc stop.place)) ∙ ap (λ n. map (λ i. file_at names i (stop.part i)) (range_with_len (suc stop.place) n)) left
+      ∙ same_by _ _ (suc stop.place) (few - suc stop.place) (λ i past in_it. ap (file_at names i) (sym (stop.above.same i (inr (omega arith)))))
+      ∙ sym (drop_by _ (suc stop.place) 0 few (zero-add (suc stop.place)))
 
--- the first files have all, once the first of what is added are all
-pub added_before : (n : ℕ) (these some more : List (List ℕ)) → take n some ≡ take n more → take n (added these some) ≡ take n (added these more)
-added_before n these some more same = take_added n these some ∙ ap (added (take n these)) same ∙ sym (take_added n these more)
-
--- and those past what is added have what they had
-pub added_past : (n : ℕ) (these some : List (List ℕ)) → length some ≤ n → drop n (added these some) ≡ drop n these
-added_past n [] some few = drop_all n some few ∙ sym (drop-nil n)
-added_past n (bytes ∷ these) [] few = refl
-added_past zero (bytes ∷ these) (one ∷ some) few = absurd (omega (arith, few))
-added_past (suc n) (bytes ∷ these) (one ∷ some) few = added_past n these some (omega (arith, few))
-
-pub take_begin : (n : ℕ) (more : List (List ℕ)) → AllBegin (take n more) more
-take_begin (suc n) (next ∷ more) = (begins_itself next, take_begin n more)
-take_begin n more = tt
-
--- What is added to one file
-
-pub length-only : (place : ℕ) (bytes : List ℕ) → length (only_at place bytes) ≡ suc place
-length-only zero bytes = refl
-length-only (suc place) bytes = ap suc (length-only place bytes)
-
-pub only_begin : (place : ℕ) (low high : List ℕ) → IsBeginning low high → AllBegin (only_at place low) (only_at place high)
-only_begin zero low high begin = (begin, tt)
-only_begin (suc place) low high begin = (begins_itself [], only_begin place low high begin)
-
-pub only_before : (n place : ℕ) (one other : List ℕ) → n ≤ place → take n (only_at place one) ≡ take n (only_at place other)
-only_before (suc n) zero one other few = absurd (omega (arith, few))
-only_before (suc n) (suc place) one other few = ap (λ rest. [] ∷ rest) (only_before n place one other (omega (arith, few)))
-only_before n place one other few = refl
-
-pub only_again : (place : ℕ) (bytes : List ℕ) → added (only_at place []) (only_at place bytes) ≡ only_at place bytes
-only_again zero bytes = refl
-only_again (suc place) bytes = ap (λ rest. [] ∷ rest) (only_again place bytes)
-
--- nothing changes where no bytes go to files that are open
-pub idle_before : (place : ℕ) (bytes : List ℕ) (these : List (List ℕ)) → place ≤ length these → added these (take place (only_at place bytes)) ≡ these
-idle_before (suc place) bytes [] few = absurd (omega (arith, few))
-idle_before (suc place) bytes (one ∷ these) few = cc (append-nil one, idle_before place bytes these (omega (arith, few)))
-idle_before place bytes these few = added_none these
-
-pub idle_at : (place : ℕ) (these : List (List ℕ)) → place < length these → added these (only_at place []) ≡ these
-idle_at place [] within = absurd (omega (arith, within))
-idle_at zero (one ∷ these) within = ap (λ all. all ∷ added these []) (append-nil one) ∙ ap (λ rest. one ∷ rest) (added_none these)
-idle_at (suc place) (one ∷ these) within = cc (append-nil one, idle_at place these (omega (arith, within)))
-
--- the next file has nothing yet
-pub new_at : (place : ℕ) (these : List (List ℕ)) → length these ≡ place → added these (only_at place []) ≡ these ++ [] ∷ []
-new_at zero [] is = refl
-new_at (suc place) (one ∷ these) is =
-    ap (λ all. all ∷ added these (only_at place [])) (append-nil one) ∙ ap (λ rest. one ∷ rest) (new_at place these (omega (arith, is)))
-new_at place these is = absurd (omega (arith, is))
-
--- one more of what is to be added
-pub added_next : (place : ℕ) (more : List (List ℕ)) {bytes : List ℕ} → place < length more → bytes ≡ get_or more place bytes
-    → added (take place more) (only_at place bytes) ≡ take (suc place) more
-added_next place [] within is = absurd (omega (arith, within))
-added_next zero (next ∷ more) within is = ap (λ one. one ∷ []) is
-added_next (suc place) (next ∷ more) {bytes} within is = cc (append-nil next, added_next place more (omega (arith, within)) is)
-
--- Files
-
-pub filed_more : (names : Naming) (place : ℕ) (shares : List Share) (one : Share) → filed names place (shares ++ one ∷ []) ≡ filed names place shares ++ file_at names (place + length shares) one ∷ []
-filed_more names place [] one = let here : place ≡ place + 0 = omega arith in ap (λ at. file_at names at one ∷ []) here
-filed_more names place (first ∷ shares) one =
-    let further : place + 1 + length shares ≡ place + suc (length shares) = omega arith in
-    ap (λ rest. file_at names place first ∷ rest) (filed_more names (place + 1) shares one ∙ ap (λ at. filed names (place + 1) shares ++ file_at names at one ∷ []) further)
-
-pub length-filed : (names : Naming) (place : ℕ) (shares : List Share) → length (filed names place shares) ≡ length shares
-length-filed names place [] = refl
-length-filed names place (one ∷ shares) = ap suc (length-filed names (place + 1) shares)
-
-pub open_length : (names : Naming) (these : List (List ℕ)) → length (open_part names these).files ≡ length these
-open_length names these = length-filed (from_start names) 0 (map (share Open) these) ∙ length-map these (share Open)
-
-pub filed_gets : (names : Naming) (from place : ℕ) (bytes : List ℕ) (these : List (List ℕ)) → place < length these
-    → changed_at place (gets bytes) (filed names from (map (share Open) these)) ≡ filed names from (map (share Open) (added these (only_at place bytes)))
-filed_gets names from place bytes [] within = absurd (omega (arith, within))
-filed_gets names from zero bytes (one ∷ these) within = ap (λ rest. file_at names from (share Open (one ++ bytes)) ∷ filed names (from + 1) (map (share Open) rest)) (sym (added_none these))
-filed_gets names from (suc place) bytes (one ∷ these) within = cc (append-nil one, filed_gets names (from + 1) place bytes these (omega (arith, within)))
-
-pub filed_ends : (names : Naming) (from place : ℕ) (these : List (List ℕ)) → changed_at place ended (filed names from (closed_first place these)) ≡ filed names from (closed_first (suc place) these)
-filed_ends names from zero [] = refl
-filed_ends names from (suc place) [] = refl
-filed_ends names from zero (one ∷ these) = refl
-filed_ends names from (suc place) (one ∷ these) = ap (λ rest. file_at names from (share Closed one) ∷ rest) (filed_ends names (from + 1) place these)
-
-pub closed_all : (these : List (List ℕ)) → closed_first (length these) these ≡ map (share Closed) these
-closed_all [] = refl
-closed_all (bytes ∷ these) = ap (λ rest. share Closed bytes ∷ rest) (closed_all these)
-
--- the files of the same names
-pub renamed : (told : Bool) {before now : List Slot} (names others : Naming) (these : List (List ℕ)) → from_start others ≡ from_start names → OutputsAt told before (open_part others these) now → OutputsAt told before (open_part names these) now
-renamed told {before} {now} names others these same at = subst (λ those. OutputsAt told before (only_files (filed those 0 (map (share Open) these))) now) same at
-
--- Files in order
-
-pub length_begin : (these those : List (List ℕ)) → AllBegin these those → length these ≤ length those
-length_begin [] those begin = omega arith
-length_begin (bytes ∷ these) [] begin = absurd begin
-length_begin (bytes ∷ these) (whole ∷ those) begin = omega (arith, length_begin these those begin.1)
-
-pub take_filed : (n : ℕ) (names : Naming) (place : ℕ) (shares : List Share) → take n (filed names place shares) ≡ filed names place (take n shares)
-take_filed (suc n) names place (one ∷ shares) = ap (λ rest. file_at names place one ∷ rest) (take_filed n names (place + 1) shares)
-take_filed n names place shares = refl
-
-pub drop_filed : (n : ℕ) (names : Naming) (place : ℕ) (shares : List Share) → drop n (filed names place shares) ≡ filed names (place + n) (drop n shares)
-drop_filed zero names place shares = let here : place ≡ place + 0 = omega arith in ap (λ at. filed names at shares) here
-drop_filed (suc n) names place [] = refl
-drop_filed (suc n) names place (one ∷ shares) = let further : place + 1 + n ≡ place + suc n = omega arith in drop_filed n names (place + 1) shares ∙ ap (λ at. filed names at (drop n shares)) further
-
-pub take_open : (n : ℕ) (names : Naming) (these those : List (List ℕ)) → take n these ≡ take n those → take n (open_part names these).files ≡ take n (open_part names those).files
-take_open n names these those same =
-    let first = take_filed n (from_start names) 0 (map (share Open) these) in let second = take_filed n (from_start names) 0 (map (share Open) those) in
-    cc (first, take-map (share Open) n these, same, take-map (share Open) n those, second)
-
-pub drop_open : (n : ℕ) (names : Naming) (these those : List (List ℕ)) → drop n these ≡ drop n those → drop n (open_part names these).files ≡ drop n (open_part names those).files
-drop_open n names these those same =
-    let first = drop_filed n (from_start names) 0 (map (share Open) these) in let second = drop_filed n (from_start names) 0 (map (share Open) those) in
-    cc (first, drop-map (share Open) n these, same, drop-map (share Open) n those, second)
-
--- the file at a place of a list
-next_filed : (names : Naming) (from n : ℕ) (shares : List Share) → n < length shares → (front : List File) × (one : Share) × (rest : List File) × (filed names from shares ≡ front ++ file_at names (from + n) one ∷ rest) × (length front ≡ n)
-next_filed names from n [] within = absurd (omega arith)
-next_filed names from zero (one ∷ shares) within = ([], one, filed names (from + 1) shares, (let here : from ≡ from + 0 = omega arith in ap (λ at. file_at names at one ∷ filed names (from + 1) shares) here), refl)
-next_filed names from (suc n) (first ∷ shares) within =
-    let more = next_filed names (from + 1) n shares (omega arith) in
-    let moved : from + 1 + n ≡ from + suc n = omega arith in
-    (file_at names from first ∷ more.0, more.1, more.2, ap (λ files. file_at names from first ∷ files) (more.3 ∙ ap (λ at. more.0 ++ file_at names at more.1 ∷ more.2) moved), ap suc more.4)
-
-next_due : (names : Naming) (part those : List (List ℕ)) (name : List ℕ) → IsDue names part those name → IsNext (open_part names part) (open_part names those) name
-next_due names part those name due =
-    let found = next_filed (from_start names) 0 (length part) (map (share Open) those) (omega (arith, length-map those (share Open), due.1)) in
-    record {
-      front = found.0;
-      file = file_at (from_start names) (0 + length part) found.1;
-      rest = found.2;
-      files = found.3;
-      place = found.4 ∙ sym (open_length names part);
-      name_is = (let none : 0 + length part ≡ length part = omega arith in ap (name_of (from_start names)) none) ∙ sym due.0;
-    }
+pub stopped_as : (told : Bool) {before : List Slot} {low low' high high' : Part} {why : Fault} {now : List Slot} → low ≡ low' → high ≡ high' → StoppedBetween told before low high why now → StoppedBetween told before low' high' why now
+stopped_as told {before} {low} {high' = high'} {why} {now} is_low is_high stop =
+    subst (λ part. StoppedBetween told before part high' why now) is_low (subst (λ part. StoppedBetween told before low part why now) is_high stop)
 
 -- Steps in a row
 
-pub adds_none : (told : Bool) {files : FilesState} {slots : List Slot} → AreReady files slots → Adds told files [] 0 0 slots files slots (Ok tt)
-adds_none told {files} {slots} ready = record {
+-- the same files
+pub outputs_as : (told : Bool) {before now : List Slot} (names : Naming) {shares others : ℕ → Share} {m n : ℕ} → ((i : ℕ) → i < n → shares i ≡ others i) → m ≡ n
+    → OutputsAt told before (part_by names shares m) now → OutputsAt told before (part_by names others n) now
+outputs_as told {before} {now} names {shares} {others} {n = n} same count at =
+    subst (λ files. OutputsAt told before (only_files files) now) (same_by _ _ 0 n (λ i past within. ap (file_at names i) (same i (omega arith))))
+    (subst (λ k. OutputsAt told before (part_by names shares k) now) count at)
+
+-- nothing is to be done
+pub adds_idle : (told : Bool) {files : FilesState} (more : ℕ → List ℕ) (from to : ℕ) {slots : List Slot} → ((i : ℕ) → more i ≡ []) → to ≤ length files.outputs → AreReady files slots
+    → Adds told files more from to slots files slots (Ok tt)
+adds_idle told {files} more from to none few ready = record {
   names = refl;
   owned = λ first owns. owns;
   ready = ready;
   opened = omega arith;
-  sound = keeps_same slots slots refl;
+  sound = keeps_same _ _ refl;
   caused = tt;
-  leaves = λ before these at. subst (λ those. OutputsAt told before (open_part files.names those) slots) (sym (added_none these)) at.outputs;
+  outside = λ i out. none i;
+  leaves = λ before had has at are. outputs_as told (from_start files.names) (λ i within. ap (share Open) (sym (are i ∙ ap (λ bytes. had i ++ bytes) (none i) ∙ append-nil (had i)))) (omega arith) at.outputs;
 }
 
--- where the files stand after a step
-stand_then : {told : Bool} {files between : FilesState} {more : List (List ℕ)} {low high : ℕ} {old mid before : List Slot} {these : List (List ℕ)}
-    → Adds told files more low high old between mid (Ok tt) → StandAt told files before these old → StandAt told between before (added these more) mid
-stand_then {told} {files} {between} {more} {before} {these} adds at = record {
-  count = length-added these more ∙ ap (λ n. max n (length more)) at.count ∙ sym adds.opened;
-  owns = adds.owned (length before) at.owns;
-  outputs = renamed told between.names files.names (added these more) (sym adds.names) (adds.leaves before these at);
+-- a fault came at a place before anything was done
+pub adds_not : (told : Bool) (files : FilesState) {names : Naming} (more : ℕ → List ℕ) {from : ℕ} (place to : ℕ) {old new : List Slot} (why : Fault) → from ≤ place → place < max 1 to → place ≤ length files.outputs
+    → from_start names ≡ from_start files.names → KeepsFiles files old (record files { names = names }) new → IsOfFiles old new why → ((i : ℕ) → (i < place) ⊎ (to ≤ i) → more i ≡ [])
+    → Marks (IsDue (from_start files.names) (length files.outputs) (max (length files.outputs) to)) why old new → ((first : ℕ) → IsAt why first place (length files.outputs))
+    → Adds told files more from to old (record files { names = names }) new (Err why)
+adds_not told files more {from} place to {old} why low high inside names owned caused outside marks came = record {
+  names = names;
+  owned = owned;
+  ready = tt;
+  opened = tt;
+  sound = tt;
+  caused = caused;
+  outside = λ i out. outside i (wider low (omega arith) out);
+  leaves = λ before had has at are. record {
+    place = place;
+    after = low;
+    within = high;
+    part = all_open had;
+    some = length files.outputs;
+    inside = inside;
+    above = grow_same from (place + 1) (all_open had) (length files.outputs);
+    below = grow_by place to more (length files.outputs) outside are;
+    reached = old;
+    outputs = at.outputs;
+    marks = marks;
+    came = came (length before);
+  };
 }
 
 -- a later step
-pub adds_then : {told : Bool} {files between next : FilesState} {first second : List (List ℕ)} {here there low high : ℕ} {old mid new : List Slot} (result : Result (Unit {0}) Fault)
-    (lower most : ℕ) → Adds told files first here there old between mid (Ok tt) → Adds told between second low high mid next new result
-    → length first ≤ suc low → lower ≤ low → high ≤ most → Adds told files (added first second) lower most old next new result
-adds_then {told} {files} {between} {next} {first} {second} {low} {high} {old} {mid} {new} result lower most before after few less more = record {
-  names = after.names ∙ before.names;
-  owned = λ from owns. after.owned from (before.owned from owns);
-  ready = after.ready;
-  opened = on_ok_weaker result (λ opened. opened ∙ (omega (arith, before.opened, length-added first second))) after.opened;
-  sound = on_ok_weaker result (keeps_again old mid new before.sound) after.sound;
-  caused = IfErr-weaker result _ _ (λ why caused. (breaks_later before.sound caused.0, caused.1)) after.caused;
-  leaves = λ start these at. further result start these (after.leaves start (added these first) (stand_then before at));
+pub adds_then : {told : Bool} {files between next : FilesState} {first second : ℕ → List ℕ} {from to low high : ℕ} {old mid new : List Slot} (result : Result (Unit {0}) Fault)
+    → Adds told files first from to old between mid (Ok tt) → Adds told between second low high mid next new result
+    → from ≤ low → to ≤ suc low → to ≤ high → Adds told files (λ i. first i ++ second i) from high old next new result
+adds_then {told} {files} {between} {next} {first} {second} {from} {to} {low} {high} {old} {mid} {new} result one other less near more = record {
+  names = other.names ∙ one.names;
+  owned = λ place owns. other.owned place (one.owned place owns);
+  ready = other.ready;
+  opened = on_ok_weaker result (λ opened. opened ∙ count) other.opened;
+  sound = on_ok_weaker result (keeps_again old mid new one.sound) other.sound;
+  caused = IfErr-weaker result _ _ (λ why caused. (breaks_later one.sound caused.0, caused.1)) other.caused;
+  outside = outside;
+  leaves = λ before had has at are. further result before had has (leaves before had has at are);
 } where
-  further : (result : Result (Unit {0}) Fault) (start : List Slot) (these : List (List ℕ))
-      → Leaves told start between.names (added these first) second low high new result
-      → Leaves told start files.names these (added first second) lower most new result
-  further (Ok done) start these at = subst (λ those. OutputsAt told start (open_part files.names those) new) (added_again these first second)
-      (renamed told files.names between.names _ before.names at)
-  further (Err why) start these stop = record {
-    place = stop.place;
-    after = omega (arith, stop.after, less);
-    within = omega (arith, stop.within, more);
-    some = added first stop.some;
-    few = omega (arith, length-added first stop.some, stop.few, stop.after, few);
-    begin = added_less first stop.some second stop.begin;
-    done = added_before stop.place first _ _ stop.done;
-    reached = stop.reached;
-    outputs = subst (λ those. OutputsAt told start (open_part files.names those) stop.reached) (added_again these first stop.some)
-        (renamed told files.names between.names _ before.names stop.outputs);
-    marks = rw (← added_again these first stop.some, ← added_again these first second)
-        (subst (λ names. Marks (λ name. (name ≡ name_of names (length (added (added these first) stop.some)))
-        × (length (added (added these first) stop.some) < length (added (added these first) second))) why stop.reached new) before.names stop.marks);
-    from = rw (← added_again these first stop.some) stop.from;
-  }
+  count : max (length between.outputs) high ≡ max (length files.outputs) high
+  count = omega (arith, one.opened)
+
+  outside : (i : ℕ) → (i < from) ⊎ (high ≤ i) → first i ++ second i ≡ []
+  outside i out = cc (one.outside i (wider (omega arith) more out), other.outside i (wider less (omega arith) out))
+
+  leaves : (before : List Slot) (had has : ℕ → List ℕ) → StandAt told files before had old → ((i : ℕ) → has i ≡ had i ++ (first i ++ second i))
+      → Leaves told before (from_start files.names) (all_open (λ i. had i ++ first i)) (max (length files.outputs) to) (all_open has) (max (length files.outputs) high) low high new result
+  leaves before had has at are = subst (λ n. Leaves told before (from_start files.names) (all_open (λ i. had i ++ first i)) (max (length files.outputs) to) (all_open has) n low high new result) count
+      (subst (λ n. Leaves told before (from_start files.names) (all_open (λ i. had i ++ first i)) n (all_open has) (max (length between.outputs) high) low high new result) one.opened
+      (subst (λ names. Leaves told before names (all_open (λ i. had i ++ first i)) (length between.outputs) (all_open has) (max (length between.outputs) high) low high new result) one.names
+      (other.leaves before (λ i. had i ++ first i) has (record {
+        owns = one.owned (length before) at.owns;
+        outputs = subst (λ names. OutputsAt told before (part_by names (all_open (λ i. had i ++ first i)) (length between.outputs)) mid) (sym one.names)
+            (subst (λ n. OutputsAt told before (part_by (from_start files.names) (all_open (λ i. had i ++ first i)) n) mid) (sym one.opened) (one.leaves before had _ at (λ i. refl)));
+        none = λ i past. cc (at.none i (omega (arith, past, one.opened)), one.outside i (inr (omega (arith, past, one.opened))));
+      }) (λ i. are i ∙ sym (append_assoc (had i) (first i) (second i))))))
+
+  further : (result : Result (Unit {0}) Fault) (before : List Slot) (had has : ℕ → List ℕ)
+      → Leaves told before (from_start files.names) (all_open (λ i. had i ++ first i)) (max (length files.outputs) to) (all_open has) (max (length files.outputs) high) low high new result
+      → Leaves told before (from_start files.names) (all_open had) (length files.outputs) (all_open has) (max (length files.outputs) high) from high new result
+  further (Ok done) before had has at = at
+  further (Err why) before had has stop = halts_after (grow_by from to first (length files.outputs) one.outside (λ i. refl)) stop less near
 
 -- a fault on the way to more than was to be added
-pub adds_wider : {told : Bool} {files next : FilesState} {some more : List (List ℕ)} {low high : ℕ} (most : ℕ) {old new : List Slot} {why : Fault}
-    → Adds told files some low high old next new (Err why) → AllBegin some more → high ≤ most → ((n : ℕ) → n ≤ high → take n some ≡ take n more)
-    → Adds told files more low most old next new (Err why)
-adds_wider {files} {some} {more} {low} {high} most {why} adds begin less same = record {
+pub adds_wider : {told : Bool} {files next : FilesState} {some more : ℕ → List ℕ} {from to : ℕ} (low most : ℕ) (rest : ℕ → List ℕ) {old new : List Slot} {why : Fault}
+    → Adds told files some from to old next new (Err why) → ((i : ℕ) → more i ≡ some i ++ rest i) → ((i : ℕ) → (i < low) ⊎ (most ≤ i) → rest i ≡ [])
+    → from ≤ low → to ≤ suc low → to ≤ most → Adds told files more from most old next new (Err why)
+adds_wider {files = files} {some} {more} {from} {to} low most rest {new = new} {why} adds are none less near far = record {
   names = adds.names;
   owned = adds.owned;
   ready = tt;
   opened = tt;
   sound = tt;
   caused = adds.caused;
-  leaves = λ before these at. let stop = adds.leaves before these at in record {
-    place = stop.place;
-    after = stop.after;
-    within = omega (arith, stop.within, less);
-    some = stop.some;
-    few = stop.few;
-    begin = all_trans stop.some some more stop.begin begin;
-    done = stop.done ∙ same stop.place stop.within;
-    reached = stop.reached;
-    outputs = stop.outputs;
-    marks = marks_by _ _ why stop.reached _ (λ name due. (due.0, omega (arith, due.1, length_begin _ _ (added_less these some more begin)))) stop.marks;
-    from = stop.from;
-  };
+  outside = λ i out. are i ∙ cc (adds.outside i (wider (omega arith) far out), none i (wider less (omega arith) out));
+  leaves = λ before had has at is. let count : max (max (length files.outputs) to) most ≡ max (length files.outputs) most = omega arith in
+      halts_wider most (adds.leaves before had _ at (λ i. refl))
+      (subst (λ n. Grow low most (all_open (λ i. had i ++ some i)) (max (length files.outputs) to) (all_open has) n) count
+      (grow_by low most rest (max (length files.outputs) to) none (λ i. is i ∙ ap (λ bytes. had i ++ bytes) (are i) ∙ sym (append_assoc (had i) (some i) (rest i))))) near far;
 }
 
--- the files are in order where the fault stopped them
-pub stops_in_order : (told : Bool) {before : List Slot} (names : Naming) (these more : List (List ℕ)) {low high : ℕ} (why : Fault) {new : List Slot}
-    → HaltedAt told before names these more low high why new → StoppedBetween told before (open_part names these) (open_part names (added these more)) why new
-stops_in_order told {before} names these more why {new} stop = record {
-  part = open_part names (added these stop.some);
-  above = open_begins names these _ (added_begin these stop.some);
-  below = open_begins names _ _ (added_less these stop.some more stop.begin);
-  place = stop.place;
-  order = record {
-    done = take_open stop.place names _ _ (added_before stop.place these _ _ stop.done);
-    untouched = drop_open (suc stop.place) names _ these (added_past (suc stop.place) these stop.some stop.few);
-  };
-  reached = stop.reached;
-  outputs = stop.outputs;
-  marks = marks_by (IsDue names (added these stop.some) (added these more)) _ why stop.reached new (next_due names _ _) stop.marks;
-  from = subst (IsAt why (length before) stop.place) (sym (open_length names (added these stop.some))) stop.from;
-}
+-- what the first of the files get, one after another
+abbrev pub up_to : ℕ → (ℕ → List ℕ) → ℕ → List ℕ
+up_to n more i = cond (ltb i n) (more i) []
+
+pub sent_none : (told : Bool) {files : FilesState} (more : ℕ → List ℕ) {slots : List Slot} → AreReady files slots → Adds told files (up_to 0 more) 0 0 slots files slots (Ok tt)
+sent_none told more ready = adds_idle told (up_to 0 more) 0 0 (λ i. grind (arith, nat_tests)) (omega arith) ready
+
+module _ {told : Bool} {files between next : FilesState} {old mid new : List Slot} {place : ℕ} (more : ℕ → List ℕ) {bytes : List ℕ} (before : Adds told files (up_to place more) 0 place old between mid (Ok tt)) (is : bytes ≡ more place) where
+  pub sent_next : (result : Result (Unit {0}) Fault) → Adds told between (only_at place bytes) place (place + 1) mid next new result
+      → Adds told files (up_to (place + 1) more) 0 (place + 1) old next new result
+  sent_next result after = subst (λ those. Adds told files those 0 (place + 1) old next new result)
+      (fun_ext (λ i. grind (arith, nat_tests, append-nil (more i), is, λ (same : i ≡ place). ap more same)))
+      (adds_then result before after (omega arith) (omega arith) (omega arith))
+
+  pub sent_stops : {most : ℕ} {why : Fault} → place < most → ((i : ℕ) → most ≤ i → more i ≡ []) → Adds told between (only_at place bytes) place (place + 1) mid next new (Err why)
+      → Adds told files more 0 most old next new (Err why)
+  sent_stops {most} {why} within none after =
+      adds_wider (place + 1) most (λ i. cond (ltb i (place + 1)) [] (more i)) (adds_then (Err why) before after (omega arith) (omega arith) (omega arith))
+      (λ i. grind (arith, nat_tests, append-nil (more i), is, λ (same : i ≡ place). ap more same))
+      (λ i out. grind (arith, nat_tests, none i, out)) (omega arith) (omega arith) (omega arith)
+
+-- all of them got it
+pub sent_all : {told : Bool} {files next : FilesState} {old new : List Slot} (place : ℕ) {most : ℕ} (more : ℕ → List ℕ) → ((i : ℕ) → most ≤ i → more i ≡ []) → place ≡ most
+    → Adds told files (up_to place more) 0 place old next new (Ok tt) → Adds told files more 0 most old next new (Ok tt)
+sent_all {told} {files} {next} {old} {new} place {most} more none is adds =
+    subst (λ those. Adds told files those 0 most old next new (Ok tt)) (fun_ext (λ i. grind (arith, nat_tests, none i)))
+    (subst (λ n. Adds told files (up_to n more) 0 n old next new (Ok tt)) is adds)

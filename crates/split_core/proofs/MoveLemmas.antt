@@ -1,31 +1,30 @@
 -- How the files of `split` change, as they are opened, written and closed.
 use Rattle.std.proofs.lemmas.Bool.Decides.{nat_tests}
-use Rattle.std.proofs.Common.{◌≡◌, ℕ, ◌+◌, ◌≤◌, zero, suc, List, [], ◌∷◌, ◌++◌, ◌⊎◌, length, take, Bool, true, false, IsTrue, Option, Some, None, Result, Ok, Err, OnOk, IfErr, inl, inr, refl, sym, ◌∙◌, ap, subst, arith, length-append}
+use Rattle.std.proofs.Common.{◌≡◌, ℕ, ◌+◌, ◌≤◌, zero, suc, List, [], ◌∷◌, ◌++◌, ◌⊎◌, length, Bool, true, false, IsTrue, Option, Some, None, Result, Ok, Err, OnOk, IfErr, inl, inr, refl, sym, ◌∙◌, ap, subst, arith, length-append}
 use Rattle.std.proofs.Math.Nat.{add-zero, zero-add}
 use Rattle.std.proofs.lemmas.Bool.{cond_both, false≢true}
 use Rattle.std.proofs.lemmas.Result.{IfErr-weaker, on_ok_weaker}
-use Rattle.ports_core.specs.Name.{Naming, next_name}
-use Rattle.ports_core.specs.Slot.{Slot, changed_at, opened, unopened, adds, closes, with_written, with_broken, told_of, is_writable}
+use Rattle.ports_core.specs.Name.{Naming, next_name, has_next}
+use Rattle.ports_core.specs.Slot.{Slot, changed_at, opened, unopened, closes, with_broken, is_writable}
 use Rattle.ports_core.specs.inner.Slot.{KeepsBroken}
 use Rattle.ports_core.specs.declared.slot.Mode.TheVariants.{Fresh}
 use Rattle.ports_core.specs.declared.slot.State.TheVariants as state
-use Rattle.ports_core.specs.Part.{File, OutputsAt, IsBeginning, IsNext, Marks, IsAt, file_of, told_file}
+use Rattle.ports_core.specs.Part.{Part, OutputsAt, Marks, IsAt}
 use Rattle.ports_core.specs.inner.Part.{AllClosed, InTurn}
 use Rattle.ports_core.specs.Engine.{IsMet, is_verdict}
 use Rattle.ports_core.specs.declared.fault.Fault.{Fault}
-use Rattle.ports_core.specs.declared.fault.Fault.TheVariants.{Memory, Write, Open, Suffixes}
-use Rattle.ports_core.proofs.PartLemmas.{begins_itself, begins_more, take_begins_after, turn_between, turn_last, turn_next, outputs_count, part_begins_itself}
-use Rattle.ports_core.proofs.FileLemmas.{file_more, last_changes, gets, ended, write_makes, close_makes}
-use Rattle.ports_core.proofs.SlotLemmas.{length-changed_at}
+use Rattle.ports_core.specs.declared.fault.Fault.TheVariants.{Write, Suffixes}
+use Rattle.ports_core.proofs.PartLemmas.{begins_itself, begins_more, turn_last, turn_next}
+use Rattle.ports_core.proofs.PartSteps.{Becomes, fault_in, with_last, becomes_again, falls_wider, halts_here, opens, writes_to, closes_last, closes_not}
 use Rattle.ports_core.specs.inner.Write.{WritesShort, broke}
-use Rattle.ports_core.proofs.SlotSteps.{keeps_again, rose_later, write_rose, open_rose}
+use Rattle.ports_core.proofs.SlotSteps.{keeps_again, keeps_same, rose_later, write_rose, open_rose}
 use Rattle.split_core.specs.Split.{Share, share, split_means, is_named, are_named, from_start, only_files, file_at, named, name_of}
-use Rattle.split_core.specs.inner.ShareLaws.{AllShut, SharesBegin}
-use Rattle.split_core.proofs.ShareLaws.{shares_more, shares_themselves, shares_trans, last_grows}
+use Rattle.split_core.specs.inner.CutLaws.{AllShut, SharesBegin}
+use Rattle.split_core.proofs.CutLaws.{shares_more, shares_themselves, shares_trans, last_grows}
 use Rattle.split_core.specs.laws.ShareLaws.{part_begins, one_on, shares_fewer}
 use Rattle.split_core.specs.inner.PartsState.{IsAtEnd}
-use Rattle.split_core.specs.PartsState.{PartsState, OwnsFile}
-use Rattle.split_core.specs.inner.Moves.{part_of, Goes, Reaches, RunsShort, Keeps, KeepsFile, Breaks, CannotClose, OpensNone, wants_memory, breaks_write, breaks_open, lacks_names}
+use Rattle.split_core.specs.PartsState.{PartsState, IsReady, OwnsFile}
+use Rattle.split_core.specs.inner.Moves.{part_of, Draft, written, Goes, Moves, RunsShort, Keeps, KeepsFile, Breaks, CannotClose, OpensNone, no_memory, no_file, no_name, WritesTo, wants_memory, breaks_write, breaks_open, lacks_names}
 
 -- names
 
@@ -81,11 +80,6 @@ all_named names shares is = named_count names 0 shares (subst (λ n. is_named na
 pub last_turn : (names : Naming) (shares : List Share) (one : Share) → is_named names (length shares) ≡ true → AllShut shares → InTurn (named names 0 (shares ++ one ∷ [])) (length shares)
 last_turn names shares one is shut = subst (λ files. InTurn files (length shares)) (sym (named_at names shares [] one is)) (turn_last (named names 0 shares) (file_at names (length shares) one) (length shares) (all_named names shares is) (shut_files names 0 shares shut))
 
--- the last slot is that of the last file
-pub last_from : (told : Bool) (names : Naming) (shares : List Share) (one : Share) {before old : List Slot} {slot : ℕ} → is_named names (length shares) ≡ true → suc slot ≡ length old → OutputsAt told before (part_of names (shares ++ one ∷ [])) old → slot ≡ length before + length shares
-last_from told names shares one {before} {old} is last at =
-    omega (arith, outputs_count told before (part_of names (shares ++ one ∷ [])) old at, ap length (named_at names shares [] one is) ∙ length-append (named names 0 shares) (file_at names (length shares) one ∷ []), all_named names shares is)
-
 -- which faults come
 
 pub breaks_later : {old mid new : List Slot} {fault : Fault} → KeepsBroken old mid → Breaks mid new fault → Breaks old new fault
@@ -97,11 +91,21 @@ breaks_later keeps lacks_names = lacks_names
 pub write_breaks : (told : Bool) {slot : ℕ} {bytes : List ℕ} {old new : List Slot} {fault : Fault} → 2 ≤ slot → IsTrue (is_writable old slot) → WritesShort told slot bytes old new fault → Breaks old new fault
 write_breaks told {slot} {bytes} {old} {new} two can (broke n cut) = breaks_write slot two (write_rose told slot bytes n old new can cut)
 
-pub open_breaks : (names : Naming) {old new : List Slot} (fault : Fault) → OpensNone names old new fault → Breaks old new fault
-open_breaks names Memory none = wants_memory
-open_breaks names {old} {new} (Open slot) none = breaks_open slot (open_rose slot none.2.0 old new none.0 none.2.2)
-open_breaks names Suffixes none = lacks_names
-open_breaks names fault none = absurd none
+pub open_breaks : {names next : Naming} {old new : List Slot} {fault : Fault} → OpensNone names next old new fault → Breaks old new fault
+open_breaks (no_memory same) = wants_memory
+open_breaks {old = old} {new} (no_file slot kept at has drew is made) = breaks_open slot (open_rose slot kept old new at made)
+open_breaks (no_name none same) = lacks_names
+
+-- what an open that failed leaves, and where it failed
+pub opens_marks : (IsName : List ℕ → Type 0) {names next : Naming} {old new : List Slot} {fault : Fault} → (IsTrue (has_next names) → IsName (next_name names)) → OpensNone names next old new fault → Marks IsName fault old new
+opens_marks IsName named (no_memory same) = same
+opens_marks IsName {names} named (no_file slot kept at has drew is made) = (at, (next_name names, kept, named has, is, made))
+opens_marks IsName named (no_name none same) = same
+
+pub opens_at : {names next : Naming} {old new : List Slot} {fault : Fault} (first : ℕ) {place count : ℕ} → place ≡ count → OpensNone names next old new fault → IsAt fault first place count
+opens_at first here (no_memory same) = tt
+opens_at first here (no_file slot kept at has drew is made) = here
+opens_at first here (no_name none same) = tt
 
 -- they are no verdict but for want of names
 pub unjudged : {old new : List Slot} {fault : Fault} → Breaks old new fault → (fault ≡ Suffixes → ⊥) → is_verdict fault ≡ false
@@ -147,11 +151,10 @@ owned_opened one old {new} at is first owns =
     let size : length new ≡ length old + 1 = ap length is ∙ length-append old (one ∷ []) in (omega (arith, owns, at), omega (arith, owns, at))
 
 -- the file could not be opened
-pub owned_unopened : (names : Naming) (old new : List Slot) (fault : Fault) → OpensNone names old new fault → KeepsFile None old None new
-owned_unopened names old new Memory none first owns = owned_same None old new (ap length none.1) first owns
-owned_unopened names old new (Open slot) none first owns = omega (arith, owns, ap length none.2.2 ∙ length-append old (unopened none.2.0 ∷ []))
-owned_unopened names old new Suffixes none first owns = owned_same None old new (ap length none.1) first owns
-owned_unopened names old new fault none first owns = absurd none
+pub owned_unopened : {names next : Naming} {old new : List Slot} {fault : Fault} → OpensNone names next old new fault → KeepsFile None old None new
+owned_unopened {old = old} {new} (no_memory same) first owns = owned_same None old new (ap length same) first owns
+owned_unopened {old = old} (no_file slot kept at has drew is made) first owns = omega (arith, owns, ap length made ∙ length-append old (unopened kept ∷ []))
+owned_unopened {old = old} {new} (no_name none same) first owns = owned_same None old new (ap length same) first owns
 
 pub on_ok : {P : Type 0} (result : Result (Unit {0}) Fault) → P → OnOk result P
 on_ok (Ok done) is = is
@@ -163,29 +166,25 @@ on_ok (Err f) is = tt
 pub goes_then : {told : Bool} {names : Naming} {current next : Option ℕ} {low mid high : List Share} {old wet new : List Slot} (result : Result (Unit {0}) Fault)
     → KeepsFile current old next wet → Goes told names current low mid old wet (Ok tt) → Goes told names next mid high wet new result
     → Goes told names current low high old new result
-goes_then {told} {names} {current} {next} {low} {mid} {high} {old} {wet} {new} result owned one other = record {
+goes_then {names = names} {current} {next} {low} {mid} {high} {old} {wet} result owned one other = record {
   grows = shares_trans low mid high one.grows other.grows;
-  moves = λ last before at. further result before (other.moves (stays_last current next old wet owned last) before (one.moves last before at));
+  moves = λ last. becomes_again (part_begins names low mid one.grows) (one.moves last) (other.moves (stays_last current next old wet owned last));
   short = IfErr-weaker result _ _ (λ fault short is. let ran = short is in record {
     those = ran.those;
     shut = ran.shut;
     none = ran.none;
     begins = ran.begins;
     fewer = ran.fewer;
-    moves = λ last before at. ran.moves (stays_last current next old wet owned last) before (one.moves last before at);
+    moves = λ last before at. ran.moves (stays_last current next old wet owned last) before ((one.moves last).gets before at);
   }) other.short;
-} where
-  further : (result : Result (Unit {0}) Fault) (before : List Slot) → Reaches told before names mid high new result
-      → Reaches told before names low high new result
-  further (Ok done) before at = at
-  further (Err fault) before stop = turn_between told before _ _ _ _ fault new (part_begins names low mid one.grows) stop (part_begins_itself _)
+}
 
 -- a fault on the way to what the step was only a part of
 pub goes_wider : {told : Bool} {names : Naming} {current : Option ℕ} {low mid high : List Share} {old new : List Slot} {fault : Fault}
     → Goes told names current low mid old new (Err fault) → SharesBegin mid high → Goes told names current low high old new (Err fault)
-goes_wider {told} {names} {low} {mid} {high} {new} {fault} stop begins = record {
+goes_wider {names = names} {low = low} {mid} {high} stop begins = record {
   grows = shares_trans low mid high stop.grows begins;
-  moves = λ last before at. turn_between told before _ _ _ _ fault new (part_begins_itself _) (stop.moves last before at) (part_begins names mid high begins);
+  moves = λ last. falls_wider (stop.moves last) (part_begins names mid high begins);
   short = λ is. let ran = stop.short is in record {
     those = ran.those;
     shut = ran.shut;
@@ -197,11 +196,10 @@ goes_wider {told} {names} {low} {mid} {high} {new} {fault} stop begins = record 
 }
 
 -- nothing changed
-pub goes_same : {told : Bool} {names : Naming} {current : Option ℕ} {low high : List Share} {old new : List Slot} → low ≡ high → new ≡ old
-    → Goes told names current low high old new (Ok tt)
-goes_same {told} {names} {low} {old} {new} same is = record {
+pub goes_same : {told : Bool} {names : Naming} {current : Option ℕ} {low high : List Share} {slots : List Slot} → low ≡ high → Goes told names current low high slots slots (Ok tt)
+goes_same {told} {names} {low = low} {slots = slots} same = record {
   grows = subst (SharesBegin low) same (shares_themselves low);
-  moves = λ last before at. rw is (subst (λ shares. OutputsAt told before (part_of names shares) old) same at);
+  moves = λ last. record { gets = λ before at. subst (λ shares. OutputsAt told before (part_of names shares) slots) same at };
   short = tt;
 }
 
@@ -217,142 +215,89 @@ keeps_then {old} {wet} {new} result one other = record {
   breaks = IfErr-weaker result _ _ (λ fault breaks. breaks_later one.sound breaks) other.breaks;
 }
 
+pub keeps_still : {parts : PartsState} {slots : List Slot} → IsReady parts.current slots → Keeps parts slots slots parts (Ok tt)
+keeps_still ready = record { limit = refl; names = refl; owned = λ first owns. owns; sound = keeps_same _ _ refl; ready = ready; breaks = tt }
+
+pub moves_then : {told : Bool} {parts mid next : PartsState} {between are : ℕ × Bool × List ℕ} {first second : Draft → Draft} {old wet new : List Slot} (result : Result (Unit {0}) Fault)
+    → Moves told parts between first old wet mid (Ok tt) → Moves told mid are second wet new next result → Moves told parts are (λ those. second (first those)) old new next result
+moves_then {told} {parts} {mid} {first = first} {second} {wet = wet} {new} result one other = record {
+  same = other.same;
+  keeps = keeps_then result one.keeps other.keeps;
+  begun = on_ok_weaker result (λ begins those has. begins (first those) (one.begun those has)) other.begun;
+  goes = λ those has. goes_then result one.keeps.owned (one.goes those has)
+      (subst (λ names. Goes told names mid.current (written (first those)) (written (second (first those))) wet new result) one.keeps.names (other.goes (first those) (one.begun those has)));
+}
+
 -- the file of the part that was begun is the last output
 
-never_short : {P : Type 0} (slot : ℕ) → Write slot ≡ Suffixes → P
-never_short slot is = absurd (false≢true (ap is_verdict is))
+becomes_as : {told : Bool} {low low' high high' : Part} {old new : List Slot} {fault : Option Fault} → low ≡ low' → high ≡ high' → Becomes told low' high' old new fault → Becomes told low high old new fault
+becomes_as {told} {low} {high' = high'} {old} {new} {fault} is_low is_high becomes =
+    subst (λ part. Becomes told low part old new fault) (sym is_high) (subst (λ part. Becomes told part high' old new fault) (sym is_low) becomes)
 
--- its output broke
-last_broke : (told : Bool) (names : Naming) (shares : List Share) (one : Share) (high : List Share) (old new : List Slot) (slot : ℕ) → AllShut shares
-    → is_named names (length shares) ≡ true → SharesBegin (shares ++ one ∷ []) high → new ≡ with_broken slot old
-    → Goes told names (Some slot) (shares ++ one ∷ []) high old new (Err (Write slot))
-last_broke told names shares one high old new slot shut is begins cut = record {
-  grows = begins;
-  moves = λ last before at. record {
-    part = part_of names (shares ++ one ∷ []);
-    above = part_begins_itself _;
-    below = part_begins names _ high begins;
-    place = length shares;
-    turn = last_turn names shares one is shut;
-    reached = old;
-    outputs = at;
-    marks = (omega (arith, last), cut);
-    from = inr (last_from told names shares one is last at);
-  };
-  short = never_short slot;
-}
-
--- it changed
-last_goes : (told : Bool) (change : Slot → Slot) (makes : File → File)
-    → ((slot : Slot) (file : File) → file_of slot ≡ told_file told file → file_of (change slot) ≡ told_file told (makes file))
-    → (names : Naming) (shares : List Share) (one other : Share) (old new : List Slot) (slot : ℕ) → (one.state ≡ state.Open) ⊎ (one ≡ other)
-    → IsBeginning one.bytes other.bytes → makes (file_at names (length shares) one) ≡ file_at names (length shares) other
-    → is_named names (length shares) ≡ true → new ≡ changed_at slot change old
-    → Goes told names (Some slot) (shares ++ one ∷ []) (shares ++ other ∷ []) old new (Ok tt)
-last_goes told change makes fits names shares one other old new slot kept begins makes_it is change_is = record {
-  grows = last_grows shares [] one other kept begins;
-  moves = λ last before at. subst (λ files. OutputsAt told before (only_files files) new)
-      (ap (λ file. named names 0 shares ++ file ∷ []) makes_it ∙ sym (named_at names shares [] other is))
-      (last_changes told change makes fits before (part_of names (shares ++ one ∷ [])) (named names 0 shares) (file_at names (length shares) one)
-      old new slot (named_at names shares [] one is) last at change_is);
-  short = tt;
-}
-
-module _ (told : Bool) (names : Naming) (shares : List Share) (begun : List ℕ) (old : List Slot) (slot : ℕ) (shut : AllShut shares)
-    (is : is_named names (length shares) ≡ true) where
-  wrote : (bytes : List ℕ) (new : List Slot) → new ≡ with_written slot (told_of told bytes) old
-      → Goes told names (Some slot) (shares ++ share state.Open begun ∷ []) (shares ++ share state.Open (begun ++ bytes) ∷ []) old new (Ok tt)
-  wrote bytes new = last_goes told (adds (told_of told bytes)) (gets bytes) (write_makes told bytes) names shares _ _ old new slot
-      (inl refl) (begins_more begun bytes) refl is
-
-  closed : (new : List Slot) → new ≡ changed_at slot closes old
-      → Goes told names (Some slot) (shares ++ share state.Open begun ∷ []) (shares ++ share state.Closed begun ∷ []) old new (Ok tt)
-  closed new = last_goes told closes ended (close_makes told) names shares _ _ old new slot (inl refl) (begins_itself begun) refl is
+module _ (told : Bool) (names : Naming) (shares : List Share) (begun : List ℕ) (old : List Slot) (shut : AllShut shares) (is : is_named names (length shares) ≡ true) where
+  last_one : (one : Share) → part_of names (shares ++ one ∷ []) ≡ with_last [] (named names 0 shares) (file_at names (length shares) one)
+  last_one one = ap only_files (named_at names shares [] one is)
 
   -- bytes were written to it, or it broke among them
-  pub write_goes : (bytes : List ℕ) {new : List Slot} (result : Result (Unit {0}) Fault) → OnOk result (new ≡ with_written slot (told_of told bytes) old)
-      → IfErr result (WritesShort told slot bytes old new)
+  pub write_goes : (bytes : List ℕ) {slot : ℕ} {new : List Slot} (result : Result (Unit {0}) Fault) → WritesTo told slot bytes old new result
       → Goes told names (Some slot) (shares ++ share state.Open begun ∷ []) (shares ++ share state.Open (begun ++ bytes) ∷ []) old new result
-  write_goes bytes (Ok done) ok err = wrote bytes _ ok
-  write_goes bytes (Err _) ok (broke n cut) =
-      goes_then (Err (Write slot)) (owned_same (Some slot) old _ (length-changed_at slot _ old)) (wrote (take n bytes) _ refl)
-      (last_broke told names shares (share state.Open (begun ++ take n bytes)) _ _ _ slot shut is
-      (last_grows shares [] _ _ (inl refl) (take_begins_after n begun bytes)) cut.slots)
+  write_goes bytes {slot} {new} result wrote = record {
+    grows = last_grows shares [] _ _ (inl refl) (begins_more begun bytes);
+    moves = λ last. becomes_as (last_one _) (last_one _)
+        (writes_to told [] (named names 0 shares) (name_of names (length shares)) begun bytes old (fault_in result) (shut_files names 0 shares shut) last wrote);
+    short = by _ result wrote;
+  } where
+    by : (P : Type 0) (result : Result (Unit {0}) Fault) → WritesTo told slot bytes old new result → IfErr result (λ fault. fault ≡ Suffixes → P)
+    by P (Ok done) wrote = tt
+    by P (Err _) (broke n cut) = λ same. absurd (false≢true (ap is_verdict same))
 
   -- it was closed, or it broke at that
-  pub close_goes : {new : List Slot} (result : Result (Unit {0}) Fault) → OnOk result (new ≡ changed_at slot closes old)
+  pub close_goes : {slot : ℕ} {new : List Slot} (result : Result (Unit {0}) Fault) → OnOk result (new ≡ changed_at slot closes old)
       → IfErr result (λ fault. (fault ≡ Write slot) × (new ≡ with_broken slot (changed_at slot closes old)))
       → Goes told names (Some slot) (shares ++ share state.Open begun ∷ []) (shares ++ share state.Closed begun ∷ []) old new result
-  close_goes (Ok done) ok err = closed _ ok
-  close_goes {new} (Err fault) ok err =
-      subst (λ those. Goes told names (Some slot) (shares ++ share state.Open begun ∷ []) (shares ++ share state.Closed begun ∷ []) old new (Err those)) (sym err.0)
-      (goes_then (Err (Write slot)) (owned_same (Some slot) old _ (length-changed_at slot closes old)) (closed _ refl)
-      (last_broke told names shares (share state.Closed begun) _ _ _ slot shut is (shares_themselves _) err.1))
+  close_goes (Ok done) ok err = record {
+    grows = last_grows shares [] _ _ (inl refl) (begins_itself begun);
+    moves = λ last. becomes_as (last_one _) (last_one _) (closes_last told [] (named names 0 shares) (name_of names (length shares)) begun old last ok);
+    short = tt;
+  }
+  close_goes {slot} {new} (Err fault) ok err =
+      subst (λ those. Goes told names (Some slot) (shares ++ share state.Open begun ∷ []) (shares ++ share state.Closed begun ∷ []) old new (Err those)) (sym err.0) (record {
+        grows = last_grows shares [] _ _ (inl refl) (begins_itself begun);
+        moves = λ last. becomes_as (last_one _) (last_one _)
+            (closes_not told [] (named names 0 shares) (name_of names (length shares)) begun old (shut_files names 0 shares shut) last err.1);
+        short = λ same. absurd (false≢true (ap is_verdict same));
+      })
 
--- the next file was opened
-pub open_goes : (told : Bool) (names : Naming) (current : Option ℕ) (shares : List Share) (old new : List Slot) → is_named names (length shares) ≡ true
-    → new ≡ old ++ opened (name_of names (length shares)) Fresh ∷ [] → Goes told names current shares (shares ++ share state.Open [] ∷ []) old new (Ok tt)
-open_goes told names current shares old new is made = record {
-  grows = shares_more shares _;
-  moves = λ last before at. subst (λ files. OutputsAt told before (only_files files) new) (sym (named_at names shares [] (share state.Open []) is))
-      (file_more told before (part_of names shares) old new (name_of names (length shares)) Fresh at made);
-  short = tt;
-}
+  -- the next file was opened
+  pub open_goes : (current : Option ℕ) {new : List Slot} → new ≡ old ++ opened (name_of names (length shares)) Fresh ∷ [] → Goes told names current shares (shares ++ share state.Open [] ∷ []) old new (Ok tt)
+  open_goes current made = record {
+    grows = shares_more shares _;
+    moves = λ last. becomes_as refl (last_one _) (opens told [] (named names 0 shares) (name_of names (length shares)) made);
+    short = tt;
+  }
 
 -- or it could not be opened
-pub open_stops : (told : Bool) (names : Naming) (current : Option ℕ) (shares more : List Share) (one : Share) (old new : List Slot) (fault : Fault) → AllShut shares
-    → names.drawn ≡ length shares → OpensNone names old new fault → Goes told (from_start names) current shares (shares ++ one ∷ more) old new (Err fault)
-open_stops told names current shares more one old new fault shut drawn none = record {
-  grows = shares_more shares (one ∷ more);
-  moves = λ last before at. record {
-    part = part_of (from_start names) shares;
-    above = part_begins_itself _;
-    below = part_begins (from_start names) shares _ (shares_more shares (one ∷ more));
-    place = length (named (from_start names) 0 shares);
-    turn = turn_next _ (shut_files (from_start names) 0 shares shut);
-    reached = old;
-    outputs = at;
-    marks = marks fault none;
-    from = from fault none before;
-  };
-  short = λ is. ran (subst (OpensNone names old new) is none);
-} where
-  marks : (fault : Fault) → OpensNone names old new fault
-      → Marks (IsNext (part_of (from_start names) shares) (part_of (from_start names) (shares ++ one ∷ more))) fault old new
-  marks Memory none = none.1
-  marks (Open slot) none = (
-    none.0,
-    (
-      next_name names,
-      none.2.0,
-      record {
+pub open_stops : (told : Bool) {names next : Naming} (current : Option ℕ) (shares : List Share) (one : Share) {old new : List Slot} {fault : Fault} → AllShut shares
+    → names.drawn ≡ length shares → OpensNone names next old new fault → Goes told (from_start names) current shares (shares ++ one ∷ []) old new (Err fault)
+open_stops told {names} {next} current shares one {old} {new} shut drawn none = record {
+  grows = shares_more shares (one ∷ []);
+  moves = λ last. halts_here (part_begins (from_start names) shares _ (shares_more shares (one ∷ []))) (turn_next _ (shut_files (from_start names) 0 shares shut))
+      (opens_marks _ (λ has. record {
         front = named (from_start names) 0 shares;
         file = file_at (from_start names) (length shares) one;
-        rest = named (from_start names) (length shares + 1) more;
-        files = named_at (from_start names) shares more one (subst (λ n. is_named names n ≡ true) drawn none.1);
+        rest = [];
+        files = named_at (from_start names) shares [] one (subst (λ n. is_named names n ≡ true) drawn has);
         place = refl;
         name_is = ap (name_of names) (sym drawn);
-      },
-      none.2.1,
-      none.2.2,
-    ),
-  )
-  marks Suffixes none = none.1
-  marks fault none = absurd none
-
-  from : (fault : Fault) → OpensNone names old new fault → (before : List Slot)
-      → IsAt fault (length before) (length (named (from_start names) 0 shares)) (length (named (from_start names) 0 shares))
-  from Memory none before = tt
-  from (Open slot) none before = refl
-  from Suffixes none before = tt
-  from fault none before = absurd none
-
-  ran : OpensNone names old new Suffixes → RunsShort told (from_start names) current shares (shares ++ one ∷ more) old new
-  ran none = record {
+      }) none) (λ before at. opens_at (length before) refl none);
+  short = λ is. ran (subst (OpensNone names next old new) is none);
+} where
+  ran : OpensNone names next old new Suffixes → RunsShort told (from_start names) current shares (shares ++ one ∷ []) old new
+  ran (no_name none same) = record {
     those = shares;
     shut = shut;
-    none = subst (λ n. is_named names n ≡ false) drawn none.0;
-    begins = shares_more shares (one ∷ more);
-    fewer = omega (arith, length-append shares (one ∷ more));
-    moves = λ last before at. rw none.1 at;
+    none = subst (λ n. is_named names n ≡ false) drawn none;
+    begins = shares_more shares (one ∷ []);
+    fewer = omega (arith, length-append shares (one ∷ []));
+    moves = λ last before at. rw same at;
   }

@@ -53,13 +53,13 @@ module _ (told : Bool) (state next : PartsState) (piece : List ℕ) (old new : L
       (sym (same_files (from_start state.names) 0 ran.those _ ran.shut ran.begins (subst (λ n. is_named state.names n ≡ false) (sym (zero-add _)) ran.none)))
       (ran.moves (owns_last state.current (length before) old at.owns) before at.outputs)) refl
   cut_off {f} breaks stop before x at =
-      engine.cut refl (stopped_in_turn told before _ _ f new ((stop.goes x at.holds).moves (owns_last state.current (length before) old at.owns) before at.outputs))
+      engine.cut refl (stopped_in_turn told before _ _ f new (((stop.goes x at.holds).moves (owns_last state.current (length before) old at.owns)).gets before at.outputs))
 
   pub passes_by : (result : Result (Unit {0}) Fault) → Takes told state piece old new next result → PassesBy told piece old new result (way.Parts state) (way.Parts next)
   passes_by (Ok done) takes = record {
     same = work_by state next takes.keeps.limit takes.keeps.names;
     holds = takes.stands;
-    outputs = λ before x at. (takes.goes x at.holds).moves (owns_last state.current (length before) old at.owns) before at.outputs;
+    outputs = λ before x at. ((takes.goes x at.holds).moves (owns_last state.current (length before) old at.owns)).gets before at.outputs;
     ready = takes.keeps.ready;
     owns = takes.keeps.owned;
     cut = tt;
@@ -83,7 +83,7 @@ finishes_by told state next old new (Ok done) ends = record {
   same = work_by state next ends.keeps.limit ends.keeps.names;
   outputs = λ before x at. (
     ap (λ (have : Bool). cond (not have) (Some Suffixes) None) (all_have at.holds),
-    (ends.goes x at.holds).moves (owns_last state.current (length before) old at.owns) before at.outputs,
+    ((ends.goes x at.holds).moves (owns_last state.current (length before) old at.owns)).gets before at.outputs,
   );
   owns = ends.keeps.owned;
   cut = tt;
@@ -94,6 +94,6 @@ finishes_by told state next old new (Err f) ends = record {
   outputs = tt;
   owns = ends.keeps.owned;
   cut = λ before x at. engine.cut (ap is_verdict ends.caused.1)
-      (stopped_in_turn told before _ _ f new ((ends.goes x at.holds).moves (owns_last state.current (length before) old at.owns) before at.outputs));
+      (stopped_in_turn told before _ _ f new (((ends.goes x at.holds).moves (owns_last state.current (length before) old at.owns)).gets before at.outputs));
   met = met_closing (EndsThere ways.Holds ways.work (way.Parts state)) old new ends.caused;
 }

@@ -1,23 +1,28 @@
 -- What each call on parts leaves: their files, and the part that was begun.
-use Rattle.std.proofs.Common.{◌≡◌, ℕ, ◌+◌, ◌<◌, ◌≤◌, suc, List, [], ◌∷◌, ◌++◌, length, map, Bool, true, false, IsTrue, Option, Some, None, Result, Ok, Err, OnOk, IfErr, refl, sym, ◌∙◌, ap, subst, add-one, arith, length-append}
+use Rattle.std.proofs.Common.{◌≡◌, ℕ, ◌+◌, ◌-◌, ◌<◌, ◌≤◌, suc, List, [], ◌∷◌, ◌++◌, length, map, Bool, true, false, eqb, IsTrue, Option, Some, None, Result, Ok, Err, OnOk, IfErr, refl, sym, ◌∙◌, ap, subst, add-one, arith, length-append}
 use Rattle.std.proofs.lemmas.List.{append-nil}
-use Rattle.std.proofs.lemmas.Bool.{false≢true}
+use Rattle.std.proofs.lemmas.Bool.{false≢true, eqb-false, eqb-true}
 use Rattle.std.proofs.lemmas.Result.{IfErr-weaker, on_ok_weaker}
-use Rattle.ports_core.specs.Name.{Naming, next_name, has_next}
-use Rattle.ports_core.specs.Slot.{Slot, changed_at, opened, closes, with_written, with_broken, told_of, is_closable}
+use Rattle.seg_core.specs.Window.{ByteWindowState}
+use Rattle.ports_core.specs.Name.{Naming, next_name, has_next, with_one_drawn}
+use Rattle.ports_core.specs.Slot.{Slot, Rose, changed_at, opened, closes, with_broken, is_closable}
 use Rattle.ports_core.specs.declared.slot.Mode.TheVariants.{Fresh}
 use Rattle.ports_core.specs.declared.slot.State.{State}
 use Rattle.ports_core.specs.declared.slot.State.TheVariants as state
 use Rattle.ports_core.specs.declared.fault.Fault.{Fault}
 use Rattle.ports_core.specs.declared.fault.Fault.TheVariants as fault
-use Rattle.ports_core.specs.inner.Write.{WritesShort}
 use Rattle.ports_core.proofs.SlotLemmas.{length-changed_at}
-use Rattle.split_core.specs.Parts.{unless_empty}
+use Rattle.split_core.specs.declared.limit.Limit.{Limit}
+use Rattle.split_core.specs.Parts.{most, unless_empty}
 use Rattle.split_core.specs.Split.{Share, share, is_some, is_named, are_named, from_start, name_of}
 use Rattle.split_core.specs.laws.DealLaws.{is_some_of}
+use Rattle.split_core.specs.laws.ShareLaws.{shares_after}
+use Rattle.split_core.proofs.CutLaws.{shut_more}
 use Rattle.split_core.specs.PartsState.{PartsState, IsReady, is_given}
-use Rattle.split_core.specs.inner.Moves.{Goes, Keeps, KeepsFile, Breaks, Begun, written, HasFile, there, made, HasNone, Extends, Shuts, breaks_write}
-use Rattle.split_core.proofs.MoveLemmas.{close_goes, goes_same, goes_then, keeps_then, on_ok, open_breaks, open_goes, open_stops, owned_ended, owned_opened, owned_same, owned_unopened, write_breaks, write_goes}
+use Rattle.split_core.specs.inner.PartsState.{Fits}
+use Rattle.split_core.specs.inner.CutLaws.{AllShut}
+use Rattle.split_core.specs.inner.Moves.{Keeps, KeepsFile, Breaks, Draft, draft, written, Begun, gets, turns, Moves, Found, HasNone, Extends, Turns, Shuts, WritesTo, breaks_write}
+use Rattle.split_core.proofs.MoveLemmas.{close_goes, goes_same, goes_then, goes_wider, keeps_still, keeps_then, moves_then, on_ok, open_breaks, open_goes, open_stops, owned_ended, owned_opened, owned_same, owned_unopened, write_breaks, write_goes}
 use Rattle.ports_core.proofs.SlotSteps as slot_steps
 
 -- shares
@@ -34,74 +39,98 @@ pub count_one : (shares : List Share) (one : Share) → length (shares ++ one �
 count_one shares one = length-append shares (one ∷ []) ∙ add-one (length shares)
 
 -- a part of which some bytes are written
-pub written_some : (shares : List Share) (begun : List ℕ) → is_some begun ≡ true → written shares begun ≡ shares ++ share state.Open begun ∷ []
-written_some shares begun some = ap (λ more. shares ++ more) (some_share state.Open begun some)
+written_some : (those : Draft) → is_some those.begun ≡ true → written those ≡ those.shares ++ share state.Open those.begun ∷ []
+written_some those some = ap (λ more. those.shares ++ more) (some_share state.Open those.begun some)
 
-pub written_count : (shares : List Share) (begun : List ℕ) → is_some begun ≡ true → length (written shares begun) ≡ suc (length shares)
-written_count shares begun some = ap length (written_some shares begun some) ∙ count_one shares (share state.Open begun)
-
-pub some_bytes : (front bytes : List ℕ) → 0 < length bytes → is_some (front ++ bytes) ≡ true
-some_bytes front bytes some = is_some_of (front ++ bytes) (omega (arith, some, length-append front bytes))
+written_count : (those : Draft) → is_some those.begun ≡ true → length (written those) ≡ suc (length those.shares)
+written_count those some = ap length (written_some those some) ∙ count_one those.shares (share state.Open those.begun)
 
 -- its name is there
-pub begun_named : {names : Naming} {current : Option ℕ} {shares : List Share} {begun : List ℕ} → Begun names current shares begun → is_some begun ≡ true
-    → (names.drawn ≡ suc (length shares)) × (is_named names (length shares) ≡ true)
-begun_named {names} {shares} {begun} has some =
-    let count = written_count shares begun some in (has.drawn ∙ count, ap (are_named names) (sym count) ∙ has.enough)
+begun_named : {names : Naming} {current : Option ℕ} {those : Draft} → Begun names current those → is_some those.begun ≡ true
+    → (names.drawn ≡ suc (length those.shares)) × (is_named names (length those.shares) ≡ true)
+begun_named {names} {those = those} has some =
+    let count = written_count those some in (has.drawn ∙ count, ap (are_named names) (sym count) ∙ has.enough)
 
 -- writing to its file, whatever is left to wait
-pub write_keeps : (told : Bool) (parts : PartsState) (held : List ℕ) {slot : ℕ} (bytes : List ℕ) {old new : List Slot} (result : Result (Unit {0}) Fault)
-    → parts.current ≡ Some slot → is_closable old slot → OnOk result (new ≡ with_written slot (told_of told bytes) old)
-    → IfErr result (WritesShort told slot bytes old new) → Keeps parts old new (record parts { waiting = held }) result
-write_keeps told parts held {slot} bytes {old} {new} result is can ok err = record {
+write_keeps : (told : Bool) (parts : PartsState) (held : List ℕ) {slot : ℕ} (bytes : List ℕ) {old new : List Slot} (result : Result (Unit {0}) Fault)
+    → parts.current ≡ Some slot → is_closable old slot → WritesTo told slot bytes old new result → Keeps parts old new (record parts { waiting = held }) result
+write_keeps told parts held {slot} bytes {old} {new} (Ok done) is can wrote = record {
   limit = refl;
   names = refl;
-  owned = owned_same parts.current old new (size result ok err);
-  sound = on_ok_weaker result (slot_steps.keeps_write slot _ old new) ok;
-  ready = on_ok_weaker result (λ wrote. subst (λ current. IsReady current new) (sym is)
-      (can.0, slot_steps.written_writable old new slot slot _ can.1 wrote)) ok;
-  breaks = IfErr-weaker result _ _ (λ f short. write_breaks told can.0 can.1 short) err;
-} where
-  size : (result : Result (Unit {0}) Fault) → OnOk result (new ≡ with_written slot (told_of told bytes) old) → IfErr result (WritesShort told slot bytes old new)
-      → length new ≡ length old
-  size (Ok done) ok err = slot_steps.written_size slot _ old new ok
-  size (Err f) ok err = slot_steps.short_size told slot bytes old new f err
+  owned = owned_same parts.current old new (slot_steps.written_size slot _ old new wrote);
+  sound = slot_steps.keeps_write slot _ old new wrote;
+  ready = subst (λ current. IsReady current new) (sym is) (can.0, slot_steps.written_writable old new slot slot _ can.1 wrote);
+  breaks = tt;
+}
+write_keeps told parts held {slot} bytes {old} {new} (Err f) is can short = record {
+  limit = refl;
+  names = refl;
+  owned = owned_same parts.current old new (slot_steps.short_size told slot bytes old new f short);
+  sound = tt;
+  ready = tt;
+  breaks = write_breaks told can.0 can.1 short;
+}
 
 -- closing it
 
+-- where none of it is written, nothing ends
+turn_nothing : (those : Draft) → those.begun ≡ [] → turns [] those ≡ those
+turn_nothing those none = ap (λ bytes. draft (those.shares ++ map (share state.Closed) (unless_empty bytes)) []) none ∙ ap (λ shares. draft shares []) (append-nil those.shares) ∙ ap (draft those.shares) (sym none)
+
 pub shuts_none : (told : Bool) (parts : PartsState) {slots : List Slot} → IsReady parts.current slots → parts.current ≡ None
     → Shuts told parts slots slots parts (Ok tt)
-shuts_none told parts {slots} ready none = record {
-  same = same;
-  keeps = subst (λ those. Keeps parts slots slots those (Ok tt)) same
-      (record { limit = refl; names = refl; owned = λ first owns. owns; sound = slot_steps.keeps_same slots slots refl; ready = ready; breaks = tt });
+shuts_none told parts ready none = record {
+  same = ap (λ current. record parts { current = current }) none;
+  moves = record {
+    same = refl;
+    keeps = keeps_still ready;
+    begun = λ those has. subst (Begun parts.names parts.current) (sym (turn_nothing those (empty those has))) has;
+    goes = λ those has. goes_same (ap written (sym (turn_nothing those (empty those has))));
+  };
   caused = tt;
-  goes = λ shares begun has some. absurd (false≢true (sym (ap is_given none) ∙ has.given ∙ some));
 } where
-  same : parts ≡ record parts { current = None }
-  same = ap (λ current. record parts { current = current }) none
+  empty : (those : Draft) → Begun parts.names parts.current those → those.begun ≡ []
+  empty those has = none_begun those.begun (sym has.given ∙ ap is_given none)
+
+-- no part is begun once one was closed
+shut_begun : {names : Naming} {current : Option ℕ} {those : Draft} → Begun names current those → is_some those.begun ≡ true → Begun names None (turns [] those)
+shut_begun {names} {those = those} has some = record {
+  drawn = (begun_named has some).0 ∙ sym count;
+  enough = ap (are_named names) count ∙ (begun_named has some).1;
+  given = refl;
+  shut = subst (λ more. AllShut (those.shares ++ more)) (sym (some_share state.Closed those.begun some)) (shut_more those.shares _ has.shut refl);
+} where
+  count : length (written (turns [] those)) ≡ suc (length those.shares)
+  count = ap length (append-nil _ ∙ ap (λ more. those.shares ++ more) (some_share state.Closed those.begun some)) ∙ count_one those.shares _
 
 pub shuts_some : (told : Bool) (parts next : PartsState) {slot : ℕ} {old new : List Slot} (result : Result (Unit {0}) Fault) → IsReady parts.current old
     → parts.current ≡ Some slot → next ≡ record parts { current = None } → OnOk result (new ≡ changed_at slot closes old)
     → IfErr result (λ f. (f ≡ fault.Write slot) × (new ≡ with_broken slot (changed_at slot closes old))) → Shuts told parts old new next result
-shuts_some told parts next {slot} {old} {new} result ready is next_is ok err = record {
-  same = next_is;
-  keeps = record {
-    limit = refl;
-    names = refl;
-    owned = subst (λ current. KeepsFile current old None new) (sym is) (owned_ended slot old new (size result ok err));
-    sound = on_ok_weaker result (slot_steps.keeps_close slot old new) ok;
-    ready = on_ok result (omega (arith, slot_steps.writable_within slot old can.1, size result ok err, can.0));
-    breaks = IfErr-weaker result _ _ (λ f why. subst (Breaks old new) (sym why.0) (breaks_write slot can.0 (rose why.1))) err;
+shuts_some told parts next {slot} {old} {new} result ready is next_is ok err = subst (λ those. Shuts told parts old new those result) (sym next_is) (record {
+  same = refl;
+  moves = record {
+    same = on_ok result refl;
+    keeps = record {
+      limit = refl;
+      names = refl;
+      owned = subst (λ current. KeepsFile current old None new) (sym is) (owned_ended slot old new (size result ok err));
+      sound = on_ok_weaker result (slot_steps.keeps_close slot old new) ok;
+      ready = on_ok result (omega (arith, slot_steps.writable_within slot old can.1, size result ok err, can.0));
+      breaks = IfErr-weaker result _ _ (λ f why. subst (Breaks old new) (sym why.0) (breaks_write slot can.0 (rose why.1))) err;
+    };
+    begun = on_ok result (λ those has. shut_begun has (some those has));
+    goes = λ those has. rw (written_some those (some those has), append-nil (those.shares ++ map (share state.Closed) (unless_empty those.begun)), some_share state.Closed those.begun (some those has), is)
+        (close_goes told (from_start parts.names) those.shares those.begun old has.shut (begun_named has (some those has)).1 result ok err);
   };
   caused = IfErr-weaker result _ _ (λ f why. (slot, why.0, can.0, rose why.1)) err;
-  goes = λ shares begun has some. rw (written_some shares begun some, append-nil (shares ++ share state.Closed begun ∷ []), is)
-      (close_goes told (from_start parts.names) shares begun old slot has.shut (begun_named has some).1 result ok err);
-} where
+}) where
   can : is_closable old slot
   can = subst (λ current. IsReady current old) is ready
 
-  rose : new ≡ with_broken slot (changed_at slot closes old) → Rattle.ports_core.specs.Slot.Rose slot old new
+  some : (those : Draft) → Begun parts.names parts.current those → is_some those.begun ≡ true
+  some those has = sym has.given ∙ ap is_given is
+
+  rose : new ≡ with_broken slot (changed_at slot closes old) → Rose slot old new
   rose broken = slot_steps.close_rose slot old new can.1 (slot_steps.writable_within slot old can.1) broken
 
   size : (result : Result (Unit {0}) Fault) → OnOk result (new ≡ changed_at slot closes old)
@@ -111,36 +140,27 @@ shuts_some told parts next {slot} {old} {new} result ready is next_is ok err = r
 
 -- the file of the part that was begun, once it is there
 
-pub record Found (told : Bool) (parts : PartsState) (old mid : List Slot) (next : PartsState) (slot : ℕ) : Type 0 where
-  pub same : next ≡ record parts { names = next.names; current = Some slot }
-  pub keeps : Keeps parts old mid next (Ok tt)
-  pub can : is_closable mid slot
-  pub last : (shares : List Share) (begun : List ℕ) → Begun parts.names parts.current shares begun
-      → (next.names.drawn ≡ suc (length shares)) × (is_named parts.names (length shares) ≡ true)
-  pub goes : (shares : List Share) (begun : List ℕ) → Begun parts.names parts.current shares begun
-      → Goes told (from_start parts.names) parts.current (written shares begun) (shares ++ share state.Open begun ∷ []) old mid (Ok tt)
-
-found_there : (told : Bool) (parts : PartsState) (old : List Slot) (slot : ℕ) → parts.current ≡ Some slot → IsReady parts.current old
+pub found_there : (told : Bool) (parts : PartsState) (old : List Slot) (slot : ℕ) → parts.current ≡ Some slot → IsReady parts.current old
     → Found told parts old old parts slot
 found_there told parts old slot is ready = record {
   same = ap (λ current. record parts { current = current }) is;
-  keeps = record { limit = refl; names = refl; owned = λ first owns. owns; sound = slot_steps.keeps_same old old refl; ready = ready; breaks = tt };
+  keeps = keeps_still ready;
   can = subst (λ current. IsReady current old) is ready;
-  last = λ shares begun has. begun_named has (sym has.given ∙ ap is_given is);
-  goes = λ shares begun has. goes_same (written_some shares begun (sym has.given ∙ ap is_given is)) refl;
+  last = λ those has. begun_named has (sym has.given ∙ ap is_given is);
+  goes = λ those has. goes_same (written_some those (sym has.given ∙ ap is_given is));
 }
 
 -- where no file is open, nothing of the part is written
-begun_yet : {names : Naming} {current : Option ℕ} {shares : List Share} {begun : List ℕ} → Begun names current shares begun → current ≡ None
-    → (begun ≡ []) × (names.drawn ≡ length shares)
-begun_yet {shares} {begun} has none =
-    let no_bytes = none_begun begun (sym has.given ∙ ap is_given none) in
-    (no_bytes, has.drawn ∙ ap (λ those. length (written shares those)) no_bytes ∙ ap length (append-nil shares))
+begun_yet : {names : Naming} {current : Option ℕ} {those : Draft} → Begun names current those → current ≡ None
+    → (those.begun ≡ []) × (names.drawn ≡ length those.shares)
+begun_yet {those = those} has none =
+    let no_bytes = none_begun those.begun (sym has.given ∙ ap is_given none) in
+    (no_bytes, has.drawn ∙ ap (λ bytes. length (written (draft those.shares bytes))) no_bytes ∙ ap length (append-nil those.shares))
 
-found_made : (told : Bool) (parts : PartsState) (old new : List Slot) (next : PartsState) (slot : ℕ) → parts.current ≡ None → IsReady parts.current old
-    → slot ≡ length old → IsTrue (has_next parts.names) → next ≡ record parts { names = Rattle.ports_core.specs.Name.with_one_drawn parts.names; current = Some slot }
+pub found_made : (told : Bool) (parts : PartsState) {old new : List Slot} (next : PartsState) (slot : ℕ) → parts.current ≡ None → IsReady parts.current old
+    → slot ≡ length old → IsTrue (has_next parts.names) → next ≡ record parts { names = with_one_drawn parts.names; current = Some slot }
     → new ≡ old ++ opened (next_name parts.names) Fresh ∷ [] → Found told parts old new next slot
-found_made told parts old new next slot none ready at has next_is made_it = subst (λ those. Found told parts old new those slot) (sym next_is) (record {
+found_made told parts {old} {new} next slot none ready at has next_is made_it = subst (λ those. Found told parts old new those slot) (sym next_is) (record {
   same = refl;
   keeps = record {
     limit = refl;
@@ -151,49 +171,45 @@ found_made told parts old new next slot none ready at has next_is made_it = subs
     breaks = tt;
   };
   can = can;
-  last = λ shares begun had. (ap (λ n. n + 1) (begun_yet had none).1 ∙ add-one (length shares), named shares begun had);
-  goes = λ shares begun had. rw ((begun_yet had none).0, append-nil shares)
-      (open_goes told (from_start parts.names) parts.current shares old new (named shares begun had)
+  last = λ those had. (ap (λ n. n + 1) (begun_yet had none).1 ∙ add-one (length those.shares), named those had);
+  goes = λ those had. rw ((begun_yet had none).0, append-nil those.shares)
+      (open_goes told (from_start parts.names) those.shares [] old had.shut (named those had) parts.current
       (made_it ∙ ap (λ n. old ++ opened (name_of parts.names n) Fresh ∷ []) (begun_yet had none).1));
 }) where
-  named : (shares : List Share) (begun : List ℕ) → Begun parts.names parts.current shares begun → is_named parts.names (length shares) ≡ true
-  named shares begun had = ap (is_named parts.names) (sym (begun_yet had none).1) ∙ has
+  named : (those : Draft) → Begun parts.names parts.current those → is_named parts.names (length those.shares) ≡ true
+  named those had = ap (is_named parts.names) (sym (begun_yet had none).1) ∙ has
 
   can : is_closable new slot
   can = let streams : 2 ≤ length old = subst (λ current. IsReady current old) none ready in
       (omega (arith, at, streams), slot_steps.opened_writable old new slot (next_name parts.names) Fresh at made_it)
 
-pub found : (told : Bool) (parts : PartsState) {old new : List Slot} {next : PartsState} {slot : ℕ} → IsReady parts.current old → HasFile parts old new next slot
-    → Found told parts old new next slot
-found told parts {old} {next} {slot} ready (there is next_is same) =
-    subst (λ those. Found told parts old those next slot) (sym same) (subst (λ those. Found told parts old old those slot) (sym next_is) (found_there told parts old slot is ready))
-found told parts ready (made none at has next_is made_it) = found_made told parts _ _ _ _ none ready at has next_is made_it
-
--- what waits and more went to the part that was begun, or a fault came meanwhile
-pub extended : {told : Bool} {parts : PartsState} (bytes held : List ℕ) {old mid new : List Slot} {fresh next : PartsState} {slot : ℕ}
-    (result : Result (Unit {0}) Fault) → 0 < length bytes → Found told parts old mid fresh slot
-    → OnOk result (new ≡ with_written slot (told_of told (parts.waiting ++ bytes)) mid) → IfErr result (WritesShort told slot (parts.waiting ++ bytes) mid new)
-    → next ≡ record fresh { waiting = held } → OnOk result (held ≡ []) → Extends told parts bytes old new next result
-extended {told} {parts} bytes held {old} {mid} {new} {fresh} {next} {slot} result some facts ok err is none =
-    subst (λ those. Extends told parts bytes old new those result) (sym (is ∙ ap (λ (those : PartsState). record those { waiting = held }) facts.same))
+-- more went to the part that was begun, or a fault came meanwhile
+pub extended : {told : Bool} {parts : PartsState} (more held : List ℕ) {old mid new : List Slot} {fresh next : PartsState} {slot : ℕ}
+    (result : Result (Unit {0}) Fault) → ((those : Draft) → Begun parts.names parts.current those → is_some (those.begun ++ more) ≡ true) → Found told parts old mid fresh slot
+    → WritesTo told slot more mid new result → next ≡ record fresh { waiting = held } → OnOk result (held ≡ []) → Moves told parts (parts.left, parts.has_line, []) (gets more) old new next result
+extended {told} {parts} more held {old} {mid} {new} {fresh} {next} {slot} result some facts wrote is none =
+    subst (λ those. Moves told parts (parts.left, parts.has_line, []) (gets more) old new those result) (sym (is ∙ ap (λ (those : PartsState). record those { waiting = held }) facts.same))
     (record {
-      same = on_ok_weaker result (ap (λ waits. record parts { names = fresh.names; waiting = waits; current = Some slot })) none;
+      same = on_ok_weaker result (ap (λ waits. (parts.left, parts.has_line, waits))) none;
       keeps = keeps_then result (subst (λ those. Keeps parts old mid those (Ok tt)) facts.same facts.keeps)
-          (write_keeps told (record parts { names = fresh.names; current = Some slot }) held _ result refl facts.can ok err);
-      begun = on_ok result (λ shares begun has.
-          let count = written_count shares (begun ++ (parts.waiting ++ bytes)) (all begun) in record {
-            drawn = (facts.last shares begun has).0 ∙ sym count;
-            enough = ap (are_named fresh.names) count ∙ ap (λ (those : Naming). is_named those (length shares)) facts.keeps.names ∙ (facts.last shares begun has).1;
-            given = sym (all begun);
-            shut = has.shut;
-          });
-      goes = λ shares begun has. rw (written_some shares (begun ++ (parts.waiting ++ bytes)) (all begun))
+          (write_keeps told (record parts { names = fresh.names; current = Some slot }) held more result refl facts.can wrote);
+      begun = on_ok result (λ those has. let count = written_count (gets more those) (some those has) in record {
+        drawn = (facts.last those has).0 ∙ sym count;
+        enough = ap (are_named fresh.names) count ∙ ap (λ (names : Naming). is_named names (length those.shares)) facts.keeps.names ∙ (facts.last those has).1;
+        given = sym (some those has);
+        shut = has.shut;
+      });
+      goes = λ those has. rw (written_some (gets more those) (some those has))
           (goes_then result (subst (λ (those : PartsState). KeepsFile parts.current old those.current mid) facts.same facts.keeps.owned)
-          (facts.goes shares begun has)
-          (write_goes told (from_start parts.names) shares begun mid slot has.shut (facts.last shares begun has).1 (parts.waiting ++ bytes) result ok err));
-    }) where
-      all : (begun : List ℕ) → is_some (begun ++ (parts.waiting ++ bytes)) ≡ true
-      all begun = some_bytes begun (parts.waiting ++ bytes) (omega (arith, some, length-append parts.waiting bytes))
+          (facts.goes those has)
+          (write_goes told (from_start parts.names) those.shares those.begun mid has.shut (facts.last those has).1 more result wrote));
+    })
+
+some_bytes : (front bytes : List ℕ) → 0 < length bytes → is_some (front ++ bytes) ≡ true
+some_bytes front bytes some = is_some_of (front ++ bytes) (omega (arith, some, length-append front bytes))
+
+pub some_more : (front waiting bytes : List ℕ) → 0 < length bytes → is_some (front ++ (waiting ++ bytes)) ≡ true
+some_more front waiting bytes some = some_bytes front (waiting ++ bytes) (omega (arith, some, length-append waiting bytes))
 
 -- no file could be opened
 pub no_file : (told : Bool) (parts : PartsState) (bytes : List ℕ) {old new : List Slot} {next : PartsState} (f : Fault) → 0 < length bytes
@@ -205,17 +221,88 @@ no_file told parts bytes {old} {new} {next} f some none = record {
     names = ap from_start none.names_same;
     owned = subst (λ current. KeepsFile current old next.current new) (sym none.none)
         (subst (λ current. KeepsFile None old current new) (sym (ap (λ (those : PartsState). those.current) none.same ∙ none.none))
-        (owned_unopened parts.names old new f none.opens));
+        (owned_unopened none.opens));
     sound = tt;
     ready = tt;
-    breaks = open_breaks parts.names f none.opens;
+    breaks = open_breaks none.opens;
   };
   begun = tt;
-  goes = λ shares begun has. rw (
+  goes = λ those has. rw (
     (begun_yet has none.none).0,
-    append-nil shares,
-    written_some shares (parts.waiting ++ bytes) (some_bytes parts.waiting bytes some),
+    append-nil those.shares,
+    some_share state.Open (parts.waiting ++ bytes) (some_bytes parts.waiting bytes some),
   )
-      (open_stops told parts.names parts.current shares [] (share state.Open (parts.waiting ++ bytes)) old new f has.shut
-      (begun_yet has none.none).1 none.opens);
+      (open_stops told parts.current those.shares (share state.Open (parts.waiting ++ bytes)) has.shut (begun_yet has none.none).1 none.opens);
 }
+
+-- The end of a part, and the beginning of the next.
+
+-- other numbers change nothing of the files
+pub moves_as : {told : Bool} {parts next : PartsState} {are : ℕ × Bool × List ℕ} {change : Draft → Draft} {old new : List Slot} (left : ℕ) (has_line : Bool)
+    → Moves told parts are change old new next (Ok tt) → Moves told parts (left, has_line, are.2) change old new (record next { left = left; has_line = has_line }) (Ok tt)
+moves_as left has_line moves = record {
+  same = ap (λ (those : ℕ × Bool × List ℕ). (left, has_line, those.2)) moves.same;
+  keeps = record {
+    limit = moves.keeps.limit;
+    names = moves.keeps.names;
+    owned = moves.keeps.owned;
+    sound = moves.keeps.sound;
+    ready = moves.keeps.ready;
+    breaks = tt;
+  };
+  begun = moves.begun;
+  goes = moves.goes;
+}
+
+-- it could not be closed
+pub turns_not : {told : Bool} {parts next : PartsState} (bytes : List ℕ) {old new : List Slot} {f : Fault} → Shuts told parts old new next (Err f)
+    → Turns told parts bytes old new next (Err f)
+turns_not {parts = parts} bytes shuts = record {
+  same = tt;
+  keeps = shuts.moves.keeps;
+  begun = tt;
+  goes = λ those has. goes_wider (shuts.moves.goes those has) (shares_after (turns [] those).shares [] _ tt);
+}
+
+-- it was closed, and nothing follows the part, or what waits and more begin the next
+module _ {told : Bool} {parts shut mid : PartsState} (bytes : List ℕ) {old wet : List Slot} (left : ℕ) (shuts : Shuts told parts old wet shut (Ok tt))
+    (is : mid ≡ record shut { left = left; has_line = false }) (left_is : left ≡ most parts.limit - length (parts.waiting ++ bytes)) where
+  closed : Moves told parts (left, false, parts.waiting) (turns []) old wet mid (Ok tt)
+  closed = subst (λ those. Moves told parts (left, false, parts.waiting) (turns []) old wet those (Ok tt)) (sym is) (moves_as left false shuts.moves)
+
+  pub ready_next : IsReady mid.current wet
+  ready_next = closed.keeps.ready
+
+  pub turned_alone : bytes ≡ [] → parts.waiting ≡ [] → Turns told parts bytes old wet mid (Ok tt)
+  turned_alone no_bytes none_wait = rw (← left_is, none) (subst (λ waits. Moves told parts (left, false, waits) (turns []) old wet mid (Ok tt)) none_wait closed) where
+    none : parts.waiting ++ bytes ≡ []
+    none = ap (λ those. those ++ bytes) none_wait ∙ no_bytes
+
+  pub turned : {next : PartsState} {new : List Slot} (result : Result (Unit {0}) Fault) → Extends told mid bytes wet new next result → Turns told parts bytes old new next result
+  turned {next} {new} result extends = rw (← left_is) (subst (λ waits. Moves told parts (left, false, []) (turns (waits ++ bytes)) old new next result) (ap (λ (those : ℕ × Bool × List ℕ). those.2) closed.same)
+      (subst (λ (n : ℕ). Moves told parts (n, false, []) (turns (mid.waiting ++ bytes)) old new next result) (ap (λ (those : ℕ × Bool × List ℕ). those.0) closed.same)
+      (subst (λ has. Moves told parts (mid.left, has, []) (turns (mid.waiting ++ bytes)) old new next result) (ap (λ (those : ℕ × Bool × List ℕ). those.1) closed.same)
+      (moves_then result closed extends))))
+
+-- the numbers of the next part
+
+pub left_next : {limit : Limit} (other : Limit) {waiting held : List ℕ} (bytes : List ℕ) {most_is size : ℕ} → most_is ≡ most other → other ≡ limit → size ≡ length held → held ≡ waiting → most_is - (size + length bytes) ≡ most limit - length (waiting ++ bytes)
+left_next {limit} other {waiting} bytes {most_is} {size} is same counted holds =
+    omega (arith, is ∙ ap most same, counted ∙ ap length holds, length-append waiting bytes)
+
+pub fits_next : {limit : Limit} (other : Limit) {waiting held : List ℕ} (bytes : List ℕ) {most_is size old_left : ℕ} {has_line : Bool} {window : ByteWindowState} → most_is ≡ most other → other ≡ limit → size ≡ length held → held ≡ waiting → length waiting + length bytes < most limit
+    → window.held ≡ waiting → Fits other old_left has_line window → Fits other (most_is - (size + length bytes)) false window
+fits_next {limit} other {waiting} bytes {most_is} {size} {window} is same counted holds room now fits =
+    let full = is ∙ ap most same in let some = counted ∙ ap length holds in let here = ap length now in let there = ap most same in
+    record {
+      some = omega arith;
+      room = fits.room;
+      within = omega arith;
+      after_line = λ never. absurd (false≢true never);
+    }
+
+pub no_bytes : (bytes : List ℕ) → true ≡ eqb (length bytes) 0 → length bytes ≡ 0
+no_bytes bytes is = eqb-true (length bytes) 0 (sym is)
+
+pub some_of : (bytes : List ℕ) → false ≡ eqb (length bytes) 0 → 0 < length bytes
+some_of bytes is = omega (arith, eqb-false (length bytes) 0 (sym is))

@@ -10,7 +10,7 @@ use Rattle.seg_core.specs.Line.{joined, lines_of, line_count, AreLines}
 use Rattle.seg_core.proofs.LinesOf.{joined-lines_of, lines_of-joined, AreLines-lines_of}
 use Rattle.split_core.specs.Parts.{dealt, round_robin}
 use Rattle.split_core.specs.Split.{dealt_files}
-use Rattle.split_core.specs.inner.DealLaws.{share_of}
+use Rattle.split_core.specs.inner.Dealt.{share_of}
 use Rattle.split_core.specs.laws.DealLaws.{dealt_files_are}
 
 -- the lines that one of n files gets, where the first of all lines stands at this place

@@ -1,39 +1,40 @@
 -- Lemmas on dealing lines in turn, as a stage.
-use Rattle.std.proofs.Common.{◌≡◌, ℕ, ◌+◌, ◌%◌, ◌<◌, ◌≤◌, zero, suc, min, max, Bool, true, false, not, cond, List, [], ◌∷◌, ◌++◌, length, map, take, drop, replicate, Some, None, inl, inr, refl, sym, ◌∙◌, ap, subst, arith, Ok, Err, Result}
-use Rattle.std.proofs.Math.Nat.{mod-add-mod, mod-eq_of_lt, mod-mod, mod-le}
+use Rattle.std.proofs.Common.{◌≡◌, ℕ, ◌+◌, ◌%◌, ◌<◌, ◌≤◌, zero, suc, min, max, Bool, true, false, not, cond, List, [], ◌∷◌, ◌++◌, length, map, take, drop, get_or, Some, None, inl, inr, refl, sym, ◌∙◌, ap, subst, arith, Ok, Err, OnOk, IfErr, Result}
+use Rattle.std.proofs.Math.Nat.{mod-add-mod, mod-eq_of_lt, mod-mod, mod-le, zero-add}
 use Rattle.std.proofs.Math.Path.{fun_ext}
 use Rattle.std.proofs.Math.Seq.{drop-length}
 use Rattle.std.specs.List.{filter, range_with_len}
 use Rattle.std.proofs.lemmas.Bool.{cases_lt}
-use Rattle.std.proofs.lemmas.List.{append-nil, length-map}
-use Rattle.std.proofs.lemmas.List.FromFn.{length-map-range_with_len, take-map-range_with_len}
+use Rattle.std.proofs.lemmas.List.{append-nil, length-map, get_or_past}
+use Rattle.std.proofs.lemmas.List.FromFn.{length-map-range_with_len, get_or-map-range_with_len, take-map-range_with_len}
 use Rattle.seg_core.specs.Line.{joined, lines_of, delimiters, line_count}
 use Rattle.seg_core.proofs.Delimiters.{delimiters-append}
 use Rattle.seg_core.proofs.LineCounts.{line_count-some, line_count_near, line_count-front}
 use Rattle.ports_core.specs.Name.{Naming}
 use Rattle.ports_core.specs.Slot.{Slot}
-use Rattle.ports_core.specs.Part.{File, OutputsAt, StoppedBetween, nothing}
+use Rattle.ports_core.specs.Part.{Part, OutputsAt, StoppedBetween, nothing}
 use Rattle.ports_core.specs.Work.{Work}
-use Rattle.ports_core.specs.Engine.{TakesIn, PutsOut, CutsOff, EndsWith, EndsThere, StandsAt, is_verdict, cut}
+use Rattle.ports_core.specs.Engine.{TakesIn, EndsWith, EndsThere, StandsAt, is_verdict, cut}
 use Rattle.ports_core.specs.declared.fault.Fault.{Fault}
 use Rattle.ports_core.specs.declared.fault.Fault.TheVariants as fault
 use Rattle.ports_core.specs.declared.slot.State.{State}
 use Rattle.ports_core.specs.declared.slot.State.TheVariants.{Open, Closed}
 use Rattle.ports_core.proofs.PartLemmas.{outputs_count}
 use Rattle.split_core.specs.Parts.{dealt, round_robin}
-use Rattle.split_core.specs.Split.{Share, share, named, is_named, are_named, from_start, only_files, dealt_files, settled_by, whole_by, is_short, is_some, split_means, split_work, bytes_in, waiting_after}
-use Rattle.split_core.specs.inner.Dealt.{dealt_piece, dealt_first, reached_by}
+use Rattle.split_core.specs.Split.{share, named, is_named, are_named, from_start, file_at, only_files, dealt_files, settled_by, whole_by, is_short, is_some, split_means, split_work, bytes_in, waiting_after}
+use Rattle.split_core.specs.inner.Dealt.{dealt_piece, dealt_first, reached_by, share_of}
 use Rattle.split_core.specs.FilesState.{FilesState}
 use Rattle.split_core.specs.RoundState.{RoundState}
 use Rattle.split_core.specs.Round.{round_plan, plan_of, round_work, work, opened_by, Holds, OwnsFiles}
 use Rattle.split_core.specs.Ways as ways
 use Rattle.split_core.specs.declared.splitter.Splitter.TheVariants as way
-use Rattle.split_core.specs.inner.Ways.{Deals, Closes, PassesBy, FinishesBy}
-use Rattle.split_core.specs.inner.Sharing.{added, filed, open_part, closing_part, StandAt, Adds, Leaves}
-use Rattle.split_core.specs.inner.DealLaws.{share_of}
+use Rattle.split_core.specs.inner.Ways.{Deals, PassesBy, FinishesBy}
+use Rattle.split_core.specs.inner.Sharing.{part_by, all_open, closed_first, StandAt, Adds, Opens, Leaves, ClosesAll}
 use Rattle.split_core.specs.laws.DealLaws.{dealt_append, dealt_none, dealt_files_are, share_none}
-use Rattle.split_core.proofs.DealLaws.{dealt_same, opened_by-most}
-use Rattle.split_core.proofs.FilesLemmas.{closed_all, added_none, stops_in_order}
+use Rattle.split_core.proofs.AgreedLemmas.{dealt_settled, each_named}
+use Rattle.split_core.proofs.CutLaws.{dealt_same, dealt_past, opened_by-most}
+use Rattle.split_core.proofs.FilesLemmas.{same_by, stopped_as, stops_in_order}
+use Rattle.split_core.proofs.FileSteps.{shut_now}
 use Rattle.split_core.proofs.MoveLemmas.{are_named_same, met_closing, met_files, named_before, unjudged}
 use Rattle.split_core.proofs.PlaceLemmas.{all_dealt}
 
@@ -48,63 +49,36 @@ pub named_fewer : (names : Naming) (few count : ℕ) → are_named names count �
 named_fewer names zero count are within = refl
 named_fewer names (suc last) count are within = named_at names count last are (omega arith)
 
-all_filed : (names : Naming) (count place : ℕ) (shares : List Share) → are_named names count ≡ true → place + length shares ≤ count → named (from_start names) place shares ≡ filed (from_start names) place shares
-all_filed names count place [] are few = refl
-all_filed names count place (one ∷ shares) are few =
-    cc (named_at names count place are (omega arith), all_filed names count (place + 1) shares are (omega arith))
+all_by : (names : Naming) (n start count : ℕ) (state : State) (f : ℕ → List ℕ) → are_named names n ≡ true → start + count ≤ n
+    → named (from_start names) start (map (share state) (map f (range_with_len start count))) ≡ map (λ i. file_at (from_start names) i (share state (f i))) (range_with_len start count)
+all_by names n start zero state f are few = refl
+all_by names n start (suc count) state f are few = cc (named_at names n start are (omega arith), all_by names n (start + 1) count state f are (omega arith))
 
 -- The files of a text
 
-abbrev pub files_of : ℕ → Bool → ℕ → List ℕ → List (List ℕ)
-files_of delim elide n x = map (share_of delim n x) (range_with_len 0 (opened_by delim elide n x))
-
-pub length-files_of : (delim : ℕ) (elide : Bool) (n : ℕ) (x : List ℕ) → length (files_of delim elide n x) ≡ opened_by delim elide n x
-length-files_of delim elide n x = length-map-range_with_len (share_of delim n x) 0 (opened_by delim elide n x)
-
 filed_are : (delim : ℕ) (state : State) (names : Naming) (elide : Bool) (n : ℕ) (x : List ℕ) → are_named names n ≡ true
-    → named (from_start names) 0 (map (share state) (dealt_files delim elide n x)) ≡ filed (from_start names) 0 (map (share state) (files_of delim elide n x))
-filed_are delim state names elide n x are = ap (λ those. named (from_start names) 0 (map (share state) those)) (dealt_files_are delim elide n x)
-    ∙ all_filed names n 0 (map (share state) (files_of delim elide n x)) are
-    (omega (arith, length-map (files_of delim elide n x) (share state), length-files_of delim elide n x, opened_by-most delim elide n x))
+    → only_files (named (from_start names) 0 (map (share state) (dealt_files delim elide n x))) ≡ part_by (from_start names) (λ i. share state (share_of delim n x i)) (opened_by delim elide n x)
+filed_are delim state names elide n x are = ap (λ those. only_files (named (from_start names) 0 (map (share state) those))) (dealt_files_are delim elide n x)
+    ∙ ap only_files (all_by names n 0 (opened_by delim elide n x) state (share_of delim n x) are (omega (arith, opened_by-most delim elide n x)))
 
--- what must be written is what the files that are open have
-pub settled_is : (delim : ℕ) (names : Naming) (elide : Bool) (n : ℕ) (x : List ℕ) → are_named names n ≡ true → settled_by (round_plan delim n elide (from_start names)) x ≡ open_part names (files_of delim elide n x)
-settled_is delim names elide n x are = ap only_files (filed_are delim Open names elide n x are)
+all_have : (delim : ℕ) (names : Naming) (elide : Bool) (n : ℕ) (x : List ℕ) → are_named names n ≡ true → are_named names (length (dealt_files delim elide n x)) ≡ true
+all_have delim names elide n x are = named_fewer names _ n are
+    (omega (arith, ap length (dealt_files_are delim elide n x) ∙ length-map-range_with_len (share_of delim n x) 0 (opened_by delim elide n x), opened_by-most delim elide n x))
 
-pub whole_is : (delim : ℕ) (names : Naming) (elide : Bool) (n : ℕ) (x : List ℕ) → are_named names n ≡ true → whole_by (round_plan delim n elide (from_start names)) x ≡ closing_part names (opened_by delim elide n x) (files_of delim elide n x)
-whole_is delim names elide n x are = cc (filed_are delim Closed names elide n x are, closed_all (files_of delim elide n x), length-files_of delim elide n x)
-
-pub never_short : (delim : ℕ) (names : Naming) (elide : Bool) (n : ℕ) (x : List ℕ) → are_named names n ≡ true → false ≡ is_short (round_plan delim n elide names) x
-never_short delim names elide n x are = sym (ap not (named_fewer names (length (map (share Closed) (dealt_files delim elide n x))) n are
-    (omega (
-      arith,
-      length-map (dealt_files delim elide n x) (share Closed),
-      ap length (dealt_files_are delim elide n x) ∙ length-files_of delim elide n x,
-      opened_by-most delim elide n x,
-    ))))
+never_short : (delim : ℕ) (names : Naming) (elide : Bool) (n : ℕ) (x : List ℕ) → are_named names n ≡ true → false ≡ is_short (round_plan delim n elide names) x
+never_short delim names elide n x are = sym (ap not (ap (are_named names) (length-map (dealt_files delim elide n x) (share Closed)) ∙ all_have delim names elide n x are))
 
 -- One more piece
 
-added_maps : (f more whole : ℕ → List ℕ) (start m b : ℕ) → ((file : ℕ) → start + m ≤ file → file < start + b → f file ≡ []) → ((file : ℕ) → start + b ≤ file → file < start + m → more file ≡ []) → ((file : ℕ) → f file ++ more file ≡ whole file)
-    → added (map f (range_with_len start m)) (map more (range_with_len start b)) ≡ map whole (range_with_len start (max m b))
-added_maps f more whole start zero zero none no_more both = let no_files : 0 ≡ max 0 0 = omega arith in ap (λ n. map whole (range_with_len start n)) no_files
-added_maps f more whole start zero (suc b) none no_more both =
-    let count : suc (max 0 b) ≡ max 0 (suc b) = omega arith in
-    let rest = added_maps f more whole (start + 1) zero b (λ file past within. none file (omega arith) (omega arith)) (λ file past within. absurd (omega arith)) both in
-    cc (none start (omega arith) (omega arith), both start, rest, count)
-added_maps f more whole start (suc m) zero none no_more both =
-    let count : suc (max m 0) ≡ max (suc m) 0 = omega arith in
-    let rest = sym (added_none (map f (range_with_len (start + 1) m))) ∙ added_maps f more whole (start + 1) m zero (λ file past within. absurd (omega arith)) (λ file past within. no_more file (omega arith) (omega arith)) both in
-    cc (append-nil (f start), no_more start (omega arith) (omega arith), both start, rest, count)
-added_maps f more whole start (suc m) (suc b) none no_more both =
-    let count : suc (max m b) ≡ max (suc m) (suc b) = omega arith in
-    let rest = added_maps f more whole (start + 1) m b (λ file past within. none file (omega arith) (omega arith)) (λ file past within. no_more file (omega arith) (omega arith)) both in
-    ap (λ bytes. bytes ∷ added (map f (range_with_len (start + 1) m)) (map more (range_with_len (start + 1) b))) (both start) ∙ ap (λ those. whole start ∷ those) rest ∙ ap (λ n. map whole (range_with_len start n)) count
-
 -- files that aren't open yet have nothing
-pub none_yet : (delim : ℕ) (elide : Bool) (n : ℕ) (x : List ℕ) (file : ℕ) → opened_by delim elide n x ≤ file → file < n → share_of delim n x file ≡ []
-none_yet delim true n x file past within = share_none delim n x file (omega arith) within
-none_yet delim false n x file past within = absurd (omega arith)
+pub none_yet : (delim : ℕ) (elide : Bool) (n : ℕ) (x : List ℕ) (file : ℕ) → 0 < n → opened_by delim elide n x ≤ file → share_of delim n x file ≡ []
+none_yet delim elide n x file some past = elim (cases_lt file n) [
+  | inl less ↦ by elide past less
+  | inr far ↦ dealt_past n file 0 (lines_of delim x) some far
+] where
+  by : (elide : Bool) → opened_by delim elide n x ≤ file → file < n → share_of delim n x file ≡ []
+  by true past within = share_none delim n x file (omega arith) within
+  by false past within = absurd (omega arith)
 
 lines_after : (delim n : ℕ) (x y : List ℕ) → 0 < n → max (min n (line_count delim x)) (min n (delimiters delim x % n + line_count delim y)) ≡ min n (line_count delim (x ++ y))
 lines_after delim n x [] some =
@@ -123,16 +97,20 @@ pub opened_after : (delim : ℕ) (elide : Bool) (n : ℕ) (x y : List ℕ) → 0
 opened_after delim true n x y some = lines_after delim n x y some
 opened_after delim false n x y some = omega arith
 
--- what the files have of a text that goes on
-pub files_after : (delim : ℕ) (elide : Bool) (n : ℕ) (x y : List ℕ) → 0 < n → added (files_of delim elide n x) (dealt_first delim n (delimiters delim x % n) y) ≡ files_of delim elide n (x ++ y)
-files_after delim elide n x y some =
-    added_maps (share_of delim n x) (λ file. dealt n file (delimiters delim x % n) (lines_of delim y)) (share_of delim n (x ++ y)) 0 (opened_by delim elide n x) (reached_by delim n (delimiters delim x % n) y)
-    (λ file past within. none_yet delim elide n x file (omega arith) (omega arith))
-    (λ file past within. dealt_none n file (delimiters delim x % n) (lines_of delim y) (omega (arith, opened_by-most delim elide n x)) (omega (arith, opened_by-most delim elide n x)))
-    (λ file. ap (λ more. share_of delim n x file ++ more) (dealt_same n file (delimiters delim x % n) (delimiters delim x) (lines_of delim y) (mod-mod (delimiters delim x) n) ∙ ap (λ place. dealt n file place (lines_of delim y)) from_zero) ∙ sym (dealt_append delim n file 0 x y))
-    ∙ ap (λ count. map (share_of delim n (x ++ y)) (range_with_len 0 count)) (opened_after delim elide n x y some) where
-      from_zero : delimiters delim x ≡ 0 + delimiters delim x
-      from_zero = omega arith
+-- what a file has of a text that goes on
+share_after : (delim n : ℕ) (x y : List ℕ) → 0 < n → (i : ℕ) → share_of delim n (x ++ y) i ≡ share_of delim n x i ++ get_or (dealt_first delim n (delimiters delim x % n) y) i []
+share_after delim n x y some i = dealt_append delim n i 0 x y ∙ ap (λ more. share_of delim n x i ++ more)
+    (dealt_same n i (0 + delimiters delim x) (delimiters delim x % n) (lines_of delim y) (ap (λ place. place % n) (zero-add (delimiters delim x)) ∙ sym (mod-mod (delimiters delim x) n)) ∙ sym got) where
+      got : get_or (dealt_first delim n (delimiters delim x % n) y) i [] ≡ dealt n i (delimiters delim x % n) (lines_of delim y)
+      got = elim (cases_lt i (reached_by delim n (delimiters delim x % n) y)) [
+        | inl less ↦ get_or-map-range_with_len _ 0 (reached_by delim n (delimiters delim x % n) y) i i [] less (zero-add i)
+        | inr past ↦ get_or_past (dealt_first delim n (delimiters delim x % n) y) i []
+            (omega (arith, length-map-range_with_len (λ file. dealt n file (delimiters delim x % n) (lines_of delim y)) 0 (reached_by delim n (delimiters delim x % n) y), past))
+            ∙ sym (elim (cases_lt i n) [
+              | inl less ↦ dealt_none n i (delimiters delim x % n) (lines_of delim y) (omega (arith, past, less)) less
+              | inr far ↦ dealt_past n i (delimiters delim x % n) (lines_of delim y) some far
+            ])
+      ]
 
 -- The gathered piece
 
@@ -147,35 +125,42 @@ same_work old new delim count elide names = ap round_work same where
   same : plan_of new ≡ plan_of old
   same = cc (delim, count, elide, names)
 
--- what a piece makes of the files, where the stage can have been fed x
-made_is : {round : RoundState} {x : List ℕ} (piece : List ℕ) → Holds round x → open_part round.files.names (added (files_of round.delim round.elide round.count x) (dealt_first round.delim round.count round.next piece)) ≡ (work round).settled (x ++ piece)
-made_is {round} {x} piece holds = cc (
-  holds.next,
-  files_after round.delim round.elide round.count x piece holds.some,
-  settled_is round.delim round.files.names round.elide round.count (x ++ piece) holds.named,
-)
+-- what the stage has written, where it can have been fed x
+stands_is : {round : RoundState} {x : List ℕ} → Holds round x
+    → part_by (from_start round.files.names) (all_open (share_of round.delim round.count x)) (length round.files.outputs) ≡ (work round).settled x
+stands_is {round} {x} holds = ap (part_by (from_start round.files.names) (all_open (share_of round.delim round.count x))) holds.opened
+    ∙ sym (filed_are round.delim Open round.files.names round.elide round.count x holds.named)
 
--- where the stage stands, its files do
-stand_at : (told : Bool) (round : RoundState) {before : List Slot} {x : List ℕ} {now : List Slot} → StandsAt ways.Holds ways.Owns (way.Round round) told before x ((work round).settled x) now → StandAt told round.files before (files_of round.delim round.elide round.count x) now
+stand_at : (told : Bool) (round : RoundState) {before : List Slot} {x : List ℕ} {now : List Slot} → StandsAt ways.Holds ways.Owns (way.Round round) told before x ((work round).settled x) now
+    → StandAt told round.files before (share_of round.delim round.count x) now
 stand_at told round {before} {x} {now} at = record {
-  count = length-files_of round.delim round.elide round.count x ∙ sym at.holds.opened;
   owns = at.owns;
-  outputs = subst (λ part. OutputsAt told before part now) (settled_is round.delim round.files.names round.elide round.count x at.holds.named) at.outputs;
+  outputs = subst (λ part. OutputsAt told before part now) (sym (stands_is at.holds)) at.outputs;
+  none = λ i past. none_yet round.delim round.elide round.count x i at.holds.some (omega (arith, past, at.holds.opened));
 }
 
-puts_out : (told : Bool) (round : RoundState) (piece : List ℕ) {low high : ℕ} {next : FilesState} {old new : List Slot}
-    → Adds told round.files (dealt_first round.delim round.count round.next piece) low high old next new (Ok tt)
-    → PutsOut ways.Holds ways.Owns ways.work (way.Round round) piece told old new
-puts_out told round piece {new} adds before x at =
-    subst (λ part. OutputsAt told before part new) (made_is piece at.holds) (adds.leaves before (files_of round.delim round.elide round.count x) (stand_at told round at))
+count_is : {round : RoundState} {x : List ℕ} (piece : List ℕ) → Holds round x
+    → max (length round.files.outputs) (length (dealt_first round.delim round.count round.next piece)) ≡ opened_by round.delim round.elide round.count (x ++ piece)
+count_is {round} {x} piece holds = cc (
+  length-map-range_with_len (λ file. dealt round.count file round.next (lines_of round.delim piece)) 0 (reached_by round.delim round.count round.next piece),
+  holds.opened,
+  holds.next,
+  opened_after round.delim round.elide round.count x piece holds.some,
+)
 
-cuts_off : (told : Bool) (round : RoundState) (piece : List ℕ) {low high : ℕ} {next : FilesState} {old new : List Slot} (why : Fault)
-    → Adds told round.files (dealt_first round.delim round.count round.next piece) low high old next new (Err why)
-    → CutsOff ways.Holds ways.Owns ways.work (way.Round round) piece told old new why
-cuts_off told round piece {new} why adds before x at =
-    cut (unjudged adds.caused.0 adds.caused.1) (subst (λ high. StoppedBetween told before ((work round).settled x) high why new) (made_is piece at.holds)
-    (rw (settled_is round.delim round.files.names round.elide round.count x at.holds.named)
-    (stops_in_order told round.files.names (files_of round.delim round.elide round.count x) _ why (adds.leaves before (files_of round.delim round.elide round.count x) (stand_at told round at)))))
+module _ (told : Bool) (round : RoundState) (piece : List ℕ) {old before : List Slot} {x : List ℕ}
+    (at : StandsAt ways.Holds ways.Owns (way.Round round) told before x ((work round).settled x) old) where
+  made_is : part_by (from_start round.files.names) (all_open (share_of round.delim round.count (x ++ piece)))
+      (max (length round.files.outputs) (length (dealt_first round.delim round.count round.next piece))) ≡ (work round).settled (x ++ piece)
+  made_is = ap (part_by (from_start round.files.names) (all_open (share_of round.delim round.count (x ++ piece)))) (count_is piece at.holds)
+      ∙ sym (filed_are round.delim Open round.files.names round.elide round.count (x ++ piece) at.holds.named)
+
+  left_by : {next : FilesState} {new : List Slot} (result : Result (Unit {0}) Fault) → Adds told round.files (λ i. get_or (dealt_first round.delim round.count round.next piece) i []) 0 (length (dealt_first round.delim round.count round.next piece)) old next new result
+      → Leaves told before (from_start round.files.names) (all_open (share_of round.delim round.count x)) (length round.files.outputs) (all_open (share_of round.delim round.count (x ++ piece)))
+      (max (length round.files.outputs) (length (dealt_first round.delim round.count round.next piece))) 0 (length (dealt_first round.delim round.count round.next piece)) new result
+  left_by result adds = adds.leaves before (share_of round.delim round.count x) (share_of round.delim round.count (x ++ piece)) (stand_at told round at)
+      (λ i. share_after round.delim round.count x piece at.holds.some i
+      ∙ ap (λ next. share_of round.delim round.count x i ++ get_or (dealt_first round.delim round.count next piece) i []) (sym at.holds.next))
 
 takes_in : (told : Bool) {old new : RoundState} {piece : List ℕ} {before after : List Slot} → Deals told old piece before after new (Ok tt) → TakesIn ways.Holds piece (way.Round old) (way.Round new)
 takes_in told {old} {new} {piece} deals x holds = record {
@@ -183,17 +168,7 @@ takes_in told {old} {new} {piece} deals x holds = record {
   named = are_named_same old.files.names new.files.names new.count deals.adds.names ∙ ap (are_named old.files.names) deals.count ∙ holds.named;
   next = let moved = mod-add-mod (delimiters old.delim x) old.count (delimiters old.delim piece) in
       cc (deals.next, holds.next, moved, delimiters-append old.delim x piece, deals.count, deals.delim);
-  opened = cc (
-    deals.adds.opened,
-    length-map-range_with_len (λ file. dealt old.count file old.next (lines_of old.delim piece)) 0
-        (reached_by old.delim old.count old.next piece),
-    holds.opened,
-    holds.next,
-    opened_after old.delim old.elide old.count x piece holds.some,
-    deals.elide,
-    deals.count,
-    deals.delim,
-  );
+  opened = cc (deals.adds.opened, count_is piece holds, deals.elide, deals.count, deals.delim);
 }
 
 pub passes_by : (told : Bool) (old new : RoundState) (piece : List ℕ) (before after : List Slot) (result : Result (Unit {0}) Fault)
@@ -201,7 +176,7 @@ pub passes_by : (told : Bool) (old new : RoundState) (piece : List ℕ) (before 
 passes_by told old new piece before after (Ok u) deals = record {
   same = same_work old new deals.delim deals.count deals.elide deals.adds.names;
   holds = takes_in told deals;
-  outputs = puts_out told old piece deals.adds;
+  outputs = λ start x at. subst (λ part. OutputsAt told start part after) (made_is told old piece at) (left_by told old piece at (Ok u) deals.adds);
   ready = deals.adds.ready;
   owns = deals.adds.owned;
   cut = tt;
@@ -213,53 +188,43 @@ passes_by told old new piece before after (Err why) deals = record {
   outputs = tt;
   ready = tt;
   owns = deals.adds.owned;
-  cut = cuts_off told old piece why deals.adds;
+  cut = λ start x at. cut (unjudged deals.adds.caused.0 deals.adds.caused.1)
+      (stopped_as told (stands_is at.holds) (made_is told old piece at) (stops_in_order why (left_by told old piece at (Err why) deals.adds)));
   met = met_files (EndsWith ways.Holds ways.work (way.Round old) piece) deals.adds.caused.0 (λ is. absurd (deals.adds.caused.1 is));
 }
 
 -- The end
 
-closed_part : {round : RoundState} {x : List ℕ} → Holds round x → closing_part round.files.names (length round.files.outputs) (files_of round.delim round.elide round.count x) ≡ (work round).whole x
-closed_part {round} {x} holds = ap (λ count. closing_part round.files.names count (files_of round.delim round.elide round.count x)) holds.opened ∙ sym (whole_is round.delim round.files.names round.elide round.count x holds.named)
+closed_part : {round : RoundState} {x : List ℕ} → Holds round x
+    → part_by (from_start round.files.names) (closed_first (length round.files.outputs) (share_of round.delim round.count x)) (length round.files.outputs) ≡ (work round).whole x
+closed_part {round} {x} holds = ap only_files (same_by _ _ 0 (length round.files.outputs)
+    (λ i past within. ap (λ now. file_at (from_start round.files.names) i (share now (share_of round.delim round.count x i))) (shut_now i (length round.files.outputs) (omega arith))))
+    ∙ ap (part_by (from_start round.files.names) (λ i. share Closed (share_of round.delim round.count x i))) holds.opened
+    ∙ sym (filed_are round.delim Closed round.files.names round.elide round.count x holds.named)
 
-pub finishes_by : (told : Bool) (round next : RoundState) (old new : List Slot) (result : Result (Unit {0}) Fault)
-    → Closes told round old new next result → FinishesBy told old new result (way.Round round) (way.Round next)
-finishes_by told round next old new (Ok u) closes = record {
-  same = closes.same;
-  outputs = λ before x at. (
-    refl,
-    subst (λ part. OutputsAt told before part new) (closed_part at.holds)
-        (closes.closed before (files_of round.delim round.elide round.count x) (stand_at told round at)),
-  );
+pub finishes_by : (told : Bool) (round : RoundState) (old new : List Slot) (result : Result (Unit {0}) Fault)
+    → ClosesAll told round.files old new result → FinishesBy told old new result (way.Round round) (way.Round round)
+finishes_by told round old new (Ok u) closes = record {
+  same = refl;
+  outputs = λ before x at. (refl, subst (λ part. OutputsAt told before part new) (closed_part at.holds) (closes.closed before _ (stand_at told round at)));
   owns = closes.owned;
   cut = tt;
   met = tt;
 }
-finishes_by told round next old new (Err why) closes = record {
-  same = closes.same;
+finishes_by told round old new (Err why) closes = record {
+  same = refl;
   outputs = tt;
   owns = closes.owned;
-  cut = λ before x at. cut (ap is_verdict closes.caused.1) (subst (λ high. StoppedBetween told before ((work round).settled x) high why new) (closed_part at.holds)
-      (subst (λ low. StoppedBetween told before low (closing_part round.files.names (length round.files.outputs) (files_of round.delim round.elide round.count x)) why new)
-      (sym (settled_is round.delim round.files.names round.elide round.count x at.holds.named)) (closes.cut before (files_of round.delim round.elide round.count x) (stand_at told round at))));
+  cut = λ before x at. cut (ap is_verdict closes.caused.1) (stopped_as told (stands_is at.holds) (closed_part at.holds) (closes.cut before _ (stand_at told round at)));
   met = met_closing (EndsThere ways.Holds ways.work (way.Round round)) old new closes.caused;
 }
 
 -- The start
 
-none_dealt : (delim n start count : ℕ) → map (share_of delim n []) (range_with_len start count) ≡ replicate count []
-none_dealt delim n start zero = refl
-none_dealt delim n start (suc count) = ap (λ rest. [] ∷ rest) (none_dealt delim n (start + 1) count)
-
 -- no line has come in yet
 pub starts_with : (delim : ℕ) (elide : Bool) (n : ℕ) → cond elide 0 n ≡ opened_by delim elide n []
 starts_with delim true n = omega arith
 starts_with delim false n = refl
-
-at_start : (delim : ℕ) (names : Naming) (elide : Bool) (n : ℕ) {count : ℕ} → names.drawn ≡ 0 → are_named names n ≡ true → count ≡ opened_by delim elide n [] → open_part names (replicate count []) ≡ settled_by (round_plan delim n elide names) []
-at_start delim names elide n fresh are is =
-    ap (λ k. open_part names (replicate k [])) is ∙ ap (open_part names) (sym (none_dealt delim n 0 (opened_by delim elide n []))) ∙ sym (settled_is delim names elide n [] are)
-    ∙ ap (λ drawn. settled_by (round_plan delim n elide (record names { drawn = drawn })) []) (sym fresh)
 
 -- no file is open yet, and the next will be the next output
 abbrev pub no_files : Naming → FilesState
@@ -268,32 +233,28 @@ no_files names = record { names = names; outputs = [] }
 none_owned : (names : Naming) {slots : List Slot} → OwnsFiles (no_files names) (length slots) slots
 none_owned names = record { stand = λ place within. absurd (omega (arith, within)); last = λ same. omega arith }
 
-none_stand : (told : Bool) (names : Naming) {before slots : List Slot} → OutputsAt told before nothing slots → StandAt told (no_files names) before [] slots
-none_stand told names {before} {slots} at = record {
-  count = refl;
-  owns = subst (λ n. OwnsFiles (no_files names) n slots) (omega (arith, outputs_count told before nothing slots at)) (none_owned names);
-  outputs = at;
-}
+pub at_start : (delim : ℕ) (elide : Bool) (names : Naming) (n : ℕ) {count : ℕ} → names.drawn ≡ 0 → are_named names n ≡ true → count ≡ opened_by delim elide n []
+    → part_by (from_start names) (all_open (λ i. [])) (max 0 count) ≡ settled_by (round_plan delim n elide names) []
+at_start delim elide names n {count} fresh are counted = ap (part_by (from_start names) (all_open (λ i. []))) (let all : max 0 count ≡ count = omega arith in all ∙ counted)
+    ∙ sym (filed_are delim Open names elide n [] are) ∙ ap (λ drawn. settled_by (round_plan delim n elide (record names { drawn = drawn })) []) (sym fresh)
 
-module _ (told : Bool) (names : Naming) (count : ℕ) {files next : FilesState} {old new : List Slot} {result : Result (Unit {0}) Fault} (is : files ≡ no_files names)
-    (adds : Adds told files (replicate count []) 0 count old next new result) where
+module _ (told : Bool) (names : Naming) {count : ℕ} {files next : FilesState} {old new : List Slot} {result : Result (Unit {0}) Fault} (is : files ≡ no_files names)
+    (opens : Opens told files 0 count old next new result) where
   pub opens_own : OwnsFiles next (length old) new
-  opens_own = adds.owned (length old) (subst (λ (those : FilesState). OwnsFiles those (length old) old) (sym is) (none_owned names))
+  opens_own = opens.adds.owned (length old) (subst (λ (those : FilesState). OwnsFiles those (length old) old) (sym is) (none_owned names))
 
-  opens : (before : List Slot) → OutputsAt told before nothing old → Leaves told before names [] (replicate count []) 0 count new result
-  opens before at =
-      (subst (λ (those : FilesState). Adds told those (replicate count []) 0 count old next new result) is adds).leaves before [] (none_stand told names at)
-
-pub opens_all : (delim : ℕ) (told elide : Bool) (names : Naming) (n : ℕ) {count : ℕ} {files next : FilesState} {old new : List Slot} → files ≡ no_files names → names.drawn ≡ 0 → are_named names n ≡ true → count ≡ opened_by delim elide n []
-    → Adds told files (replicate count []) 0 count old next new (Ok tt) → (before : List Slot) → OutputsAt told before nothing old → OutputsAt told before (settled_by (round_plan delim n elide names) []) new
-opens_all delim told elide names n {count} {new} is fresh are counted adds before at =
-    subst (λ part. OutputsAt told before part new) (at_start delim names elide n fresh are counted) (opens told names count is adds before at)
-
-pub opens_short : (delim : ℕ) (told elide : Bool) (names : Naming) (n : ℕ) {count : ℕ} {files next : FilesState} {old new : List Slot} {why : Fault} → files ≡ no_files names → names.drawn ≡ 0 → are_named names n ≡ true → count ≡ opened_by delim elide n []
-    → Adds told files (replicate count []) 0 count old next new (Err why) → (before : List Slot) → OutputsAt told before nothing old → StoppedBetween told before nothing (settled_by (round_plan delim n elide names) []) why new
-opens_short delim told elide names n {count} {new} {why} is fresh are counted adds before at =
-    subst (λ high. StoppedBetween told before nothing high why new) (at_start delim names elide n fresh are counted)
-    (stops_in_order told names [] (replicate count []) why (opens told names count is adds before at))
+  -- what is there then is all that must be written of no input
+  pub opens_all : {part : Part} → part_by (from_start names) (all_open (λ i. [])) (max 0 count) ≡ part → (before : List Slot) → OutputsAt told before nothing old
+      → (OnOk result (OutputsAt told before part new)) × (IfErr result (λ why. StoppedBetween told before nothing part why new))
+  opens_all {part} made before at = by result ((subst (λ (those : FilesState). Opens told those 0 count old next new result) is opens).adds.leaves before (λ i. []) (λ i. []) (record {
+    owns = subst (λ place. OwnsFiles (no_files names) place old) (omega (arith, outputs_count told before nothing old at)) (none_owned names);
+    outputs = at;
+    none = λ i past. refl;
+  }) (λ i. refl)) where
+    by : (result : Result (Unit {0}) Fault) → Leaves told before (from_start names) (all_open (λ i. [])) 0 (all_open (λ i. [])) (max 0 count) 0 count new result
+        → (OnOk result (OutputsAt told before part new)) × (IfErr result (λ why. StoppedBetween told before nothing part why new))
+    by (Ok done) leaves = (subst (λ those. OutputsAt told before those new) made leaves, tt)
+    by (Err why) leaves = (tt, stopped_as told refl made (stops_in_order why leaves))
 
 -- where all files have names, the work is what was asked for
 pub does_all : (delim : ℕ) (names others : Naming) (elide : Bool) (n : ℕ) → names.drawn ≡ 0 → are_named names n ≡ true → from_start others ≡ from_start names → round_work (round_plan delim n elide (from_start others)) ≡ split_work (round_plan delim n elide names)
@@ -325,16 +286,12 @@ pub joined_files : (delim : ℕ) (elide : Bool) (n : ℕ) (x : List ℕ) → joi
 joined_files delim true n x = joined_some (round_robin delim n x)
 joined_files delim false n x = refl
 
-bytes_filed : (names : Naming) (place : ℕ) (these : List (List ℕ)) → map (λ (file : File). file.bytes) (filed names place (map (share Open) these)) ≡ these
-bytes_filed names place [] = refl
-bytes_filed names place (bytes ∷ these) = ap (λ rest. bytes ∷ rest) (bytes_filed names (place + 1) these)
+-- all bytes are with the files
+pub dealt_all : (delim n : ℕ) (elide : Bool) (names : Naming) (x : List ℕ) → 0 < n → are_named names (length (dealt_files delim elide n x)) ≡ true
+    → length (bytes_in (settled_by (round_plan delim n elide names) x)) ≡ length x
+dealt_all delim n elide names x some are = ap (λ those. length (joined those)) (dealt_settled delim n elide names x ∙ each_named names (dealt_files delim elide n x) are)
+    ∙ ap length (joined_files delim elide n x) ∙ all_dealt delim n x some
 
 pub none_waits : {round : RoundState} {x : List ℕ} → Holds round x → 0 ≡ length ((work round).waiting x)
-none_waits {round} {x} holds = sym (ap length (ap (λ count. drop count x) all ∙ drop-length x)) where
-  files : List (List ℕ)
-  files = files_of round.delim round.elide round.count x
-
-  all : length (bytes_in ((work round).settled x)) ≡ length x
-  all = ap (λ part. length (bytes_in part)) (settled_is round.delim round.files.names round.elide round.count x holds.named)
-      ∙ ap (λ those. length (joined those)) (bytes_filed (from_start round.files.names) 0 (files_of round.delim round.elide round.count x) ∙ sym (dealt_files_are round.delim round.elide round.count x))
-      ∙ ap length (joined_files round.delim round.elide round.count x) ∙ all_dealt round.delim round.count x holds.some
+none_waits {round} {x} holds = sym (ap length (ap (λ count. drop count x)
+    (dealt_all round.delim round.count round.elide (from_start round.files.names) x holds.some (all_have round.delim (from_start round.files.names) round.elide round.count x holds.named)) ∙ drop-length x))

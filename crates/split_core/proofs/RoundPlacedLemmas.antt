@@ -18,9 +18,9 @@ use Rattle.split_core.specs.Split.{Plan, is_named, whole_by, split_work, dealt_f
 use Rattle.split_core.specs.Place.{dealt_to, dealt_spots, split_spots}
 use Rattle.split_core.specs.Round.{round_plan, opened_by}
 use Rattle.split_core.specs.Splitter.{IsPositive}
-use Rattle.split_core.specs.inner.DealLaws.{share_of}
+use Rattle.split_core.specs.inner.Dealt.{share_of}
 use Rattle.split_core.specs.laws.DealLaws.{dealt_append, dealt_first, next_place, dealt_files_are}
-use Rattle.split_core.proofs.DealLaws.{opened_by-most}
+use Rattle.split_core.proofs.CutLaws.{opened_by-most}
 use Rattle.split_core.proofs.MoveLemmas.{named_before}
 use Rattle.split_core.proofs.AgreedLemmas.{named_bytes, dealt_whole, plan_by}
 use Rattle.split_core.specs.laws.ShareLaws.{one_on}
@@ -116,7 +116,7 @@ file_is : (delim : ℕ) (elide : Bool) (n : ℕ) (x : List ℕ) (file : ℕ) →
 file_is delim elide n x file within = ap (λ files. get_or files file []) (dealt_files_are delim elide n x) ∙ elim (cases_lt file (opened_by delim elide n x)) [
   | inl less ↦ get_or-map-range_with_len (share_of delim n x) 0 (opened_by delim elide n x) file file [] less (zero-add file)
   | inr past ↦ get_or_past (map (share_of delim n x) (range_with_len 0 (opened_by delim elide n x))) file [] (omega (arith, length-map-range_with_len (share_of delim n x) 0 (opened_by delim elide n x), past))
-      ∙ sym (none_yet delim elide n x file past within)
+      ∙ sym (none_yet delim elide n x file (omega arith) past)
 ]
 
 named_at : (names : Naming) (place : ℕ) (those : List (List ℕ)) (k : ℕ) → get_or (named_bytes names place those) k [] ≡ cond (is_named names (place + k)) (get_or those k []) []

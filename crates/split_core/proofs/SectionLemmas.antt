@@ -16,9 +16,8 @@ use Rattle.split_core.specs.declared.limit.Limit.TheVariants.{Lines, Bytes, Line
 use Rattle.split_core.specs.Parts.{whole_lines, open_line, most, is_full, cut_up, unless_empty, parts, settled_rest, waiting_rest}
 use Rattle.split_core.specs.Sections.{runs_within, runs_of, line_parts, byte_parts, AreLineByteParts, none, one, more}
 use Rattle.split_core.specs.Split.{Share, share, settled_parts}
-use Rattle.split_core.proofs.ShareLaws.{bytes_of_shares}
+use Rattle.split_core.proofs.CutLaws.{bytes_of_shares, cut_all}
 use Rattle.split_core.specs.laws.CutLaws.{short_some, full_some, whole_some, whole_then_open, settled_then_waiting, rest_short, cuts_up}
-use Rattle.split_core.proofs.CutLaws.{cut_all}
 use Rattle.split_core.specs.inner.CutLaws.{Cuts, stops, goes}
 
 -- Runs of any list

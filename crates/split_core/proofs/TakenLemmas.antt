@@ -1,34 +1,34 @@
--- What a step of a piece leaves.
-use Rattle.std.proofs.Common.{◌≡◌, ℕ, ◌+◌, ◌-◌, ◌<◌, ◌≤◌, List, [], ◌∷◌, ◌++◌, length, map, take, drop, Bool, true, false, Result, Ok, Err, OnOk, IfOk, IfErr, refl, sym, ◌∙◌, ap, subst, arith, append_assoc}
+-- What a step of a piece leaves, and a piece that is taken in step by step, and the end of the input.
+use Rattle.std.proofs.Common.{◌≡◌, ℕ, ◌+◌, ◌-◌, ◌<◌, ◌≤◌, List, [], ◌∷◌, ◌++◌, length, map, take, drop, Bool, true, false, Some, None, Result, Ok, Err, OnOk, IfOk, IfErr, inl, refl, sym, ◌∙◌, ap, subst, arith, append_assoc}
 use Rattle.std.proofs.Math.Seq.{take-length}
-use Rattle.std.proofs.lemmas.List.{append-nil, drop-take, take-append-drop, length-take-le}
-use Rattle.std.proofs.lemmas.Result.{on_ok_weaker}
+use Rattle.std.proofs.lemmas.List.{append-nil, drop-take, map-append, take-append-drop}
+use Rattle.std.proofs.lemmas.Bool.{false≢true}
+use Rattle.std.proofs.lemmas.Result.{IfErr-weaker, on_ok_weaker}
 use Rattle.ports_core.specs.Name.{Naming}
-use Rattle.ports_core.specs.Slot.{Slot}
+use Rattle.ports_core.specs.Slot.{Slot, is_closable}
 use Rattle.ports_core.specs.inner.Part.{InTurn}
-use Rattle.ports_core.proofs.PartLemmas.{begins_itself, part_begins_itself, turn_next}
+use Rattle.ports_core.specs.inner.Write.{broke}
+use Rattle.ports_core.proofs.PartLemmas.{begins_itself, turn_next}
+use Rattle.ports_core.proofs.PartSteps.{halts_here}
+use Rattle.ports_core.proofs.SlotSteps.{keeps_same, rose_later, write_rose}
 use Rattle.ports_core.specs.declared.slot.State.TheVariants as file_state
 use Rattle.ports_core.specs.declared.fault.Fault.{Fault}
 use Rattle.ports_core.specs.declared.fault.Fault.TheVariants as fault
-use Rattle.split_core.specs.declared.limit.Limit.{Limit}
 use Rattle.split_core.specs.declared.step.Step.{Step}
 use Rattle.split_core.specs.declared.step.Step.TheVariants.{Goes, Ends, Begins, Waits}
-use Rattle.split_core.specs.Parts.{CutUp, most, is_full, cut_up, settled_rest, waiting_rest}
-use Rattle.split_core.specs.inner.CutLaws.{cut_so}
-use Rattle.split_core.specs.laws.CutLaws.{cut_on, cut_none, settled_then_waiting}
-use Rattle.split_core.proofs.CutLaws.{cut_two}
+use Rattle.split_core.specs.Parts.{CutUp, most, cut_up, settled_rest, unless_empty, waiting_rest}
+use Rattle.split_core.specs.inner.CutLaws.{cut_so, AllShut, SharesBegin, whole_parts}
+use Rattle.split_core.specs.laws.CutLaws.{cut_on, cut_none, first_some, settled_some, settled_then_waiting}
+use Rattle.split_core.proofs.CutLaws.{cut_two, shut_map, shares_trans}
 use Rattle.split_core.specs.Split.{Share, share, is_some, are_named, from_start, named, settled_parts}
-use Rattle.split_core.specs.inner.ShareLaws.{AllShut, SharesBegin}
-use Rattle.split_core.proofs.ShareLaws.{begun_grows, shut_map, shares_trans}
-use Rattle.split_core.specs.laws.ShareLaws.{part_begins, settled_on, settled_grow}
+use Rattle.split_core.specs.laws.ShareLaws.{part_begins, settled_on, settled_grow, shares_after}
 use Rattle.split_core.specs.inner.Step.{IsTurned, Leads}
-use Rattle.split_core.specs.PartsState.{PartsState, Lacks, Stands, IsReady}
+use Rattle.split_core.specs.PartsState.{PartsState, Lacks, Stands, IsReady, is_given}
 use Rattle.split_core.specs.inner.Moves as run
-use Rattle.split_core.specs.inner.Moves.{Keeps, Begun, begun_share, written, Extends, Turns, TurnsTo, Takes, Steps, wants_memory}
-use Rattle.ports_core.proofs.SlotSteps.{keeps_same}
-use Rattle.split_core.proofs.MoveLemmas.{are_named_same, goes_same, goes_then, goes_wider, keeps_then, last_turn, shut_files}
-use Rattle.split_core.proofs.PartsLemmas.{count_one, some_bytes}
-use Rattle.split_core.proofs.TurnLemmas.{keeps_as}
+use Rattle.split_core.specs.inner.Moves.{Keeps, Draft, draft, written, Begun, gets, turns, numbers, Moves, Extends, Turns, Shuts, Takes, Steps, Finishes, CannotClose, WritesTo, wants_memory}
+use Rattle.split_core.proofs.AgreedLemmas.{one_of}
+use Rattle.split_core.proofs.MoveLemmas.{are_named_same, goes_same, goes_then, goes_wider, keeps_still, keeps_then, last_turn, moves_then, shut_files}
+use Rattle.split_core.proofs.PartsLemmas.{count_one, extended, found_there, moves_as, none_begun}
 
 -- where the next bytes lead, whatever came in before
 abbrev pub LeadsOn : PartsState → List ℕ → Step → Type 0
@@ -43,7 +43,11 @@ full_of parts x = map (share file_state.Closed) (cut_up parts.limit x).full
 abbrev pub begun_of : PartsState → List ℕ → List ℕ
 begun_of parts x = settled_rest parts.limit (rest_of parts x)
 
-pub begun_so : {parts : PartsState} {x : List ℕ} → Stands parts x → Begun parts.names parts.current (full_of parts x) (begun_of parts x)
+-- the files once x came in
+abbrev pub draft_of : PartsState → List ℕ → Draft
+draft_of parts x = draft (full_of parts x) (begun_of parts x)
+
+begun_so : {parts : PartsState} {x : List ℕ} → Stands parts x → Begun parts.names parts.current (draft_of parts x)
 begun_so {parts} {x} stands = record { drawn = stands.drawn; enough = stands.enough; given = stands.opened; shut = shut_map (cut_up parts.limit x).full }
 
 -- what is begun, what waits and more are together what is left and more
@@ -51,176 +55,159 @@ all_of : {parts : PartsState} {x : List ℕ} (more : List ℕ) → Stands parts 
 all_of {parts} {x} more stands =
     cc (stands.waits, append_assoc (begun_of parts x) (waiting_rest parts.limit (rest_of parts x)) more, settled_then_waiting parts.limit (rest_of parts x))
 
--- a text that goes on, by how what was left of it is cut then
+-- with more of x these are the files, and then the numbers are right
+record Comes (parts : PartsState) (x taken : List ℕ) (after : Draft) (are : ℕ × Bool × List ℕ) : Type 0 where
+  full : List (List ℕ)
+  rest : List ℕ
+  cut : cut_up parts.limit (rest_of parts x ++ taken) ≡ cut_so full rest
+  is : after ≡ draft (full_of parts x ++ map (share file_state.Closed) full) (settled_rest parts.limit rest)
+  lacks : Lacks parts.limit rest are.0 are.1
+  waits : are.2 ≡ waiting_rest parts.limit rest
 
-module _ (parts : PartsState) (x taken : List ℕ) (full : List (List ℕ)) (rest : List ℕ) (is : cut_up parts.limit (rest_of parts x ++ taken) ≡ cut_so full rest) where
-  settled_by : settled_parts parts.limit (x ++ taken) ≡ written (full_of parts x ++ map (share file_state.Closed) full) (settled_rest parts.limit rest)
-  settled_by = settled_on parts.limit x taken
-      ∙ ap (λ (cut : CutUp). full_of parts x ++ (map (share file_state.Closed) cut.full ++ begun_share (settled_rest parts.limit cut.rest))) is
-      ∙ sym (append_assoc (full_of parts x) (map (share file_state.Closed) full) (begun_share (settled_rest parts.limit rest)))
+module _ {parts : PartsState} {x taken : List ℕ} {after : Draft} {are : ℕ × Bool × List ℕ} (comes : Comes parts x taken after are) where
+  settled_so : settled_parts parts.limit (x ++ taken) ≡ written after
+  settled_so = settled_on parts.limit x taken
+      ∙ ap (λ (cut : CutUp). full_of parts x ++ (map (share file_state.Closed) cut.full ++ map (share file_state.Open) (unless_empty (settled_rest parts.limit cut.rest)))) comes.cut
+      ∙ sym (append_assoc (full_of parts x) (map (share file_state.Closed) comes.full) _) ∙ ap written (sym comes.is)
 
   -- it can be what came in
-  stands_by : Begun parts.names parts.current (full_of parts x ++ map (share file_state.Closed) full) (settled_rest parts.limit rest)
-      → Lacks parts.limit rest parts.left parts.has_line → parts.waiting ≡ waiting_rest parts.limit rest → Stands parts (x ++ taken)
-  stands_by has lacks waits = record {
-    drawn = has.drawn ∙ sym (ap length settled_by);
-    enough = ap (λ those. are_named parts.names (length those)) settled_by ∙ has.enough;
-    lacks = subst (λ (cut : CutUp). Lacks parts.limit cut.rest parts.left parts.has_line) (sym cut) lacks;
-    waits = waits ∙ ap (λ (cut : CutUp). waiting_rest parts.limit cut.rest) (sym cut);
-    opened = has.given ∙ ap (λ (cut : CutUp). is_some (settled_rest parts.limit cut.rest)) (sym cut);
+  stands_so : (next : PartsState) → next.limit ≡ parts.limit → numbers next ≡ are → Begun next.names next.current after → Stands next (x ++ taken)
+  stands_so next limit same has = record {
+    drawn = has.drawn ∙ sym (ap length all);
+    enough = ap (λ those. are_named next.names (length those)) all ∙ has.enough;
+    lacks = rw (limit, cut, ap (λ (those : ℕ × Bool × List ℕ). those.0) same, ap (λ (those : ℕ × Bool × List ℕ). those.1) same) comes.lacks;
+    waits = ap (λ (those : ℕ × Bool × List ℕ). those.2) same ∙ comes.waits ∙ sym (rw (limit, cut));
+    opened = has.given ∙ ap (λ (those : Draft). is_some those.begun) comes.is ∙ sym (rw (limit, cut));
   } where
-    cut : cut_up parts.limit (x ++ taken) ≡ cut_so ((cut_up parts.limit x).full ++ full) rest
-    cut = cut_on parts.limit x taken ∙ ap (λ (those : CutUp). cut_so ((cut_up parts.limit x).full ++ those.full) those.rest) is
+    all : settled_parts next.limit (x ++ taken) ≡ written after
+    all = ap (λ limit. settled_parts limit (x ++ taken)) limit ∙ settled_so
 
--- the whole piece: what was taken of it, and what stands after that
-grown : (limit : Limit) (x piece : List ℕ) (bytes : ℕ) → SharesBegin (settled_parts limit (x ++ take bytes piece)) (settled_parts limit (x ++ piece))
-grown limit x piece bytes = subst (λ all. SharesBegin (settled_parts limit (x ++ take bytes piece)) (settled_parts limit all))
+    cut : cut_up parts.limit (x ++ taken) ≡ cut_so ((cut_up parts.limit x).full ++ comes.full) comes.rest
+    cut = cut_on parts.limit x taken ∙ ap (λ (those : CutUp). cut_so ((cut_up parts.limit x).full ++ those.full) those.rest) comes.cut
+
+-- so far that is a beginning of what the whole piece leads to
+below : {parts : PartsState} {x : List ℕ} (piece : List ℕ) (bytes : ℕ) {after : Draft} {are : ℕ × Bool × List ℕ} → Comes parts x (take bytes piece) after are
+    → SharesBegin (written after) (settled_parts parts.limit (x ++ piece))
+below {parts} {x} piece bytes comes = subst (λ low. SharesBegin low (settled_parts parts.limit (x ++ piece))) (settled_so comes)
+    (subst (λ all. SharesBegin (settled_parts parts.limit (x ++ take bytes piece)) (settled_parts parts.limit all))
     (append_assoc x (take bytes piece) (drop bytes piece) ∙ ap (λ those. x ++ those) (take-append-drop bytes piece))
-    (settled_grow limit (x ++ take bytes piece) (drop bytes piece))
+    (settled_grow parts.limit (x ++ take bytes piece) (drop bytes piece)))
+
+-- a part that ends begins itself, and may be closed by then
+turn_begins : (those : Draft) (past : List ℕ) → SharesBegin (written those) (written (turns past those))
+turn_begins those past = subst (SharesBegin (written those)) (sym (append_assoc those.shares _ _)) (shares_after those.shares _ _ (by those.begun)) where
+  by : (begun : List ℕ) → SharesBegin (map (share file_state.Open) (unless_empty begun)) (map (share file_state.Closed) (unless_empty begun) ++ map (share file_state.Open) (unless_empty past))
+  by [] = tt
+  by (byte ∷ begun) = (inl refl, begins_itself (byte ∷ begun), tt)
+
+-- what was taken in
+takes_so : {told : Bool} {parts next : PartsState} {taken : List ℕ} {change : Draft → Draft} {are : ℕ × Bool × List ℕ} {old new : List Slot}
+    → ((x : List ℕ) → Stands parts x → Comes parts x taken (change (draft_of parts x)) are) → Moves told parts are change old new next (Ok tt) → Takes told parts taken old new next (Ok tt)
+takes_so {told} {parts} {next} {old = old} {new} comes moves = record {
+  keeps = moves.keeps;
+  stands = λ x stands. stands_so (comes x stands) next moves.keeps.limit moves.same (moves.begun (draft_of parts x) (begun_so stands));
+  goes = λ x stands. subst (λ high. run.Goes told (from_start parts.names) parts.current (settled_parts parts.limit x) high old new (Ok tt)) (sym (settled_so (comes x stands)))
+      (moves.goes (draft_of parts x) (begun_so stands));
+}
+
+-- a fault came on the way
+takes_not : {told : Bool} {parts next : PartsState} {taken : List ℕ} {change : Draft → Draft} {are : ℕ × Bool × List ℕ} {old new : List Slot} {f : Fault}
+    → ((x : List ℕ) → Stands parts x → SharesBegin (written (change (draft_of parts x))) (settled_parts parts.limit (x ++ taken))) → Moves told parts are change old new next (Err f)
+    → Takes told parts taken old new next (Err f)
+takes_not {parts = parts} below moves = record {
+  keeps = moves.keeps;
+  stands = tt;
+  goes = λ x stands. goes_wider (moves.goes (draft_of parts x) (begun_so stands)) (below x stands);
+}
+
+-- all that is left goes to the part that was begun
+
+module _ {parts : PartsState} (piece : List ℕ) (bytes left : ℕ) (has_line : Bool) (leads : LeadsOn parts piece (Goes bytes left has_line)) where
+  goes_to : (x : List ℕ) → Stands parts x → Comes parts x (take bytes piece) (gets (parts.waiting ++ take bytes piece) (draft_of parts x)) (left, has_line, [])
+  goes_to x stands = let led = leads (rest_of parts x) stands.lacks in record {
+    full = [];
+    rest = rest_of parts x ++ take bytes piece;
+    cut = cut_none parts.limit _ led.short;
+    is = cc (append-nil (full_of parts x), led.settled, all_of (take bytes piece) stands);
+    lacks = led.lacks;
+    waits = sym led.waits;
+  }
+
+  pub goes_on : {told : Bool} {fresh next : PartsState} {old new : List Slot} → Extends told parts (take bytes piece) old new fresh (Ok tt) → next ≡ record fresh { left = left; has_line = has_line } → Takes told parts (take bytes piece) old new next (Ok tt)
+  goes_on {told} {old = old} {new} extends is = subst (λ those. Takes told parts (take bytes piece) old new those (Ok tt)) (sym is) (takes_so goes_to (moves_as left has_line extends))
+
+  pub goes_stopped : {told : Bool} {fresh : PartsState} {old new : List Slot} {f : Fault} → Extends told parts (take bytes piece) old new fresh (Err f) → Takes told parts piece old new fresh (Err f)
+  goes_stopped extends = takes_not (λ x stands. below piece bytes (goes_to x stands)) extends
 
 -- the part is full, and the next has begun
-turned_is : (parts : PartsState) (x taken : List ℕ) {first past : List ℕ} → IsTurned parts.limit (rest_of parts x ++ taken) first past
-    → settled_parts parts.limit (x ++ taken) ≡ written (full_of parts x ++ share file_state.Closed first ∷ []) past
-turned_is parts x taken {first} {past} leads =
-    cc (settled_by parts x taken (first ∷ []) past (cut_two parts.limit past leads.full leads.first_is leads.both leads.begun.short), leads.begun.settled)
-
-turned_below : (parts : PartsState) (x piece : List ℕ) (bytes : ℕ) {first past : List ℕ} → IsTurned parts.limit (rest_of parts x ++ take bytes piece) first past
-    → SharesBegin (written (full_of parts x ++ share file_state.Closed first ∷ []) past) (settled_parts parts.limit (x ++ piece))
-turned_below parts x piece bytes led = rw (← turned_is parts x (take bytes piece) led) (grown parts.limit x piece bytes)
+turned_so : {parts : PartsState} {x taken first past : List ℕ} → IsTurned parts.limit (rest_of parts x ++ taken) first past
+    → Comes parts x taken (draft (full_of parts x ++ map (share file_state.Closed) (unless_empty first)) past) (most parts.limit - length past, false, [])
+turned_so {parts} {x} {taken} {first} {past} led = record {
+  full = first ∷ [];
+  rest = past;
+  cut = cut_two parts.limit past led.full led.first_is led.both led.begun.short;
+  is = cc (one_of first (subst (λ part. 0 < length part) led.first_is (first_some parts.limit _ led.full)), led.begun.settled);
+  lacks = led.begun.lacks;
+  waits = sym led.begun.waits;
+}
 
 -- what a step takes of a piece; where a fault comes, the piece is what was to be taken
 abbrev pub taken : ℕ → List ℕ → Result (Unit {0}) Fault → List ℕ
 taken bytes piece (Ok done) = take bytes piece
 taken bytes piece (Err f) = piece
 
-turned_on : {told : Bool} {parts next : PartsState} (piece : List ℕ) {ends : List ℕ → List ℕ} {past : List ℕ} (bytes : ℕ) {old new : List Slot}
-    (result : Result (Unit {0}) Fault) → ((x : List ℕ) → Stands parts x
-    → (is_some (ends (begun_of parts x)) ≡ true) × IsTurned parts.limit (rest_of parts x ++ take bytes piece) (ends (begun_of parts x)) past)
-    → TurnsTo told parts ends past old new next result → Takes told parts (taken bytes piece result) old new next result
-turned_on {told} {parts} {next} piece {ends} {past} bytes {old} {new} (Ok done) leads turns = record {
-  keeps = turns.keeps;
-  stands = λ x stands. subst (λ those. Stands those (x ++ take bytes piece)) (sym turns.same)
-      (let led = (leads x stands).1 in stands_by (record parts { names = next.names; left = most parts.limit - length past; has_line = false; waiting = []; current = next.current })
-      x (take bytes piece) (ends (begun_of parts x) ∷ []) past (cut_two parts.limit past led.full led.first_is led.both led.begun.short)
-      (rw led.begun.settled (turns.begun (full_of parts x) (begun_of parts x) (begun_so stands) (leads x stands).0)) led.begun.lacks (sym led.begun.waits));
-  goes = λ x stands. rw (turned_is parts x (take bytes piece) (leads x stands).1)
-      (turns.goes (full_of parts x) (begun_of parts x) (begun_so stands) (leads x stands).0);
-}
-turned_on {parts} piece bytes (Err f) leads turns = record {
-  keeps = turns.keeps;
-  stands = tt;
-  goes = λ x stands. goes_wider (turns.goes (full_of parts x) (begun_of parts x) (begun_so stands) (leads x stands).0)
-      (turned_below parts x piece bytes (leads x stands).1);
-}
+turned_on : {told : Bool} {parts next : PartsState} (piece : List ℕ) (change : Draft → Draft) {are : ℕ × Bool × List ℕ} (bytes : ℕ) {old new : List Slot} (result : Result (Unit {0}) Fault)
+    → ((x : List ℕ) → Stands parts x → Comes parts x (take bytes piece) (change (draft_of parts x)) are) → Moves told parts are change old new next result
+    → Takes told parts (taken bytes piece result) old new next result
+turned_on piece change bytes (Ok done) comes moves = takes_so comes moves
+turned_on piece change bytes (Err f) comes moves = takes_not (λ x stands. below piece bytes (comes x stands)) moves
 
 -- what waits begins the next part
 pub begins_on : {told : Bool} {parts next : PartsState} (piece : List ℕ) (bytes : ℕ) {old new : List Slot} (result : Result (Unit {0}) Fault)
     → LeadsOn parts piece (Begins bytes) → Turns told parts (take bytes piece) old new next result
     → Takes told parts (taken bytes piece result) old new next result
-begins_on {parts} piece bytes result leads turns = turned_on piece bytes result (λ x stands.
-    let led = leads (rest_of parts x) stands.lacks in
-    (led.0, subst (λ waits. IsTurned parts.limit (rest_of parts x ++ take bytes piece) (begun_of parts x) (waits ++ take bytes piece)) (sym stands.waits) led.1)) turns
+begins_on {parts = parts} piece bytes result leads turn = turned_on piece (turns (parts.waiting ++ take bytes piece)) bytes result (λ x stands.
+    rw stands.waits (turned_so (leads (rest_of parts x) stands.lacks))) turn
 
 -- these bytes are the last of the part
 
-extends_then : {told : Bool} {parts mid next : PartsState} (first more : List ℕ) {old wet new : List Slot} (result : Result (Unit {0}) Fault) → 0 < length first
-    → Extends told parts first old wet mid (Ok tt) → Turns told mid more wet new next result
-    → TurnsTo told parts (λ begun. begun ++ (parts.waiting ++ first)) more old new next result
-extends_then {told} {parts} {mid} {next} first more {old} {wet} {new} result some extends turns =
-    then (subst (λ those. Extends told parts first old wet those (Ok tt)) extends.same extends)
-    (subst (λ those. Turns told those more wet new next result) extends.same turns) where
-      those : PartsState
-      those = record parts { names = mid.names; waiting = []; current = mid.current }
+module _ {parts : PartsState} (piece : List ℕ) (end bytes : ℕ) (leads : LeadsOn parts piece (Ends end bytes)) where
+  ends_to : (x : List ℕ) → Stands parts x → Comes parts x (take bytes piece)
+      (turns (drop end (take bytes piece)) (gets (parts.waiting ++ take end piece) (draft_of parts x))) (most parts.limit - length (drop end (take bytes piece)), false, [])
+  ends_to x stands = rw (all_of (take end piece) stands) (turned_so (leads (rest_of parts x) stands.lacks))
 
-      then : Extends told parts first old wet those (Ok tt) → Turns told those more wet new next result
-          → TurnsTo told parts (λ begun. begun ++ (parts.waiting ++ first)) more old new next result
-      then extends turns = record {
-        same = turns.same;
-        keeps = keeps_then result extends.keeps turns.keeps;
-        begun = on_ok_weaker result (λ begins shares begun has some. begins shares (begun ++ (parts.waiting ++ first))
-            (extends.begun shares begun has) some) turns.begun;
-        goes = λ shares begun has some. goes_then result extends.keeps.owned (extends.goes shares begun has)
-            (subst (λ (names : Naming). run.Goes told names mid.current (written shares (begun ++ (parts.waiting ++ first)))
-            (written (shares ++ share file_state.Closed (begun ++ (parts.waiting ++ first)) ∷ []) more) wet new result) extends.keeps.names
-            (turns.goes shares (begun ++ (parts.waiting ++ first)) (extends.begun shares begun has) some));
-      }
+  pub ends_stopped : {told : Bool} {mid : PartsState} {old wet : List Slot} {f : Fault} → Extends told parts (take end piece) old wet mid (Err f) → Takes told parts piece old wet mid (Err f)
+  ends_stopped extends = takes_not (λ x stands. shares_trans _ _ _ (turn_begins (gets (parts.waiting ++ take end piece) (draft_of parts x)) _) (below piece bytes (ends_to x stands))) extends
 
-pub ends_on : {told : Bool} {parts mid next : PartsState} (piece : List ℕ) {past : List ℕ} (end bytes : ℕ) {old wet new : List Slot} (result : Result (Unit {0}) Fault)
-    → 0 < end → end ≤ bytes → bytes ≤ length piece → LeadsOn parts piece (Ends end bytes) → past ≡ take (bytes - end) (drop end piece)
-    → Extends told parts (take end piece) old wet mid (Ok tt) → Turns told mid past wet new next result
-    → Takes told parts (taken bytes piece result) old new next result
-ends_on {parts} piece {past} end bytes result begun inside within leads is extends turns = turned_on piece bytes result (λ x stands. (
-  ap is_some (all_of (take end piece) stands) ∙ some_bytes (rest_of parts x) (take end piece) some,
-  rw (all_of (take end piece) stands, is, between) (leads (rest_of parts x) stands.lacks),
-)) (extends_then (take end piece) past result some extends turns) where
-  some : 0 < length (take end piece)
-  some = let all : length (take end piece) ≡ end = length-take-le end piece (omega arith) in omega arith
-
-  -- what stands between the two places
-  between : take (bytes - end) (drop end piece) ≡ drop end (take bytes piece)
-  between = let all : end + (bytes - end) ≡ bytes = omega arith in sym (drop-take end (bytes - end) piece) ∙ ap (λ n. drop end (take n piece)) all
-
--- no part is full yet
-short_is : (parts : PartsState) (x taken : List ℕ) → is_full parts.limit (rest_of parts x ++ taken) ≡ false
-    → settled_parts parts.limit (x ++ taken) ≡ written (full_of parts x) (settled_rest parts.limit (rest_of parts x ++ taken))
-short_is parts x taken short = cc (settled_by parts x taken [] (rest_of parts x ++ taken) (cut_none parts.limit _ short), append-nil (full_of parts x))
-
--- all that is left goes to the part that was begun
-pub goes_on : {told : Bool} {parts fresh next : PartsState} (piece : List ℕ) (bytes left : ℕ) (has_line : Bool) {old new : List Slot} → LeadsOn parts piece (Goes bytes left has_line)
-    → Extends told parts (take bytes piece) old new fresh (Ok tt) → next ≡ record fresh { left = left; has_line = has_line } → Takes told parts (take bytes piece) old new next (Ok tt)
-goes_on {told} {parts} {fresh} piece bytes left has_line {old} {new} leads extends is =
-    subst (λ those. Takes told parts (take bytes piece) old new those (Ok tt))
-    (sym (is ∙ ap (λ (one : PartsState). record one { left = left; has_line = has_line }) extends.same)) (record {
-      keeps = keeps_as left has_line (subst (λ those. Keeps parts old new those (Ok tt)) extends.same extends.keeps);
-      stands = λ x stands. let led = leads (rest_of parts x) stands.lacks in
-          stands_by (record parts { names = fresh.names; left = left; has_line = has_line; waiting = []; current = fresh.current }) x (take bytes piece)
-          [] (rest_of parts x ++ take bytes piece) (cut_none parts.limit _ led.short)
-          (rw (append-nil (full_of parts x), led.settled, ← all_of (take bytes piece) stands)
-          (extends.begun (full_of parts x) (begun_of parts x) (begun_so stands)))
-          led.lacks (sym led.waits);
-      goes = λ x stands. let led = leads (rest_of parts x) stands.lacks in
-          rw (short_is parts x (take bytes piece) led.short, led.settled, ← all_of (take bytes piece) stands)
-          (extends.goes (full_of parts x) (begun_of parts x) (begun_so stands));
-    })
-
--- a fault came as it went there
-extend_stopped : {told : Bool} {parts next : PartsState} (piece : List ℕ) {first : List ℕ} {old new : List Slot} {f : Fault}
-    → ((x : List ℕ) → Stands parts x → SharesBegin (written (full_of parts x) (rest_of parts x ++ first)) (settled_parts parts.limit (x ++ piece)))
-    → Extends told parts first old new next (Err f) → Takes told parts piece old new next (Err f)
-extend_stopped {parts} piece {first} below extends = record {
-  keeps = extends.keeps;
-  stands = tt;
-  goes = λ x stands. goes_wider (extends.goes (full_of parts x) (begun_of parts x) (begun_so stands)) (rw (all_of first stands) (below x stands));
-}
-
-pub goes_stopped : {told : Bool} {parts next : PartsState} (piece : List ℕ) (bytes : ℕ) {left : ℕ} {has_line : Bool} {old new : List Slot} {f : Fault}
-    → LeadsOn parts piece (Goes bytes left has_line) → Extends told parts (take bytes piece) old new next (Err f) → Takes told parts piece old new next (Err f)
-goes_stopped {parts} piece bytes leads = extend_stopped piece (λ x stands. let led = leads (rest_of parts x) stands.lacks in
-    rw (← led.settled, ← short_is parts x (take bytes piece) led.short) (grown parts.limit x piece bytes))
-
-pub ends_stopped : {told : Bool} {parts next : PartsState} (piece : List ℕ) (end bytes : ℕ) {old new : List Slot} {f : Fault} → LeadsOn parts piece (Ends end bytes)
-    → Extends told parts (take end piece) old new next (Err f) → Takes told parts piece old new next (Err f)
-ends_stopped {parts} piece end bytes leads = extend_stopped piece (λ x stands. let led = leads (rest_of parts x) stands.lacks in
-    shares_trans _ _ _ (subst (SharesBegin (written (full_of parts x) (rest_of parts x ++ take end piece))) (sym (append_assoc (full_of parts x) _ _))
-    (begun_grows (full_of parts x) (begun_share (drop end (take bytes piece))) file_state.Closed _ _ (begins_itself _))) (turned_below parts x piece bytes led))
+  pub ends_on : {told : Bool} {mid next : PartsState} {past : List ℕ} {old wet new : List Slot} (result : Result (Unit {0}) Fault) → end ≤ bytes → past ≡ take (bytes - end) (drop end piece)
+      → Extends told parts (take end piece) old wet mid (Ok tt) → Turns told mid past wet new next result → Takes told parts (taken bytes piece result) old new next result
+  ends_on {told} {mid} {next} {past} {wet = wet} {new} result low past_is extends turn = turned_on piece (λ those. turns (drop end (take bytes piece)) (gets (parts.waiting ++ take end piece) those)) bytes result ends_to (rw (← between)
+      (moves_then result extends (subst (λ limit. Moves told mid (most limit - length past, false, []) (turns past) wet new next result) extends.keeps.limit
+      (subst (λ waits. Moves told mid (most mid.limit - length (waits ++ past), false, []) (turns (waits ++ past)) wet new next result) (ap (λ (those : ℕ × Bool × List ℕ). those.2) extends.same) turn)))) where
+        between : past ≡ drop end (take bytes piece)
+        between = let all : end + (bytes - end) ≡ bytes = omega arith in past_is ∙ sym (drop-take end (bytes - end) piece) ∙ ap (λ n. drop end (take n piece)) all
 
 -- all of the piece waits
 
 waits_on : (told : Bool) (parts : PartsState) (piece : List ℕ) {slots : List Slot} → LeadsOn parts piece Waits → IsReady parts.current slots
     → Takes told parts piece slots slots (record parts { left = parts.left - length piece; waiting = parts.waiting ++ piece }) (Ok tt)
-waits_on told parts piece {slots} leads ready = record {
-  keeps = record { limit = refl; names = refl; owned = λ first owns. owns; sound = keeps_same slots slots refl; ready = ready; breaks = tt };
-  stands = λ x stands. let held = leads (rest_of parts x) stands.lacks in
-      stands_by (record parts { left = parts.left - length piece; waiting = parts.waiting ++ piece }) x piece [] (rest_of parts x ++ piece)
-      (cut_none parts.limit _ held.short)
-      (rw (append-nil (full_of parts x), held.settled) (begun_so stands)) held.lacks (ap (λ waits. waits ++ piece) stands.waits ∙ sym held.waits);
-  goes = λ x stands. let held = leads (rest_of parts x) stands.lacks in
-      goes_same (sym (short_is parts x piece held.short ∙ ap (written (full_of parts x)) held.settled)) refl;
-}
+waits_on told parts piece leads ready = takes_so {change = λ those. those} (λ x stands. let held = leads (rest_of parts x) stands.lacks in record {
+  full = [];
+  rest = rest_of parts x ++ piece;
+  cut = cut_none parts.limit _ held.short;
+  is = cc (append-nil (full_of parts x), held.settled);
+  lacks = held.lacks;
+  waits = ap (λ waits. waits ++ piece) stands.waits ∙ sym held.waits;
+}) (record {
+  same = refl;
+  keeps = record { limit = refl; names = refl; owned = λ first owns. owns; sound = keeps_same _ _ refl; ready = ready; breaks = tt };
+  begun = λ those has. has;
+  goes = λ those has. goes_same refl;
+})
 
 -- the files of what came in are reached in turn
-turn_by : (names : Naming) (shares : List Share) (begun : List ℕ) → AllShut shares → are_named names (length (written shares begun)) ≡ true
-    → (place : ℕ) × InTurn (named names 0 (written shares begun)) place
+turn_by : (names : Naming) (shares : List Share) (begun : List ℕ) → AllShut shares → are_named names (length (written (draft shares begun))) ≡ true
+    → (place : ℕ) × InTurn (named names 0 (written (draft shares begun))) place
 turn_by names shares [] shut enough =
     (_, subst (λ those. InTurn (named names 0 those) (length (named names 0 shares))) (sym (append-nil shares)) (turn_next _ (shut_files names 0 shares shut)))
 turn_by names shares (byte ∷ begun) shut enough =
@@ -233,20 +220,9 @@ no_room told parts piece {slots} = record {
   stands = tt;
   goes = λ x stands.
       let names = from_start parts.names in
-      let turn = turn_by names (full_of parts x) (begun_of parts x) (shut_map (cut_up parts.limit x).full)
-      (are_named_same parts.names names _ refl ∙ stands.enough) in record {
+      let turn = turn_by names (full_of parts x) (begun_of parts x) (shut_map (cut_up parts.limit x).full) (are_named_same parts.names names _ refl ∙ stands.enough) in record {
         grows = settled_grow parts.limit x piece;
-        moves = λ last before at. record {
-          part = run.part_of names (settled_parts parts.limit x);
-          above = part_begins_itself _;
-          below = part_begins names _ _ (settled_grow parts.limit x piece);
-          place = turn.0;
-          turn = turn.1;
-          reached = slots;
-          outputs = at;
-          marks = refl;
-          from = tt;
-        };
+        moves = λ last. halts_here (part_begins names _ _ (settled_grow parts.limit x piece)) turn.1 refl (λ before at. tt);
         short = λ is. absurd (cc);
       };
 }
@@ -261,3 +237,95 @@ waited told parts next piece slots (Ok n) some leads ready count waits err = (
   rw (count, take-length piece, waits) (waits_on told parts piece leads ready),
 )
 waited told parts next piece slots (Err f) some leads ready count waits err = rw (err.0, err.1) (no_room told parts piece)
+
+-- A piece is taken in step by step.
+
+pub takes_none : (told : Bool) (parts : PartsState) {slots : List Slot} → IsReady parts.current slots → Takes told parts [] slots slots parts (Ok tt)
+takes_none told parts ready = record {
+  keeps = keeps_still ready;
+  stands = λ x stands. rw append-nil stands;
+  goes = λ x stands. goes_same (ap (settled_parts parts.limit) (sym (append-nil x)));
+}
+
+takes_again : {told : Bool} {state mid next : PartsState} (first more : List ℕ) {old wet new : List Slot} (result : Result (Unit {0}) Fault)
+    → Takes told state first old wet mid (Ok tt) → Takes told mid more wet new next result → Takes told state (first ++ more) old new next result
+takes_again {told} {state} {mid} {next} first more {wet} {new} result one other = record {
+  keeps = keeps_then result one.keeps other.keeps;
+  stands = on_ok_weaker result (λ stays x stands. subst (Stands next) (append_assoc x first more) (stays (x ++ first) (one.stands x stands))) other.stands;
+  goes = λ x stands. goes_then result one.keeps.owned (one.goes x stands)
+      (rw (← append_assoc x first more, ← one.keeps.limit, ← one.keeps.names) (other.goes (x ++ first) (one.stands x stands)));
+}
+
+-- the piece is what was taken of it and what is left
+
+abbrev pub Passed : Bool → PartsState → List ℕ → List ℕ → List Slot → List Slot → PartsState → Type 0
+Passed told state piece left old now next = (done : List ℕ) × (piece ≡ done ++ left) × Takes told state done old now next (Ok tt)
+
+pub passed_more : {told : Bool} {state mid next : PartsState} {piece left rest : List ℕ} {n : ℕ} {old wet new : List Slot} → Passed told state piece left old wet mid
+    → (0 < n) × (n ≤ length left) × Takes told mid (take n left) wet new next (Ok tt) → rest ≡ drop n left → Passed told state piece rest old new next
+passed_more {left} {n} (done, split, took) (some, within, step) is = (
+  done ++ take n left,
+  split ∙ ap (λ those. done ++ those) (sym (take-append-drop n left)) ∙ sym (append_assoc done (take n left) (drop n left)) ∙ ap (λ those. (done ++ take n left) ++ those) (sym is),
+  takes_again done (take n left) (Ok tt) took step,
+)
+
+pub passed_stopped : {told : Bool} {state mid next : PartsState} {piece left : List ℕ} {old wet new : List Slot} {f : Fault} → Passed told state piece left old wet mid
+    → Takes told mid left wet new next (Err f) → Takes told state piece old new next (Err f)
+passed_stopped {left} {f} (done, split, took) stop = rw split (takes_again done left (Err f) took stop)
+
+-- the end of the input
+
+-- where no part was begun, nothing is left
+no_rest : {state : PartsState} {x : List ℕ} → Stands state x → begun_of state x ≡ [] → rest_of state x ≡ []
+no_rest {state} {x} stands none = by (rest_of state x) (settled_some state.limit (rest_of state x)) where
+  by : (rest : List ℕ) → (0 < length rest → 0 < length (begun_of state x)) → rest ≡ []
+  by [] some = refl
+  by (byte ∷ rest) some = absurd (omega (arith, ap length none, some (omega arith)))
+
+whole_is : (state : PartsState) (x : List ℕ) → whole_parts state.limit x ≡ full_of state x ++ map (share file_state.Closed) (unless_empty (rest_of state x))
+whole_is state x = map-append (share file_state.Closed) (cut_up state.limit x).full (unless_empty (rest_of state x))
+
+pub finishes_none : (told : Bool) (state : PartsState) {old : List Slot} → IsReady state.current old → state.current ≡ None → Finishes told state old old state (Ok tt)
+finishes_none told state ready none = record {
+  keeps = keeps_still ready;
+  caused = tt;
+  goes = λ x stands. let empty = none_begun (begun_of state x) (sym stands.opened ∙ ap is_given none) in
+      goes_same (cc (whole_is state x, empty, no_rest stands empty));
+}
+
+-- what waits is written, and then the part has all that is left
+
+whole_so : (state : PartsState) {x : List ℕ} → Stands state x → written (turns [] (gets state.waiting (draft_of state x))) ≡ whole_parts state.limit x
+whole_so state {x} stands = append-nil _ ∙ ap (λ rest. full_of state x ++ map (share file_state.Closed) (unless_empty rest))
+    (ap (λ waits. begun_of state x ++ waits) stands.waits ∙ settled_then_waiting state.limit (rest_of state x)) ∙ sym (whole_is state x)
+
+module _ (told : Bool) (state : PartsState) {slot : ℕ} {old : List Slot} (held : List ℕ) (ready : IsReady state.current old) (is : state.current ≡ Some slot) where
+  pub held_moves : {wet : List Slot} {mid : PartsState} (result : Result (Unit {0}) Fault) → WritesTo told slot state.waiting old wet result → mid ≡ record state { waiting = held } → OnOk result (held ≡ [])
+      → Moves told state (state.left, state.has_line, []) (gets state.waiting) old wet mid result
+  held_moves result wrote mid_is none = extended state.waiting held result (λ those has. longer those.begun (sym has.given ∙ ap is_given is)) (found_there told state old slot is ready) wrote mid_is none where
+    longer : (begun : List ℕ) → is_some begun ≡ true → is_some (begun ++ state.waiting) ≡ true
+    longer [] none = absurd (false≢true none)
+    longer (byte ∷ begun) is = refl
+
+  pub held_stops : {next : PartsState} {new : List Slot} {f : Fault} → WritesTo told slot state.waiting old new (Err f) → next ≡ record state { waiting = held } → Finishes told state old new next (Err f)
+  held_stops {next} {new} {f} short next_is = record {
+    keeps = moves.keeps;
+    caused = caused short;
+    goes = λ x stands. goes_wider (moves.goes (draft_of state x) (begun_so stands)) (subst (SharesBegin _) (whole_so state stands) (turn_begins (gets state.waiting (draft_of state x)) []));
+  } where
+    moves : Moves told state (state.left, state.has_line, []) (gets state.waiting) old new next (Err f)
+    moves = held_moves (Err f) short next_is tt
+
+    can : is_closable old slot
+    can = subst (λ current. IsReady current old) is ready
+
+    caused : {f : Fault} → WritesTo told slot state.waiting old new (Err f) → CannotClose old new f
+    caused (broke n cut) = (slot, refl, can.0, write_rose told slot state.waiting n old new can.1 cut)
+
+  pub held_ends : {mid next : PartsState} {wet new : List Slot} (result : Result (Unit {0}) Fault) → WritesTo told slot state.waiting old wet (Ok tt) → mid ≡ record state { waiting = held } → held ≡ []
+      → Shuts told mid wet new next result → Finishes told state old new next result
+  held_ends {mid} {next} {wet} {new} result wrote mid_is none shuts = let first = held_moves (Ok tt) wrote mid_is none in let moves = moves_then result first shuts.moves in record {
+    keeps = moves.keeps;
+    caused = IfErr-weaker result _ _ (λ f why. (why.0, why.1, why.2, rose_later why.0 old wet new first.keeps.sound why.3)) shuts.caused;
+    goes = λ x stands. subst (λ high. run.Goes told (from_start state.names) state.current (settled_parts state.limit x) high old new result) (whole_so state stands) (moves.goes (draft_of state x) (begun_so stands));
+  }

@@ -26,10 +26,9 @@ use Rattle.split_core.specs.laws.CutLaws.{whole_some}
 use Rattle.split_core.proofs.CutLaws.{open_of_none, cut_all}
 use Rattle.split_core.specs.laws.PartStateLaws as part_law
 use Rattle.split_core.specs.laws.ShareLaws.{one_on}
-use Rattle.split_core.proofs.PlaceLemmas.{all_dealt}
 use Rattle.split_core.proofs.SectionLemmas.{settled_list, list_all}
-use Rattle.split_core.proofs.AgreedLemmas.{named_bytes, named_more, each_named, whole_files, settled_files, list_count, decides_lines, one_of, delimiters_some, dealt_settled, plan_by}
-use Rattle.split_core.proofs.RoundLemmas.{joined_files}
+use Rattle.split_core.proofs.AgreedLemmas.{named_bytes, named_more, each_named, whole_files, settled_files, list_count, decides_lines, one_of, delimiters_some, plan_by}
+use Rattle.split_core.proofs.RoundLemmas.{dealt_all}
 
 -- Spots in parts that follow one another
 
@@ -169,9 +168,6 @@ parts_undecided limit names {x} some are = record {
 
 -- Lines that are dealt: none waits
 
-dealt_bytes : (delim n : ℕ) (elide : Bool) (x : List ℕ) → 0 < n → length (joined (dealt_files delim elide n x)) ≡ length x
-dealt_bytes delim n elide x some = ap length (joined_files delim elide n x) ∙ all_dealt delim n x some
-
 dealt_decided : (delim n : ℕ) (names : Naming) (x y : List ℕ) (i : ℕ) → i < length x → dealt_spots delim n names (x ++ y) i ≡ dealt_spots delim n names x i
 dealt_decided delim n names x y i less =
     cc (lt-ltb i (length (x ++ y)) (omega (arith, length-append x y, less)), lt-ltb i (length x) less, take-append-le i x y (omega (arith, less)))
@@ -179,8 +175,7 @@ dealt_decided delim n names x y i less =
 round_undecided : (delim n : ℕ) (elide : Bool) (names : Naming) {x : List ℕ} → 0 < n → are_named names (length (dealt_files delim elide n x)) ≡ true
     → IsUndecided (split_spots (round_plan delim n elide names)) x ((split_work (round_plan delim n elide names)).waiting x)
 round_undecided delim n elide names {x} some are =
-    let has : bytes_in (settled_by (round_plan delim n elide names) x) ≡ joined (dealt_files delim elide n x) = ap joined (dealt_settled delim n elide names x ∙ each_named names (dealt_files delim elide n x) are) in
-    let size : length (bytes_in (settled_by (round_plan delim n elide names) x)) ≡ length x = ap length has ∙ dealt_bytes delim n elide x some in record {
+    let size = dealt_all delim n elide names x some are in record {
       before = x;
       are_last = sym (ap (λ rest. x ++ rest) (drop_all (length (bytes_in (settled_by (round_plan delim n elide names) x))) x (omega (arith, size))) ∙ append-nil x);
       differ = λ i past within. absurd (omega (arith, past, within));

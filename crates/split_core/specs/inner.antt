@@ -1,12 +1,8 @@
-pub mod Ahead
-pub mod CutLaws
-pub mod DealLaws
-pub mod DealState
-pub mod Dealt
-pub mod FirstLine
 pub mod Moves
 pub mod PartsState
-pub mod ShareLaws
 pub mod Sharing
 pub mod Step
 pub mod Ways
+pub mod Dealt
+pub mod Ahead
+pub mod CutLaws

@@ -1,7 +1,6 @@
 ghost use Rattle.std.specs.Prelude.{◌≡◌, ◌+◌, ◌-◌, ◌≤◌, ◌<◌, ℕ, List, [], ◌++◌, replicate, length, take, IfSome, IfNone};
 ghost use Rattle.seg_core.specs.Line.{delimiters};
-ghost use Rattle.split_core.specs.inner.FirstLine.{IsFirstLine};
-ghost use Rattle.split_core.specs.inner.Ahead.{Sees, delimiter_mask};
+ghost use Rattle.split_core.specs.inner.Ahead.{IsFirstLine, Sees, delimiter_mask};
 
 use std::marker::Model;
 use std::simd::prelude::*;

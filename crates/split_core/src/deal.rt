@@ -20,7 +20,7 @@ pub(crate) struct Deal {
 
 impl Model for Deal {
     ghost use Rattle.std.specs.Prelude.{◌<◌, length};
-    ghost use Rattle.split_core.specs.inner.DealState.{DealState};
+    ghost use Rattle.split_core.specs.inner.Dealt.{DealState};
 
     ghost Value = { DealState };
 

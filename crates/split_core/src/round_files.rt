@@ -1,15 +1,11 @@
-ghost use Rattle.std.specs.Prelude.{◌≡◌, ◌+◌, ◌≤◌, ◌<◌, ◌++◌, ◌∷◌, [], true, length, replicate, vec_len, vec_capacity, IsTrue, IfErr, OnOk};
-ghost use Rattle.ports_core.specs.Name.{has_next, next_name};
-ghost use Rattle.ports_core.specs.Slot.{opened};
+ghost use Rattle.std.specs.Prelude.{◌≡◌, ◌+◌, ◌≤◌, ◌<◌, ◌++◌, ◌∷◌, [], true, length, slice_index_or, vec_len, vec_capacity};
 ghost use Rattle.split_core.specs.Round.{AreReady};
-ghost use Rattle.split_core.specs.inner.Sharing.{Adds, ClosesShort, FailsToFollow, HaveClosed, KeepsFiles, only_at, with_opened};
-ghost use Rattle.split_core.specs.inner.Moves.{CannotClose};
-ghost use Rattle.split_core.specs.Sharing.{CannotOpen};
-ghost use Rattle.split_core.specs.Split.{are_named, from_start, is_named};
+ghost use Rattle.split_core.specs.Split.{are_named, is_named};
+ghost use Rattle.split_core.specs.inner.Sharing.{Adds, ClosesAll, Opens, only_at};
 
-use crate::files::write_bytes;
+use crate::files::{open_next, write_bytes};
 use crate::gathered::Gathered;
-use ports_core::{Fault, Mode, Names, Outs};
+use ports_core::{Fault, Names, Outs};
 use std::alloc::Global;
 use std::marker::Model;
 
@@ -49,8 +45,7 @@ impl RoundFiles {
         requires ready { AreReady self.old (O.slots outs.old) }
         requires none { self.old.outputs ≡ [] }
         requires named { are_named self.old.names count ≡ true }
-        ensures adds { Adds O.told self.old (replicate count []) 0 count (O.slots outs.old) self.new (O.slots outs.new) result }
-        ensures caused { IfErr result (CannotOpen (O.slots outs.old) (O.slots outs.new)) }
+        ensures { Opens O.told self.old 0 count (O.slots outs.old) self.new (O.slots outs.new) result }
     {
         for place in 0..count {
             self.reach(place, outs)?;
@@ -71,7 +66,7 @@ impl RoundFiles {
     ) -> Result<(), Fault>
         requires ready { AreReady self.old (O.slots outs.old) }
         requires named { are_named self.old.names (length gathered.now) ≡ true }
-        ensures { Adds O.told self.old gathered.now 0 (length gathered.now) (O.slots outs.old) self.new (O.slots outs.new) result }
+        ensures { Adds O.told self.old (λ place. slice_index_or gathered.now place []) 0 (length gathered.now) (O.slots outs.old) self.new (O.slots outs.new) result }
     {
         for place in 0..gathered.len() {
             self.send(place, gathered[place].bytes(), outs)?;
@@ -84,13 +79,9 @@ impl RoundFiles {
     /// # Errors
     ///
     /// `Write` where a close failed: those after it stay open.
-    pub(crate) fn close<O: Outs>(&mut self, outs: &mut O) -> Result<(), Fault>
-        requires ready { AreReady self.old (O.slots outs.old) }
-        ensures same { self.new ≡ self.old }
-        ensures closed { OnOk result (HaveClosed O.told self.old (length self.old.outputs) (O.slots outs.old) (O.slots outs.new)) }
-        ensures cut { IfErr result (ClosesShort O.told self.old (length self.old.outputs) (O.slots outs.old) (O.slots outs.new)) }
-        ensures caused { IfErr result (CannotClose (O.slots outs.old) (O.slots outs.new)) }
-        ensures owned { KeepsFiles self.old (O.slots outs.old) self.new (O.slots outs.new) }
+    pub(crate) fn close<O: Outs>(&self, outs: &mut O) -> Result<(), Fault>
+        requires ready { AreReady self.now (O.slots outs.old) }
+        ensures { ClosesAll O.told self.now (O.slots outs.old) (O.slots outs.new) result }
     {
         for place in 0..self.outputs.len() {
             outs.close(self.outputs[place])?;
@@ -103,7 +94,7 @@ impl RoundFiles {
         requires ready { AreReady self.old (O.slots outs.old) }
         requires near { place ≤ length self.old.outputs }
         requires named { is_named self.old.names place ≡ true }
-        ensures { Adds O.told self.old (only_at place bytes.now) place place (O.slots outs.old) self.new (O.slots outs.new) result }
+        ensures { Adds O.told self.old (only_at place bytes.now) place (place + 1) (O.slots outs.old) self.new (O.slots outs.new) result }
     {
         self.reach(place, outs)?;
         write_bytes(self.outputs[place], bytes, outs)
@@ -114,28 +105,13 @@ impl RoundFiles {
         requires ready { AreReady self.old (O.slots outs.old) }
         requires near { place ≤ length self.old.outputs }
         requires named { is_named self.old.names place ≡ true }
-        ensures adds { Adds O.told self.old (only_at place []) place place (O.slots outs.old) self.new (O.slots outs.new) result }
-        ensures caused { IfErr result (CannotOpen (O.slots outs.old) (O.slots outs.new)) }
+        ensures { Opens O.told self.old place (place + 1) (O.slots outs.old) self.new (O.slots outs.new) result }
     {
         if place < self.outputs.len() {
             return Ok(());
         }
-        self.open_next(outs)
-    }
-
-    fn open_next<O: Outs>(&mut self, outs: &mut O) -> Result<(), Fault>
-        requires ready { AreReady self.old (O.slots outs.old) }
-        requires named { IsTrue (has_next self.old.names) }
-        ensures files { OnOk result (self.new ≡ with_opened (length (O.slots outs.old)) self.old) }
-        ensures slots { OnOk result (O.slots outs.new ≡ O.slots outs.old ++ opened (next_name self.old.names) Mode.Fresh ∷ []) }
-        ensures fails { IfErr result (FailsToFollow self.old (O.slots outs.old) self.new (O.slots outs.new)) }
-        ensures names { from_start self.new.names ≡ from_start self.old.names }
-    {
         self.outputs.reserve(1)?;
-        let Some(name) = self.names.next()? else {
-            return Err(Fault::Suffixes);
-        };
-        let slot = outs.open(&name, Mode::Fresh)?;
+        let slot = open_next(&mut self.names, outs)?;
         put(&mut self.outputs, slot);
         Ok(())
     }

@@ -4,8 +4,8 @@ ghost use Rattle.ports_core.specs.Slot.{Slot};
 ghost use Rattle.ports_core.specs.Part.{OutputsAt, StoppedBetween, nothing};
 ghost use Rattle.split_core.specs.inner.Dealt.{dealt_first};
 ghost use Rattle.split_core.specs.Round.{AreReady, Holds, Owns, Ready, round_plan, work};
-ghost use Rattle.split_core.specs.inner.Ways.{Closes, Deals};
-ghost use Rattle.split_core.specs.inner.Sharing.{Adds};
+ghost use Rattle.split_core.specs.inner.Ways.{Deals};
+ghost use Rattle.split_core.specs.inner.Sharing.{ClosesAll};
 ghost use Rattle.split_core.specs.Sharing.{CannotOpen};
 ghost use Rattle.split_core.specs.Split.{are_named, from_start, settled_by, split_work};
 
@@ -90,9 +90,9 @@ impl RoundSplitter {
     /// # Errors
     ///
     /// `Write` where one broke.
-    pub(crate) fn finish<O: Outs>(&mut self, outs: &mut O) -> Result<(), Fault>
-        requires { Ready self.old (O.slots outs.old) }
-        ensures { Closes O.told self.old (O.slots outs.old) (O.slots outs.new) self.new result }
+    pub(crate) fn finish<O: Outs>(&self, outs: &mut O) -> Result<(), Fault>
+        requires { Ready self.now (O.slots outs.old) }
+        ensures { ClosesAll O.told self.now.files (O.slots outs.old) (O.slots outs.new) result }
     {
         self.files.close(outs)
     }

@@ -1,7 +1,7 @@
--- What was seen of a text: where delimiters stand.
-use Rattle.std.specs.Prelude.{◌≡◌, ℕ, ◌+◌, ◌≤◌, eqb, List, length, take, drop, map}
+-- What was seen of a text: where delimiters stand, and its first line.
+use Rattle.std.specs.Prelude.{◌≡◌, ℕ, ◌+◌, ◌≤◌, eqb, List, length, take, drop, map, ◌<◌, ◌∷◌, ◌++◌}
 use Rattle.std.specs.Simd.Lanes.{mask_l}
-use Rattle.seg_core.specs.Line.{HasNone}
+use Rattle.seg_core.specs.Line.{HasNone, lines_of, delimiters}
 use Rattle.split_core.specs.declared.complete_lines.Ahead.{Ahead}
 
 -- a bit for each byte, set where it is the delimiter; the first is the lowest
@@ -14,3 +14,9 @@ pub record Sees (delim : ℕ) (x : List ℕ) (ahead : Ahead) : Type 0 where
   pub narrow : ahead.width ≤ 64
   pub none : HasNone delim (take ahead.passed x)
   pub marked : ahead.mask ≡ delimiter_mask delim (take ahead.width (drop ahead.passed x))
+
+pub record IsFirstLine (delim : ℕ) (x line rest : List ℕ) : Type 0 where
+  pub whole : x ≡ line ++ rest
+  pub first : lines_of delim x ≡ line ∷ lines_of delim rest
+  pub counted : delimiters delim x ≡ delimiters delim rest + 1
+  pub shorter : length rest < length x

@@ -3,6 +3,7 @@ use Rattle.std.specs.Prelude.{ℕ, ◌≡◌, ◌+◌, ◌%◌, List, map, min}
 use Rattle.std.specs.List.{range_with_len}
 use Rattle.seg_core.specs.Line.{lines_of, line_count, delimiters}
 use Rattle.split_core.specs.Parts.{dealt}
+use Rattle.std.proofs.Common.{ℕ, ◌<◌, List, [], ◌∷◌, length}
 
 -- what each of n files gets of a piece, whose first byte goes to the file at this place
 abbrev pub dealt_piece : ℕ → ℕ → ℕ → List ℕ → List (List ℕ)
@@ -22,3 +23,19 @@ pub record Gathers (delim n start : ℕ) (piece : List ℕ) (gathered : List (Li
   pub gathered_is : gathered ≡ dealt_piece delim n start piece
   pub next_is : next ≡ (start + delimiters delim piece) % n
   pub reached_is : reached ≡ reached_by delim n start piece
+
+pub record DealState : Type 0 where
+  -- what was gathered for each file
+  pub gathered : List (List ℕ)
+  -- the place of the file that the next byte goes to
+  pub next : ℕ
+  -- the byte that lines end with
+  pub delim : ℕ
+
+abbrev pub EachSome : List (List ℕ) → Type 0
+EachSome [] = Unit {0}
+EachSome (line ∷ lines) = (0 < length line) × EachSome lines
+
+-- what a file has of a text
+abbrev pub share_of : ℕ → ℕ → List ℕ → ℕ → List ℕ
+share_of delim n x file = dealt n file 0 (lines_of delim x)

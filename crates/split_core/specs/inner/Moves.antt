@@ -1,17 +1,16 @@
 -- How the files of `split` change in a step.
-use Rattle.std.specs.Prelude.{◌≡◌, ℕ, ◌-◌, ◌≤◌, ◌<◌, Bool, true, false, List, [], ◌∷◌, ◌++◌, ◌⊎◌, length, take, map, IsTrue, Option, Some, None, Result, Ok, Err, OnOk, IfErr}
+use Rattle.std.specs.Prelude.{◌≡◌, ℕ, ◌-◌, ◌≤◌, ◌<◌, suc, Bool, true, false, List, [], ◌∷◌, ◌++◌, ◌⊎◌, length, take, map, IsTrue, Option, Some, None, Result, Ok, Err, OnOk, IfErr}
 use Rattle.ports_core.specs.Name.{Naming, next_name, has_next, with_one_drawn}
-use Rattle.ports_core.specs.Slot.{Slot, Rose, opened, unopened}
+use Rattle.ports_core.specs.Slot.{Slot, Rose, is_closable, unopened}
 use Rattle.ports_core.specs.inner.Slot.{KeepsBroken}
-use Rattle.ports_core.specs.declared.slot.Mode.TheVariants.{Fresh}
 use Rattle.ports_core.specs.declared.slot.State.TheVariants as state
 use Rattle.ports_core.specs.Part.{Part, OutputsAt}
-use Rattle.ports_core.specs.inner.Part.{StoppedInTurn}
+use Rattle.ports_core.proofs.PartSteps.{Becomes, Wrote, fault_in}
 use Rattle.ports_core.specs.declared.fault.Fault.{Fault}
-use Rattle.ports_core.specs.declared.fault.Fault.TheVariants.{Memory, Write, Read, Open, Suffixes, NoMatch, Range, Usage, Failed, TooLong}
+use Rattle.ports_core.specs.declared.fault.Fault.TheVariants.{Memory, Write, Open, Suffixes}
 use Rattle.split_core.specs.Parts.{most, unless_empty}
 use Rattle.split_core.specs.Split.{Share, share, is_some, is_named, named, are_named, from_start, only_files, settled_parts}
-use Rattle.split_core.specs.inner.ShareLaws.{AllShut, SharesBegin, whole_parts}
+use Rattle.split_core.specs.inner.CutLaws.{AllShut, SharesBegin, whole_parts}
 use Rattle.split_core.specs.PartsState.{PartsState, Stands, IsReady, OwnsFile, is_given}
 use Rattle.split_core.specs.inner.PartsState.{IsAtEnd}
 
@@ -30,19 +29,16 @@ pub data Breaks (old new : List Slot) : Fault → Type 0 where
   breaks_open : (slot : ℕ) → Rose slot old new → Breaks old new (Open slot)
   lacks_names : Breaks old new Suffixes
 
--- why the next file wasn't opened
-abbrev pub OpensNone : Naming → List Slot → List Slot → Fault → Type 0
-OpensNone names old new Memory = IsTrue (has_next names) × (new ≡ old)
-OpensNone names old new (Open slot) = (slot ≡ length old) × IsTrue (has_next names)
-    × ((kept : List ℕ) × ((kept ≡ next_name names) ⊎ (kept ≡ [])) × (new ≡ old ++ unopened kept ∷ []))
-OpensNone names old new Suffixes = (has_next names ≡ false) × (new ≡ old)
-OpensNone names old new (Write slot) = ⊥
-OpensNone names old new (Read slot) = ⊥
-OpensNone names old new (NoMatch operand repetition) = ⊥
-OpensNone names old new (Range operand repetition) = ⊥
-OpensNone names old new (Usage kind word) = ⊥
-OpensNone names old new Failed = ⊥
-OpensNone names old new TooLong = ⊥
+-- a slot got these bytes, or broke among them
+abbrev pub WritesTo : Bool → ℕ → List ℕ → List Slot → List Slot → Result (Unit {0}) Fault → Type 0
+WritesTo told slot bytes old new result = Wrote told slot bytes old new (fault_in result)
+
+-- why the next file wasn't opened; a name was drawn for one that can't be
+pub data OpensNone (names next : Naming) (old new : List Slot) : Fault → Type 0 where
+  no_memory : new ≡ old → OpensNone names next old new Memory
+  no_file : (slot : ℕ) (kept : List ℕ) → slot ≡ length old → IsTrue (has_next names) → next ≡ with_one_drawn names
+      → (kept ≡ next_name names) ⊎ (kept ≡ []) → new ≡ old ++ unopened kept ∷ [] → OpensNone names next old new (Open slot)
+  no_name : has_next names ≡ false → new ≡ old → OpensNone names next old new Suffixes
 
 -- What a call leaves, whatever it is for: the limit, the names but for how many were drawn, and the place of the file of
 -- the part that was begun stay.
@@ -67,18 +63,98 @@ pub record RunsShort (told : Bool) (names : Naming) (current : Option ℕ) (low 
   pub moves : IsAtEnd current old → (before : List Slot) → OutputsAt told before (part_of names low) old
       → OutputsAt told before (part_of names those) new
 
--- outputs that had the shares `low` have the shares `high`, or a fault stopped them between the two
-abbrev pub Reaches : Bool → List Slot → Naming → List Share → List Share → List Slot → Result (Unit {0}) Fault → Type 0
-Reaches told before names low high new (Ok done) = OutputsAt told before (part_of names high) new
-Reaches told before names low high new (Err fault) =
-    StoppedInTurn told before (part_of names low) (part_of names high) fault new
-
+-- Outputs that had the shares `low` have the shares `high`, or a fault stopped them between the two; where the file of
+-- the part that was begun was the last output.
 pub record Goes (told : Bool) (names : Naming) (current : Option ℕ) (low high : List Share) (old new : List Slot)
     (result : Result (Unit {0}) Fault) : Type 0 where
   pub grows : SharesBegin low high
-  pub moves : IsAtEnd current old → (before : List Slot) → OutputsAt told before (part_of names low) old
-      → Reaches told before names low high new result
+  pub moves : IsAtEnd current old → Becomes told (part_of names low) (part_of names high) old new (fault_in result)
   pub short : IfErr result (λ fault. fault ≡ Suffixes → RunsShort told names current low high old new)
+
+-- the shares of closed files, and what is written of the part that was begun
+pub record Draft : Type 0 where
+  pub shares : List Share
+  pub begun : List ℕ
+
+abbrev pub draft : List Share → List ℕ → Draft
+draft shares begun = record { shares = shares; begun = begun }
+
+-- the shares of all files: one for the part that was begun if any of it is written
+abbrev pub written : Draft → List Share
+written those = those.shares ++ map (share state.Open) (unless_empty those.begun)
+
+-- these are the shares of the files, and what is written of the part that was begun
+pub record Begun (names : Naming) (current : Option ℕ) (those : Draft) : Type 0 where
+  pub drawn : names.drawn ≡ length (written those)
+  pub enough : are_named names (length (written those)) ≡ true
+  pub given : is_given current ≡ is_some those.begun
+  pub shut : AllShut those.shares
+
+-- the part that was begun gets more
+abbrev pub gets : List ℕ → Draft → Draft
+gets more those = draft those.shares (those.begun ++ more)
+
+-- it ends, if any of it is written, and these bytes are what is written of the next
+abbrev pub turns : List ℕ → Draft → Draft
+turns past those = draft (those.shares ++ map (share state.Closed) (unless_empty those.begun)) past
+
+-- what a part still takes, whether it has a complete line, and what waits
+abbrev pub numbers : PartsState → ℕ × Bool × List ℕ
+numbers parts = (parts.left, parts.has_line, parts.waiting)
+
+-- The files changed as this says, and then the numbers are these; or a fault came meanwhile.
+pub record Moves (told : Bool) (parts : PartsState) (are : ℕ × Bool × List ℕ) (change : Draft → Draft)
+    (old new : List Slot) (next : PartsState) (result : Result (Unit {0}) Fault) : Type 0 where
+  pub same : OnOk result (numbers next ≡ are)
+  pub keeps : Keeps parts old new next result
+  pub begun : OnOk result ((those : Draft) → Begun parts.names parts.current those
+      → Begun next.names next.current (change those))
+  pub goes : (those : Draft) → Begun parts.names parts.current those
+      → Goes told (from_start parts.names) parts.current (written those) (written (change those)) old new result
+
+-- the file of the part that was begun is there, and the next has its name, if there was none
+pub record Found (told : Bool) (parts : PartsState) (old new : List Slot) (next : PartsState) (slot : ℕ) : Type 0 where
+  pub same : next ≡ record parts { names = next.names; current = Some slot }
+  pub keeps : Keeps parts old new next (Ok tt)
+  pub can : is_closable new slot
+  pub last : (those : Draft) → Begun parts.names parts.current those
+      → (next.names.drawn ≡ suc (length those.shares)) × (is_named parts.names (length those.shares) ≡ true)
+  pub goes : (those : Draft) → Begun parts.names parts.current those
+      → Goes told (from_start parts.names) parts.current (written those)
+      (those.shares ++ share state.Open those.begun ∷ []) old new (Ok tt)
+
+-- the file of the part that was begun couldn't be opened
+pub record HasNone (parts : PartsState) (old new : List Slot) (next : PartsState) (fault : Fault) : Type 0 where
+  pub none : parts.current ≡ None
+  pub opens : OpensNone parts.names next.names old new fault
+  pub same : next ≡ record parts { names = next.names }
+  pub names_same : next.names ≡ record parts.names { drawn = next.names.drawn }
+
+abbrev pub FindsFile : Bool → PartsState → List Slot → List Slot → PartsState → Result ℕ Fault → Type 0
+FindsFile told parts old new next (Ok slot) = Found told parts old new next slot
+FindsFile told parts old new next (Err fault) = HasNone parts old new next fault
+
+-- what waits and these bytes went to the part that was begun, or a fault came meanwhile
+abbrev pub Extends : Bool → PartsState → List ℕ → List Slot → List Slot → PartsState → Result (Unit {0}) Fault → Type 0
+Extends told parts bytes old new next result =
+    Moves told parts (parts.left, parts.has_line, []) (gets (parts.waiting ++ bytes)) old new next result
+
+-- the part that was begun ended, and what waits and these bytes begin the next
+abbrev pub Turns : Bool → PartsState → List ℕ → List Slot → List Slot → PartsState → Result (Unit {0}) Fault → Type 0
+Turns told parts bytes old new next result =
+    Moves told parts (most parts.limit - length (parts.waiting ++ bytes), false, []) (turns (parts.waiting ++ bytes))
+    old new next result
+
+-- a file could not be closed, or what waited for it could not be written
+abbrev pub CannotClose : List Slot → List Slot → Fault → Type 0
+CannotClose old new fault = (slot : ℕ) × (fault ≡ Write slot) × (2 ≤ slot) × Rose slot old new
+
+-- the file of the part that was begun was closed, if there is one, or it broke
+pub record Shuts (told : Bool) (parts : PartsState) (old new : List Slot) (next : PartsState)
+    (result : Result (Unit {0}) Fault) : Type 0 where
+  pub same : next ≡ record parts { current = None }
+  pub moves : Moves told parts (numbers parts) (turns []) old new next result
+  pub caused : IfErr result (CannotClose old new)
 
 -- These bytes were taken in, and what is settled with them is written; or a fault came among them.
 pub record Takes (told : Bool) (parts : PartsState) (bytes : List ℕ) (old new : List Slot) (next : PartsState)
@@ -93,87 +169,6 @@ abbrev pub Steps : Bool → PartsState → List ℕ → List Slot → List Slot 
 Steps told parts piece old new next (Ok n) = (0 < n) × (n ≤ length piece)
     × Takes told parts (take n piece) old new next (Ok tt)
 Steps told parts piece old new next (Err fault) = Takes told parts piece old new next (Err fault)
-
--- the share of a part of which some bytes are written, or none where none are
-abbrev pub begun_share : List ℕ → List Share
-begun_share bytes = map (share state.Open) (unless_empty bytes)
-
--- the shares of closed files, and of the part that was begun
-abbrev pub written : List Share → List ℕ → List Share
-written shares begun = shares ++ begun_share begun
-
--- these are the shares of the files, and what is written of the part that was begun
-pub record Begun (names : Naming) (current : Option ℕ) (shares : List Share) (begun : List ℕ) : Type 0 where
-  pub drawn : names.drawn ≡ length (written shares begun)
-  pub enough : are_named names (length (written shares begun)) ≡ true
-  pub given : is_given current ≡ is_some begun
-  pub shut : AllShut shares
-
--- the file of the part that was begun: it was there, or it was opened now
-pub data HasFile (parts : PartsState) (old new : List Slot) (next : PartsState) (slot : ℕ) : Type 0 where
-  there : parts.current ≡ Some slot → next ≡ parts → new ≡ old → HasFile parts old new next slot
-  made : parts.current ≡ None → slot ≡ length old → IsTrue (has_next parts.names)
-      → next ≡ record parts { names = with_one_drawn parts.names; current = Some slot }
-      → new ≡ old ++ opened (next_name parts.names) Fresh ∷ [] → HasFile parts old new next slot
-
--- the file of the part that was begun couldn't be opened
-pub record HasNone (parts : PartsState) (old new : List Slot) (next : PartsState) (fault : Fault) : Type 0 where
-  pub none : parts.current ≡ None
-  pub opens : OpensNone parts.names old new fault
-  pub same : next ≡ record parts { names = next.names }
-  pub names_same : next.names ≡ record parts.names { drawn = next.names.drawn }
-
-abbrev pub FindsFile : PartsState → List Slot → List Slot → PartsState → Result ℕ Fault → Type 0
-FindsFile parts old new next (Ok slot) = HasFile parts old new next slot
-FindsFile parts old new next (Err fault) = HasNone parts old new next fault
-
--- what waits and these bytes went to the part that was begun, or a fault came meanwhile
-pub record Extends (told : Bool) (parts : PartsState) (bytes : List ℕ) (old new : List Slot) (next : PartsState)
-    (result : Result (Unit {0}) Fault) : Type 0 where
-  pub same : OnOk result (next ≡ record parts { names = next.names; waiting = []; current = next.current })
-  pub keeps : Keeps parts old new next result
-  pub begun : OnOk result ((shares : List Share) (begun : List ℕ) → Begun parts.names parts.current shares begun
-      → Begun next.names next.current shares (begun ++ (parts.waiting ++ bytes)))
-  pub goes : (shares : List Share) (begun : List ℕ) → Begun parts.names parts.current shares begun
-      → Goes told (from_start parts.names) parts.current (written shares begun)
-      (written shares (begun ++ (parts.waiting ++ bytes))) old new result
-
--- a file could not be closed, or what waited for it could not be written
-abbrev pub CannotClose : List Slot → List Slot → Fault → Type 0
-CannotClose old new fault = (slot : ℕ) × (fault ≡ Write slot) × (2 ≤ slot) × Rose slot old new
-
--- the file of the part that was begun was closed, if there is one, or it broke
-pub record Shuts (told : Bool) (parts : PartsState) (old new : List Slot) (next : PartsState)
-    (result : Result (Unit {0}) Fault) : Type 0 where
-  pub same : next ≡ record parts { current = None }
-  pub keeps : Keeps parts old new (record parts { current = None }) result
-  pub caused : IfErr result (CannotClose old new)
-  pub goes : (shares : List Share) (begun : List ℕ) → Begun parts.names parts.current shares begun → is_some begun ≡ true
-      → Goes told (from_start parts.names) parts.current (written shares begun)
-      (written (shares ++ share state.Closed begun ∷ []) []) old new result
-
--- The part that was begun, of which `ends` makes the whole, ended, and the bytes `past` begin the next, if there are any;
--- or a fault came meanwhile.
-pub record TurnsTo (told : Bool) (parts : PartsState) (ends : List ℕ → List ℕ) (past : List ℕ) (old new : List Slot)
-    (next : PartsState) (result : Result (Unit {0}) Fault) : Type 0 where
-  pub same : OnOk result (next ≡ record parts {
-    names = next.names;
-    left = most parts.limit - length past;
-    has_line = false;
-    waiting = [];
-    current = next.current;
-  })
-  pub keeps : Keeps parts old new next result
-  pub begun : OnOk result ((shares : List Share) (begun : List ℕ) → Begun parts.names parts.current shares begun
-      → is_some (ends begun) ≡ true → Begun next.names next.current (shares ++ share state.Closed (ends begun) ∷ []) past)
-  pub goes : (shares : List Share) (begun : List ℕ) → Begun parts.names parts.current shares begun → is_some (ends begun) ≡ true
-      → Goes told (from_start parts.names) parts.current (written shares begun)
-      (written (shares ++ share state.Closed (ends begun) ∷ []) past) old new result
-
--- what was begun is the part, and what waits and these bytes begin the next
-abbrev pub Turns : Bool → PartsState → List ℕ → List Slot → List Slot → PartsState → Result (Unit {0}) Fault → Type 0
-Turns told parts bytes old new next result =
-    TurnsTo told parts (λ begun. begun) (parts.waiting ++ bytes) old new next result
 
 -- the input ended, and all of it is written; or a file broke meanwhile
 pub record Finishes (told : Bool) (parts : PartsState) (old new : List Slot) (next : PartsState)

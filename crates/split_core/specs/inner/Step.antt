@@ -4,7 +4,6 @@ use Rattle.split_core.specs.declared.limit.Limit.{Limit}
 use Rattle.split_core.specs.declared.step.Step.{Step}
 use Rattle.split_core.specs.declared.step.Step.TheVariants.{Goes, Ends, Begins, Waits}
 use Rattle.split_core.specs.Parts.{most, is_full, first_part, settled_rest, waiting_rest}
-use Rattle.split_core.specs.Split.{is_some}
 use Rattle.split_core.specs.PartsState.{Lacks}
 
 -- the numbers of a step are within the piece, and what is still missing shrinks
@@ -41,6 +40,6 @@ abbrev pub Leads : Limit → List ℕ → ℕ → Bool → List ℕ → Step →
 Leads limit rest left has_line piece (Goes bytes less has) = IsSettled limit (rest ++ take bytes piece) less has
 Leads limit rest left has_line piece (Ends end bytes) =
     IsTurned limit (rest ++ take bytes piece) (rest ++ take end piece) (drop end (take bytes piece))
-Leads limit rest left has_line piece (Begins bytes) = (is_some (settled_rest limit rest) ≡ true)
-    × IsTurned limit (rest ++ take bytes piece) (settled_rest limit rest) (waiting_rest limit rest ++ take bytes piece)
+Leads limit rest left has_line piece (Begins bytes) =
+    IsTurned limit (rest ++ take bytes piece) (settled_rest limit rest) (waiting_rest limit rest ++ take bytes piece)
 Leads limit rest left has_line piece Waits = IsHeld limit rest piece left has_line

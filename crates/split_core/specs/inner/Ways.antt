@@ -1,5 +1,5 @@
 -- What private calls say: the two ways to cut, as one stage.
-use Rattle.std.specs.Prelude.{◌≡◌, ℕ, ◌+◌, ◌%◌, Bool, true, List, length, Result, OnOk, IfErr}
+use Rattle.std.specs.Prelude.{◌≡◌, ℕ, ◌+◌, ◌%◌, Bool, true, List, [], length, slice_index_or, Result, OnOk, IfErr}
 use Rattle.seg_core.specs.Line.{delimiters}
 use Rattle.ports_core.specs.Slot.{Slot}
 use Rattle.ports_core.specs.declared.fault.Fault.{Fault}
@@ -8,11 +8,9 @@ use Rattle.split_core.specs.declared.splitter.Splitter.TheVariants.{Parts, Round
 use Rattle.split_core.specs.Ways.{Holds, Owns, Ready, work}
 use Rattle.ports_core.specs.Engine.{TakesIn, PutsOut, CutsOff, EndsShort, EndsWith, EndsThere, IsMet, KeepsOwn}
 use Rattle.ports_core.specs.Engine as engine
-use Rattle.split_core.specs.Round as dealing
 use Rattle.split_core.specs.RoundState.{RoundState}
 use Rattle.split_core.specs.inner.Dealt.{dealt_first}
-use Rattle.split_core.specs.inner.Sharing.{Adds, HaveClosed, ClosesShort, KeepsFiles}
-use Rattle.split_core.specs.inner.Moves.{CannotClose}
+use Rattle.split_core.specs.inner.Sharing.{Adds}
 
 -- the lines of a piece were dealt to the files, or a fault came before all of them had what they get
 pub record Deals (told : Bool) (old : RoundState) (piece : List ℕ) (before after : List Slot) (new : RoundState)
@@ -21,17 +19,8 @@ pub record Deals (told : Bool) (old : RoundState) (piece : List ℕ) (before aft
   pub count : new.count ≡ old.count
   pub elide : new.elide ≡ old.elide
   pub next : OnOk result (new.next ≡ (old.next + delimiters old.delim piece) % old.count)
-  pub adds : Adds told old.files (dealt_first old.delim old.count old.next piece) 0
+  pub adds : Adds told old.files (λ place. slice_index_or (dealt_first old.delim old.count old.next piece) place []) 0
       (length (dealt_first old.delim old.count old.next piece)) before new.files after result
-
--- all files were closed, or one of them broke
-pub record Closes (told : Bool) (old : RoundState) (before after : List Slot) (new : RoundState)
-    (result : Result (Unit {0}) Fault) : Type 0 where
-  pub same : dealing.work new ≡ dealing.work old
-  pub closed : OnOk result (HaveClosed told old.files (length old.files.outputs) before after)
-  pub cut : IfErr result (ClosesShort told old.files (length old.files.outputs) before after)
-  pub caused : IfErr result (CannotClose before after)
-  pub owned : KeepsFiles old.files before new.files after
 
 -- what a piece leaves: all that a stage owes
 pub record PassesBy (told : Bool) (piece : List ℕ) (before after : List Slot) (result : Result (Unit {0}) Fault)

@@ -78,6 +78,10 @@ first_some_by (Lines n delim) x some enough = omega (arith, delimiters-first_lin
 first_some_by (Bytes n) x some enough = omega (arith, length-take-le n x enough)
 first_some_by (LineBytes n delim) x some enough = whole_some delim (take n x) (omega (arith, length-take-le n x enough))
 
+-- no part is empty
+pub first_some : (limit : Limit) (x : List ℕ) → is_full limit x ≡ true → 0 < length (first_part limit x)
+first_some limit x full = first_some_by limit x (full_some limit x full).0 (full_some limit x full).1
+
 first-append_by : (limit : Limit) (x y : List ℕ) → most limit ≤ measure limit x → first_part limit (x ++ y) ≡ first_part limit x
 first-append_by (Lines n delim) x y enough = first_lines-full delim n x y enough
 first-append_by (Bytes n) x y enough = take-append-le n x y enough
@@ -91,7 +95,7 @@ after-append limit x y full = cc (first-append limit x y full, drop-append-le (l
 
 after_less : (limit : Limit) (x : List ℕ) (bound : ℕ) → is_full limit x ≡ true → length x ≤ suc bound → length (after_first limit x) ≤ bound
 after_less limit x bound full within =
-    omega (arith, first_some_by limit x (full_some limit x full).0 (full_some limit x full).1, length-drop (length (first_part limit x)) x)
+    omega (arith, first_some limit x full, length-drop (length (first_part limit x)) x)
 
 cuts_within : {limit : Limit} (bound : ℕ) {x : List ℕ} → length x ≤ bound → Cuts limit x (cut_within bound limit x).full (cut_within bound limit x).rest
 cuts_within {limit} zero {x} within = stops x (nothing_short limit x (omega arith))

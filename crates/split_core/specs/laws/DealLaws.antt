@@ -9,7 +9,7 @@ use Rattle.seg_core.proofs.EndLines.{line_count-grows}
 use Rattle.split_core.specs.Parts.{dealt}
 use Rattle.split_core.specs.Split.{is_some, dealt_files}
 use Rattle.split_core.specs.Round.{opened_by}
-use Rattle.split_core.specs.inner.DealLaws.{EachSome, share_of}
+use Rattle.split_core.specs.inner.Dealt.{EachSome, share_of}
 
 -- a byte before the first line goes where that line goes
 dealt_onto : (n file place byte : ℕ) (lines : List (List ℕ)) → dealt n file place (onto_first byte lines)

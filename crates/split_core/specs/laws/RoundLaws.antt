@@ -3,15 +3,14 @@ use Rattle.std.proofs.Common.{◌≡◌, ℕ, ◌+◌, ◌≤◌, zero, suc, Lis
 use Rattle.std.specs.List.{range_with_len}
 use Rattle.std.proofs.lemmas.Bool.{false≢true}
 use Rattle.ports_core.specs.Name.{Naming}
-use Rattle.ports_core.specs.Part.{File, IsBeginning, FilesBegin}
+use Rattle.ports_core.specs.Part.{File, IsBeginning, FilesBegin, Begins}
 use Rattle.ports_core.specs.Work.{IsLawful}
 use Rattle.ports_core.specs.declared.slot.State.{State}
 use Rattle.ports_core.specs.declared.slot.State.TheVariants.{Open, Closed}
 use Rattle.ports_core.proofs.PartLemmas.{begins_itself, nothing_begins}
-use Rattle.split_core.specs.Split.{share, named, is_named, file_at, dealt_files}
+use Rattle.split_core.specs.Split.{share, named, is_named, file_at, only_files, dealt_files}
 use Rattle.split_core.specs.Round.{round_plan, round_work, opened_by}
-use Rattle.split_core.specs.inner.Sharing.{AllBegin}
-use Rattle.split_core.specs.inner.DealLaws.{share_of}
+use Rattle.split_core.specs.inner.Dealt.{share_of}
 use Rattle.split_core.specs.laws.DealLaws.{dealt_append, dealt_files_are, opened_by-grows}
 
 begin_step : (is : Bool) (file high : File) (files wholes : List File) → file.name ≡ high.name → file.mode ≡ high.mode
@@ -20,43 +19,29 @@ begin_step : (is : Bool) (file high : File) (files wholes : List File) → file.
 begin_step true file high files wholes name mode sound open_yet bytes rest = (name, mode, sound, inl open_yet, bytes, rest)
 begin_step false file high files wholes name mode sound open_yet bytes rest = tt
 
--- where the bytes of some files begin the bytes of others, those files begin these
-pub named_begin : (names : Naming) (place : ℕ) (high : State) (these those : List (List ℕ)) → AllBegin these those
-    → FilesBegin (named names place (map (share Open) these)) (named names place (map (share high) those))
-named_begin names place high [] those begin = tt
-named_begin names place high (bytes ∷ these) [] begin = absurd begin
-named_begin names place high (bytes ∷ these) (whole ∷ those) begin =
-    begin_step (is_named names place) (file_at names place (share Open bytes)) (file_at names place (share high whole))
-    _ _ refl refl refl refl begin.0 (named_begin names (place + 1) high these those begin.1)
-
-maps_begin : (f g : ℕ → List ℕ) (start m n : ℕ) → m ≤ n → ((file : ℕ) → IsBeginning (f file) (g file))
-    → AllBegin (map f (range_with_len start m)) (map g (range_with_len start n))
-maps_begin f g start zero n few begin = tt
-maps_begin f g start (suc m) zero few begin = absurd (omega arith)
-maps_begin f g start (suc m) (suc n) few begin = (begin start, maps_begin f g (start + 1) m n (omega arith) begin)
-
-pub all_begin_themselves : (these : List (List ℕ)) → AllBegin these these
-all_begin_themselves [] = tt
-all_begin_themselves (bytes ∷ these) = (begins_itself bytes, all_begin_themselves these)
+-- where each of some files has a beginning of what others have, and these are no fewer, those begin these
+files_begin : (names : Naming) (high : State) (f g : ℕ → List ℕ) → ((file : ℕ) → IsBeginning (f file) (g file)) → (place start m n : ℕ) → m ≤ n
+    → FilesBegin (named names place (map (share Open) (map f (range_with_len start m)))) (named names place (map (share high) (map g (range_with_len start n))))
+files_begin names high f g begin place start zero n few = tt
+files_begin names high f g begin place start (suc m) zero few = absurd (omega arith)
+files_begin names high f g begin place start (suc m) (suc n) few =
+    begin_step (is_named names place) (file_at names place (share Open (f start))) (file_at names place (share high (g start)))
+    _ _ refl refl refl refl (begin start) (files_begin names high f g begin (place + 1) (start + 1) m n (omega arith))
 
 -- each file only grows, and none is taken back
-pub dealt_begin : (delim : ℕ) (elide : Bool) (n : ℕ) (x y : List ℕ) → AllBegin (dealt_files delim elide n x) (dealt_files delim elide n (x ++ y))
-dealt_begin delim elide n x y = subst (λ those. AllBegin (dealt_files delim elide n x) those) (sym (dealt_files_are delim elide n (x ++ y)))
-    (subst (λ these. AllBegin these (map (share_of delim n (x ++ y))
-    (range_with_len 0 (opened_by delim elide n (x ++ y))))) (sym (dealt_files_are delim elide n x))
-    (maps_begin (share_of delim n x) (share_of delim n (x ++ y)) 0 (opened_by delim elide n x)
-    (opened_by delim elide n (x ++ y)) (opened_by-grows delim elide n x y)
-    (λ file. (_, dealt_append delim n file 0 x y))))
+dealt_begin : (delim : ℕ) (elide : Bool) (n : ℕ) (names : Naming) (high : State) (x z : List ℕ) → ((file : ℕ) → IsBeginning (share_of delim n x file) (share_of delim n z file))
+    → opened_by delim elide n x ≤ opened_by delim elide n z
+    → Begins (only_files (named names 0 (map (share Open) (dealt_files delim elide n x)))) (only_files (named names 0 (map (share high) (dealt_files delim elide n z))))
+dealt_begin delim elide n names high x z begin few = record {
+  out = nothing_begins [];
+  files = subst (λ those. FilesBegin (named names 0 (map (share Open) those)) (named names 0 (map (share high) (dealt_files delim elide n z)))) (sym (dealt_files_are delim elide n x))
+      (subst (λ those. FilesBegin (named names 0 (map (share Open) (map (share_of delim n x) (range_with_len 0 (opened_by delim elide n x))))) (named names 0 (map (share high) those)))
+      (sym (dealt_files_are delim elide n z)) (files_begin names high (share_of delim n x) (share_of delim n z) begin 0 0 _ _ few));
+}
 
 pub lawful : (delim count : ℕ) (elide : Bool) (names : Naming) → IsLawful (round_work (round_plan delim count elide names))
 lawful delim count elide names = record {
-  grows = λ x y. record {
-    out = nothing_begins [];
-    files = named_begin names 0 Open _ _ (dealt_begin delim elide count x y);
-  };
-  ends = λ x. record {
-    out = nothing_begins [];
-    files = named_begin names 0 Closed _ _ (all_begin_themselves (dealt_files delim elide count x));
-  };
+  grows = λ x y. dealt_begin delim elide count names Open x (x ++ y) (λ file. (_, dealt_append delim count file 0 x y)) (opened_by-grows delim elide count x y);
+  ends = λ x. dealt_begin delim elide count names Closed x x (λ file. begins_itself _) (omega arith);
   stays = λ x y never. absurd (false≢true never);
 }

@@ -17,8 +17,7 @@ use Rattle.split_core.specs.declared.limit.Limit.TheVariants.{Lines, Bytes, Line
 use Rattle.split_core.specs.Parts.{whole_lines, most, measure, is_full, first_part, after_first, cut_up, unless_empty, parts, settled_rest}
 use Rattle.split_core.specs.Split.{Share, share, is_named, file_at, named, are_named, only_files, settled_parts}
 use Rattle.split_core.specs.laws.CutLaws.{short_some, full_some, whole_of_lines, whole_of_none, settled_then_waiting, settled_some, cut_on, cut_none, cut_once, cuts_up, rest_short}
-use Rattle.split_core.specs.inner.CutLaws.{goes, cut_so}
-use Rattle.split_core.specs.inner.ShareLaws.{SharesBegin, whole_parts}
+use Rattle.split_core.specs.inner.CutLaws.{goes, cut_so, SharesBegin, whole_parts}
 
 -- shares that begin others still do after the same front
 pub shares_after : (front low high : List Share) → SharesBegin low high → SharesBegin (front ++ low) (front ++ high)

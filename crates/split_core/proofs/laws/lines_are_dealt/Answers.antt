@@ -1,5 +1,5 @@
 use Rattle.std.proofs.lemmas.List.FromFn.{length-map-range_with_len}
-use Rattle.split_core.specs.inner.DealLaws.{share_of}
+use Rattle.split_core.specs.inner.Dealt.{share_of}
 use Rattle.split_core.specs.laws.DealLaws.{dealt_append}
 use Rattle.split_core.proofs.PlaceLemmas.{line_at, all_dealt, first_files}
 use Rattle.split_core.proofs.laws.lines_are_dealt.Goals as goal

@@ -2,8 +2,7 @@ use Rattle.std.proofs.Common.{List, ℕ, ◌++◌, length, sym, ap, ◌∙◌, �
 use Rattle.std.proofs.lemmas.List.{take_all}
 use Rattle.ports_core.specs.Slot.{changed_at}
 use Rattle.seg_core.specs.Line.{LinesLeft, delimiters}
-use Rattle.split_core.specs.inner.DealState.{DealState}
-use Rattle.split_core.specs.inner.Dealt.{Gathers}
+use Rattle.split_core.specs.inner.Dealt.{DealState, Gathers}
 use Rattle.split_core.proofs.DealLemmas.{by_delimiter, line_goes_on, line_goes_round, first_taken, ends_here, ends_open, no_longer}
 use Rattle.split_core.proofs.deal.Deal.gather.Goals as goal
 

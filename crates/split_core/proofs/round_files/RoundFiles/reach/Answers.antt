@@ -1,16 +1,24 @@
-use Rattle.std.proofs.Common.{ap, length, arith}
-use Rattle.std.proofs.lemmas.Result.{IfErr-weaker}
+use Rattle.std.proofs.Common.{ap, length, arith, refl}
+use Rattle.ports_core.proofs.HandedOn.{result_is}
 use Rattle.split_core.specs.FilesState.{FilesState}
-use Rattle.split_core.proofs.FileSteps.{fails_caused, reached, reached_before}
+use Rattle.split_core.specs.inner.Sharing.{Opens}
+use Rattle.split_core.specs.inner.Moves.{no_memory}
+use Rattle.split_core.proofs.FileSteps.{reached, reached_before, reached_not}
 use Rattle.split_core.proofs.round_files.RoundFiles.reach.Goals as goal
 
-pub returns-then-place-len-clause-adds : goal.returns-then-place-len-clause-adds
-returns-then-place-len-clause-adds g c = reached_before _ c.requires.ready (omega (arith, ap (λ (files : FilesState). length files.outputs) c.self.view_is))
+pub returns-then-place-len : goal.returns-then-place-len
+returns-then-place-len g c = reached_before _ c.args.place c.requires.ready (omega (arith, ap (λ (files : FilesState). length files.outputs) c.self.view_is))
 
-pub returns-clause-adds : goal.returns-clause-adds
-returns-clause-adds g c = reached g.O.Outs.told c.open_next.result c.requires.ready
-    (omega (arith, ap (λ (files : FilesState). length files.outputs) c.self.view_is))
-    c.open_next.ensures.names c.open_next.ensures.files c.open_next.ensures.slots c.open_next.ensures.fails
+pub returns-in_err-reserve : goal.returns-in_err-reserve
+returns-in_err-reserve g c = result_is (Opens _ _ _ _ _ _ _) _ _ c.from_residual.ensures.1 (rw (← c.self.view_is, c.in_err-reserve.ensures.items)
+    (reached_not _ _ c.args.place (rw (← c.self.view_is) at c.requires.ready) (omega (arith, ap (λ (files : FilesState). length files.outputs) c.self.view_is)) (rw (← c.self.view_is) at c.requires.named)
+    refl (no_memory refl)))
 
-pub returns-clause-caused : goal.returns-clause-caused
-returns-clause-caused g c = IfErr-weaker c.open_next.result _ _ (fails_caused) c.open_next.ensures.fails
+pub returns-in_err-slot : goal.returns-in_err-slot
+returns-in_err-slot g c = result_is (Opens _ _ _ _ _ _ _) _ _ c.from_residual-in_err-slot.ensures.1 (rw (← c.self.view_is, c.in_ok-reserve.ensures.items)
+    (reached_not _ _ c.args.place (rw (← c.self.view_is) at c.requires.ready) (omega (arith, ap (λ (files : FilesState). length files.outputs) c.self.view_is)) (rw (← c.self.view_is) at c.requires.named)
+    c.open_next.ensures.same c.in_err-slot.ensures.err))
+
+pub returns : goal.returns
+returns g c = rw (← c.self.view_is, c.put.ensures, c.in_ok-reserve.ensures.items, c.in_ok-slot.ensures.drew, c.in_ok-slot.ensures.slot)
+    (reached _ _ c.args.place (rw (← c.self.view_is) at c.requires.ready) (omega (arith, ap (λ (files : FilesState). length files.outputs) c.self.view_is)) c.in_ok-slot.ensures.opened)

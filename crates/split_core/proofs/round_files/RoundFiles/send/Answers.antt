@@ -1,25 +1,24 @@
-use Rattle.std.proofs.Common.{ap, length, arith}
+use Rattle.std.proofs.Common.{ap, length, arith, sym, subst, IsTrue}
 use Rattle.ports_core.proofs.HandedOn.{result_is}
+use Rattle.ports_core.specs.Slot.{is_writable}
 use Rattle.split_core.specs.FilesState.{FilesState}
 use Rattle.split_core.specs.inner.Sharing.{Adds}
-use Rattle.split_core.proofs.FileSteps.{sent, sent_within, sent_unreached, sent_writable, output_is}
+use Rattle.split_core.proofs.FileSteps.{sent, sent_within, sent_unreached, output_is}
 use Rattle.split_core.proofs.round_files.RoundFiles.send.Goals as goal
 
 pub returns-in_err-reach : goal.returns-in_err-reach
-returns-in_err-reach g c = result_is (Adds _ _ _ _ _ _ _ _) _ _ c.from_residual.ensures.1 (sent_unreached c.args.bytes.now c.in_err-reach.ensures.adds)
+returns-in_err-reach g c = result_is (Adds _ _ _ _ _ _ _ _) _ _ c.from_residual.ensures.1 (sent_unreached c.args.bytes.now c.in_err-reach.ensures)
 
 pub index-requires : goal.index-requires
-index-requires g c = omega (arith, sent_within c.in_ok-reach.ensures.adds, ap (λ (files : FilesState). length files.outputs) c.self.view_is)
+index-requires g c = omega (arith, sent_within c.in_ok-reach.ensures, ap (λ (files : FilesState). length files.outputs) c.self.view_is)
 
 pub write_bytes-requires : goal.write_bytes-requires
 write_bytes-requires g c = record {
-  writable = sent_writable c.args.place c.in_ok-reach.ensures.adds
-      (output_is c.reach.new.self c.args.place (ap (λ (files : FilesState). files.outputs) c.self.view_is)
-      (sent_within c.in_ok-reach.ensures.adds) c.index.ensures);
+  writable = subst (λ at. IsTrue (is_writable (g.O.Outs.slots c.reach.new.outs) at)) (sym (output_is c.reach.new.self c.args.place (ap (λ (files : FilesState). files.outputs) c.self.view_is)
+      (sent_within c.in_ok-reach.ensures) c.index.ensures)) (c.in_ok-reach.ensures.adds.ready.closable c.args.place (sent_within c.in_ok-reach.ensures)).1;
 }
 
 pub returns : goal.returns
-returns g c = sent c.args.bytes.now c.write_bytes.result c.in_ok-reach.ensures.adds
+returns g c = sent c.args.bytes.now c.write_bytes.result c.in_ok-reach.ensures
     (output_is c.reach.new.self c.args.place (ap (λ (files : FilesState). files.outputs) c.self.view_is)
-    (sent_within c.in_ok-reach.ensures.adds) c.index.ensures)
-    c.write_bytes.ensures.ok c.write_bytes.ensures.err
+    (sent_within c.in_ok-reach.ensures) c.index.ensures) c.write_bytes.ensures

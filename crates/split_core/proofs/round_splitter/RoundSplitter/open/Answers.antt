@@ -6,20 +6,22 @@ use Rattle.ports_core.proofs.PartLemmas.{nothing_begins_part, stopped_here}
 use Rattle.split_core.specs.FilesState.{FilesState}
 use Rattle.split_core.specs.Round.{round_plan, round_work}
 use Rattle.split_core.specs.Split.{from_start}
-use Rattle.split_core.proofs.RoundLemmas.{does_all, opens_all, opens_own, opens_short, starts_with}
+use Rattle.split_core.proofs.RoundLemmas.{at_start, does_all, opens_all, opens_own, starts_with}
 use Rattle.split_core.proofs.round_splitter.RoundSplitter.open.Goals as goal
 
 pub returns-in_err-deal-clause-cut : goal.returns-in_err-deal-clause-cut
 returns-in_err-deal-clause-cut g c = fault_is _ _ _ c.from_residual.ensures.1 (λ before at. stopped_here g.O.Outs.told before nothing _ Memory _ _ at (nothing_begins_part _) refl tt)
 
 pub returns-in_err-open_first-clause-cut : goal.returns-in_err-open_first-clause-cut
-returns-in_err-open_first-clause-cut g c = fault_is _ _ _ c.from_residual-in_err-open_first.ensures.1 (opens_short c.args.delim g.O.Outs.told c.args.elide c.args.names c.args.count c.new-files.ensures c.requires.fresh c.requires.enough (c.opened_at_start.ensures ∙ starts_with c.args.delim c.args.elide c.args.count) c.in_err-open_first.ensures.adds)
+returns-in_err-open_first-clause-cut g c = fault_is _ _ _ c.from_residual-in_err-open_first.ensures.1 (λ before at. (opens_all g.O.Outs.told c.args.names c.new-files.ensures c.in_err-open_first.ensures
+    (at_start c.args.delim c.args.elide c.args.names c.args.count c.requires.fresh c.requires.enough (c.opened_at_start.ensures ∙ starts_with c.args.delim c.args.elide c.args.count)) before at).1)
 
 pub returns-clause-outputs : goal.returns-clause-outputs
-returns-clause-outputs g c = opens_all c.args.delim g.O.Outs.told c.args.elide c.args.names c.args.count c.new-files.ensures c.requires.fresh c.requires.enough (c.opened_at_start.ensures ∙ starts_with c.args.delim c.args.elide c.args.count) c.in_ok-open_first.ensures.adds
+returns-clause-outputs g c before at = (opens_all g.O.Outs.told c.args.names c.new-files.ensures c.in_ok-open_first.ensures
+    (at_start c.args.delim c.args.elide c.args.names c.args.count c.requires.fresh c.requires.enough (c.opened_at_start.ensures ∙ starts_with c.args.delim c.args.elide c.args.count)) before at).0
 
 pub returns-clause-owns : goal.returns-clause-owns
-returns-clause-owns g c = opens_own g.O.Outs.told c.args.names _ c.new-files.ensures c.in_ok-open_first.ensures.adds
+returns-clause-owns g c = opens_own g.O.Outs.told c.args.names c.new-files.ensures c.in_ok-open_first.ensures
 
 pub returns-clause-does : goal.returns-clause-does
 returns-clause-does g c =

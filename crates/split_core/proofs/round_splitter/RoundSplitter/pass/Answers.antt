@@ -1,4 +1,5 @@
-use Rattle.std.proofs.Common.{◌∙◌, length, refl, subst}
+use Rattle.std.proofs.Common.{◌∙◌, ℕ, List, [], get_or, length, refl, subst}
+use Rattle.std.proofs.lemmas.List.{get_or_past}
 use Rattle.ports_core.proofs.HandedOn.{result_is}
 use Rattle.split_core.specs.inner.Sharing.{Adds}
 use Rattle.split_core.specs.inner.Ways.{Deals}
@@ -13,7 +14,7 @@ returns-in_err-reached g c = result_is (Deals _ _ _ _ _ _) _ _ c.from_residual.e
   count = c.gather.ensures.count;
   elide = refl;
   next = tt;
-  adds = no_room g.O.Outs.told c.self.inside.files _;
+  adds = no_room g.O.Outs.told c.self.inside.files _ _ (λ i past. get_or_past _ i [] past);
 }))
 
 pub returns : goal.returns
@@ -22,7 +23,7 @@ returns g c = rw (← c.self.view_is) (record {
   count = c.gather.ensures.count;
   elide = refl;
   next = on_ok c.write.result c.in_ok-reached.ensures.gathers.next_is;
-  adds = subst (λ more. Adds g.O.Outs.told c.self.inside.files more 0 (length more) (g.O.Outs.slots c.args.outs.now) c.write.new.self
+  adds = subst (λ (more : List (List ℕ)). Adds g.O.Outs.told c.self.inside.files (λ place. get_or more place []) 0 (length more) (g.O.Outs.slots c.args.outs.now) c.write.new.self
       (g.O.Outs.slots c.write.new.outs) c.write.result)
       (c.first.ensures ∙ first_gathered c.self.inside.deal.delim (length c.self.inside.deal.gathered) c.self.inside.deal.next c.args.piece.now c.in_ok-reached.ensures.gathers.gathered_is c.in_ok-reached.ensures.gathers.reached_is)
       c.write.ensures;

@@ -6,4 +6,4 @@ pub returns-in-Parts : goal.returns-in-Parts
 returns-in-Parts g c = rw c.in-Parts.is (part.finishes_by _ _ _ _ _ _ c.finish.ensures)
 
 pub returns-in-Round : goal.returns-in-Round
-returns-in-Round g c = rw c.in-Round.is (dealing.finishes_by _ _ _ _ _ _ c.finish-in-Round.ensures)
+returns-in-Round g c = rw c.in-Round.is (dealing.finishes_by _ _ _ _ _ c.finish-in-Round.ensures)
