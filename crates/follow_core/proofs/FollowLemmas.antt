@@ -1,5 +1,5 @@
 -- A look at all names: at one after another, one look more, and one that was stopped.
-use Rattle.std.proofs.Common.{◌≡◌, ℕ, zero, suc, ◌<◌, ◌≤◌, ◌+◌, Bool, true, false, ◌||◌, List, [], ◌∷◌, ◌++◌, length, take, set, replicate, get_or, slice_index_or, refl, sym, ◌∙◌, ap, subst, arith, append_assoc, inl, inr, ◌⊎◌, Option, if◌then◌else◌, subst₂, Err, not, ◌&&◌, map, Ok, Result}
+use Rattle.std.proofs.Common.{◌≡◌, ℕ, zero, suc, ◌<◌, ◌≤◌, ◌+◌, Bool, true, false, ◌||◌, List, [], ◌∷◌, ◌++◌, length, take, set, replicate, get_or, slice_index_or, refl, sym, ◌∙◌, ap, subst, arith, append_assoc, inl, inr, ◌⊎◌, Option, Some, if◌then◌else◌, subst₂, Err, not, ◌&&◌, map, Ok, Result}
 use Rattle.std.proofs.Math.Bool.{or-false, or-false as or_none, and-false as and_none}
 use Rattle.std.proofs.lemmas.Bool.{cases_eq, cases_lt, and_parts, false≢true, not-true}
 use Rattle.std.proofs.lemmas.List.{append-nil, get_or_default, get_or-map, get_or-set_other, get_or-set_same, length-append, length-map, length-replicate, length-set, length-take-le, take_all, get_or_past, get_or-append-add, get_or_append_left}
@@ -12,9 +12,9 @@ use Rattle.follow_core.specs.Share.{BeginsShare, Share, share_by, share_of, no_s
 use Rattle.follow_core.specs.inner.Visits.{Opened, Stopped, KeepsOthers, StoppedAt, Visited, VisitedAll, any_goes_on, goes_on_as, VisitsAll}
 use Rattle.follow_core.specs.Printing.{PrinterState, Short}
 use Rattle.follow_core.specs.Sharing.{AllShared, AllShort, Wrote, CanPrint}
-use Rattle.follow_core.specs.inner.Giving.{Shared, SharedShort}
+use Rattle.follow_core.specs.inner.Giving.{Shared}
 use Rattle.follow_core.specs.Standing.{AllStand, BrokeIn, CanVisit, NameState, Stands, no_state, state_at, texts, AreBroken, IsFollowed}
-use Rattle.follow_core.proofs.GiveLemmas.{wrote_both, wrote_none, wrote_short, no_memory}
+use Rattle.follow_core.proofs.GiveLemmas.{wrote_after, wrote_none, no_memory}
 use Rattle.ports_core.specs.declared.fault.Fault.{Fault}
 use Rattle.watch_core.specs.Snapshot.{Snapshot, latest}
 use Rattle.watch_core.specs.Watched.{Watched, opens, watched_at, added, no_name}
@@ -62,22 +62,22 @@ pub all_both : {told : Bool} {printer mid after : PrinterState} {shares more : L
 all_both {printer} {shares} {more} all rest = record {
   printer_is = rest.printer_is ∙ ap (λ (p : PrinterState). record p { last = last_header_from p.headers p.last more }) all.printer_is
       ∙ ap (λ last. record printer { last = last }) (sym (last-append printer.headers printer.last shares more));
-  slots = wrote_both _ _ _ _ _ (text_all printer shares more all.printer_is) (sym (messages-append shares more)) all.slots rest.slots;
+  slots = wrote_after _ _ _ _ _ _ None (text_all printer shares more all.printer_is) (sym (messages-append shares more)) all.slots rest.slots;
 }
 
 -- one share more, or a beginning of it
 
 pub shared_more : {told : Bool} {printer mid after : PrinterState} {shares : List Share} {share : Share} {old now new : List Slot}
-    → AllShared told printer shares old mid now → Shared told mid share now after new → AllShared told printer (shares ++ share ∷ []) old after new
+    → AllShared told printer shares old mid now → Shared told mid share now after new None → AllShared told printer (shares ++ share ∷ []) old after new
 shared_more {told} {now} {new} all one = all_both all (record {
-  printer_is = one.printer_is;
+  printer_is = one.printer_is refl;
   slots = subst₂ (λ text lines. Wrote told text lines now new) (sym (append-nil _)) (sym (append-nil _)) one.slots;
 })
 
-pub shared_short : {told : Bool} {printer mid : PrinterState} {shares : List Share} {share : Share} {old now new : List Slot} {why : Fault}
-    → AllShared told printer shares old mid now → SharedShort told mid share now new why → AllShort told printer (shares ++ share ∷ []) old new why
-shared_short {printer} {mid} {shares} {share} all one = record {
-  slots = wrote_short _ _ _ (ap (λ rest. text_from printer.headers printer.last shares ++ rest) (sym (append-nil (share_text mid.headers mid.last share)))
+pub shared_short : {told : Bool} {printer mid after : PrinterState} {shares : List Share} {share : Share} {old now new : List Slot} {why : Fault}
+    → AllShared told printer shares old mid now → Shared told mid share now after new (Some why) → AllShort told printer (shares ++ share ∷ []) old new why
+shared_short {printer} {mid} {shares} {share} {new} {why} all one = record {
+  slots = wrote_after _ _ _ _ _ new (Some why) (ap (λ rest. text_from printer.headers printer.last shares ++ rest) (sym (append-nil (share_text mid.headers mid.last share)))
       ∙ text_all printer shares (share ∷ []) all.printer_is)
       (ap (λ rest. messages_of shares ++ rest) (sym (append-nil share.messages)) ∙ sym (messages-append shares (share ∷ []))) all.slots one.slots;
 }

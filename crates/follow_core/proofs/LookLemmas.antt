@@ -1,21 +1,21 @@
 -- A look at a name: what it gives, from where the looks before left it, and what is told of it.
 use Rattle.follow_core.specs.Standing.{BrokeIn, StandsAt}
-use Rattle.follow_core.proofs.CallLemmas.{none_of}
-use Rattle.std.proofs.Common.{◌≡◌, ℕ, ◌==◌, Bool, true, false, List, [], ◌∷◌, ◌++◌, length, Option, Some, None, refl, sym, ◌∙◌, ap, if◌then◌else◌, map, drop, subst, take, Ok, Err, inl, inr, ◌⊎◌, append_assoc, Result, not, ◌&&◌, subst₂}
+use Rattle.follow_core.proofs.CallLemmas.{held_at, none_of}
+use Rattle.std.proofs.Common.{◌≡◌, ℕ, ◌==◌, Bool, true, false, List, [], ◌∷◌, ◌++◌, length, Option, Some, None, refl, sym, ◌∙◌, ap, if◌then◌else◌, map, drop, subst, take, inl, inr, ◌⊎◌, append_assoc, ◌&&◌}
 use Rattle.std.proofs.lemmas.Bool.{eqb-true}
 use Rattle.std.proofs.lemmas.List.{append-nil, map-append}
 use Rattle.watch_core.specs.Snapshot.{Snapshot}
 use Rattle.follow_core.specs.Version.{Entry, gap, version_in, entries_at_look, entries_led, entries_later, entries_of, entries_open, open_after, open_after_later, open_after_look}
 use Rattle.follow_core.specs.Gain.{file_of, last_from, last_of, gains_later, gains_after}
-use Rattle.follow_core.specs.inner.Calls.{held_at, bytes_again, lines_again}
+use Rattle.follow_core.specs.inner.Calls.{said_of}
 use Rattle.follow_core.specs.Look.{Fate, Look, Ways, entries_in, failed_by, failed_in, fate_at, is_dropped, snapshots, sound, unopened, unread, is_first}
 use Rattle.std.proofs.Math.Seq.{drop-append_seam as drop_front, take-append_seam}
 use Rattle.follow_core.specs.Run.{AreKept, name_text}
 use Rattle.follow_core.specs.Notice.{notice_of, notices_of, notices_later, is_missing}
 use Rattle.follow_core.specs.Share.{share_by, share_of, gain, gains_from, new_entries, said_at_look, IsFront, missing_share, Share, BeginsShare}
-use Rattle.follow_core.proofs.RunLemmas.{gains-append, notices-append, text_goes_on, text_is_gains}
+use Rattle.follow_core.proofs.RunLemmas.{gains-append, last_from-append, notices-append, text_goes_on, text_is_gains}
 use Rattle.follow_core.proofs.ShareLemmas.{entries-append}
-use Rattle.ports_core.specs.Slot.{Slot, told_of, with_written}
+use Rattle.ports_core.specs.Slot.{Slot}
 use Rattle.ports_core.specs.Text.{message_of}
 use Rattle.ports_core.specs.Message.{SaysOn}
 use Rattle.ports_core.specs.declared.tool.Tool.TheVariants.{Tail}
@@ -23,15 +23,13 @@ use Rattle.ports_core.specs.declared.fault.Fault.{Fault}
 use Rattle.ports_core.specs.declared.fault.Fault.TheVariants.{Open, Read}
 use Rattle.follow_core.specs.declared.visitor.Stop.TheVariants.{Broke, Over}
 use Rattle.follow_core.specs.declared.visitor.Came.TheVariants.{Through, Dropped, Missing}
-use Rattle.follow_core.specs.inner.Giving.{Ends, broke, over, whole, is_due, text_under, Shared, opened_under, opening_under, given_share}
+use Rattle.follow_core.specs.inner.Giving.{Ends, text_under, Shared, given_share}
 use Rattle.follow_core.specs.inner.Visits.{Stopped, has_failed}
-use Rattle.follow_core.specs.Printing.{PrinterState, Short}
+use Rattle.follow_core.specs.Printing.{PrinterState}
 use Rattle.follow_core.specs.Telling.{IsFailure}
 use Rattle.follow_core.specs.declared.visitor.Came.{Came}
-use Rattle.std.proofs.Math.Bool.{and-false}
-use Rattle.follow_core.proofs.GiveLemmas.{front_nil, gives_nothing, failure_said, itself, wrote_both, wrote_line, wrote_short, wrote_text}
+use Rattle.follow_core.proofs.GiveLemmas.{gives_nothing, failure_said, wrote_after, wrote_line}
 use Rattle.follow_core.specs.declared.visitor.Stop.{Stop}
-use Rattle.follow_core.specs.Followed.{header_after, share_text, is_empty}
 
 -- what a look gives for a name, from where the looks before left it
 
@@ -110,10 +108,6 @@ later_share ways {name} before looks look place kept fine = rw (kept, fine)
 
 -- the last entry of a name: the file that is open, and how much of it was seen
 
-last_from-append : (last : Entry) (entries more : List Entry) → last_from last (entries ++ more) ≡ last_from (last_from last entries) more
-last_from-append last [] more = refl
-last_from-append last (entry ∷ entries) more = last_from-append entry entries more
-
 last_more : {entries : List Entry} (more : List Entry) → Some_entries entries → last_of (entries ++ more) ≡ last_from (last_of entries) more
 last_more more some = rw some.are (last_from-append some.first some.rest more)
 
@@ -157,15 +151,11 @@ last_file ways name before looks = by (before.snapshot.leads name) where
   by (Some file) = later_file ways.by_name name (version_in before.snapshot file) (snapshots looks) refl
 
 -- one look more
-pub last_later : (ways : Ways) (name : List ℕ) (before : Look) (looks : List Look) (look : Look) {opened : Option ℕ} → opened ≡ file_of (last_of (entries_in ways name (before ∷ looks)))
-    → StandsAt (last_of (entries_in ways name ((before ∷ looks) ++ look ∷ []))) (open_after_look ways.by_name name opened look.snapshot)
-    (length (held_at look.snapshot (open_after_look ways.by_name name opened look.snapshot)))
-last_later ways name before looks look {opened} is =
-    let last = last_of (entries_in ways name (before ∷ looks)) in
-    let more : last_of (entries_in ways name ((before ∷ looks) ++ look ∷ [])) ≡ last_from last (entries_at_look ways.by_name name opened look.snapshot) =
+pub last_added : (ways : Ways) (name : List ℕ) (before : Look) (looks : List Look) (look : Look) {opened : Option ℕ} → opened ≡ file_of (last_of (entries_in ways name (before ∷ looks)))
+    → last_of (entries_in ways name ((before ∷ looks) ++ look ∷ [])) ≡ last_from (last_of (entries_in ways name (before ∷ looks))) (entries_at_look ways.by_name name opened look.snapshot)
+last_added ways name before looks look is =
     ap last_of (entries_more ways name before looks look) ∙ last_more _ (some_at ways.by_name name before.snapshot (snapshots looks))
-    ∙ ap (λ those. last_from last (entries_at_look ways.by_name name those look.snapshot)) (last_file ways name before looks ∙ sym is) in
-    rw more (look_leaves ways.by_name name opened look.snapshot last)
+    ∙ ap (λ those. last_from (last_of (entries_in ways name (before ∷ looks))) (entries_at_look ways.by_name name those look.snapshot)) (last_file ways name before looks ∙ sym is)
 
 -- a name that no look broke came through each
 came_through : (place : ℕ) (fate : Fate) (later : Option Fault) → failed_by place fate later ≡ None → fate ≡ sound
@@ -243,15 +233,15 @@ pub record Looked (told_in told : Bool) (ways : Ways) (before : List Look) (snap
   pub is_share : told_in ≡ true → (fates : List Fate) → share ≡ share_by ways name before (seeing snapshot fates) fate
   pub fault : failed_by place fate None ≡ broke_by
   pub failed : share.has_failed ≡ has_failed came
-  pub shared : Shared told printer share old after new
+  pub shared : Shared told printer share old after new None
 
 -- the message of a failure is told after a share
-said_after : {told : Bool} {printer after : PrinterState} {share : Share} {line : List ℕ} {old mid new : List Slot} → Shared told printer share old after mid
+said_after : {told : Bool} {printer after : PrinterState} {share : Share} {line : List ℕ} {old mid new : List Slot} → Shared told printer share old after mid None
     → IsFailure line → SaysOn told Tail line mid new
-    → Shared told printer (record share { messages = share.messages ++ line ∷ []; has_failed = true }) old after new
+    → Shared told printer (record share { messages = share.messages ++ line ∷ []; has_failed = true }) old after new None
 said_after {printer} {share} shared failure says = record {
   printer_is = shared.printer_is;
-  slots = wrote_both _ _ _ _ _ (append-nil (share_text printer.headers printer.last share)) refl shared.slots
+  slots = wrote_after _ _ _ _ _ _ None (append-nil (text_under printer share)) refl shared.slots
       (wrote_line (λ output error others are. let said = says output error others are in (said.0, failure_said failure said.1, said.2)));
 }
 
@@ -261,20 +251,6 @@ due_share : {told_in : Bool} {ways : Ways} {before : List Look} {snapshot : Snap
     → given_share (is_first before) name bytes lines ≡ share_by ways name before (seeing snapshot fates) sound
 due_share {before} {name} dues is fates = let due = dues.is is fates in rw due.0 (λ i. given_share (is_first before) name (due.1 i) (due.2 i))
 
--- all that is due was given
-pub looked_whole : {told_in told : Bool} {ways : Ways} {before : List Look} {snapshot : Snapshot} {place : ℕ} {name due : List ℕ} {lines_due : List (List ℕ)}
-    {printer after : PrinterState} {old new : List Slot} {len : ℕ} → IsDue told_in ways before snapshot name due lines_due
-    → Ends {T = ℕ} told_in told (is_first before) printer name due lines_due old after new (Ok len)
-    → Looked told_in told ways before snapshot place name printer old after new (Through len) None
-looked_whole {before} {name} dues (whole len bytes lines are shared) = record {
-  fate = sound;
-  share = given_share (is_first before) name bytes lines;
-  is_share = λ is fates. (λ i. given_share (is_first before) name ((are is).0 i) ((are is).1 i)) ∙ due_share dues is fates;
-  fault = refl;
-  failed = refl;
-  shared = shared;
-}
-
 -- why a name broke: the first look opens no file once it gave something
 abbrev pub FailsAs : ℕ → Bool → List Look → Stop → Type 0
 FailsAs place by_name before (Broke why) = ((why ≡ Open place) × (by_name ≡ true) × (is_first before ≡ false)) ⊎ (why ≡ Read place)
@@ -283,42 +259,52 @@ FailsAs place by_name before (Over why) = Unit {0}
 front_taken : {X : Type 0} {bytes due all : List X} → IsFront bytes due → due ≡ all → bytes ≡ take (length bytes) all
 front_taken {bytes} (rest, is) same = sym (ap (take (length bytes)) (sym same ∙ is) ∙ take-append_seam bytes rest)
 
--- a call failed: a beginning was given, and the message follows
-pub looked_broke : {told_in told : Bool} {ways : Ways} {before : List Look} {snapshot : Snapshot} {place : ℕ} {name due : List ℕ} {lines_due : List (List ℕ)}
-    {printer after : PrinterState} {old mid new : List Slot} {why : Fault} → IsDue told_in ways before snapshot name due lines_due
-    → FailsAs place ways.by_name before (Broke why)
-    → Ends {T = ℕ} told_in told (is_first before) printer name due lines_due old after mid (Err (Broke why)) → SaysOn told Tail (message_of Tail why name) mid new
-    → Looked told_in told ways before snapshot place name printer old after new Dropped (Some why)
-looked_broke {before} {name} dues (inl (opening, way, later)) (broke why bytes lines are shared) says = record {
-  fate = unopened (length lines) (length bytes);
-  share = failed_share (is_first before) name bytes (lines ++ message_of Tail why name ∷ []);
-  is_share = λ is fates. let due = dues.is is fates in
-      rw later (λ i. failed_share false name (front_taken (are is).0 due.1 i) (front_taken (are is).1 due.2 i ++ message_of Tail (opening i) name ∷ []));
-  fault = ap Some (sym opening);
-  failed = refl;
-  shared = said_after shared (name, inl (ap (λ those. message_of Tail those name) opening)) says;
-}
-looked_broke {before} {name} dues (inr read) (broke why bytes lines are shared) says = record {
-  fate = unread (length lines) (length bytes);
-  share = failed_share (is_first before) name bytes (lines ++ message_of Tail why name ∷ []);
-  is_share = λ is fates. let due = dues.is is fates in
-      λ i. failed_share (is_first before) name (front_taken (are is).0 due.1 i) (front_taken (are is).1 due.2 i ++ message_of Tail (read i) name ∷ []);
-  fault = ap Some (sym read);
-  failed = refl;
-  shared = said_after shared (name, inr (ap (λ those. message_of Tail those name) read)) says;
-}
+module _ {told_in told : Bool} {ways : Ways} {before : List Look} {snapshot : Snapshot} {name due : List ℕ} {lines_due : List (List ℕ)} {printer after : PrinterState} {old mid : List Slot} (dues : IsDue told_in ways before snapshot name due lines_due) where
+  -- all that is due was given
+  pub looked_whole : {place len : ℕ} → Ends told_in told (is_first before) printer name due lines_due old after mid None
+      → Looked told_in told ways before snapshot place name printer old after mid (Through len) None
+  looked_whole ends = record {
+    fate = sound;
+    share = given_share (is_first before) name ends.bytes ends.lines;
+    is_share = λ is fates. (λ i. given_share (is_first before) name ((ends.are is).0 i) ((ends.are is).1 i)) ∙ due_share dues is fates;
+    fault = refl;
+    failed = refl;
+    shared = ends.shared;
+  }
 
--- following ended: a beginning was given
-pub looked_over : {told_in told : Bool} {ways : Ways} {before : List Look} {snapshot : Snapshot} {name due : List ℕ} {lines_due : List (List ℕ)}
-    {printer after : PrinterState} {old new : List Slot} {why : Fault} → IsDue told_in ways before snapshot name due lines_due
-    → Ends {T = ℕ} told_in told (is_first before) printer name due lines_due old after new (Err (Over why))
-    → Stopped told_in told ways before snapshot name printer old new why
-looked_over {before} {name} dues (over why bytes lines are short) = record {
-  share = given_share (is_first before) name bytes lines;
-  begins = λ is fates. subst (BeginsShare (given_share (is_first before) name bytes lines)) (due_share dues is fates)
-      (record { name = refl; opened = refl; bytes = (are is).0; messages = (are is).1 });
-  short = short;
-}
+  -- a call failed: a beginning was given, and the message follows
+  pub looked_broke : {place : ℕ} {new : List Slot} {why : Fault} → FailsAs place ways.by_name before (Broke why)
+      → Ends told_in told (is_first before) printer name due lines_due old after mid (Some (Broke why)) → SaysOn told Tail (message_of Tail why name) mid new
+      → Looked told_in told ways before snapshot place name printer old after new Dropped (Some why)
+  looked_broke {why} (inl (opening, way, later)) ends says = record {
+    fate = unopened (length ends.lines) (length ends.bytes);
+    share = failed_share (is_first before) name ends.bytes (ends.lines ++ message_of Tail why name ∷ []);
+    is_share = λ is fates. let due = dues.is is fates in
+        rw later (λ i. failed_share false name (front_taken (ends.are is).0 due.1 i) (front_taken (ends.are is).1 due.2 i ++ message_of Tail (opening i) name ∷ []));
+    fault = ap Some (sym opening);
+    failed = refl;
+    shared = said_after ends.shared (name, inl (ap (λ those. message_of Tail those name) opening)) says;
+  }
+  looked_broke {why} (inr read) ends says = record {
+    fate = unread (length ends.lines) (length ends.bytes);
+    share = failed_share (is_first before) name ends.bytes (ends.lines ++ message_of Tail why name ∷ []);
+    is_share = λ is fates. let due = dues.is is fates in
+        λ i. failed_share (is_first before) name (front_taken (ends.are is).0 due.1 i) (front_taken (ends.are is).1 due.2 i ++ message_of Tail (read i) name ∷ []);
+    fault = ap Some (sym read);
+    failed = refl;
+    shared = said_after ends.shared (name, inr (ap (λ those. message_of Tail those name) read)) says;
+  }
+
+  -- following ended: a beginning was given
+  pub looked_over : {why : Fault} → Ends told_in told (is_first before) printer name due lines_due old after mid (Some (Over why))
+      → Stopped told_in told ways before snapshot name printer old mid why
+  looked_over ends = record {
+    share = given_share (is_first before) name ends.bytes ends.lines;
+    after = after;
+    begins = λ is fates. subst (BeginsShare (given_share (is_first before) name ends.bytes ends.lines)) (due_share dues is fates)
+        (record { name = refl; opened = refl; bytes = (ends.are is).0; messages = (ends.are is).1 });
+    short = ends.shared;
+  }
 
 -- the first look
 
@@ -366,61 +352,6 @@ first_due {ways} {snapshot} {name} found same = record {
       );
 }
 
--- after the header that a file is opened under none is due
-opened_not_due : (printer : PrinterState) (name bytes : List ℕ) → is_due (opened_under printer name) name bytes ≡ false
-opened_not_due printer name bytes = by printer.headers printer.last where
-  by : (headers : Bool) (last : Option (List ℕ)) → is_due (opened_under (record { headers = headers; last = last }) name) name bytes ≡ false
-  by true last = rw (itself name) (and-false (not (is_empty bytes)))
-  by false last = refl
-
--- so both are one share's
-opened_share : (printer : PrinterState) (name bytes : List ℕ) (lines : List (List ℕ))
-    → (opened_under printer name ≡ record printer { last = header_after printer.headers printer.last (given_share true name bytes lines) })
-    × (opening_under printer name ++ bytes ≡ share_text printer.headers printer.last (given_share true name bytes lines))
-opened_share printer name bytes lines = by printer.headers printer.last where
-  by : (headers : Bool) (last : Option (List ℕ)) → (opened_under (record { headers = headers; last = last }) name
-      ≡ record { headers = headers; last = header_after headers last (given_share true name bytes lines) })
-      × (opening_under (record { headers = headers; last = last }) name ++ bytes ≡ share_text headers last (given_share true name bytes lines))
-  by true last = (refl, refl)
-  by false last = (refl, refl)
-
-opened_bytes : (printer : PrinterState) (name bytes : List ℕ) (lines : List (List ℕ))
-    → opening_under printer name ++ text_under (opened_under printer name) name bytes ≡ share_text printer.headers printer.last (given_share true name bytes lines)
-opened_bytes printer name bytes lines = rw (opened_not_due printer name bytes) (opened_share printer name bytes lines).1
-
--- the header, and then what is given under it
-pub ends_opened : {told_in told : Bool} {printer after : PrinterState} {name due : List ℕ} {lines_due : List (List ℕ)} {old mid new : List Slot}
-    {result : Result ℕ Stop} {under : PrinterState} → mid ≡ with_written 0 (told_of told (opening_under printer name)) old
-    → under ≡ opened_under printer name → Ends {T = ℕ} told_in told false under name due lines_due mid after new result
-    → Ends {T = ℕ} told_in told true printer name due lines_due old after new result
-ends_opened {told_in} {told} {printer} {after} {name} {due} {lines_due} {old} {mid} {new} {result} first is ends =
-    by (subst (λ (p : PrinterState). Ends {T = ℕ} told_in told false p name due lines_due mid after new result) is ends) where
-      gives : {bytes : List ℕ} {lines : List (List ℕ)} → Shared told (opened_under printer name) (given_share false name bytes lines) mid after new
-          → Shared told printer (given_share true name bytes lines) old after new
-      gives {bytes} {lines} shared = record {
-        printer_is = shared.printer_is ∙ rw (opened_not_due printer name bytes) (opened_share printer name bytes lines).0;
-        slots = wrote_both told (opening_under printer name) (text_under (opened_under printer name) name bytes) [] lines (opened_bytes printer name bytes lines) refl (wrote_text told (opening_under printer name) first) shared.slots;
-      }
-
-      by : {due : List ℕ} {lines_due : List (List ℕ)} {told_in : Bool} {result : Result ℕ Stop}
-          → Ends {T = ℕ} told_in told false (opened_under printer name) name due lines_due mid after new result
-          → Ends {T = ℕ} told_in told true printer name due lines_due old after new result
-      by (whole value bytes lines are shared) = whole value bytes lines are (gives shared)
-      by (broke why bytes lines are shared) = broke why bytes lines are (gives shared)
-      by (over why bytes lines are halts) = over why bytes lines are
-          (record { slots = wrote_short (opening_under printer name) [] lines (opened_bytes printer name bytes lines) refl (wrote_text told (opening_under printer name) first) halts.slots })
-
--- the header could not be written
-pub ends_unopened : {told_in told : Bool} {printer after : PrinterState} {name due : List ℕ} {old new : List Slot} {why : Fault}
-    → Short told (opening_under printer name) old new why → Ends {T = ℕ} told_in told true printer name due [] old after new (Err (Over why))
-ends_unopened {told} {printer} {name} {new} {why} short = over why [] [] (λ is. (front_nil, front_nil)) (record {
-  slots = λ output error others is. (
-    error,
-    refl,
-    subst₂ (λ text those. Short told text those new why) (sym (append-nil _) ∙ (opened_share printer name [] []).1) is short,
-  );
-})
-
 -- a later look
 
 abbrev pub last_in : Ways → List ℕ → Look → List Look → Entry
@@ -428,15 +359,14 @@ last_in ways name before looks = last_of (entries_in ways name (before ∷ looks
 
 -- what is due then
 pub later_due : {told_in : Bool} {ways : Ways} {name : List ℕ} {before : Look} {looks : List Look} {snapshot : Snapshot} {opened : Option ℕ} {position : ℕ}
-    → (told_in ≡ true → StandsAt (last_in ways name before looks) opened position)
-    → IsDue told_in ways (before ∷ looks) snapshot name (bytes_again ways.by_name name (last_in ways name before looks) snapshot opened)
-    (lines_again ways.by_name name (last_in ways name before looks) snapshot opened)
+    → (told_in ≡ true → StandsAt (last_in ways name before looks) opened position) → let entries = entries_at_look ways.by_name name opened snapshot in
+    IsDue told_in ways (before ∷ looks) snapshot name (gains_later (last_in ways name before looks) entries) (said_of name (last_in ways name before looks) entries)
 later_due {ways} {name} {before} {looks} {snapshot} {opened} stands = record {
   is = λ is fates.
       let same : opened ≡ open_after ways.by_name name (snapshots (before ∷ looks)) = (stands is).file ∙ sym (last_file ways name before looks) in
       let last = last_in ways name before looks in (
         refl,
-        ap (bytes_again ways.by_name name last snapshot) same ∙ sym (gain_more ways name before looks (seeing snapshot fates)),
-        ap (lines_again ways.by_name name last snapshot) same ∙ sym (more_said ways name before looks (seeing snapshot fates)),
+        ap (λ file. gains_later last (entries_at_look ways.by_name name file snapshot)) same ∙ sym (gain_more ways name before looks (seeing snapshot fates)),
+        ap (λ file. said_of name last (entries_at_look ways.by_name name file snapshot)) same ∙ sym (more_said ways name before looks (seeing snapshot fates)),
       );
 }

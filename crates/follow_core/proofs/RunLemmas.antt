@@ -93,3 +93,7 @@ text_goes_on start entries more all =
 pub notices-append : (last : Entry) (entries more : List Entry) → notices_later last (entries ++ more) ≡ notices_later last entries ++ notices_later (last_from last entries) more
 notices-append last [] more = refl
 notices-append last (entry ∷ entries) more = ap (λ x. notices_between last entry ++ x) (notices-append entry entries more) ∙ sym (append_assoc (notices_between last entry) (notices_later entry entries) _)
+
+pub last_from-append : (last : Entry) (entries more : List Entry) → last_from last (entries ++ more) ≡ last_from (last_from last entries) more
+last_from-append last [] more = refl
+last_from-append last (entry ∷ entries) more = last_from-append entry entries more

@@ -14,8 +14,8 @@ use Rattle.follow_core.specs.declared.name.Standing.{Standing}
 use Rattle.follow_core.specs.declared.name.Standing.TheVariants.{New, Followed, Left}
 use Rattle.follow_core.specs.declared.visitor.Stop.{Stop}
 use Rattle.follow_core.specs.declared.visitor.Stop.TheVariants.{Broke, Over}
-use Rattle.follow_core.specs.inner.Calls.{Keeps, held_at, Follows, bytes_again, lines_again}
-use Rattle.follow_core.specs.Gain.{file_of, gains_later, last_of}
+use Rattle.follow_core.specs.inner.Calls.{Keeps, Follows, said_of}
+use Rattle.follow_core.specs.Gain.{file_of, gains_later, last_from, last_of}
 use Rattle.follow_core.specs.Notice.{notice_of, notices_later}
 use Rattle.follow_core.specs.Look.{Fate, Look, Ways, entries_in, failed_by, failed_in, fate_at, is_dropped, is_first, snapshots, sound}
 use Rattle.follow_core.specs.inner.Visits.{failed_then, standing_then, Visits, TellsStop, Stopped, has_failed, standing_after, Looks, Visited}
@@ -23,13 +23,13 @@ use Rattle.follow_core.specs.Printing.{PrinterState}
 use Rattle.follow_core.specs.Share.{Share, no_share, share_by, share_of}
 use Rattle.follow_core.specs.Standing.{CanVisit, IsFollowed, IsLeft, IsMissed, NameState, Stands, StandsAt}
 use Rattle.follow_core.specs.Version.{Entry, version, gap, entries_at_look, open_after, open_after_look}
-use Rattle.follow_core.proofs.CallLemmas.{keeps_others, none_of, opened_there, opens_same, LooksAgain, some_of}
-use Rattle.follow_core.proofs.LookLemmas.{broken_sound, failed_more, failed_sound, later_share, last_in, first_last, last_file, last_later, meets_nothing, meets_unopened, Looked, FailsAs, IsDue, broken_more, first_due, later_due, looked_broke, looked_over, looked_whole, seeing}
+use Rattle.follow_core.proofs.CallLemmas.{held_at, keeps_others, none_of, opened_there, opens_same, LooksAgain, some_of}
+use Rattle.follow_core.proofs.LookLemmas.{broken_sound, failed_more, failed_sound, later_share, last_added, last_in, first_last, last_file, look_leaves, meets_nothing, meets_unopened, Looked, FailsAs, IsDue, broken_more, first_due, later_due, looked_broke, looked_over, looked_whole, seeing}
 use Rattle.ports_core.specs.Message.{SaysOn}
 use Rattle.ports_core.specs.Text.{message_of}
 use Rattle.ports_core.specs.declared.tool.Tool.TheVariants.{Tail}
 use Rattle.ports_core.specs.declared.fault.Fault.TheVariants.{Open, Read}
-use Rattle.follow_core.specs.inner.Giving.{given_share, Ends}
+use Rattle.follow_core.specs.inner.Giving.{given_share, Ends, stop_in}
 use Rattle.std.proofs.lemmas.Result.{IfOk-weaker}
 use Rattle.follow_core.proofs.GiveLemmas.{gives_nothing}
 
@@ -41,7 +41,7 @@ pub record Gave (told_in told : Bool) (ways : Ways) (looks : List Look) (snapsho
   pub due : List ℕ
   pub lines : List (List ℕ)
   pub is_due : IsDue told_in ways looks snapshot name due lines
-  pub ends : Ends {T = ℕ} told_in told (is_first looks) printer name due lines slots after slots_new result
+  pub ends : Ends told_in told (is_first looks) printer name due lines slots after slots_new (stop_in result)
   pub last : IfOk result (λ len. told_in ≡ true → (ways.by_name ≡ false → is_some led ≡ true)
       × ((fates : List Fate) → StandsAt (last_of (entries_in ways name (looks ++ seeing snapshot fates ∷ []))) led len))
   pub fails : IfErr result (FailsAs place ways.by_name looks)
@@ -125,7 +125,7 @@ only_read looks (inr read) first way = read
 -- it came through; what stopped it is told, or ends following
 pub gave_through : {told_in told : Bool} {ways : Ways} {snapshot : Snapshot} {place : ℕ} {name : List ℕ} {standing : Standing} {led : Option ℕ}
     {old new : List Watched} {printer after : PrinterState} {slots slots_new : List Slot} {len : ℕ} → (watched_at old place).name ≡ name
-    → IsTrue (is_watchable old place) → Follows {T = ℕ} told_in ways.by_name led place old new (Ok len)
+    → IsTrue (is_watchable old place) → Follows told_in ways.by_name led place old new None
     → ((looks : List Look) → Stands told_in ways looks place name (watched_at old place) standing
     → Gave told_in told ways looks snapshot place name led printer slots after slots_new (Ok len))
     → Looks told_in told ways snapshot place name standing old printer slots new after slots_new (Ok (Through len))
@@ -143,7 +143,7 @@ gave_through {snapshot} {place} {old} named can (file, is, leads) gave = record 
 
 pub gave_fails : {told_in told : Bool} {ways : Ways} {snapshot : Snapshot} {place : ℕ} {name : List ℕ} {standing : Standing} {led : Option ℕ}
     {old new : List Watched} {printer after : PrinterState} {slots mid slots_new : List Slot} (stop : Stop) {result : Result Came Fault}
-    → IsTrue (is_watchable old place) → Follows {T = ℕ} told_in ways.by_name led place old new (Err stop)
+    → IsTrue (is_watchable old place) → Follows told_in ways.by_name led place old new (Some stop)
     → ((looks : List Look) → Stands told_in ways looks place name (watched_at old place) standing
     → Gave told_in told ways looks snapshot place name led printer slots after mid (Err stop)) → TellsStop told name mid slots_new stop result
     → Looks told_in told ways snapshot place name standing old printer slots new after slots_new result
@@ -237,9 +237,9 @@ first_unopened {told_in} {told} {ways} {snapshot} {place} {name} {printer} {slot
 pub first_gave : {told_in told : Bool} {ways : Ways} {snapshot : Snapshot} {place : ℕ} {name contents : List ℕ} {printer inside after : PrinterState}
     {slots slots_new : List Slot} {old mid : List Watched} (new : List Watched) {is_there : Bool} {result : Result ℕ Stop} → inside ≡ printer
     → Reopens told_in snapshot old mid place is_there → is_there ≡ true → (watched_at old place).name ≡ name
-    → (told_in ≡ true → contents ≡ held_at snapshot (snapshot.leads name)) → Keeps {T = ℕ} place mid new result
+    → (told_in ≡ true → contents ≡ held_at snapshot (snapshot.leads name)) → Keeps place mid new (stop_in result)
     → IfOk result (λ len. told_in ≡ true → len ≡ length contents)
-    → Ends {T = ℕ} told_in told true inside name (ways.start contents) [] slots after slots_new result
+    → Ends told_in told true inside name (ways.start contents) [] slots after slots_new (stop_in result)
     → (looks : List Look) → Stands told_in ways looks place name (watched_at old place) New
     → Gave told_in told ways looks snapshot place name (snapshot.leads name) printer slots after slots_new result
 first_gave {told_in} {told} {ways} {snapshot} {place} {name} {contents} {after} {slots} {slots_new} {mid} new {result} viewed reopens there named same keeps long ends looks fresh =
@@ -259,7 +259,7 @@ first_gave {told_in} {told} {ways} {snapshot} {place} {name} {contents} {after} 
       found : told_in ≡ true → (id : ℕ) × (snapshot.leads name ≡ Some id)
       found t = some_of (snapshot.leads name) (ap is_some (sym (reopens.leads t ∙ ap snapshot.leads named)) ∙ reopens.found ∙ there)
 
-      fails : (result : Result ℕ Stop) → Keeps {T = ℕ} place mid new result → IfErr result (FailsAs place ways.by_name [])
+      fails : (result : Result ℕ Stop) → Keeps place mid new (stop_in result) → IfErr result (FailsAs place ways.by_name [])
       fails (Ok len) keeps = tt
       fails (Err (Broke why)) keeps = inr keeps.0
       fails (Err (Over why)) keeps = tt
@@ -273,15 +273,14 @@ pub later_gave : {told_in told : Bool} {ways : Ways} {snapshot : Snapshot} {plac
 later_gave again [] followed = absurd (false≢true (sym followed.begun))
 later_gave {told_in} {ways} {snapshot} {place} {name} {position} {old} {new} {result} again (before ∷ looks) followed = record {
   kept = followed.kept;
-  due = bytes_again ways.by_name name (last_in ways name before looks) snapshot opened;
-  lines = lines_again ways.by_name name (last_in ways name before looks) snapshot opened;
+  due = gains_later (last_in ways name before looks) (entries_at_look ways.by_name name opened snapshot);
+  lines = said_of name (last_in ways name before looks) (entries_at_look ways.by_name name opened snapshot);
   is_due = later_due followed.stands;
-  ends = again.ends (last_in ways name before looks) followed.stands;
-  last = IfOk-weaker result (λ n. told_in ≡ true → (last : Entry) → StandsAt last opened position → n ≡ length (held_at snapshot led)) _ (λ n is t. (
+  ends = again.adds.ends (last_in ways name before looks) followed.stands;
+  last = IfOk-weaker result _ _ (λ n is t. (
     λ way. ap (λ by_name. is_some (open_after_look by_name name opened snapshot)) way ∙ followed.there t way,
-    λ fates. subst (λ len. StandsAt (last_of (entries_in ways name ((before ∷ looks) ++ seeing snapshot fates ∷ []))) led len)
-        (sym (is t (last_in ways name before looks) (followed.stands t))) (last_later ways name before looks (seeing snapshot fates) (followed.stands t).file),
-  )) again.len;
+    λ fates. rw (at_last t fates) (is t (last_in ways name before looks) (followed.stands t)),
+  )) again.adds.stands;
   fails = fails result again.follows;
 } where
   opened : Option ℕ
@@ -290,7 +289,11 @@ later_gave {told_in} {ways} {snapshot} {place} {name} {position} {old} {new} {re
   led : Option ℕ
   led = open_after_look ways.by_name name opened snapshot
 
-  fails : (result : Result ℕ Stop) → Follows {T = ℕ} told_in ways.by_name led place old new result → IfErr result (FailsAs place ways.by_name (before ∷ looks))
+  at_last : told_in ≡ true → (fates : List Fate) → last_of (entries_in ways name ((before ∷ looks) ++ seeing snapshot fates ∷ []))
+      ≡ last_from (last_in ways name before looks) (entries_at_look ways.by_name name opened snapshot)
+  at_last t fates = last_added ways name before looks (seeing snapshot fates) (followed.stands t).file
+
+  fails : (result : Result ℕ Stop) → Follows told_in ways.by_name led place old new (stop_in result) → IfErr result (FailsAs place ways.by_name (before ∷ looks))
   fails (Ok len) follows = tt
   fails (Err (Broke why)) follows = elim follows.2 [ inl opening ↦ inl (opening.0, opening.1, refl) | inr read ↦ inr read ]
   fails (Err (Over why)) follows = tt
@@ -358,8 +361,8 @@ still_left {ways} (before ∷ looks) look {place} {name} {watched} fine left = r
       unbroken = missed.unbroken;
       kept = ap is_some (failed_sound place (before ∷ looks) look fine) ∙ missed.kept;
       unopened = λ t. last_file ways name before (looks ++ look ∷ [])
-          ∙ sym (last_later ways name before looks look (sym (missed.unopened t) ∙ last_file ways name before looks)).file
-          ∙ ap (λ by_name. open_after_look by_name name None look.snapshot) missed.way;
+          ∙ ap file_of (last_added ways name before looks look (sym (missed.unopened t) ∙ last_file ways name before looks))
+          ∙ sym (look_leaves ways.by_name name None look.snapshot _).file ∙ ap (λ by_name. open_after_look by_name name None look.snapshot) missed.way;
     })
   ];
 }

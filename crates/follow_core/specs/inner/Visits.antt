@@ -1,5 +1,5 @@
 -- What a look at one name leaves, and at one name after another.
-use Rattle.std.specs.Prelude.{Bool, true, false, ◌||◌, List, [], ◌∷◌, if◌then◌else◌, ◌≡◌, ℕ, ◌++◌, Option, length, Result, Ok, Err, ◌<◌, take, slice_index_or, IfErr, IfOk, OnOk, ◌+◌}
+use Rattle.std.specs.Prelude.{Bool, true, false, ◌||◌, List, [], ◌∷◌, if◌then◌else◌, ◌≡◌, ℕ, ◌++◌, Option, Some, None, length, Result, Ok, Err, ◌<◌, take, slice_index_or, IfErr, IfOk, OnOk, ◌+◌}
 use Rattle.follow_core.specs.declared.visitor.Came.{Came}
 use Rattle.follow_core.specs.declared.visitor.Came.TheVariants.{Through, Missing, Dropped}
 use Rattle.follow_core.specs.declared.name.Standing.{Standing}
@@ -15,7 +15,7 @@ use Rattle.watch_core.specs.Watched.{Watched, opens, watched_at}
 use Rattle.follow_core.specs.Share.{BeginsShare, Share, share_by, share_of, shares_at_look, shares_at_look_from}
 use Rattle.follow_core.specs.Look.{Fate, Look, Ways, sound, fate_at, is_dropped, ways_of}
 use Rattle.follow_core.specs.Printing.{PrinterState}
-use Rattle.follow_core.specs.inner.Giving.{Shared, SharedShort}
+use Rattle.follow_core.specs.inner.Giving.{Shared}
 use Rattle.follow_core.specs.declared.visitor.Stop.{Stop}
 use Rattle.follow_core.specs.declared.visitor.Stop.TheVariants.{Broke, Over}
 use Rattle.follow_core.specs.Followed.{any_failed}
@@ -51,9 +51,10 @@ has_failed Dropped = true
 pub record Stopped (told_in told : Bool) (ways : Ways) (before : List Look) (snapshot : Snapshot) (name : List ℕ)
     (printer : PrinterState) (old new : List Slot) (why : Fault) : Type 0 where
   pub share : Share
+  pub after : PrinterState
   pub begins : told_in ≡ true → (fates : List Fate)
       → BeginsShare share (share_by ways name before (record { snapshot = snapshot; fates = fates }) sound)
-  pub short : SharedShort told printer share old new why
+  pub short : Shared told printer share old after new (Some why)
 
 -- A call on the name failed, which was told, so that it is dropped; or following ends, and nothing more was told.
 abbrev pub TellsStop : Bool → List ℕ → List Slot → List Slot → Stop → Result Came Fault → Type 0
@@ -81,7 +82,7 @@ pub record Visited (told_in told : Bool) (ways : Ways) (looks : List Look) (snap
       → fate_at place (record { snapshot = snapshot; fates = fates }) ≡ fate
       → share ≡ share_of ways looks (record { snapshot = snapshot; fates = fates }) place name
   pub is_failed : share.has_failed ≡ failed
-  pub shared : Shared told printer share old after new
+  pub shared : Shared told printer share old after new None
   pub stands : (fates : List Fate) → fate_at place (record { snapshot = snapshot; fates = fates }) ≡ fate
       → Stands told_in ways (looks ++ record { snapshot = snapshot; fates = fates } ∷ []) place name watched standing
 

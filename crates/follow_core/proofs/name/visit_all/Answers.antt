@@ -46,7 +46,7 @@ returns-in-Err-clause-visits g c =
       count = others.count ∙ l.invariant.count;
       others = λ number other. others.others number (other l.place (omega (arith, many, test))) ∙ l.invariant.others number other;
       can = tt;
-      error = c.in-Err.ensures.error;
+      error = c.in-Err.ensures.can;
     }
 
 pub loop-place-preserved : goal.loop-place-preserved
