@@ -1,7 +1,7 @@
 -- One look after another.
 use Rattle.std.proofs.lemmas.Bool.{cases_lt}
-use Rattle.std.proofs.Common.{◌≡◌, ℕ, zero, suc, ◌<◌, ◌≤◌, ◌+◌, Bool, true, false, List, [], ◌∷◌, ◌++◌, length, map, take, refl, sym, ◌∙◌, ap, subst, arith, inl, inr, ◌⊎◌, if◌then◌else◌}
-use Rattle.std.proofs.lemmas.List.{length-append, map-append, take-append-le}
+use Rattle.std.proofs.Common.{◌≡◌, ℕ, suc, ◌<◌, ◌≤◌, ◌+◌, Bool, true, false, List, [], ◌∷◌, ◌++◌, length, map, take, refl, sym, ◌∙◌, ap, subst, arith, inl, inr, ◌⊎◌, if◌then◌else◌, subst₂}
+use Rattle.std.proofs.lemmas.List.{length-append, length-map, map-append, take-append-le}
 use Rattle.std.proofs.Math.Seq.{take-append_seam}
 use mir.Val.{bool_byte}
 use Rattle.ports_core.proofs.Runs.{as_status}
@@ -13,132 +13,97 @@ use Rattle.follow_core.specs.declared.start.Start.{Start}
 use Rattle.follow_core.specs.Ending.{FollowEndsAs, Made, StoppedIn, looked, seen_first}
 use Rattle.follow_core.specs.inner.Looks.{LookedAll}
 use Rattle.follow_core.specs.FollowState.{FollowState, Halted, Holds, LooksOn, SawOrNot, StopsOn, is_alive, new_state, opened_follow}
-use Rattle.follow_core.specs.Look.{Fate, Look, Ways, snapshots, ways_of}
+use Rattle.follow_core.specs.Look.{Look, Ways, snapshots, ways_of}
 use Rattle.follow_core.specs.Standing.{texts}
 use Rattle.follow_core.proofs.FollowLemmas.{broken_are, nothing_shared}
 
-pub length_seen : (shows : ℕ → Snapshot) (n : ℕ) → length (seen_first shows n) ≡ n
-length_seen shows zero = refl
-length_seen shows (suc n) = length-append (seen_first shows n) (shows n ∷ []) ∙ ap (λ m. m + 1) (length_seen shows n) ∙ omega arith
-
--- as many looks were made
-pub record After (told_in told : Bool) (ways : Ways) (headers : Bool) (names : List (List ℕ)) (shows : ℕ → Snapshot) (first : List Slot) (made : ℕ) (follow : FollowState) (watched : List Watched) (slots : List Slot) : Type 0 where
+-- as many looks were made, and then a further one can give something, or not
+pub record Progress (told_in told : Bool) (ways : Ways) (headers : Bool) (names : List (List ℕ)) (shows : ℕ → Snapshot) (first : List Slot) (made : ℕ)
+    (going : Bool) (follow : FollowState) (seen : List Snapshot) (watched : List Watched) (slots : List Slot) : Type 0 where
   pub looks : List Look
   pub count : length looks ≡ made
+  pub observed : seen ≡ snapshots looks
   pub is_made : Made told_in ways names shows looks
+  pub alive : told_in ≡ true → 0 < length looks → is_alive ways names looks ≡ going
   pub holds : Holds told_in told ways headers names looks first follow watched slots
 
--- and a further one can give something
-pub record Progress (told_in told : Bool) (ways : Ways) (headers : Bool) (names : List (List ℕ)) (shows : ℕ → Snapshot) (first : List Slot) (made : ℕ) (follow : FollowState) (watched : List Watched) (slots : List Slot) : Type 0 where
-  pub after : After told_in told ways headers names shows first made follow watched slots
-  pub alive : told_in ≡ true → 0 < length after.looks → is_alive ways names after.looks ≡ true
-
-pub none_made : {told_in told : Bool} {ways : Ways} {headers : Bool} {names : List (List ℕ)} {shows : ℕ → Snapshot} {first : List Slot} {follow : FollowState} {watched : List Watched} {slots : List Slot} → Holds told_in told ways headers names [] first follow watched slots → Progress told_in told ways headers names shows first 0 follow watched slots
-none_made holds = record {
-  after = record { looks = []; count = refl; is_made = record { saw = refl; alive = λ t n above below. absurd (omega arith) }; holds = holds };
-  alive = λ t above. absurd (omega arith);
-}
-
-seen_more : (shows : ℕ → Snapshot) (looks : List Look) (look : Look) {made : ℕ} → snapshots looks ≡ seen_first shows (length looks) → length looks ≡ made → look.snapshot ≡ shows made → snapshots (looks ++ look ∷ []) ≡ seen_first shows (suc made)
-seen_more shows looks look {made} saw count is =
-    map-append (λ (l : Look). l.snapshot) looks (look ∷ [])
-    ∙ ap (λ front. front ++ look.snapshot ∷ []) (saw ∙ ap (seen_first shows) count) ∙ ap (λ last. seen_first shows made ++ last ∷ []) is
-
-made_more : {told_in : Bool} {ways : Ways} {names : List (List ℕ)} {shows : ℕ → Snapshot} {looks : List Look} (look : Look) {made : ℕ} → length looks ≡ made → look.snapshot ≡ shows made → Made told_in ways names shows looks → (told_in ≡ true → 0 < length looks → is_alive ways names looks ≡ true)
+made_more : {told_in : Bool} {ways : Ways} {names : List (List ℕ)} {shows : ℕ → Snapshot} {looks : List Look} (look : Look) → look.snapshot ≡ shows (length looks)
+    → Made told_in ways names shows looks → (told_in ≡ true → 0 < length looks → is_alive ways names looks ≡ true)
     → Made told_in ways names shows (looks ++ look ∷ [])
-made_more {told_in} {ways} {names} {shows} {looks} look {made} count is before alive = record {
-  saw = seen_more shows looks look before.saw count is ∙ ap (seen_first shows) (sym long);
+made_more {told_in} {ways} {names} {shows} {looks} look is before alive = record {
+  saw = map-append (λ (l : Look). l.snapshot) looks (look ∷ []) ∙ (λ i. before.saw i ++ is i ∷ []) ∙ ap (seen_first shows) (sym long);
   alive = λ t n above below. by t n above (cases_lt n (length looks)) (subst (λ m. n < m) long below);
 } where
-  long : length (looks ++ look ∷ []) ≡ suc made
-  long = length-append looks (look ∷ []) ∙ ap (λ n. n + 1) count ∙ omega arith
+  long : length (looks ++ look ∷ []) ≡ suc (length looks)
+  long = length-append looks (look ∷ []) ∙ omega arith
 
-  by : told_in ≡ true → (n : ℕ) → 0 < n → (n < length looks) ⊎ (length looks ≤ n) → n < suc made → is_alive ways names (take n (looks ++ look ∷ [])) ≡ true
+  by : told_in ≡ true → (n : ℕ) → 0 < n → (n < length looks) ⊎ (length looks ≤ n) → n < suc (length looks) → is_alive ways names (take n (looks ++ look ∷ [])) ≡ true
   by t n above (inl below) inside = ap (is_alive ways names) (take-append-le n looks (look ∷ []) (omega arith)) ∙ before.alive t n above below
   by t n above (inr past) inside =
-      let at : n ≡ length looks = omega (arith, past, inside, count) in
+      let at : n ≡ length looks = omega (arith, past, inside) in
       ap (λ m. is_alive ways names (take m (looks ++ look ∷ []))) at ∙ ap (is_alive ways names) (take-append_seam looks (look ∷ [])) ∙ alive t (subst (λ m. 0 < m) at above)
 
--- the snapshot of the next look
-pub next_is : {shows now : ℕ → Snapshot} {seen : List Snapshot} {made : ℕ} → now ≡ shows → seen ≡ seen_first shows made → now (length seen) ≡ shows made
-next_is {shows} {seen} {made} same is = ap (λ (f : ℕ → Snapshot). f (length seen)) same ∙ ap (λ (those : List Snapshot). shows (length those)) is ∙ ap shows (length_seen shows made)
+module _ {told_in told : Bool} {ways : Ways} {headers : Bool} {names : List (List ℕ)} {shows : ℕ → Snapshot} {first : List Slot} where
+  pub none_made : {follow : FollowState} {seen : List Snapshot} {watched : List Watched} {slots : List Slot} → seen ≡ []
+      → Holds told_in told ways headers names [] first follow watched slots → Progress told_in told ways headers names shows first 0 true follow seen watched slots
+  none_made unseen holds = record {
+    looks = [];
+    count = refl;
+    observed = unseen;
+    is_made = record { saw = refl; alive = λ t n above below. absurd (omega arith) };
+    alive = λ t above. absurd (omega arith);
+    holds = holds;
+  }
 
-pub one_more : {told_in told : Bool} {ways : Ways} {headers : Bool} {names : List (List ℕ)} {shows : ℕ → Snapshot} {first : List Slot} {made : ℕ} {snapshot : Snapshot} {old new : FollowState} {watched watched_new : List Watched} {slots slots_new : List Slot} → snapshot ≡ shows made
-    → Progress told_in told ways headers names shows first made old watched slots → LooksOn told_in told snapshot old watched slots new watched_new slots_new → After told_in told ways headers names shows first (suc made) new watched_new slots_new
-one_more {told_in} {told} {ways} {headers} {names} {shows} {first} {made} {snapshot} {old} {new} {watched} {watched_new} {slots} {slots_new} is progress looks_on =
-    made_one (looks_on ways headers names before.looks first before.holds) where
-      before : After told_in told ways headers names shows first made old watched slots
-      before = progress.after
+  -- the next look sees what the watch shows then
+  next_is : {made : ℕ} {now : ℕ → Snapshot} {going : Bool} {follow : FollowState} {seen : List Snapshot} {watched : List Watched} {slots : List Slot} → now ≡ shows
+      → (p : Progress told_in told ways headers names shows first made going follow seen watched slots) → now (length seen) ≡ shows (length p.looks)
+  next_is {seen} same p = ap (λ (f : ℕ → Snapshot). f (length seen)) same ∙ ap shows (ap length p.observed ∙ length-map p.looks (λ (l : Look). l.snapshot))
 
-      made_one : (fates : List Fate) × Holds told_in told ways headers names (before.looks ++ record { snapshot = snapshot; fates = fates } ∷ []) first new watched_new slots_new → After told_in told ways headers names shows first (suc made) new watched_new slots_new
-      made_one (fates, holds) = record {
-        looks = before.looks ++ record { snapshot = snapshot; fates = fates } ∷ [];
-        count = length-append before.looks (record { snapshot = snapshot; fates = fates } ∷ []) ∙ ap (λ n. n + 1) before.count ∙ omega arith;
-        is_made = made_more (record { snapshot = snapshot; fates = fates }) before.count is before.is_made progress.alive;
+  pub one_more : {made : ℕ} {now : ℕ → Snapshot} {old new : FollowState} {seen seen_new : List Snapshot} {watched watched_new : List Watched} {slots slots_new : List Slot}
+      {going : Bool} {next : ℕ} → now ≡ shows → Progress told_in told ways headers names shows first made true old seen watched slots
+      → LooksOn told_in told (now (length seen)) old watched slots new watched_new slots_new → seen_new ≡ seen ++ now (length seen) ∷ []
+      → ((told : Bool) (ways : Ways) (headers : Bool) (names : List (List ℕ)) (looks : List Look) (first slots : List Slot) (watched : List Watched)
+      → Holds true told ways headers names looks first new watched slots → going ≡ is_alive ways names looks)
+      → suc made ≡ next → Progress told_in told ways headers names shows first next going new seen_new watched_new slots_new
+  one_more {now} {new} {seen} {watched_new} {slots_new} same p looks_on more alive is =
+      let (fates, holds) = looks_on ways headers names p.looks first p.holds in
+      let look : Look = record { snapshot = now (length seen); fates = fates } in record {
+        looks = p.looks ++ look ∷ [];
+        count = length-append p.looks (look ∷ []) ∙ ap (λ n. n + 1) p.count ∙ omega (arith, is);
+        observed = more ∙ ap (λ front. front ++ look.snapshot ∷ []) p.observed ∙ sym (map-append (λ (l : Look). l.snapshot) p.looks (look ∷ []));
+        is_made = made_more look (next_is same p) p.is_made p.alive;
+        alive = λ t above. sym (alive told ways headers names (p.looks ++ look ∷ []) first slots_new watched_new
+            (subst (λ known. Holds known told ways headers names (p.looks ++ look ∷ []) first new watched_new slots_new) t holds));
         holds = holds;
       }
 
--- the looks are those that the watch saw
-observed_all : {told_in told : Bool} {ways : Ways} {headers : Bool} {names : List (List ℕ)} {shows : ℕ → Snapshot} {first : List Slot} {made : ℕ} {follow : FollowState} {watched : List Watched} {slots : List Slot} {seen : List Snapshot} → seen ≡ seen_first shows made → (after : After told_in told ways headers names shows first made follow watched slots) → seen ≡ snapshots after.looks
-observed_all {shows} is after = is ∙ ap (seen_first shows) (sym after.count) ∙ sym after.is_made.saw
+  pub one_stopped : {made : ℕ} {now : ℕ → Snapshot} {count : ℕ} {old : FollowState} {seen seen_new : List Snapshot} {watched watched_new : List Watched}
+      {slots slots_new : List Slot} {why : Fault} → now ≡ shows → Progress told_in told ways headers names shows first made true old seen watched slots
+      → SawOrNot seen (now (length seen)) seen_new → made < count → StopsOn told_in told (now (length seen)) old watched slots watched_new slots_new why
+      → StoppedIn told_in told ways headers names count shows first seen_new watched_new slots_new why
+  one_stopped {count} {seen_new} {watched_new} {slots_new} {why} same p saw below stops = record {
+    looks = p.looks;
+    saw = subst₂ (λ those s. SawOrNot those s seen_new) p.observed (next_is same p) saw;
+    made = p.is_made;
+    within = subst (λ n. n < count) (sym p.count) below;
+    alive = p.alive;
+    halted = subst (λ s. Halted told_in told ways headers names p.looks s first watched_new slots_new why) (next_is same p)
+        (stops ways headers names p.looks first p.holds);
+  }
 
-pub one_stopped : {told_in told : Bool} {ways : Ways} {headers : Bool} {names : List (List ℕ)} {shows : ℕ → Snapshot} {first : List Slot} {made count : ℕ} {snapshot : Snapshot} {old : FollowState} {watched watched_new : List Watched} {seen seen_new : List Snapshot} {slots slots_new : List Slot} {why : Fault} → seen ≡ seen_first shows made → SawOrNot seen snapshot seen_new → made < count → snapshot ≡ shows made
-    → Progress told_in told ways headers names shows first made old watched slots → StopsOn told_in told snapshot old watched slots watched_new slots_new why → StoppedIn told_in told ways headers names count shows first seen_new watched_new slots_new why
-one_stopped {told_in} {told} {ways} {headers} {names} {shows} {first} {made} {count} {snapshot} {old} {watched} {watched_new} {seen_new} {slots} {slots_new} {why} so_far saw below is progress stops = record {
-  looks = before.looks;
-  saw = subst (λ s. SawOrNot (snapshots before.looks) s seen_new) (is ∙ ap shows (sym before.count)) (subst (λ those. SawOrNot those snapshot seen_new) (observed_all so_far before) saw);
-  made = before.is_made;
-  within = subst (λ n. n < count) (sym before.count) below;
-  alive = progress.alive;
-  halted = subst (λ s. Halted told_in told ways headers names before.looks s first watched_new slots_new why) (is ∙ ap shows (sym before.count))
-      (stops ways headers names before.looks first before.holds);
-} where
-  before : After told_in told ways headers names shows first made old watched slots
-  before = progress.after
-
--- whether it goes on
-alive_at : {told_in : Bool} (told : Bool) {ways : Ways} {headers : Bool} {names : List (List ℕ)} {shows : ℕ → Snapshot} {first : List Slot} (made : ℕ) {follow : FollowState} {watched : List Watched} {slots : List Slot} {result : Bool} (after : After told_in told ways headers names shows first made follow watched slots)
-    → ((told : Bool) (ways : Ways) (headers : Bool) (names : List (List ℕ)) (looks : List Look) (first slots : List Slot) (watched : List Watched) → Holds true told ways headers names looks first follow watched slots → result ≡ is_alive ways names looks)
-    → told_in ≡ true → is_alive ways names after.looks ≡ result
-alive_at told {ways} {headers} {names} {first} made {follow} {watched} {slots} after alive t =
-    sym (alive told ways headers names after.looks first slots watched (subst (λ known. Holds known told ways headers names after.looks first follow watched slots) t after.holds))
-
-pub goes_on : {told_in told : Bool} {ways : Ways} {headers : Bool} {names : List (List ℕ)} {shows : ℕ → Snapshot} {first : List Slot} {made : ℕ} {follow : FollowState} {watched : List Watched} {slots : List Slot} {result : Bool}
-    → ((told : Bool) (ways : Ways) (headers : Bool) (names : List (List ℕ)) (looks : List Look) (first slots : List Slot) (watched : List Watched) → Holds true told ways headers names looks first follow watched slots → result ≡ is_alive ways names looks)
-    → result ≡ true → {next : ℕ} → suc made ≡ next → After told_in told ways headers names shows first (suc made) follow watched slots → Progress told_in told ways headers names shows first next follow watched slots
-goes_on {told_in} {told} {ways} {headers} {names} {shows} {first} {made} {follow} {watched} {slots} alive true_is is after = subst (λ n. Progress told_in told ways headers names shows first n follow watched slots) is (record {
-  after = after;
-  alive = λ t above. alive_at told (suc made) after alive t ∙ true_is;
-})
-
-pub ends_there : {told_in told : Bool} {ways : Ways} {headers : Bool} {names : List (List ℕ)} {shows : ℕ → Snapshot} {first : List Slot} {made count : ℕ} {follow : FollowState} {watched : List Watched} {slots : List Slot} {result : Bool}
-    → ((told : Bool) (ways : Ways) (headers : Bool) (names : List (List ℕ)) (looks : List Look) (first slots : List Slot) (watched : List Watched) → Holds true told ways headers names looks first follow watched slots → result ≡ is_alive ways names looks)
-    → result ≡ false → made < count → {seen : List Snapshot} → seen ≡ seen_first shows (suc made) → After told_in told ways headers names shows first (suc made) follow watched slots → LookedAll told_in told ways headers names count shows first follow seen watched slots
-ends_there {told} {made} {count} alive false_is below seen_is after = record {
-  looks = after.looks;
-  observed = observed_all seen_is after;
-  made = after.is_made;
-  within = subst (λ n. n ≤ count) (sym after.count) (omega arith);
-  over = λ fewer. (subst (λ n. 0 < n) (sym after.count) (omega arith), λ t. alive_at told (suc made) after alive t ∙ false_is);
-  holds = after.holds;
-}
-
-pub all_made : {told_in told : Bool} {ways : Ways} {headers : Bool} {names : List (List ℕ)} {shows : ℕ → Snapshot} {first : List Slot} {made count : ℕ} {follow : FollowState} {watched : List Watched} {slots : List Slot} → made ≡ count → {seen : List Snapshot} → seen ≡ seen_first shows made
-    → Progress told_in told ways headers names shows first made follow watched slots → LookedAll told_in told ways headers names count shows first follow seen watched slots
-all_made {told_in} {told} {ways} {headers} {names} {shows} {first} {made} {count} {follow} {watched} {slots} end seen_is progress = record {
-  looks = after.looks;
-  observed = observed_all seen_is after;
-  made = after.is_made;
-  within = subst (λ n. n ≤ count) (sym (after.count ∙ end)) (omega arith);
-  over = λ fewer. absurd (let many : length after.looks ≡ count = after.count ∙ end in omega (arith, many, fewer));
-  holds = after.holds;
-} where
-  after : After told_in told ways headers names shows first made follow watched slots
-  after = progress.after
-
-pub seen_one : {shows now : ℕ → Snapshot} {seen seen_new : List Snapshot} (made next : ℕ) → now ≡ shows → seen ≡ seen_first shows made → seen_new ≡ seen ++ now (length seen) ∷ [] → suc made ≡ next → seen_new ≡ seen_first shows next
-seen_one {shows} {seen} made next same is more last =
-    more ∙ ap (λ snapshot. seen ++ snapshot ∷ []) (next_is same is) ∙ ap (λ front. front ++ shows made ∷ []) is ∙ ap (seen_first shows) last
+  -- no further look was made: as many were asked for, or it could give nothing
+  pub ended : {made count : ℕ} {going : Bool} {follow : FollowState} {seen : List Snapshot} {watched : List Watched} {slots : List Slot} → made ≤ count
+      → (made < count → (0 < made) × (going ≡ false)) → Progress told_in told ways headers names shows first made going follow seen watched slots
+      → LookedAll told_in told ways headers names count shows first follow seen watched slots
+  ended within over p = let count = p.count in record {
+    looks = p.looks;
+    observed = p.observed;
+    made = p.is_made;
+    within = omega (arith, count, within);
+    over = λ fewer. let (some, stops) = over (omega (arith, count, fewer)) in let above : 0 < length p.looks = omega (arith, count, some) in (above, λ t. p.alive t above ∙ stops);
+    holds = p.holds;
+  }
 
 -- a whole run
 

@@ -1,19 +1,19 @@
 -- A look at all names: at one after another, one look more, and one that was stopped.
-use Rattle.std.proofs.Common.{◌≡◌, ℕ, zero, suc, ◌<◌, ◌≤◌, ◌+◌, Bool, true, false, ◌||◌, List, [], ◌∷◌, ◌++◌, length, take, set, replicate, get_or, slice_index_or, refl, sym, ◌∙◌, ap, subst, arith, append_assoc, inl, inr, ◌⊎◌, Option, Some, if◌then◌else◌, subst₂, Err, not, ◌&&◌, map, Ok, Result}
+use Rattle.std.proofs.Common.{◌≡◌, ℕ, zero, suc, ◌<◌, ◌≤◌, ◌+◌, Bool, true, false, ◌||◌, List, [], ◌∷◌, ◌++◌, length, take, set, replicate, get_or, slice_index_or, refl, sym, ◌∙◌, ap, subst, arith, append_assoc, inl, inr, ◌⊎◌, Option, Some, subst₂, Err, not, ◌&&◌, map, Ok, Result}
 use Rattle.std.proofs.Math.Bool.{or-false, or-false as or_none, and-false as and_none}
 use Rattle.std.proofs.lemmas.Bool.{cases_eq, cases_lt, and_parts, false≢true, not-true}
-use Rattle.std.proofs.lemmas.List.{append-nil, get_or_default, get_or-map, get_or-set_other, get_or-set_same, length-append, length-map, length-replicate, length-set, length-take-le, take_all, get_or_past, get_or-append-add, get_or_append_left}
+use Rattle.std.proofs.lemmas.List.{append-nil, get_or-map, get_or-set_other, get_or-set_same, length-append, length-map, length-replicate, length-set, length-take-le, take_all, get_or_past, get_or-append-add, get_or_append_left}
 use Rattle.std.proofs.Math.Seq.{get_or-append_seam, map-set_same, take-suc}
 use Rattle.ports_core.specs.Slot.{Slot, changed_at, adds}
-use Rattle.follow_core.specs.FollowState.{AllReady, CanLook, FollowState, Holds, IsCause, IsOther, LooksOn, StandsIn, StopsOn, goes_on_at, is_alive, is_alive_from, new_state, nothing, up_to, lacks_memory, output_broke}
+use Rattle.follow_core.specs.FollowState.{AllReady, Begun, CanLook, FollowState, Holds, IsCause, IsOther, LooksOn, StandsIn, StopsOn, goes_on_at, is_alive, is_alive_from, new_state, nothing, up_to, lacks_memory, output_broke}
 use Rattle.follow_core.specs.Followed.{any_failed, last_header_from, messages_of, share_text, text_from}
-use Rattle.follow_core.specs.Look.{Fate, Look, Ways, fate_at, is_dropped, sound, snapshots, ways_of}
-use Rattle.follow_core.specs.Share.{BeginsShare, Share, share_by, share_of, no_share, shares_at_look_from, IsFront, shares_at_look, shares_of}
-use Rattle.follow_core.specs.inner.Visits.{Opened, Stopped, KeepsOthers, StoppedAt, Visited, VisitedAll, any_goes_on, goes_on_as, VisitsAll}
+use Rattle.follow_core.specs.Look.{Fate, Look, Ways, is_dropped, sound, snapshots, ways_of}
+use Rattle.follow_core.specs.Share.{BeginsShare, Share, share_by, share_of, shares_at_look_from, IsFront, shares_of}
+use Rattle.follow_core.specs.inner.Visits.{KeepsOthers, Opened, StandFrom, Stopped, Visited, VisitedTo, Visits, VisitsAll, any_goes_on, goes_on_as}
 use Rattle.follow_core.specs.Printing.{PrinterState, Short}
 use Rattle.follow_core.specs.Sharing.{AllShared, AllShort, Wrote, CanPrint}
 use Rattle.follow_core.specs.inner.Giving.{Shared}
-use Rattle.follow_core.specs.Standing.{AllStand, BrokeIn, CanVisit, NameState, Stands, no_state, state_at, texts, AreBroken, IsFollowed}
+use Rattle.follow_core.specs.Standing.{AllStand, BrokeIn, CanVisit, NameState, Stands, StandsAmong, no_state, state_at, texts, AreBroken, IsFollowed}
 use Rattle.follow_core.proofs.GiveLemmas.{wrote_after, wrote_none, no_memory}
 use Rattle.ports_core.specs.declared.fault.Fault.{Fault}
 use Rattle.watch_core.specs.Snapshot.{Snapshot, latest}
@@ -32,20 +32,6 @@ use Rattle.watch_core.proofs.NameLemmas.{latest-last}
 use Rattle.ports_core.specs.declared.fault.Fault.TheVariants as fault
 
 -- A look at one name after another.
-
--- The same of the first names, whatever becomes of the others at that look; those stand as before it.
-pub record VisitedUpTo (told_in told : Bool) (ways : Ways) (looks : List Look) (snapshot : Snapshot) (place : ℕ) (names : List NameState) (printer : PrinterState) (old : List Slot) (after : PrinterState) (new : List Slot) (watched : List Watched) (names_now : List NameState) (failed : Bool) : Type 0 where
-  pub fates : List Fate
-  pub shares : List Share
-  pub count : length fates ≡ ways.first + place
-  pub are : told_in ≡ true → (later : List Fate) → shares ≡ shares_at_look_from ways looks (record { snapshot = snapshot; fates = fates ++ later }) ways.first (take place (texts names))
-  pub is_failed : any_failed shares ≡ failed
-  pub shared : AllShared told printer shares old after new
-  pub same : texts names_now ≡ texts names
-  pub done : (later : List Fate) (other : ℕ) → other < place
-      → Stands told_in ways (looks ++ record { snapshot = snapshot; fates = fates ++ later } ∷ []) (ways.first + other) (state_at names_now other).text (watched_at watched (ways.first + other)) (state_at names_now other).standing
-  pub rest : (other : ℕ) → place ≤ other → other < length names_now
-      → Stands told_in ways looks (ways.first + other) (state_at names_now other).text (watched_at watched (ways.first + other)) (state_at names_now other).standing
 
 pub nothing_shared : {told : Bool} {printer : PrinterState} {slots : List Slot} → AllShared told printer [] slots printer slots
 nothing_shared {told} {slots} = record { printer_is = refl; slots = wrote_none told }
@@ -84,17 +70,17 @@ shared_short {printer} {mid} {shares} {share} {new} {why} all one = record {
 
 -- names that were not looked at yet
 
-pub visited_none : {told_in told : Bool} {ways : Ways} {looks : List Look} {snapshot : Snapshot} {names : List NameState} {printer : PrinterState} {slots : List Slot} {watched : List Watched} → AllStand told_in ways looks names watched
-    → VisitedUpTo told_in told ways looks snapshot 0 names printer slots printer slots watched names false
+pub visited_none : {told_in told : Bool} {ways : Ways} {looks : List Look} {snapshot : Snapshot} {names : List NameState} {printer : PrinterState} {slots : List Slot}
+    {watched : List Watched} → AllStand told_in ways looks names watched → VisitedTo told_in told ways looks snapshot 0 names printer slots printer slots watched names false
 visited_none {ways} stand = record {
   fates = replicate ways.first sound;
   shares = [];
   count = length-replicate ways.first sound ∙ omega arith;
-  are = λ t later. refl;
+  are = λ t all front. refl;
   is_failed = refl;
   shared = nothing_shared;
   same = refl;
-  done = λ later other below. absurd (omega arith);
+  done = λ all front other below. absurd (omega arith);
   rest = λ other above within. stand other within;
 }
 
@@ -106,8 +92,12 @@ shares_one ways looks look from (first ∷ names) name =
     ap (λ rest. share_of ways looks look from first ∷ rest) (shares_one ways looks look (from + 1) names name
     ∙ ap (λ place. shares_at_look_from ways looks look (from + 1) names ++ share_of ways looks look place name ∷ []) (omega arith))
 
-fate_there : (snapshot : Snapshot) (fates : List Fate) {fate : Fate} (later : List Fate) {place : ℕ} → length fates ≡ place → fate_at place (record { snapshot = snapshot; fates = fates ++ fate ∷ later }) ≡ fate
-fate_there snapshot fates {fate} later count = ap (λ n. slice_index_or (fates ++ fate ∷ later) n sound) (sym count) ∙ get_or-append_seam fates fate later sound
+fate_there : (fates : List Fate) (fate : Fate) {all : List Fate} → IsFront (fates ++ fate ∷ []) all → {place : ℕ} → length fates ≡ place → slice_index_or all place sound ≡ fate
+fate_there fates fate {all} (rest, is) {place} count = ap (λ those. slice_index_or those place sound) (is ∙ append_assoc fates (fate ∷ []) rest)
+    ∙ ap (λ n. slice_index_or (fates ++ fate ∷ rest) n sound) (sym count) ∙ get_or-append_seam fates fate rest sound
+
+front_before : (fates : List Fate) (fate : Fate) {all : List Fate} → IsFront (fates ++ fate ∷ []) all → IsFront fates all
+front_before fates fate (rest, is) = (fate ∷ rest, is ∙ append_assoc fates (fate ∷ []) rest)
 
 text_there : (names now : List NameState) {place : ℕ} → texts now ≡ texts names → place < length now → get_or (texts names) place [] ≡ (state_at now place).text
 text_there names now {place} same within = ap (λ those. get_or those place []) (sym same) ∙ get_or-map (λ (n : NameState). n.text) now place no_state [] within
@@ -139,72 +129,37 @@ shares_next ways looks look names now {place} same within =
 failed_one : (shares : List Share) (share : Share) {before failed : Bool} → any_failed shares ≡ before → share.has_failed ≡ failed → any_failed (shares ++ share ∷ []) ≡ (before || failed)
 failed_one shares share {before} {failed} is one = failed-append shares (share ∷ []) ∙ ap (λ first. first || (share.has_failed || false)) is ∙ ap (λ last. before || (last || false)) one ∙ ap (λ last. before || last) (or-false failed)
 
-pub visited_more : {told_in told : Bool} {ways : Ways} {looks : List Look} {snapshot snapshot_now : Snapshot} {names now : List NameState} (default : NameState) {one : NameState} {place : ℕ} {printer mid after : PrinterState} {old slots new : List Slot} {watched watched_new : List Watched} {before failed : Bool}
-    → place < length now → one.text ≡ (get_or now place default).text → KeepsOthers (ways.first + place) watched watched_new → snapshot_now ≡ snapshot
-    → VisitedUpTo told_in told ways looks snapshot place names printer old mid slots watched now before
-    → (Stands told_in ways looks (ways.first + place) (get_or now place default).text (watched_at watched (ways.first + place)) (get_or now place default).standing → Visited told_in told ways looks snapshot_now (ways.first + place) (get_or now place default).text mid slots after new (watched_at watched_new (ways.first + place)) one.standing failed)
-    → {next : ℕ} → suc place ≡ next → VisitedUpTo told_in told ways looks snapshot next names printer old after new watched_new (set now place one) (before || failed)
-visited_more {told_in} {told} {ways} {looks} {snapshot} {names} {now} default {one} {place} {printer} {mid} {after} {old} {slots} {new} {watched} {watched_new} {before} {failed} within same keeps seen sofar visit is = subst (λ n. VisitedUpTo told_in told ways looks snapshot n names printer old after new watched_new (set now place one) (before || failed)) is (record {
+pub visited_more : {told_in told : Bool} {ways : Ways} {looks : List Look} {snapshot : Snapshot} {names now : List NameState} {one : NameState} {place : ℕ}
+    {printer mid after : PrinterState} {old slots new : List Slot} {watched watched_new : List Watched} {before failed : Bool} → place < length now
+    → Visits told_in told ways snapshot (ways.first + place) (state_at now place) watched mid slots one watched_new after new (Ok failed)
+    → VisitedTo told_in told ways looks snapshot place names printer old mid slots watched now before
+    → VisitedTo told_in told ways looks snapshot (place + 1) names printer old after new watched_new (set now place one) (before || failed)
+visited_more {told_in} {told} {ways} {looks} {snapshot} {names} {now} {one} {place} {mid} {after} {slots} {new} {watched} {watched_new} {failed} within visits sofar = record {
   fates = sofar.fates ++ visited.fate ∷ [];
   shares = sofar.shares ++ visited.share ∷ [];
   count = length-append sofar.fates (visited.fate ∷ []) ∙ ap (λ n. n + 1) sofar.count ∙ omega arith;
-  are = λ t later. subst (λ those. sofar.shares ++ visited.share ∷ [] ≡ shares_at_look_from ways looks (record { snapshot = snapshot; fates = those }) ways.first (take (suc place) (texts names))) (sym (append_assoc sofar.fates (visited.fate ∷ []) later)) (both t later);
+  are = λ t all front. let look : Look = record { snapshot = snapshot; fates = all } in
+      ap (λ those. those ++ visited.share ∷ []) (sofar.are t all (front_before sofar.fates visited.fate front))
+      ∙ ap (λ share. shares_at_look_from ways looks look ways.first (take place (texts names)) ++ share ∷ []) (visited.is_share t all (fate_there sofar.fates visited.fate front sofar.count))
+      ∙ shares_next ways looks look names now sofar.same within ∙ ap (λ n. shares_at_look_from ways looks look ways.first (take n (texts names))) (let next : suc place ≡ place + 1 = omega arith in next);
   is_failed = failed_one sofar.shares visited.share sofar.is_failed visited.is_failed;
   shared = shared_more sofar.shared visited.shared;
-  same = texts_set now default one within same ∙ sofar.same;
-  done = λ later other below. subst (λ those. Stands told_in ways (looks ++ record { snapshot = snapshot; fates = those } ∷ []) (ways.first + other) (state_at (set now place one) other).text (watched_at watched_new (ways.first + other)) (state_at (set now place one) other).standing) (sym (append_assoc sofar.fates (visited.fate ∷ []) later)) (there later other below (cases_eq other place));
-  rest = λ other above inside. stands_same told_in ways looks (ways.first + other) (sym (get_or-set_other now place other one no_state (differs other above))) (sym (kept other (differs other above)))
-      (sofar.rest other (omega arith) (subst (λ n. other < n) (length-set now place one) inside));
-}) where
-  item : NameState
-  item = get_or now place default
+  same = texts_set now no_state one within visits.same ∙ sofar.same;
+  done = λ all front other below. there all front other below (cases_eq other place);
+  rest = λ other above inside. stays looks other (λ at. omega arith) (sofar.rest other (omega arith) (subst (λ n. other < n) (length-set now place one) inside));
+} where
+  visited : Visited told_in told ways looks snapshot (ways.first + place) (state_at now place).text mid slots after new (watched_at watched_new (ways.first + place)) one.standing failed
+  visited = visits.visited looks (sofar.rest place (omega arith) within)
 
-  found : item ≡ state_at now place
-  found = get_or_default now place default no_state within
+  -- another name
+  stays : (looks : List Look) (other : ℕ) → (other ≡ place → ⊥) → StandsAmong told_in ways looks now watched other → StandsAmong told_in ways looks (set now place one) watched_new other
+  stays looks other elsewhere stands = rw (get_or-set_other now place other one no_state elsewhere, visits.others.others (ways.first + other) (λ at. elsewhere (omega (arith, at)))) stands
 
-  number : ℕ
-  number = ways.first + place
-
-  visited : Visited told_in told ways looks snapshot number item.text mid slots after new (watched_at watched_new number) one.standing failed
-  visited = subst (λ (s : Snapshot). Visited told_in told ways looks s number item.text mid slots after new (watched_at watched_new number) one.standing failed) seen
-      (visit (subst (λ (n : NameState). Stands told_in ways looks number n.text (watched_at watched number) n.standing) (sym found) (sofar.rest place (omega arith) within)))
-
-  kept : (other : ℕ) → (other ≡ place → ⊥) → watched_at watched_new (ways.first + other) ≡ watched_at watched (ways.first + other)
-  kept = λ other elsewhere. keeps.others (ways.first + other) (λ at. elsewhere (omega (arith, at)))
-
-  both : told_in ≡ true → (later : List Fate) → sofar.shares ++ visited.share ∷ [] ≡ shares_at_look_from ways looks (record { snapshot = snapshot; fates = sofar.fates ++ visited.fate ∷ later }) ways.first (take (suc place) (texts names))
-  both t later =
-      let look : Look = record { snapshot = snapshot; fates = sofar.fates ++ visited.fate ∷ later } in
-      ap (λ front. front ++ visited.share ∷ []) (sofar.are t (visited.fate ∷ later))
-      ∙ ap (λ share. shares_at_look_from ways looks look ways.first (take place (texts names)) ++ share ∷ []) (visited.is_share t (sofar.fates ++ visited.fate ∷ later) (fate_there snapshot sofar.fates later sofar.count))
-      ∙ ap (λ (n : NameState). shares_at_look_from ways looks look ways.first (take place (texts names)) ++ share_of ways looks look number n.text ∷ []) found
-      ∙ shares_next ways looks look names now sofar.same within
-
-  differs : (other : ℕ) → suc place ≤ other → other ≡ place → ⊥
-  differs other above at = omega arith
-
-  there : (later : List Fate) (other : ℕ) → other < suc place → (other ≡ place) ⊎ (other ≡ place → ⊥) → Stands told_in ways (looks ++ record { snapshot = snapshot; fates = sofar.fates ++ visited.fate ∷ later } ∷ []) (ways.first + other) (state_at (set now place one) other).text (watched_at watched_new (ways.first + other)) (state_at (set now place one) other).standing
-  there later other below (inr elsewhere) = stands_same told_in ways (looks ++ record { snapshot = snapshot; fates = sofar.fates ++ visited.fate ∷ later } ∷ []) (ways.first + other) (sym (get_or-set_other now place other one no_state elsewhere)) (sym (kept other elsewhere))
-      (sofar.done (visited.fate ∷ later) other (omega arith))
-  there later other below (inl at) = subst (λ n. Stands told_in ways (looks ++ record { snapshot = snapshot; fates = sofar.fates ++ visited.fate ∷ later } ∷ []) (ways.first + n) (state_at (set now place one) n).text (watched_at watched_new (ways.first + n)) (state_at (set now place one) n).standing) (sym at)
-      (subst (λ (n : NameState). Stands told_in ways (looks ++ record { snapshot = snapshot; fates = sofar.fates ++ visited.fate ∷ later } ∷ []) number n.text (watched_at watched_new number) n.standing) (sym (get_or-set_same now place one no_state within))
-      (subst (λ name. Stands told_in ways (looks ++ record { snapshot = snapshot; fates = sofar.fates ++ visited.fate ∷ later } ∷ []) number name (watched_at watched_new number) one.standing) (sym same)
-      (visited.stands (sofar.fates ++ visited.fate ∷ later) (fate_there snapshot sofar.fates later sofar.count))))
-
--- all names
-
-pub visited_all : {told_in told : Bool} {ways : Ways} {looks : List Look} {snapshot : Snapshot} {names now : List NameState} {place : ℕ} {printer after : PrinterState} {old new : List Slot} {watched : List Watched} {failed : Bool} → place ≡ length now
-    → VisitedUpTo told_in told ways looks snapshot place names printer old after new watched now failed → VisitedAll told_in told ways looks snapshot names printer old after new watched now failed
-visited_all {told_in} {ways} {looks} {snapshot} {names} {now} {place} {watched} end sofar = record {
-  fates = sofar.fates;
-  shares = sofar.shares;
-  are = λ t. sofar.are t [] ∙ ap (λ those. shares_at_look_from ways looks (record { snapshot = snapshot; fates = those }) ways.first (take place (texts names))) (append-nil sofar.fates)
-      ∙ ap (shares_at_look_from ways looks (record { snapshot = snapshot; fates = sofar.fates }) ways.first) (take_all place (texts names) (subst (λ n. n ≤ place) (sym (length_texts names now sofar.same)) (omega arith)));
-  is_failed = sofar.is_failed;
-  shared = sofar.shared;
-  same = sofar.same;
-  stand = λ other within. subst (λ those. Stands told_in ways (looks ++ record { snapshot = snapshot; fates = those } ∷ []) (ways.first + other) (state_at now other).text (watched_at watched (ways.first + other)) (state_at now other).standing) (append-nil sofar.fates) (sofar.done [] other (omega arith));
-}
+  there : (all : List Fate) → IsFront (sofar.fates ++ visited.fate ∷ []) all → (other : ℕ) → other < place + 1 → (other ≡ place) ⊎ (other ≡ place → ⊥)
+      → StandsAmong told_in ways (looks ++ record { snapshot = snapshot; fates = all } ∷ []) (set now place one) watched_new other
+  there all front other below (inr elsewhere) = stays (looks ++ record { snapshot = snapshot; fates = all } ∷ []) other elsewhere
+      (sofar.done all (front_before sofar.fates visited.fate front) other (omega arith))
+  there all front other below (inl at) = rw (at, get_or-set_same now place one no_state within, visits.same) (visited.stands all (fate_there sofar.fates visited.fate front sofar.count))
 
 -- by what a name broke, as it stands
 pub broken_there : (told : Bool) {ways : Ways} {looks : List Look} {place : ℕ} (name : List ℕ) (watched : Watched) (standing : Standing) → Stands told ways looks place name watched standing → BrokeIn ways looks place watched.failed
@@ -224,52 +179,43 @@ opens_failed (name ∷ names) (suc place) zero file = refl
 opens_failed (name ∷ names) (suc place) (suc other) file = opens_failed names place other file
 
 -- a look that was stopped at a name
-pub visited_short : {told_in told : Bool} {ways : Ways} {looks : List Look} {snapshot snapshot_now : Snapshot} {names now : List NameState} (default : NameState) {place : ℕ} {printer mid : PrinterState} {old slots new : List Slot} {watched watched_new : List Watched} {before : Bool} {why : Fault}
-    → place < length now → snapshot_now ≡ snapshot → Opened (ways.first + place) watched watched_new
-    → VisitedUpTo told_in told ways looks snapshot place names printer old mid slots watched now before
-    → (Stands told_in ways looks (ways.first + place) (get_or now place default).text (watched_at watched (ways.first + place)) (get_or now place default).standing → (is_dropped (ways.first + place) looks ≡ false) × Stopped told_in told ways looks snapshot_now (get_or now place default).text mid slots new why)
-    → StoppedAt told_in told ways looks snapshot (texts names) printer old watched_new new why
-visited_short {told_in} {told} {ways} {looks} {snapshot} {names} {now} default {place} {mid} {slots} {new} {watched} {watched_new} {why} within seen opened sofar stop = record {
-  fates = sofar.fates;
-  place = place;
-  count = sofar.count;
-  shares = sofar.shares;
-  share = stopped.1.share;
-  within = subst (λ n. place < n) (sym (length_texts names now sofar.same)) within;
-  are = λ t. sofar.are t [] ∙ ap (λ those. shares_at_look_from ways looks (record { snapshot = snapshot; fates = those }) ways.first (take place (texts names))) (append-nil sofar.fates);
-  begins = λ t. subst (BeginsShare stopped.1.share) (share_is t) (stopped.1.begins t sofar.fates);
-  broken = λ other inside. subst (BrokeIn ways (looks ++ look ∷ []) (ways.first + other)) (sym (same (ways.first + other))) (there other (subst (λ n. other < n) (length_texts names now sofar.same) inside) (cases_lt other place));
-  short = shared_short sofar.shared stopped.1.short;
-} where
-  item : NameState
-  item = get_or now place default
-
-  found : item ≡ state_at now place
-  found = get_or_default now place default no_state within
-
+pub visited_short : {told_in told : Bool} {ways : Ways} {looks : List Look} {snapshot : Snapshot} {names now : List NameState} {one : NameState} {place : ℕ}
+    {printer mid after : PrinterState} {old slots new : List Slot} {watched watched_new : List Watched} {before : Bool} {why : Fault} → place < length now
+    → Visits told_in told ways snapshot (ways.first + place) (state_at now place) watched mid slots one watched_new after new (Err why)
+    → VisitedTo told_in told ways looks snapshot place names printer old mid slots watched now before → length watched_new ≡ ways.first + length names
+    → (more : List Share) × Begun told_in ways (texts names) looks snapshot watched_new more × AllShort told printer more old new why
+visited_short {told_in} {told} {ways} {looks} {snapshot} {names} {now} {place} {mid} {slots} {new} {watched} {watched_new} {why} within visits sofar many = (
+  sofar.shares ++ stopped.1.share ∷ [],
+  up_to sofar.fates place sofar.shares stopped.1.share sofar.count (omega (arith, within, size))
+      (omega (arith, many, size), λ above. omega (arith, many, size), λ other inside. rw (opened.1, opens_failed watched number (ways.first + other) opened.0) (there other (omega (arith, inside, many, size)) (cases_lt other place)))
+      (λ t. sofar.are t sofar.fates front) (λ t. subst (BeginsShare stopped.1.share) (share_is t) (stopped.1.begins t sofar.fates)),
+  shared_short sofar.shared stopped.1.short,
+) where
   number : ℕ
   number = ways.first + place
 
-  stopped : (is_dropped number looks ≡ false) × Stopped told_in told ways looks snapshot item.text mid slots new why
-  stopped = subst (λ (s : Snapshot). (is_dropped number looks ≡ false) × Stopped told_in told ways looks s item.text mid slots new why) seen
-      (stop (subst (λ (n : NameState). Stands told_in ways looks number n.text (watched_at watched number) n.standing) (sym found) (sofar.rest place (omega arith) within)))
+  opened : Opened number watched watched_new
+  opened = visits.halts
+
+  size : (length (texts names) ≡ length now) × (length names ≡ length now)
+  size = (length_texts names now sofar.same, same_length names now sofar.same)
+
+  front : IsFront sofar.fates sofar.fates
+  front = ([], sym (append-nil sofar.fates))
+
+  stopped : (is_dropped number looks ≡ false) × Stopped told_in told ways looks snapshot (state_at now place).text mid slots new why
+  stopped = visits.stopped looks (sofar.rest place (omega arith) within)
 
   look : Look
   look = record { snapshot = snapshot; fates = sofar.fates }
 
-  share_is : told_in ≡ true → share_by ways item.text looks look sound ≡ share_of ways looks look number (get_or (texts names) place [])
+  share_is : told_in ≡ true → share_by ways (state_at now place).text looks look sound ≡ share_of ways looks look number (get_or (texts names) place [])
   share_is t =
       let count = sofar.count in
-      ap (share_by ways item.text looks look) (sym (get_or_past sofar.fates number sound (omega (arith, count))))
-      ∙ ap (λ test. if test then no_share item.text else share_by ways item.text looks look (fate_at number look)) (sym stopped.0)
-      ∙ ap (share_of ways looks look number) (ap (λ (n : NameState). n.text) found ∙ sym (text_there names now sofar.same within))
-
-  same : (other : ℕ) → (watched_at watched_new other).failed ≡ (watched_at watched other).failed
-  same other = ap (λ (those : List Watched). (watched_at those other).failed) opened.1 ∙ opens_failed watched number other opened.0
+      rw (text_there names now sofar.same within, stopped.0, get_or_past sofar.fates number sound (omega (arith, count))) refl
 
   there : (other : ℕ) → other < length now → (other < place) ⊎ (place ≤ other) → BrokeIn ways (looks ++ look ∷ []) (ways.first + other) (watched_at watched (ways.first + other)).failed
-  there other inside (inl less) = broken_there told_in (state_at now other).text (watched_at watched (ways.first + other)) (state_at now other).standing
-      (subst (λ those. Stands told_in ways (looks ++ record { snapshot = snapshot; fates = those } ∷ []) (ways.first + other) (state_at now other).text (watched_at watched (ways.first + other)) (state_at now other).standing) (append-nil sofar.fates) (sofar.done [] other less))
+  there other inside (inl less) = broken_there told_in (state_at now other).text (watched_at watched (ways.first + other)) (state_at now other).standing (sofar.done sofar.fates front other less)
   there other inside (inr more) =
       let count = sofar.count in
       broken_sound looks look (get_or_past sofar.fates (ways.first + other) sound (omega (arith, count, more)))
@@ -289,21 +235,21 @@ none_stop {told} {slots} = record { slots = λ output error others is. (error, r
 
 -- names that are looked at
 
-stand_in : {told_in told : Bool} {ways : Ways} {headers : Bool} {names : List (List ℕ)} {looks : List Look} {first : List Slot} {follow : FollowState} {watched : List Watched} {slots : List Slot} → follow.stage ≡ Looking → Holds told_in told ways headers names looks first follow watched slots
-    → AllStand told_in (ways_of ways.first follow.by_name follow.start) looks follow.names watched
-stand_in {told_in} {ways} {looks} {follow} {watched} looking holds =
-    subst (λ way. AllStand told_in way looks follow.names watched) holds.asked (subst (StandsIn told_in ways looks follow.names watched) looking holds.stand).0
-
 -- as many names
 length_names : (follow : FollowState) {names : List (List ℕ)} → texts follow.names ≡ names → length follow.names ≡ length names
 length_names follow same = sym (length-map follow.names (λ (n : NameState). n.text)) ∙ ap length same
 
--- the number of the first
-first_there : {told_in told : Bool} {ways : Ways} {headers : Bool} {names : List (List ℕ)} {looks : List Look} {first : List Slot} {follow : FollowState} {watched : List Watched} {slots : List Slot} → follow.stage ≡ Looking → Holds told_in told ways headers names looks first follow watched slots
-    → 0 < length follow.names → follow.first ≡ ways.first
-first_there {follow} looking holds some = holds.numbered looking (subst (λ n. 0 < n) (length_names follow holds.same) some)
+-- they stand as the looks before left them
+stand_from : {told_in told : Bool} {ways : Ways} {headers : Bool} {names : List (List ℕ)} {looks : List Look} {first : List Slot} {follow : FollowState}
+    {watched : List Watched} {slots : List Slot} → follow.stage ≡ Looking → Holds told_in told ways headers names looks first follow watched slots
+    → StandFrom told_in (ways_of ways.first follow.by_name follow.start) looks follow.first follow.names watched
+stand_from {told_in} {ways} {looks} {follow} {watched} looking holds =
+    let (stand, many) = subst (StandsIn told_in ways looks follow.names watched) looking holds.stand in
+    subst (λ way. StandFrom told_in way looks follow.first follow.names watched) holds.asked
+    (record { numbered = λ some. holds.numbered looking (subst (λ n. 0 < n) (length_names follow holds.same) some); stand = stand; many = many })
 
-look_made : {told_in told : Bool} {snapshot : Snapshot} {old : FollowState} {names : List NameState} {watched watched_new : List Watched} {printer : PrinterState} {slots slots_new : List Slot} {failed : Bool} → old.stage ≡ Looking
+look_made : {told_in told : Bool} {snapshot : Snapshot} {old : FollowState} {names : List NameState} {watched watched_new : List Watched} {printer : PrinterState}
+    {slots slots_new : List Slot} {failed : Bool} → old.stage ≡ Looking
     → VisitsAll told_in told snapshot old.by_name old.start old.first old.names watched old.printer slots names watched_new printer slots_new (Ok failed)
     → LooksOn told_in told snapshot old watched slots (record old { names = names; printer = printer; has_failed = old.has_failed || failed }) watched_new slots_new
 look_made {told_in} {told} {snapshot} {old} {names} {watched} {watched_new} {printer} {slots} {slots_new} {failed} looking visits ways headers asked looks first holds = (
@@ -313,46 +259,51 @@ look_made {told_in} {told} {snapshot} {old} {names} {watched} {watched_new} {pri
     same = visited.same ∙ holds.same;
     numbered = holds.numbered;
     stand = subst (StandsIn told_in ways (looks ++ look ∷ []) names watched_new) (sym looking) (
-      visited.stand,
-      visits.count
-          ∙ (subst (StandsIn told_in ways looks old.names watched) looking holds.stand).1 ∙ ap (λ n. ways.first + n) (same_length old.names names visited.same),
+      (λ place within. visited.done visited.fates front place (omega (arith, within, many))),
+      visits.count ∙ stood.many ∙ ap (λ n. ways.first + n) many,
     );
     shares = holds.shares ++ visited.shares;
     are = λ t. ap (λ those. those ++ visited.shares) (holds.are t) ∙ ap (λ those. shares_of ways asked looks ++ those)
-        (visited.are t ∙ ap (λ those. shares_at_look ways those looks look) holds.same) ∙ sym (shares_more ways asked looks look);
+        (visited.are t visited.fates front ∙ ap (shares_at_look_from ways looks look ways.first) (take_all (length old.names) (texts old.names) (omega (arith, size)) ∙ holds.same)) ∙ sym (shares_more ways asked looks look);
     shared = all_both holds.shared visited.shared;
     failed = failed-append holds.shares visited.shares ∙ ap (λ before. before || any_failed visited.shares) holds.failed
         ∙ ap (λ now. old.has_failed || now) visited.is_failed;
   },
 ) where
-  visited : VisitedAll told_in told ways looks snapshot old.names old.printer slots printer slots_new watched_new names failed
-  visited = subst (λ way. VisitedAll told_in told way looks snapshot old.names old.printer slots printer slots_new watched_new names failed) (sym holds.asked)
-      (visits.visited ways.first looks (first_there looking holds) (stand_in looking holds))
+  stood : StandFrom told_in (ways_of ways.first old.by_name old.start) looks old.first old.names watched
+  stood = stand_from looking holds
+
+  visited : VisitedTo told_in told ways looks snapshot (length old.names) old.names old.printer slots printer slots_new watched_new names failed
+  visited = subst (λ way. VisitedTo told_in told way looks snapshot (length old.names) old.names old.printer slots printer slots_new watched_new names failed) (sym holds.asked)
+      (visits.visited ways.first looks stood)
 
   look : Look
   look = record { snapshot = snapshot; fates = visited.fates }
+
+  front : IsFront visited.fates visited.fates
+  front = ([], sym (append-nil visited.fates))
+
+  many : length old.names ≡ length names
+  many = same_length old.names names visited.same
+
+  size : length (texts old.names) ≡ length old.names
+  size = length-map old.names (λ (n : NameState). n.text)
 
 look_stopped : {told_in told : Bool} {snapshot : Snapshot} {old : FollowState} {names : List NameState} {watched watched_new : List Watched}
     {printer : PrinterState} {slots slots_new : List Slot} {why : Fault} → old.stage ≡ Looking
     → VisitsAll told_in told snapshot old.by_name old.start old.first old.names watched old.printer slots names watched_new printer slots_new (Err why)
     → StopsOn told_in told snapshot old watched slots watched_new slots_new why
-look_stopped {told_in} {told} {snapshot} {old} {watched} {watched_new} {slots} {slots_new} {why} looking visits ways headers names looks first holds = record {
-  shares = holds.shares;
-  are = holds.are;
-  printer = old.printer;
-  reached = slots;
-  shared = holds.shared;
-  more = stopped.shares ++ stopped.share ∷ [];
-  begun = up_to stopped.fates stopped.place stopped.shares stopped.share stopped.count stopped.within
-      ((let as_many = all in omega (arith, as_many)), (λ above. all), λ other within. stopped.broken other (let as_many = all in omega (arith, as_many, within))) stopped.are stopped.begins;
-  short = stopped.short;
-} where
-  stopped : StoppedAt told_in told ways looks snapshot names old.printer slots watched_new slots_new why
-  stopped = subst₂ (λ way those. StoppedAt told_in told way looks snapshot those old.printer slots watched_new slots_new why) (sym holds.asked) holds.same
-      (visits.stopped ways.first looks (first_there looking holds) (stand_in looking holds))
-
-  all : length watched_new ≡ ways.first + length names
-  all = visits.count ∙ (subst (StandsIn told_in ways looks old.names watched) looking holds.stand).1 ∙ ap (λ n. ways.first + n) (length_names old holds.same)
+look_stopped {told_in} {told} {snapshot} {old} {watched_new} {slots} {slots_new} {why} looking visits ways headers names looks first holds =
+    let (more, begun, short) = visits.stopped ways.first looks (stand_from looking holds) in record {
+      shares = holds.shares;
+      are = holds.are;
+      printer = old.printer;
+      reached = slots;
+      shared = holds.shared;
+      more = more;
+      begun = subst₂ (λ way those. Begun told_in way those looks snapshot watched_new more) (sym holds.asked) holds.same begun;
+      short = short;
+    }
 
 -- whatever looks were made, the names broke just where they tell so
 abbrev pub Unbroken : (told_in told : Bool) → FollowState → List Watched → List Slot → List Watched → Type 0

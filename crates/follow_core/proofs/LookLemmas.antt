@@ -158,7 +158,7 @@ last_added ways name before looks look is =
     ∙ ap (λ those. last_from (last_of (entries_in ways name (before ∷ looks))) (entries_at_look ways.by_name name those look.snapshot)) (last_file ways name before looks ∙ sym is)
 
 -- a name that no look broke came through each
-came_through : (place : ℕ) (fate : Fate) (later : Option Fault) → failed_by place fate later ≡ None → fate ≡ sound
+pub came_through : (place : ℕ) (fate : Fate) (later : Option Fault) → failed_by place fate later ≡ None → fate ≡ sound
 came_through place sound later none = refl
 came_through place (unopened notices bytes) later none = absurd (cc)
 came_through place (unread notices bytes) later none = absurd (cc)

@@ -1,5 +1,5 @@
 -- A visit of one name.
-use Rattle.std.proofs.Common.{Result, Ok, Err, ◌≡◌, ◌<◌, ℕ, Bool, true, false, IsTrue, List, [], ◌∷◌, ◌++◌, length, map, Option, Some, None, refl, sym, ◌∙◌, ap, subst, inl, inr, if◌then◌else◌, IfOk, subst₂}
+use Rattle.std.proofs.Common.{Result, Ok, Err, ◌≡◌, ◌<◌, ℕ, Bool, true, false, IsTrue, List, [], ◌∷◌, ◌++◌, length, Option, Some, None, refl, sym, ◌∙◌, ap, subst, inl, inr, if◌then◌else◌, IfOk, subst₂}
 use Rattle.std.proofs.lemmas.Bool.{false≢true}
 use Rattle.ports_core.specs.Slot.{Slot, changed_at}
 use Rattle.ports_core.specs.declared.fault.Fault.{Fault}
@@ -15,23 +15,22 @@ use Rattle.follow_core.specs.declared.name.Standing.TheVariants.{New, Followed, 
 use Rattle.follow_core.specs.declared.visitor.Stop.{Stop}
 use Rattle.follow_core.specs.declared.visitor.Stop.TheVariants.{Broke, Over}
 use Rattle.follow_core.specs.inner.Calls.{Keeps, Follows, said_of}
-use Rattle.follow_core.specs.Gain.{file_of, gains_later, last_from, last_of}
-use Rattle.follow_core.specs.Notice.{notice_of, notices_later}
+use Rattle.follow_core.specs.Gain.{file_of, gains_later, last_from, last_of, seen_length}
 use Rattle.follow_core.specs.Look.{Fate, Look, Ways, entries_in, failed_by, failed_in, fate_at, is_dropped, is_first, snapshots, sound}
-use Rattle.follow_core.specs.inner.Visits.{failed_then, standing_then, Visits, TellsStop, Stopped, has_failed, standing_after, Looks, Visited}
+use Rattle.follow_core.specs.inner.Visits.{failed_then, standing_then, Visits, TellsStop, has_failed, standing_after, Looks, Visited}
 use Rattle.follow_core.specs.Printing.{PrinterState}
-use Rattle.follow_core.specs.Share.{Share, no_share, share_by, share_of}
+use Rattle.follow_core.specs.Share.{no_share}
 use Rattle.follow_core.specs.Standing.{CanVisit, IsFollowed, IsLeft, IsMissed, NameState, Stands, StandsAt}
-use Rattle.follow_core.specs.Version.{Entry, version, gap, entries_at_look, open_after, open_after_look}
+use Rattle.follow_core.specs.Version.{Entry, version, gap, entries_at_look, open_after_later, open_after_look}
 use Rattle.follow_core.proofs.CallLemmas.{held_at, keeps_others, none_of, opened_there, opens_same, LooksAgain, some_of}
-use Rattle.follow_core.proofs.LookLemmas.{broken_sound, failed_more, failed_sound, later_share, last_added, last_in, first_last, last_file, look_leaves, meets_nothing, meets_unopened, Looked, FailsAs, IsDue, broken_more, first_due, later_due, looked_broke, looked_over, looked_whole, seeing}
+use Rattle.follow_core.proofs.LookLemmas.{broken_sound, came_through, failed_more, failed_sound, last_added, last_in, first_last, last_file, meets_nothing, meets_unopened, Looked, FailsAs, IsDue, broken_more, first_due, later_due, looked_broke, looked_over, looked_whole, seeing}
 use Rattle.ports_core.specs.Message.{SaysOn}
 use Rattle.ports_core.specs.Text.{message_of}
 use Rattle.ports_core.specs.declared.tool.Tool.TheVariants.{Tail}
 use Rattle.ports_core.specs.declared.fault.Fault.TheVariants.{Open, Read}
-use Rattle.follow_core.specs.inner.Giving.{given_share, Ends, stop_in}
+use Rattle.follow_core.specs.inner.Giving.{Ends, stop_in}
 use Rattle.std.proofs.lemmas.Result.{IfOk-weaker}
-use Rattle.follow_core.proofs.GiveLemmas.{gives_nothing}
+use Rattle.follow_core.proofs.GiveLemmas.{gives_nothing, nothing_due}
 
 -- Whatever looks were made before at a name that stood so: what is due at this one was given, call by call, before it is told what
 -- failed. Then this much of the file was seen to which the name led.
@@ -101,16 +100,14 @@ dropped_stands looks look {place} file old can kept is at fault read = record {
 
 -- what a look gave, and how the name stands then
 looked_visited : {told_in told : Bool} {ways : Ways} {looks : List Look} {snapshot : Snapshot} {place : ℕ} {name : List ℕ} {printer after : PrinterState}
-    {slots slots_new : List Slot} {watched : Watched} {came : Came} {failed : Option Fault} → is_dropped place looks ≡ false
+    {slots slots_new : List Slot} {watched : Watched} {came : Came} {standing : Standing} {failed : Option Fault} → is_dropped place looks ≡ false
     → (looked : Looked told_in told ways looks snapshot place name printer slots after slots_new came failed)
-    → ((fates : List Fate) → fate_at place (seeing snapshot fates) ≡ looked.fate
-    → Stands told_in ways (looks ++ seeing snapshot fates ∷ []) place name watched (standing_after ways.by_name came))
-    → Visited told_in told ways looks snapshot place name printer slots after slots_new watched (standing_after ways.by_name came) (has_failed came)
-looked_visited {ways} {looks} {snapshot} {place} {name} kept looked stands = record {
+    → ((fates : List Fate) → fate_at place (seeing snapshot fates) ≡ looked.fate → Stands told_in ways (looks ++ seeing snapshot fates ∷ []) place name watched standing)
+    → Visited told_in told ways looks snapshot place name printer slots after slots_new watched standing (has_failed came)
+looked_visited kept looked stands = record {
   fate = looked.fate;
   share = looked.share;
-  is_share = λ is fates at. looked.is_share is fates ∙ ap (share_by ways name looks (seeing snapshot fates)) (sym at)
-      ∙ ap (λ test. if test then no_share name else share_by ways name looks (seeing snapshot fates) (fate_at place (seeing snapshot fates))) (sym kept);
+  is_share = λ is fates at. rw (kept, at) (looked.is_share is fates);
   is_failed = looked.failed;
   shared = looked.shared;
   stands = stands;
@@ -122,55 +119,52 @@ only_read : {place : ℕ} {by_name : Bool} (looks : List Look) {why : Fault} →
 only_read looks (inl (opening, is, later)) first way = absurd (false≢true (sym way ∙ is))
 only_read looks (inr read) first way = read
 
--- it came through; what stopped it is told, or ends following
-pub gave_through : {told_in told : Bool} {ways : Ways} {snapshot : Snapshot} {place : ℕ} {name : List ℕ} {standing : Standing} {led : Option ℕ}
-    {old new : List Watched} {printer after : PrinterState} {slots slots_new : List Slot} {len : ℕ} → (watched_at old place).name ≡ name
-    → IsTrue (is_watchable old place) → Follows told_in ways.by_name led place old new None
-    → ((looks : List Look) → Stands told_in ways looks place name (watched_at old place) standing
-    → Gave told_in told ways looks snapshot place name led printer slots after slots_new (Ok len))
-    → Looks told_in told ways snapshot place name standing old printer slots new after slots_new (Ok (Through len))
-gave_through {snapshot} {place} {old} named can (file, is, leads) gave = record {
-  visits = record {
-    visited = λ looks stands. let made = gave looks stands in let looked = looked_whole made.is_due made.ends in
-        looked_visited made.kept looked (λ fates at. through_stands looks (seeing snapshot fates) old named can made.kept is at looked.fault leads (λ t. ((made.last t).0, (made.last t).1 fates)));
-    stopped = tt;
-    same = refl;
-    ready = rw (opened_now place old is can) (named, none_there (watched_at old place).failed can);
-    others = keeps_others (opens file) is;
-    halts = tt;
-  };
-}
+module _ {told_in told : Bool} {ways : Ways} {snapshot : Snapshot} {place : ℕ} {name : List ℕ} {standing : Standing} {old new : List Watched} {printer after : PrinterState} {slots slots_new : List Slot} where
+  came_looks : (came : Came) (change : Watched → Watched) → new ≡ changed_at place change old
+      → CanVisit (record { text = name; standing = standing_after ways.by_name came }) (watched_at new place)
+      → ((looks : List Look) → Stands told_in ways looks place name (watched_at old place) standing
+      → Visited told_in told ways looks snapshot place name printer slots after slots_new (watched_at new place) (standing_after ways.by_name came) (has_failed came))
+      → Looks told_in told ways snapshot place name standing old printer slots new after slots_new (Ok came)
+  came_looks came change is ready visited =
+      record { visits = record { visited = visited; stopped = tt; same = refl; ready = ready; others = keeps_others change is; halts = tt } }
 
-pub gave_fails : {told_in told : Bool} {ways : Ways} {snapshot : Snapshot} {place : ℕ} {name : List ℕ} {standing : Standing} {led : Option ℕ}
-    {old new : List Watched} {printer after : PrinterState} {slots mid slots_new : List Slot} (stop : Stop) {result : Result Came Fault}
-    → IsTrue (is_watchable old place) → Follows told_in ways.by_name led place old new (Some stop)
-    → ((looks : List Look) → Stands told_in ways looks place name (watched_at old place) standing
-    → Gave told_in told ways looks snapshot place name led printer slots after mid (Err stop)) → TellsStop told name mid slots_new stop result
-    → Looks told_in told ways snapshot place name standing old printer slots new after slots_new result
-gave_fails {told_in} {told} {ways} {snapshot} {place} {name} {standing} {old} {new} {printer} {after} {slots} {slots_new} (Broke why) can (file, is, those) gave (tells, says) =
-    subst (λ r. Looks told_in told ways snapshot place name standing old printer slots new after slots_new r) (sym tells) (record {
-      visits = record {
-        visited = λ looks stands. let made = gave looks stands in let looked = looked_broke made.is_due made.fails made.ends says in
-            looked_visited made.kept looked (λ fates at. dropped_stands looks (seeing snapshot fates) file old can made.kept is at looked.fault (only_read looks made.fails));
-        stopped = tt;
-        same = refl;
-        ready = tt;
-        others = keeps_others (λ w. breaks why (opens file w)) (is ∙ changed_at-again place (opens file) (breaks why) old);
-        halts = tt;
-      };
-    })
-gave_fails {told_in} {told} {ways} {snapshot} {place} {name} {standing} {old} {new} {printer} {after} {slots} {slots_new} (Over why) can follows gave (tells, same) =
-    subst (λ r. Looks told_in told ways snapshot place name standing old printer slots new after slots_new r) (sym tells) (record {
-      visits = record {
-        visited = tt;
-        stopped = λ looks stands. let made = gave looks stands in
-            (made.kept, subst (λ those. Stopped told_in told ways looks snapshot name printer slots those why) (sym same) (looked_over made.is_due made.ends));
-        same = refl;
-        ready = tt;
-        others = tt;
-        halts = follows;
-      };
-    })
+  -- it broke
+  drops_looks : (file : Option ℕ) (why : Fault) → IsTrue (is_watchable old place) → new ≡ changed_at place (breaks why) (changed_at place (opens file) old)
+      → ((looks : List Look) → Stands told_in ways looks place name (watched_at old place) standing → (is_dropped place looks ≡ false)
+      × Looked told_in told ways looks snapshot place name printer slots after slots_new Dropped (Some why) × (is_first looks ≡ false → ways.by_name ≡ false → why ≡ Read place))
+      → Looks told_in told ways snapshot place name standing old printer slots new after slots_new (Ok Dropped)
+  drops_looks file why can is gave = came_looks Dropped (λ w. breaks why (opens file w)) (is ∙ changed_at-again place (opens file) (breaks why) old) tt (λ looks stands.
+      let (kept, looked, read) = gave looks stands in
+      looked_visited kept looked (λ fates at. dropped_stands looks (seeing snapshot fates) file old can kept is at looked.fault read))
+
+  -- it came through; what stopped it is told, or ends following
+  pub gave_through : {led : Option ℕ} {len : ℕ} → (watched_at old place).name ≡ name
+      → IsTrue (is_watchable old place) → Follows told_in ways.by_name led place old new None
+      → ((looks : List Look) → Stands told_in ways looks place name (watched_at old place) standing
+      → Gave told_in told ways looks snapshot place name led printer slots after slots_new (Ok len))
+      → Looks told_in told ways snapshot place name standing old printer slots new after slots_new (Ok (Through len))
+  gave_through {len} named can (file, is, leads) gave =
+      came_looks (Through len) (opens file) is (rw (opened_now place old is can) (named, none_there (watched_at old place).failed can)) (λ looks stands.
+      let made = gave looks stands in let looked = looked_whole made.is_due {len = len} made.ends in looked_visited made.kept looked
+      (λ fates at. through_stands looks (seeing snapshot fates) old named can made.kept is at looked.fault leads (λ t. ((made.last t).0, (made.last t).1 fates))))
+
+  pub gave_fails : {led : Option ℕ} {mid : List Slot} (stop : Stop) {result : Result Came Fault}
+      → IsTrue (is_watchable old place) → Follows told_in ways.by_name led place old new (Some stop)
+      → ((looks : List Look) → Stands told_in ways looks place name (watched_at old place) standing
+      → Gave told_in told ways looks snapshot place name led printer slots after mid (Err stop)) → TellsStop told name mid slots_new stop result
+      → Looks told_in told ways snapshot place name standing old printer slots new after slots_new result
+  gave_fails (Broke why) can (file, is, those) gave (tells, says) = rw tells (drops_looks file why can is (λ looks stands.
+      let made = gave looks stands in (made.kept, looked_broke made.is_due made.fails made.ends says, only_read looks made.fails)))
+  gave_fails (Over why) can follows gave (tells, same) = rw (tells, same) (record {
+    visits = record {
+      visited = tt;
+      stopped = λ looks stands. let made = gave looks stands in (made.kept, looked_over made.is_due made.ends);
+      same = refl;
+      ready = tt;
+      others = tt;
+      halts = follows;
+    };
+  })
 
 -- ways out of the first look
 
@@ -178,60 +172,38 @@ pub first_missing : {told_in told : Bool} {ways : Ways} {snapshot : Snapshot} {p
     {slots slots_new : List Slot} {old new : List Watched} {is_there : Bool} → Reopens told_in snapshot old new place is_there → is_there ≡ false
     → (watched_at old place).name ≡ name → IsTrue (is_watchable old place) → SaysOn told Tail (message_of Tail (Open place) name) slots slots_new
     → Looks told_in told ways snapshot place name New old printer slots new printer slots_new (Ok Missing)
-first_missing {told_in} {told} {ways} {snapshot} {place} {name} {printer} {slots} {slots_new} {old} {new} reopens gone named can says = record {
-  visits = record {
-    visited = λ looks fresh. subst (λ those. Visited told_in told ways those snapshot place name printer slots printer slots_new (watched_at new place)
-        (standing_after ways.by_name Missing) true) (sym fresh.0) (looked_visited refl looked (λ fates at. stands fates at ways.by_name refl));
-    stopped = tt;
-    same = refl;
-    ready = ready ways.by_name;
-    others = keeps_others (opens reopens.file) reopens.names;
-    halts = tt;
-  };
-} where
-  nowhere : told_in ≡ true → snapshot.leads name ≡ None
-  nowhere t = sym (reopens.leads t ∙ ap snapshot.leads named) ∙ none_of reopens.file (reopens.found ∙ gone)
+first_missing {told_in} {told} {ways} {snapshot} {place} {name} {printer} {slots} {slots_new} {old} {new} reopens gone named can says =
+    came_looks Missing (opens reopens.file) reopens.names (ready ways.by_name)
+    (λ looks fresh. rw fresh.0 (looked_visited refl looked (λ fates at. stands fates at ways.by_name refl))) where
+      nowhere : told_in ≡ true → snapshot.leads name ≡ None
+      nowhere t = sym (reopens.leads t ∙ ap snapshot.leads named) ∙ none_of reopens.file (reopens.found ∙ gone)
 
-  looked : Looked told_in told ways [] snapshot place name printer slots printer slots_new Missing None
-  looked = meets_nothing nowhere says
+      looked : Looked told_in told ways [] snapshot place name printer slots printer slots_new Missing None
+      looked = meets_nothing nowhere says
 
-  unbroken : (watched_at new place).failed ≡ None
-  unbroken = ap (λ (w : Watched). w.failed) (opened_now place old reopens.names can) ∙ none_there (watched_at old place).failed can
+      unbroken : (watched_at new place).failed ≡ None
+      unbroken = ap (λ (w : Watched). w.failed) (opened_now place old reopens.names can) ∙ none_there (watched_at old place).failed can
 
-  ready : (by_name : Bool) → CanVisit (record { text = name; standing = if by_name then Followed 0 else Left }) (watched_at new place)
-  ready true = (ap (λ (w : Watched). w.name) (opened_now place old reopens.names can) ∙ named, unbroken)
-  ready false = tt
+      ready : (by_name : Bool) → CanVisit (record { text = name; standing = if by_name then Followed 0 else Left }) (watched_at new place)
+      ready true = (ap (λ (w : Watched). w.name) (opened_now place old reopens.names can) ∙ named, unbroken)
+      ready false = tt
 
-  stands : (fates : List Fate) → fate_at place (seeing snapshot fates) ≡ looked.fate → (by_name : Bool) → ways.by_name ≡ by_name
-      → Stands told_in ways (seeing snapshot fates ∷ []) place name (watched_at new place) (if by_name then Followed 0 else Left)
-  stands fates at true way = through_stands [] (seeing snapshot fates) old named can refl reopens.names at looked.fault (λ t. reopens.leads t ∙ ap snapshot.leads named) (λ t. (
-    λ other. absurd (false≢true (sym other ∙ way)),
-    subst (λ len. StandsAt (last_of (entries_in ways name (seeing snapshot fates ∷ []))) (snapshot.leads name) len)
-        (ap (λ led. length (held_at snapshot led)) (nowhere t)) (first_last ways (seeing snapshot fates)),
-  ))
-  stands fates at false way = record { begun = refl; why = inr (record { way = way; unbroken = unbroken; kept = kept_more place [] (seeing snapshot fates) refl at looked.fault; unopened = nowhere }) }
+      stands : (fates : List Fate) → fate_at place (seeing snapshot fates) ≡ looked.fate → (by_name : Bool) → ways.by_name ≡ by_name
+          → Stands told_in ways (seeing snapshot fates ∷ []) place name (watched_at new place) (if by_name then Followed 0 else Left)
+      stands fates at true way = through_stands [] (seeing snapshot fates) old named can refl reopens.names at looked.fault (λ t. reopens.leads t ∙ ap snapshot.leads named) (λ t. (
+        λ other. absurd (false≢true (sym other ∙ way)),
+        subst (λ len. StandsAt (last_of (entries_in ways name (seeing snapshot fates ∷ []))) (snapshot.leads name) len)
+            (ap (λ led. length (held_at snapshot led)) (nowhere t)) (first_last ways (seeing snapshot fates)),
+      ))
+      stands fates at false way = record { begun = refl; why = inr (record { way = way; unbroken = unbroken; kept = kept_more place [] (seeing snapshot fates) refl at looked.fault; unopened = nowhere }) }
 
 pub first_unopened : {told_in told : Bool} {ways : Ways} {snapshot : Snapshot} {place : ℕ} {name : List ℕ} {printer : PrinterState}
     {slots slots_new : List Slot} {old new : List Watched} {why : Fault} {result : Result Came Fault} → IsTrue (is_watchable old place) → why ≡ Open place
     → new ≡ changed_at place (breaks why) old → TellsStop told name slots slots_new (Broke why) result
     → Looks told_in told ways snapshot place name New old printer slots new printer slots_new result
-first_unopened {told_in} {told} {ways} {snapshot} {place} {name} {printer} {slots} {slots_new} {old} {new} {why} can is broken (tells, says) =
-    subst (λ those. Looks told_in told ways snapshot place name New old printer slots new printer slots_new those) (sym tells) (record {
-      visits = record {
-        visited = λ looks fresh. subst (λ those. Visited told_in told ways those snapshot place name printer slots printer slots_new (watched_at new place) Left true)
-            (sym fresh.0) (looked_visited refl looked (λ fates at. dropped_stands [] (seeing snapshot fates) (watched_at old place).opened old can refl changed at (looked.fault ∙ ap Some (sym is)) (λ late. absurd (false≢true (sym late)))));
-        stopped = tt;
-        same = refl;
-        ready = tt;
-        others = keeps_others (breaks why) broken;
-        halts = tt;
-      };
-    }) where
-      changed : new ≡ changed_at place (breaks why) (changed_at place (opens (watched_at old place).opened) old)
-      changed = broken ∙ ap (changed_at place (breaks why)) (sym (opens_same old place))
-
-      looked : Looked told_in told ways [] snapshot place name printer slots printer slots_new Dropped (Some (Open place))
-      looked = meets_unopened (subst (λ those. SaysOn told Tail (message_of Tail those name) slots slots_new) is says)
+first_unopened {place} {old} {why} can is broken (tells, says) =
+    rw tells (drops_looks (watched_at old place).opened why can (broken ∙ ap (changed_at place (breaks why)) (sym (opens_same old place)))
+    (λ looks fresh. rw (fresh.0, is) (refl, meets_unopened (rw is at says), λ late. absurd (false≢true (sym late)))))
 
 -- the file was opened: its start part was given under its header, or a beginning of it
 pub first_gave : {told_in told : Bool} {ways : Ways} {snapshot : Snapshot} {place : ℕ} {name contents : List ℕ} {printer inside after : PrinterState}
@@ -324,31 +296,25 @@ visit_made {told_in} {told} {ways} {snapshot} {place} {standing} {old} {watched}
 
 -- a name that is looked at no more
 
-no_last : (last : Entry) → None ≡ file_of last → last ≡ gap
-no_last gap is = refl
-no_last (version v) is = absurd (cc)
+-- where no file is open, and names aren't followed, nothing is due
+left_due : {told_in : Bool} {ways : Ways} (looks : List Look) {snapshot : Snapshot} {place : ℕ} {name : List ℕ} {watched : Watched} → is_first looks ≡ false
+    → IsMissed told_in ways looks place name watched → IsDue told_in ways looks snapshot name [] []
+left_due [] first missed = absurd (false≢true (sym first))
+left_due {ways} (before ∷ looks) {snapshot} {name} first missed = record {
+  is = λ t fates.
+      let here = sym (missed.unopened t) ∙ last_file ways name before looks in
+      let (kept, gains, said) = (later_due {ways = ways} {name = name} {before = before} {looks = looks} {snapshot = snapshot} {opened = None} {position = seen_length (last_in ways name before looks)}
+      (λ t. record { file = here; seen = refl })).is t fates in
+      let (none, silent) = gap_gives ways.by_name name (last_in ways name before looks) snapshot here missed.way in (kept, none ∙ gains, silent ∙ said);
+} where
+  gap_gives : (by_name : Bool) (name : List ℕ) (last : Entry) (snapshot : Snapshot) → None ≡ file_of last → by_name ≡ false
+      → ([] ≡ gains_later last (entries_at_look by_name name None snapshot)) × ([] ≡ said_of name last (entries_at_look by_name name None snapshot))
+  gap_gives by_name name gap snapshot here way = rw way (refl, refl)
+  gap_gives by_name name (version v) snapshot here way = absurd (cc)
 
-abbrev share_from : List ℕ → Entry → List Entry → Share
-share_from name entry entries = given_share false name (gains_later entry entries) (map (λ notice. notice_of notice name) (notices_later entry entries))
-
-missed_share : {told : Bool} {ways : Ways} {before : Look} {looks : List Look} (look : Look) {place : ℕ} {name : List ℕ} {watched : Watched} → told ≡ true → IsMissed told ways (before ∷ looks) place name watched → fate_at place look ≡ sound
-    → (dropped : Bool) → is_dropped place (before ∷ looks) ≡ dropped → no_share name ≡ share_of ways (before ∷ looks) look place name
-missed_share {ways} {before} {looks} look {place} {name} t missed fine true dropped =
-    sym (ap (λ test. if test then no_share name else share_by ways name (before ∷ looks) look (fate_at place look)) dropped)
-missed_share {ways} {before} {looks} look {place} {name} t missed fine false dropped =
-    let last = last_of (entries_in ways name (before ∷ looks)) in
-    let opened = open_after ways.by_name name (snapshots (before ∷ looks)) in
-    let none : last ≡ gap = no_last last (sym (missed.unopened t) ∙ last_file ways name before looks) in
-    let entries : entries_at_look ways.by_name name opened look.snapshot ≡ gap ∷ [] = ap (λ by_name. entries_at_look by_name name opened look.snapshot) missed.way ∙ ap (λ file. entries_at_look false name file look.snapshot) (missed.unopened t) in
-    sym (later_share ways before looks look place dropped fine
-    ∙ ap (λ those. share_from name those (entries_at_look ways.by_name name opened look.snapshot)) none ∙ ap (share_from name gap) entries)
-
-left_share : {told : Bool} {ways : Ways} (looks : List Look) (look : Look) {place : ℕ} {name : List ℕ} {watched : Watched} → told ≡ true → IsLeft told ways looks place name watched → fate_at place look ≡ sound → no_share name ≡ share_of ways looks look place name
-left_share [] look t left fine = absurd (false≢true (sym left.begun))
-left_share {ways} (before ∷ looks) look {place} {name} t left fine = elim left.why [
-  | inl dropped ↦ sym (ap (λ test. if test then no_share name else share_by ways name (before ∷ looks) look (fate_at place look)) dropped.0)
-  | inr missed ↦ missed_share look t missed fine (is_dropped place (before ∷ looks)) refl
-]
+still_open : (name : List ℕ) (opened : Option ℕ) (snaps : List Snapshot) → open_after_later false name opened snaps ≡ opened
+still_open name opened [] = refl
+still_open name opened (snapshot ∷ snaps) = still_open name opened snaps
 
 still_left : {told : Bool} {ways : Ways} (looks : List Look) (look : Look) {place : ℕ} {name : List ℕ} {watched : Watched} → fate_at place look ≡ sound → IsLeft told ways looks place name watched → IsLeft told ways (looks ++ look ∷ []) place name watched
 still_left [] look fine left = absurd (false≢true (sym left.begun))
@@ -360,30 +326,30 @@ still_left {ways} (before ∷ looks) look {place} {name} {watched} fine left = r
       way = missed.way;
       unbroken = missed.unbroken;
       kept = ap is_some (failed_sound place (before ∷ looks) look fine) ∙ missed.kept;
-      unopened = λ t. last_file ways name before (looks ++ look ∷ [])
-          ∙ ap file_of (last_added ways name before looks look (sym (missed.unopened t) ∙ last_file ways name before looks))
-          ∙ sym (look_leaves ways.by_name name None look.snapshot _).file ∙ ap (λ by_name. open_after_look by_name name None look.snapshot) missed.way;
+      unopened = λ t. rw missed.way (still_open name _ (snapshots (looks ++ look ∷ [])) ∙ sym (still_open name _ (snapshots looks)) ∙ rw missed.way at (missed.unopened t));
     })
   ];
 }
 
-left_visited : {told_in told : Bool} {ways : Ways} {snapshot : Snapshot} {place : ℕ} {name : List ℕ} {printer : PrinterState} {slots : List Slot} {watched : Watched} {standing : Standing} {looks : List Look} → standing ≡ Left → Stands told_in ways looks place name watched standing
-    → Visited told_in told ways looks snapshot place name printer slots printer slots watched standing false
-left_visited {told_in} {ways} {snapshot} {place} {name} {watched} {looks} is stands =
-    let left : IsLeft told_in ways looks place name watched = subst (Stands told_in ways looks place name watched) is stands in
-    record {
-      fate = sound;
-      share = no_share name;
-      is_share = λ t fates at. left_share looks (record { snapshot = snapshot; fates = fates }) t left at;
-      is_failed = refl;
-      shared = gives_nothing;
-      stands = λ fates at. subst (λ those. Stands told_in ways (looks ++ record { snapshot = snapshot; fates = fates } ∷ []) place name watched those) (sym is) (still_left looks (record { snapshot = snapshot; fates = fates }) at left);
-    }
+left_visited : {told_in told : Bool} {ways : Ways} {snapshot : Snapshot} {place : ℕ} {name : List ℕ} {printer : PrinterState} {slots : List Slot} {watched : Watched}
+    (looks : List Look) → IsLeft told_in ways looks place name watched → Visited told_in told ways looks snapshot place name printer slots printer slots watched Left false
+left_visited {snapshot} {place} {name} looks left = elim left.why [
+  | inl dropped ↦ record {
+    fate = sound;
+    share = no_share name;
+    is_share = λ t fates at. rw dropped.0 refl;
+    is_failed = refl;
+    shared = gives_nothing;
+    stands = λ fates at. still_left looks (seeing snapshot fates) at left;
+  }
+  | inr missed ↦ let looked = looked_whole (left_due looks left.begun missed) {place = place} {len = 0} (rw left.begun nothing_due) in
+      looked_visited missed.kept looked (λ fates at. still_left looks (seeing snapshot fates) (at ∙ came_through place looked.fate None looked.fault) left)
+]
 
 pub visit_left : {told_in told : Bool} {ways : Ways} {snapshot : Snapshot} {place : ℕ} {name : NameState} {watched : List Watched} {printer : PrinterState} {slots : List Slot} → name.standing ≡ Left → CanVisit name (watched_at watched place)
     → Visits told_in told ways snapshot place name watched printer slots name watched printer slots (Ok false)
 visit_left left can = record {
-  visited = λ looks stands. left_visited left stands;
+  visited = λ looks stands. rw left (left_visited looks (rw left at stands));
   stopped = tt;
   same = refl;
   ready = can;
