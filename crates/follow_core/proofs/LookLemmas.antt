@@ -98,14 +98,6 @@ more_said ways name before looks look =
     ap (map (λ notice. notice_of notice name)) (ap (λ those. drop (length (notices_of entries)) (notices_of those)) (entries_more ways name before looks look)
     ∙ later_said _ (some_at ways.by_name name before.snapshot (snapshots looks)))
 
-pub later_share : (ways : Ways) {name : List ℕ} (before : Look) (looks : List Look) (look : Look) (place : ℕ)
-    → is_dropped place (before ∷ looks) ≡ false → fate_at place look ≡ sound → share_of ways (before ∷ looks) look place name ≡ given_share false name
-    (gains_later (last_of (entries_in ways name (before ∷ looks))) (entries_at_look ways.by_name name (open_after ways.by_name name (snapshots (before ∷ looks))) look.snapshot))
-    (map (λ notice. notice_of notice name) (notices_later (last_of (entries_in ways name (before ∷ looks))) (entries_at_look ways.by_name name (open_after ways.by_name name (snapshots (before ∷ looks))) look.snapshot)))
-later_share ways {name} before looks look place kept fine = rw (kept, fine)
-    (ap (λ bytes. given_share false name bytes (said_at_look ways name (before ∷ looks) look)) (gain_more ways name before looks look)
-    ∙ ap (given_share false name _) (more_said ways name before looks look))
-
 -- the last entry of a name: the file that is open, and how much of it was seen
 
 last_more : {entries : List Entry} (more : List Entry) → Some_entries entries → last_of (entries ++ more) ≡ last_from (last_of entries) more
