@@ -12,7 +12,7 @@ use Rattle.follow_core.specs.Look.{Fate, Look, Ways, entries_in, failed_by, fail
 use Rattle.std.proofs.Math.Seq.{drop-append_seam as drop_front, take-append_seam}
 use Rattle.follow_core.specs.Run.{AreKept, name_text}
 use Rattle.follow_core.specs.Notice.{notice_of, notices_of, notices_later, is_missing}
-use Rattle.follow_core.specs.Share.{share_by, share_of, gain, gains_from, new_entries, said_at_look, IsFront, missing_share, Share, BeginsShare}
+use Rattle.follow_core.specs.Share.{share_by, gain, gains_from, new_entries, said_at_look, IsFront, missing_share, Share, BeginsShare}
 use Rattle.follow_core.proofs.RunLemmas.{gains-append, last_from-append, notices-append, text_goes_on, text_is_gains}
 use Rattle.follow_core.proofs.ShareLemmas.{entries-append}
 use Rattle.ports_core.specs.Slot.{Slot}

@@ -1,8 +1,8 @@
 use Rattle.std.proofs.Common.{◌≡◌, ◌<◌, ◌≤◌, ◌+◌, length, refl, sym, ◌∙◌, subst, arith}
 use Rattle.std.proofs.lemmas.List.{length-set, get_or_default}
-use Rattle.watch_core.specs.Watched.{opens, watched_at}
+use Rattle.watch_core.specs.Watched.{opens}
 use Rattle.follow_core.proofs.CallLemmas.{keeps_others}
-use Rattle.follow_core.specs.Standing.{CanVisit, no_state}
+use Rattle.follow_core.specs.Standing.{no_state}
 use Rattle.follow_core.proofs.FollowLemmas.{next_ready, same_length, texts_set, visited_more, visited_none, visited_short}
 use Rattle.follow_core.proofs.name.visit_all.Goals as goal
 
@@ -18,11 +18,6 @@ loop-place-init g c = record {
   seen = refl;
   shows = refl;
 }
-
-pub visit-requires-clause-ready : goal.visit-requires-clause-ready
-visit-requires-clause-ready g c =
-    let l = c.loop-place in
-    subst (λ name. CanVisit name (watched_at (g.W.Watch.watched l.watch) (c.args.first + l.place))) (get_or_default l.names l.place _ c.index-names-place.result c.loop-place-test.true) (l.invariant.ready l.place c.loop-place-test.true)
 
 pub returns-in-Err-clause-visits : goal.returns-in-Err-clause-visits
 returns-in-Err-clause-visits g c =

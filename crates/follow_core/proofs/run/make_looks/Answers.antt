@@ -1,15 +1,6 @@
 use Rattle.std.proofs.Common.{◌+◌, ◌∙◌, refl, arith}
-use Rattle.follow_core.proofs.EndingLemmas.{ended, none_made, one_more, one_stopped}
+use Rattle.follow_core.proofs.EndingLemmas.{ended, one_more, one_stopped}
 use Rattle.follow_core.proofs.run.make_looks.Goals as goal
-
-pub loop-made-init : goal.loop-made-init
-loop-made-init g c = record {
-  within = omega arith;
-  can = c.requires.can;
-  error = c.requires.error;
-  shows = refl;
-  progress = λ ways headers names first holds. none_made c.requires.unseen holds;
-}
 
 pub returns-in-Err-clause-stopped : goal.returns-in-Err-clause-stopped
 returns-in-Err-clause-stopped g c ways headers names first holds =

@@ -1,13 +1,7 @@
 use Rattle.std.proofs.Common.{refl}
-use Rattle.follow_core.proofs.CallLemmas.{line_due, no_line}
+use Rattle.follow_core.proofs.CallLemmas.{no_line}
 use Rattle.follow_core.proofs.GiveLemmas.{due_as, nothing_due}
 use Rattle.follow_core.proofs.visitor.begin_at.Goals as goal
 
 pub returns-then-len-position-clause-ends : goal.returns-then-len-position-clause-ends
 returns-then-len-position-clause-ends g c told_in printer = due_as (λ t. (refl, no_line c.args.name.now c.if-len-position.true)) nothing_due
-
-pub returns-in-Ok-clause-ends : goal.returns-in-Ok-clause-ends
-returns-in-Ok-clause-ends g c told_in printer = due_as (λ t. (refl, line_due c.args.name.now c.if-len-position.false)) (c.in-Ok.ensures.ends told_in printer)
-
-pub returns-in-Err-clause-ends : goal.returns-in-Err-clause-ends
-returns-in-Err-clause-ends g c told_in printer = due_as (λ t. (refl, line_due c.args.name.now c.if-len-position.false)) (c.in-Err.ensures.ends told_in printer)

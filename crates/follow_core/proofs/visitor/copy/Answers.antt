@@ -1,9 +1,6 @@
-use Rattle.std.proofs.Common.{◌≡◌, arith, drop, length, refl, sym, ap, ◌∙◌}
-use Rattle.watch_core.specs.Snapshot.{latest}
-use Rattle.watch_core.specs.Watched.{breaks, open_contents, watched_at}
-use Rattle.ports_core.specs.Slot.{changed_at}
+use Rattle.std.proofs.Common.{arith, drop, refl, sym, ◌∙◌}
 use Rattle.follow_core.proofs.CallLemmas.{ends_can}
-use Rattle.follow_core.proofs.GiveLemmas.{broke_after, copy_starts, copy_more, copy_done, cut_short, few_fit, nothing_left, some_left}
+use Rattle.follow_core.proofs.GiveLemmas.{broke_after, copy_starts, copy_more, cut_short, few_fit, some_left}
 use Rattle.follow_core.proofs.StartLemmas.{contents_same}
 use Rattle.follow_core.proofs.visitor.copy.Goals as goal
 
@@ -36,25 +33,8 @@ loop-at-preserved g c =
       room = some_left _ _ _ c.read_at.ensures.length l.invariant.room;
     }
 
-pub returns-in-Ok-eq0-clause-ends : goal.returns-in-Ok-eq0-clause-ends
-returns-in-Ok-eq0-clause-ends g c =
-    let l = c.loop-at in
-    copy_done _ _ _ l.invariant.ends (nothing_left l.buffer (contents_same c.args.place (sym l.invariant.seen) (sym l.invariant.watched))
-    c.loop-at-test.true l.invariant.room c.min-room.ensures c.in-Ok-eq0.field-0-test c.in-Ok-eq0.ensures.bytes)
-
-pub returns-clause-ends : goal.returns-clause-ends
-returns-clause-ends g c =
-    let contents = open_contents (latest (g.W.Watch.seen c.args.watch.now)) (watched_at (g.W.Watch.watched c.args.watch.now) c.args.place) in
-    copy_done contents c.args.from c.loop-at.at c.loop-at.invariant.ends (λ t. let whole : c.args.len ≡ length contents = c.requires.whole t in omega (arith, whole))
-
 pub returns-in-Err-clause-ends : goal.returns-in-Err-clause-ends
 returns-in-Err-clause-ends g c = cut_short _ (broke_after c.loop-at.invariant.ends)
-
-pub returns-in-Err-clause-keeps : goal.returns-in-Err-clause-keeps
-returns-in-Err-clause-keeps g c = (c.in-Err.ensures.err.0, c.in-Err.ensures.err.1 ∙ ap (changed_at c.args.place (breaks c.in-Err.fault)) c.loop-at.invariant.watched)
-
-pub returns-in-Err-put-clause-keeps : goal.returns-in-Err-put-clause-keeps
-returns-in-Err-put-clause-keeps g c = c.in-Ok.ensures.same ∙ c.loop-at.invariant.watched
 
 pub returns-in-Err-put-clause-ends : goal.returns-in-Err-put-clause-ends
 returns-in-Err-put-clause-ends g c =

@@ -8,9 +8,6 @@ use Rattle.follow_core.proofs.printer.Printer.show.Goals as goal
 pub returns-in_default-clause-short : goal.returns-in_default-clause-short
 returns-in_default-clause-short g c = no_memory
 
-pub returns-in_default-from_str-clause-last : goal.returns-in_default-from_str-clause-last
-returns-in_default-from_str-clause-last g c = tt
-
 pub returns-in_default-from_str-clause-short : goal.returns-in_default-from_str-clause-short
 returns-in_default-from_str-clause-short g c = no_memory
 

@@ -1,16 +1,13 @@
 use Rattle.std.proofs.Common.{◌∙◌, ap, refl, None, []}
 use Rattle.watch_core.specs.Snapshot.{latest}
 use Rattle.follow_core.specs.declared.visitor.Stop.TheVariants.{Over}
-use Rattle.follow_core.proofs.CallLemmas.{contents_led, ends_can, follows_from, follows_stop, readable_there, said_can}
+use Rattle.follow_core.proofs.CallLemmas.{contents_led, ends_can, follows_from, follows_stop, readable_there}
 use Rattle.follow_core.proofs.GiveLemmas.{goes_after, stops_early}
 use Rattle.follow_core.proofs.VisitLemmas.{first_gave, first_missing, first_unopened, gave_fails, gave_through}
 use Rattle.follow_core.proofs.visitor.Visitor.first.Goals as goal
 
 pub returns-in-Ok-false-clause-looks : goal.returns-in-Ok-false-clause-looks
 returns-in-Ok-false-clause-looks g c first by_name = first_missing c.in-Ok-false.ensures.ok c.in-Ok-false.field-0-test c.requires.name c.requires.watchable c.say.ensures
-
-pub returns-in-Ok-false-clause-can : goal.returns-in-Ok-false-clause-can
-returns-in-Ok-false-clause-can g c = said_can _ c.say.ensures c.requires.can
 
 pub returns-in-Err-clause-looks : goal.returns-in-Err-clause-looks
 returns-in-Err-clause-looks g c first by_name = first_unopened c.requires.watchable c.in-Err.ensures.err.0 c.in-Err.ensures.err.1 c.stop.ensures.tells
