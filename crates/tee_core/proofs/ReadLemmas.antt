@@ -9,10 +9,10 @@ use Rattle.ports_core.specs.Source.{Content, Source, source_at, is_readable, fai
 use Rattle.ports_core.specs.declared.fault.Fault.{Fault}
 use Rattle.ports_core.specs.declared.fault.Fault.TheVariants.{Read, TooLong}
 use Rattle.ports_core.specs.declared.slot.Mode.{Mode}
-use Rattle.ports_core.proofs.InputsLemmas.{HasRead, read_broken, read_failed, read_more, read_none_more, read_to_end}
+use Rattle.ports_core.proofs.InputsLemmas.{HasRead, broken_now, read_broken, read_failed, read_more, read_none_more, read_to_end}
 use Rattle.std.specs.Prelude.{All}
 use Rattle.std.proofs.lemmas.List.Elements.{All-push}
-use Rattle.ports_core.specs.Inputs.{largest_piece}
+use Rattle.ports_core.specs.Inputs.{BreaksOnly, largest_piece}
 use Rattle.tee_core.specs.Run.{IsRead, LeavesOf, to_end, to_break, to_limit, to_last_output}
 use Rattle.tee_core.specs.inner.Steps.{Copies, CopiesRead, all_of}
 
@@ -20,51 +20,49 @@ nothing_more : {x : List ℕ} (rest : List ℕ) → x ≡ x ++ rest → rest ≡
 nothing_more [] is = refl
 nothing_more {x} (byte ∷ rest) is = absurd (omega (arith, length-append x (byte ∷ rest), ap length is))
 
-untold : (told : Bool) (source : Source) (rest : List ℕ) → told ≡ false → LeavesOf told source rest
-untold told source rest is = λ tells. absurd (false≢true (sym is ∙ tells))
+-- An input that was read up to here, and what is left of it; one that doesn't tell its bytes is one that goes no further.
+abbrev SeenTo : Bool → Content → List ℕ → Source → Type 0
+SeenTo told there x source = (content : Content) × (rest : List ℕ) × (told ≡ true → content ≡ there) × (content.bytes ≡ x ++ rest) × LeavesOf told source rest
+    × BreaksOnly told content source
+
+-- one that was read to its end
+abbrev SeenWhole : Bool → Content → List ℕ → Bool → Source → Type 0
+SeenWhole told there x breaks source = (content : Content) × (told ≡ true → content ≡ there) × (content.bytes ≡ x) × (content.breaks_off ≡ breaks) × LeavesOf told source []
+    × BreaksOnly told content source
+
+whole : (told : Bool) (there : Content) (x : List ℕ) (breaks : Bool) (source : Source) → (told ≡ true → (there.bytes ≡ x) × (there.breaks_off ≡ breaks) × (source.left.bytes ≡ []))
+    → (breaks ≡ true → source.is_broken ≡ true) → SeenWhole told there x breaks source
+whole true there x breaks source has broken = (there, (λ t. refl), (has refl).0, (has refl).1, (λ t. (has refl).2), λ differs. absurd (false≢true (sym differs)))
+whole false there x breaks source has broken = (record { bytes = x; breaks_off = breaks }, (λ t. absurd (false≢true t)), refl, refl, (λ t. absurd (false≢true t)), λ differs. broken)
 
 -- the read failed
-pub broken_read : (told : Bool) {content : Content} {x : List ℕ} (size : ℕ) {sources new : List Source} {fault : Fault} → HasRead content x 0 sources → IsTrue (is_readable sources 0) → BrokeOff (source_at sources 0).left → fault ≡ Read 0 → new ≡ changed_at 0 (fails size) sources → IsRead content (LeavesOf told (source_at new 0)) false x (Some fault)
-broken_read told {content} {x} size {sources} {new} read can broke is fails =
-    let end = read_broken content x 0 sources read broke in
-    subst (λ those. IsRead content (LeavesOf told (source_at new 0)) false x (Some those)) (sym is) (to_break x end.0 end.1 (λ _. nothing_more _ (sym end.0 ∙ read_failed content x 0 sources new size read can fails)))
-
-pub broken_untold : (told : Bool) {x : List ℕ} (source : Source) {fault : Fault} → told ≡ false → fault ≡ Read 0 → IsRead (record { bytes = x; breaks_off = true }) (LeavesOf told source) false x (Some fault)
-broken_untold told {x} source tells is = subst (λ those. IsRead (record { bytes = x; breaks_off = true }) (LeavesOf told source) false x (Some those)) (sym is) (to_break x refl refl (untold told source [] tells))
+pub seen_broken : (told : Bool) (there : Content) (x : List ℕ) (size : ℕ) (sources new : List Source) → (told ≡ true → HasRead there x 0 sources) → IsTrue (is_readable sources 0)
+    → (told ≡ true → BrokeOff (source_at sources 0).left) → new ≡ changed_at 0 (fails size) sources → SeenWhole told there x true (source_at new 0)
+seen_broken told there x size sources new read can broke fails = whole told there x true (source_at new 0)
+    (λ t. let end = read_broken there x 0 sources (read t) (broke t) in
+    (end.0, end.1, nothing_more _ (sym end.0 ∙ read_failed there x 0 sources new size (read t) can fails))) (λ _. broken_now 0 size sources new can fails)
 
 -- the read told the end
-pub ended_read : (told : Bool) {content : Content} {x buffer old_buffer : List ℕ} (size : ℕ) {n : ℕ} {sources new : List Source} → HasRead content x 0 sources → IsTrue (is_readable sources 0) → Gave (source_at sources 0).left old_buffer buffer n → n ≡ 0 → 0 < length old_buffer → new ≡ changed_at 0 (gives size n) sources → IsRead content (LeavesOf told (source_at new 0)) false x None
-ended_read told {content} {x} size {n} {sources} {new} read can gave few room is =
-    let at_end = gave.ended few room in
-    let all = read_to_end content x 0 sources read at_end.0 at_end.1 in
-    to_end x all.1 all.0 (λ _. nothing_more _ (sym all.1 ∙ read_none_more content x 0 sources new size n read can few is))
+pub seen_ended : (told : Bool) (there : Content) (x : List ℕ) (size : ℕ) (sources new : List Source) {buffer old_buffer : List ℕ} {n : ℕ} → (told ≡ true → HasRead there x 0 sources)
+    → IsTrue (is_readable sources 0) → (told ≡ true → Gave (source_at sources 0).left old_buffer buffer n) → n ≡ 0 → 0 < length old_buffer
+    → new ≡ changed_at 0 (gives size n) sources → SeenWhole told there x false (source_at new 0)
+seen_ended told there x size sources new {n = n} read can gave few room is = whole told there x false (source_at new 0)
+    (λ t. let at_end = (gave t).ended few room in let all = read_to_end there x 0 sources (read t) at_end.0 at_end.1 in
+    (all.1, all.0, nothing_more _ (sym all.1 ∙ read_none_more there x 0 sources new size n (read t) can few is))) (λ breaks. absurd (false≢true breaks))
 
-pub ended_untold : (told : Bool) {x : List ℕ} (source : Source) → told ≡ false → IsRead (record { bytes = x; breaks_off = false }) (LeavesOf told source) false x None
-ended_untold told {x} source tells = to_end x refl refl (untold told source [] tells)
-
--- the piece passes the limit
-
-pub long_read : (told : Bool) {content : Content} {x old_buffer buffer : List ℕ} (size : ℕ) {fed n : ℕ} {sources new : List Source} → HasRead content x 0 sources → IsTrue (is_readable sources 0) → Gave (source_at sources 0).left old_buffer buffer n → fed ≡ length x → n ≤ length buffer → length buffer ≤ largest_piece → 2 ^ 63 ≤ fed + n → new ≡ changed_at 0 (gives size n) sources
-    → IsRead content (LeavesOf told (source_at new 0)) false x (Some TooLong)
-long_read told {content} {x} {old_buffer} {buffer} size {n} {sources} {new} read can gave counted within most many is =
-    let more = read_more content x 0 sources new old_buffer buffer size n read can gave is in
-    to_limit x (take n buffer) (source_at new 0).left.bytes more.bytes
-    (omega (arith, counted, within, many, length-append x (take n buffer), length-take n buffer)) (omega (arith, most, length-take n buffer)) (λ _. refl)
-
-pub long_untold : (told : Bool) {x : List ℕ} (buffer : List ℕ) {fed n : ℕ} (source : Source) → told ≡ false → fed ≡ length x → n ≤ length buffer → length buffer ≤ largest_piece → 2 ^ 63 ≤ fed + n → IsRead (record { bytes = x ++ take n buffer; breaks_off = false }) (LeavesOf told source) false x (Some TooLong)
-long_untold told {x} buffer {n} source tells counted within most many = to_limit x (take n buffer) [] (sym (append-nil (x ++ take n buffer))) (omega (arith, counted, within, many, length-append x (take n buffer), length-take n buffer)) (omega (arith, most, length-take n buffer)) (untold told source [] tells)
+-- it gave a piece more
+pub seen_more : (told : Bool) (there : Content) (x : List ℕ) (size : ℕ) (sources new : List Source) {old_buffer buffer : List ℕ} {n : ℕ} → (told ≡ true → HasRead there x 0 sources)
+    → IsTrue (is_readable sources 0) → (told ≡ true → Gave (source_at sources 0).left old_buffer buffer n) → new ≡ changed_at 0 (gives size n) sources
+    → SeenTo told there (x ++ take n buffer) (source_at new 0)
+seen_more told there x size sources new {old_buffer} {buffer} {n} read can gave is =
+    by told (λ t. (read_more there x 0 sources new old_buffer buffer size n (read t) can (gave t) is).bytes) where
+      by : (told : Bool) → (told ≡ true → there.bytes ≡ (x ++ take n buffer) ++ (source_at new 0).left.bytes) → SeenTo told there (x ++ take n buffer) (source_at new 0)
+      by true has = (there, (source_at new 0).left.bytes, (λ t. refl), has refl, (λ t. refl), λ differs. absurd (false≢true (sym differs)))
+      by false has = (record { bytes = x ++ take n buffer; breaks_off = false }, [], (λ t. absurd (false≢true t)), sym (append-nil (x ++ take n buffer)), (λ t. absurd (false≢true t)),
+          λ differs breaks. absurd (false≢true breaks))
 
 pub counted_more : (x buffer : List ℕ) {fed : ℕ} (n : ℕ) {sum : ℕ} → fed ≡ length x → n ≤ length buffer → sum ≡ fed + n → sum ≡ length (x ++ take n buffer)
 counted_more x buffer n counted within is = omega (arith, counted, within, is, length-append x (take n buffer), length-take n buffer)
-
--- no output is left to read for
-pub vain_read : (told : Bool) {content : Content} {x old_buffer buffer : List ℕ} (size : ℕ) {n : ℕ} {sources new : List Source} → HasRead content x 0 sources → IsTrue (is_readable sources 0) → Gave (source_at sources 0).left old_buffer buffer n → new ≡ changed_at 0 (gives size n) sources → IsRead content (LeavesOf told (source_at new 0)) true (x ++ take n buffer) None
-vain_read told {content} {x} {old_buffer} {buffer} size {n} {sources} {new} read can gave is =
-    let more = read_more content x 0 sources new old_buffer buffer size n read can gave is in
-    to_last_output (x ++ take n buffer) (source_at new 0).left.bytes more.bytes (λ _. refl)
-
-pub vain_untold : (told : Bool) {x : List ℕ} (source : Source) → told ≡ false → IsRead (record { bytes = x; breaks_off = false }) (LeavesOf told source) true x None
-vain_untold told {x} source tells = to_last_output x [] (sym (append-nil x)) (untold told source [] tells)
 
 -- the pieces
 
@@ -91,10 +89,3 @@ reads_copied {told_in} told {content} {source} {known} {fault} {came} {pieces} j
   };
   copies = copies;
 }
-
--- and it is, in the piece that just came
-pub vain_copied : {told_in : Bool} (told : Bool) {mode : Mode} {names : List (List ℕ)} {content : Content} {source : Source} {slots : List Slot} {known : List Bool} {came : List ℕ} (buffer : List ℕ) (pieces : List (List ℕ)) {fed n sum : ℕ} → came ≡ concat pieces → all_of known ≡ true → AreSized pieces → (n ≡ 0 → ⊥) → n ≤ length buffer → length buffer ≤ largest_piece → fed ≡ length came → sum ≡ fed + n → sum < 2 ^ 63
-    → source.is_broken ≡ false → IsRead content (LeavesOf told_in source) true (came ++ take n buffer) None → Copies told mode names (pieces ++ take n buffer ∷ []) [] slots known → CopiesRead told_in told mode names content source slots known None
-vain_copied told {came} buffer pieces {n} joined vain sized some within most counted is few sound read copies =
-    reads_copied told (ap (λ bytes. bytes ++ take n buffer) joined ∙ joined_more pieces (take n buffer)) vain (more_sized pieces buffer sized some within most)
-    (omega (arith, counted_more came buffer n counted within is, few)) (inr sound) read copies
