@@ -1,6 +1,5 @@
 -- Lemmas on a run's end: the input's message, and the files that are closed.
-use Rattle.std.proofs.Common.{◌≡◌, ℕ, suc, List, [], ◌∷◌, ◌++◌, length, map, Bool, not, Option, Some, None, inr, refl, sym, ◌∙◌, ap, subst, arith}
-use Rattle.std.proofs.lemmas.List.{append-nil}
+use Rattle.std.proofs.Common.{◌≡◌, ℕ, suc, List, [], ◌∷◌, ◌++◌, length, map, Bool, not, Option, Some, None, inr, refl, sym, ◌∙◌, ap, subst, arith, append-nil, is_none}
 use Rattle.std.proofs.lemmas.Bool.{false≢true}
 use Rattle.ports_core.specs.Slot.{Slot, slot_at, changed_at}
 use Rattle.ports_core.specs.Message.{SaysAll}
@@ -11,7 +10,6 @@ use Rattle.ports_core.proofs.MessageLemmas.{says_after}
 use Rattle.ports_core.specs.Streams.{standard_error}
 use Rattle.tee_core.specs.Outputs.{ChangesEach, Closes, is_closed, fails_to_close, was_broken, IsFile}
 use Rattle.tee_core.specs.Run.{OutputLeft, output_whole, output_cut, FileLeft, file_whole, file_unopened, file_cut, file_unclosed, fault_in, output_names, said_before, said_of_input}
-use Rattle.std.specs.Prelude.{is_none}
 use Rattle.tee_core.specs.inner.Steps.{HasCopied, Copies, FileHas, has_all, has_none, has_begun, EachFile, no_more, one_more, IsTeeOf, SaysTo, all_of, broken_of, said_since}
 use Rattle.tee_core.specs.TeeState.{TeeState}
 use Rattle.tee_core.proofs.CopyLemmas.{After, Marked, called, flags, said_after, Marks, call_before, error_no_output, marked_before, marked_none, marked_now, none_sooner, file_place}

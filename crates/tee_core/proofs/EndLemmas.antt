@@ -1,5 +1,5 @@
 -- Lemmas on how a run ends.
-use Rattle.std.proofs.Common.{length, ◌≡◌, ℕ, zero, suc, List, [], ◌∷◌, ◌++◌, map, Bool, true, false, not, ◌&&◌, ◌||◌, if◌then◌else◌, Option, Some, None, refl, sym, ◌∙◌, ap, subst, arith}
+use Rattle.std.proofs.Common.{length, ◌≡◌, ℕ, zero, suc, List, [], ◌∷◌, ◌++◌, map, Bool, true, false, not, ◌&&◌, ◌||◌, if◌then◌else◌, Option, Some, None, refl, sym, ◌∙◌, ap, subst, arith, is_none}
 use Rattle.std.specs.List.{concat}
 use Rattle.std.proofs.lemmas.Bool.{false≢true}
 use Rattle.std.proofs.lemmas.Bool.Decides.{nat_tests}
@@ -15,7 +15,6 @@ use Rattle.ports_core.specs.Inputs.{BreaksOnly, OfContent, empty}
 use Rattle.ports_core.specs.Streams.{standard_output, standard_error}
 use Rattle.ports_core.proofs.InputsLemmas.{of_content}
 use Rattle.tee_core.specs.Run.{EndsAs, copied, no_room, file_whole, file_unopened, file_cut, file_unclosed, FileLeft, FilesLeft, no_file, one_file, ComesIn, IsRead, to_end, to_break, to_limit, to_last_output, IsUnread, OutputLeft, output_whole, output_cut, all_copied, are_sound, broke_before, messages_of, none_left, output_names, said_before, said_in, status_of}
-use Rattle.std.specs.Prelude.{is_none}
 use Rattle.tee_core.specs.inner.Steps.{EachFile, no_more, one_more, CopiesInput, any_of}
 
 -- the status

@@ -1,9 +1,8 @@
 -- Lemmas on what outputs get.
-use Rattle.std.proofs.lemmas.Bool.{cases_eq}
+use Rattle.std.proofs.lemmas.Bool.{cases_eq, false≢true}
 use Rattle.std.proofs.Common.{◌≡◌, ℕ, ◌+◌, ◌<◌, ◌≤◌, List, ◌++◌, length, take, Bool, true, false, refl, sym, ◌∙◌, ap, subst, arith, length-append}
 use Rattle.std.proofs.Math.Seq.{take-append-add}
 use Rattle.std.proofs.lemmas.List.{take-append-le}
-use Rattle.std.proofs.lemmas.Bool.{false≢true}
 use Rattle.tee_core.specs.inner.Turns.{Turns}
 use Rattle.ports_core.specs.Slot.{Slot, slot_at, changed_at, adds, breaks, closes, told_of, with_written, with_broken}
 use Rattle.ports_core.specs.Write.{BrokeAfter}

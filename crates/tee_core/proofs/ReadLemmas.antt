@@ -1,6 +1,5 @@
 -- Lemmas on what a run reads of its input.
-use Rattle.std.proofs.Common.{◌≡◌, ℕ, ◌+◌, ◌<◌, ◌≤◌, ◌^◌, List, [], ◌∷◌, ◌++◌, length, take, Bool, true, false, Option, Some, None, IsTrue, ◌⊎◌, inr, refl, sym, ◌∙◌, ap, subst, arith, length-append, length-take}
-use Rattle.std.proofs.lemmas.List.{append-nil}
+use Rattle.std.proofs.Common.{◌≡◌, ℕ, ◌+◌, ◌<◌, ◌≤◌, ◌^◌, List, [], ◌∷◌, ◌++◌, length, take, Bool, true, false, Option, Some, None, IsTrue, ◌⊎◌, inr, refl, sym, ◌∙◌, ap, subst, arith, length-append, length-take, append-nil, All}
 use Rattle.tee_core.proofs.CopyLemmas.{joined_more}
 use Rattle.std.specs.List.{concat}
 use Rattle.std.proofs.lemmas.Bool.{false≢true}
@@ -10,7 +9,6 @@ use Rattle.ports_core.specs.declared.fault.Fault.{Fault}
 use Rattle.ports_core.specs.declared.fault.Fault.TheVariants.{Read, TooLong}
 use Rattle.ports_core.specs.declared.slot.Mode.{Mode}
 use Rattle.ports_core.proofs.InputsLemmas.{HasRead, broken_now, read_broken, read_failed, read_more, read_none_more, read_to_end}
-use Rattle.std.specs.Prelude.{All}
 use Rattle.std.proofs.lemmas.List.Elements.{All-push}
 use Rattle.ports_core.specs.Inputs.{BreaksOnly, largest_piece}
 use Rattle.tee_core.specs.Run.{IsRead, LeavesOf, to_end, to_break, to_limit, to_last_output}

@@ -1,5 +1,5 @@
 use Rattle.std.proofs.Common.{◌+◌, ◌∙◌, refl, arith}
-use Rattle.follow_core.proofs.EndingLemmas.{ended, one_more, one_stopped}
+use Rattle.follow_core.proofs.FollowLemmas.{ended, one_more, one_stopped}
 use Rattle.follow_core.proofs.run.make_looks.Goals as goal
 
 pub returns-in-Err-clause-stopped : goal.returns-in-Err-clause-stopped

@@ -3,7 +3,7 @@ use Rattle.ports_core.specs.Slot.{Slot}
 use Rattle.follow_core.specs.Sharing.{HasError}
 use Rattle.follow_core.specs.FollowState.{CanLook, Holds}
 use Rattle.follow_core.specs.Look.{Ways}
-use Rattle.follow_core.proofs.EndingLemmas.{Progress}
+use Rattle.follow_core.proofs.FollowLemmas.{Progress}
 use Rattle.follow_core.proofs.run.make_looks.Given as goal
 
 abbrev pub invariant-loop-made : goal.invariant-loop-made

@@ -1,6 +1,5 @@
 use Rattle.std.proofs.Common.{refl}
-use Rattle.follow_core.proofs.CallLemmas.{no_line}
-use Rattle.follow_core.proofs.GiveLemmas.{due_as, nothing_due}
+use Rattle.follow_core.proofs.CallLemmas.{no_line, due_as, nothing_due}
 use Rattle.follow_core.proofs.visitor.begin_at.Goals as goal
 
 pub returns-then-len-position-clause-ends : goal.returns-then-len-position-clause-ends

@@ -1,6 +1,5 @@
 use Rattle.std.proofs.Common.{arith, drop, refl, sym, ◌∙◌}
-use Rattle.follow_core.proofs.CallLemmas.{ends_can}
-use Rattle.follow_core.proofs.GiveLemmas.{broke_after, copy_starts, copy_more, cut_short, few_fit, some_left}
+use Rattle.follow_core.proofs.CallLemmas.{ends_can, broke_after, copy_starts, copy_more, cut_short, few_fit, some_left}
 use Rattle.follow_core.proofs.StartLemmas.{contents_same}
 use Rattle.follow_core.proofs.visitor.copy.Goals as goal
 

@@ -2,7 +2,7 @@ use Rattle.std.proofs.Common.{subst, ap, ◌∙◌}
 use Rattle.ports_core.specs.Write.{BrokeAfter}
 use Rattle.ports_core.specs.Text.{header_of}
 use Rattle.follow_core.specs.Printing.{broke}
-use Rattle.follow_core.proofs.GiveLemmas.{no_memory}
+use Rattle.follow_core.proofs.CallLemmas.{no_memory}
 use Rattle.follow_core.proofs.printer.Printer.show.Goals as goal
 
 pub returns-in_default-clause-short : goal.returns-in_default-clause-short

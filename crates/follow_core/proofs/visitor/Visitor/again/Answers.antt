@@ -1,7 +1,7 @@
 use Rattle.std.proofs.Common.{ap}
 use Rattle.watch_core.specs.Snapshot.{latest}
 use Rattle.follow_core.proofs.CallLemmas.{caught_looks, led_looks, stopped_looks}
-use Rattle.follow_core.proofs.VisitLemmas.{later_fails, later_through}
+use Rattle.follow_core.proofs.LookLemmas.{later_fails, later_through}
 use Rattle.follow_core.proofs.visitor.Visitor.again.Goals as goal
 
 pub returns-in-Err-clause-looks : goal.returns-in-Err-clause-looks

@@ -1,9 +1,8 @@
 use Rattle.std.proofs.Common.{◌∙◌, ap, refl, None, []}
 use Rattle.watch_core.specs.Snapshot.{latest}
 use Rattle.follow_core.specs.declared.visitor.Stop.TheVariants.{Over}
-use Rattle.follow_core.proofs.CallLemmas.{contents_led, ends_can, follows_from, follows_stop, readable_there}
-use Rattle.follow_core.proofs.GiveLemmas.{goes_after, stops_early}
-use Rattle.follow_core.proofs.VisitLemmas.{first_gave, first_missing, first_unopened, gave_fails, gave_through}
+use Rattle.follow_core.proofs.CallLemmas.{contents_led, ends_can, follows_from, follows_stop, readable_there, goes_after, stops_early}
+use Rattle.follow_core.proofs.LookLemmas.{first_gave, first_missing, first_unopened, gave_fails, gave_through}
 use Rattle.follow_core.proofs.visitor.Visitor.first.Goals as goal
 
 pub returns-in-Ok-false-clause-looks : goal.returns-in-Ok-false-clause-looks

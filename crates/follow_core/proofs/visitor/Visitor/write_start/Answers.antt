@@ -1,7 +1,6 @@
 use Rattle.std.proofs.Common.{arith}
 use Rattle.std.proofs.lemmas.Grind.{common_steps}
-use Rattle.follow_core.proofs.CallLemmas.{ends_can}
-use Rattle.follow_core.proofs.GiveLemmas.{broke_first}
+use Rattle.follow_core.proofs.CallLemmas.{ends_can, broke_first}
 use Rattle.follow_core.proofs.visitor.Visitor.write_start.Goals as goal
 
 pub returns-in-Err-clause-ends : goal.returns-in-Err-clause-ends
