@@ -1,57 +1,323 @@
--- What a call on a name gives, by what the calls in it give: the open file, and where the name leads.
-use Rattle.std.proofs.Common.{◌≡◌, ℕ, ◌<◌, ◌≤◌, suc, nat_lt, Bool, true, false, List, [], ◌∷◌, ◌++◌, length, drop, Result, Ok, Err, refl, sym, ◌∙◌, ap, subst, arith, if◌then◌else◌, ◌==◌, zero, nat_le, not, ◌&&◌, IsTrue, map, Option, Some, None, IfOk, option_map, inl, inr, subst₂}
-use Rattle.std.proofs.lemmas.Bool.{and_from, le-ltb, false≢true, lt-ltb, eqb-true, eq-eqb}
-use Rattle.std.proofs.lemmas.List.{append-nil, map-append}
-use Rattle.ports_core.specs.Slot.{Slot, is_open, changed_at, with_written}
+-- What a call on a name gives, by what the calls in it give: bytes under headers, and lines; the open file, and where the name leads.
+use Rattle.std.proofs.Common.{subst₂, ◌≡◌, ℕ, Bool, List, [], ◌∷◌, ◌++◌, inl, inr, ◌∙◌, ap, subst, ◌+◌, ◌<◌, length, take, true, false, not, if◌then◌else◌, Some, None, Option, refl, sym, arith, append_assoc, length-append, ◌-◌, ◌≤◌, drop, min, length-drop, bytes_eq, is_none, option_map, suc, nat_lt, Result, Ok, Err, ◌==◌, zero, nat_le, ◌&&◌, IsTrue, map, IfOk, is_some}
+use Rattle.ports_core.specs.Slot.{Slot, with_written, with_broken, told_of, is_open, changed_at}
+use Rattle.ports_core.specs.Message.{Prints, Says, PrintsOn, SaysOn}
+use Rattle.ports_core.specs.declared.tool.Tool.TheVariants.{Tail}
+use Rattle.ports_core.proofs.MessageLemmas.{printed_open, said_state}
+use Rattle.follow_core.specs.Sharing.{CameTo, WroteBy, CanPrint}
+use Rattle.follow_core.specs.Telling.{IsFailure, Tells, TellsAll}
+use Rattle.std.proofs.lemmas.List.{append-nil, take-append-le, length-take, take-append-drop, take_all, drop-drop as drop_drop, map-append}
+use Rattle.std.proofs.Math.Seq.{take-append-add, take-add}
+use Rattle.std.proofs.Math.Bool.{and-false}
+use Rattle.std.proofs.lemmas.Slice.Eq.{bytes_eq-Decides}
+use Rattle.ports_core.specs.Write.{BrokeAfter}
+use Rattle.ports_core.specs.Text.{header_of}
+use Rattle.ports_core.specs.declared.fault.Fault.{Fault}
+use Rattle.ends_core.proofs.StopLemmas.{nothing_written, broke_later, written_both}
+use Rattle.follow_core.specs.Followed.{has_header, is_empty, is_last}
+use Rattle.follow_core.specs.Printing.{PrinterState, Short, broke as short_broke, no_room}
+use Rattle.follow_core.specs.inner.Giving.{Ends, IsGiven, Shared, given_share, printer_under, text_under, over_by, stop_in}
+use Rattle.follow_core.specs.declared.visitor.Stop.{Stop}
+use Rattle.follow_core.specs.Share.{IsFront}
+use Rattle.ports_core.proofs.Runs.{adds-nil}
+use Rattle.watch_core.specs.Watched.{GaveFrom, Watched, breaks, no_name, Finds, Reopens, file_seen, is_readable, is_watchable, open_contents, opens, watched_at}
+use Rattle.follow_core.specs.declared.visitor.Stop.TheVariants.{Broke, Over}
+use Rattle.std.proofs.lemmas.Bool.{and_from, le-leb, le-ltb, false≢true, lt-ltb, eqb-true, eq-eqb}
 use Rattle.ports_core.specs.declared.tool.Tool.{Tool}
-use Rattle.ports_core.specs.Message.{PrintsOn, SaysOn}
 use Rattle.ports_core.proofs.InputsLemmas.{changed_elsewhere}
 use Rattle.ports_core.proofs.SlotLemmas.{length-changed_at, changed_there}
 use Rattle.follow_core.specs.inner.Visits.{KeepsOthers}
-use Rattle.ports_core.proofs.MessageLemmas.{said_state}
 use Rattle.watch_core.proofs.NameLemmas.{watchable_within}
-use Rattle.follow_core.specs.declared.visitor.Stop.{Stop}
-use Rattle.follow_core.specs.declared.visitor.Stop.TheVariants.{Broke, Over}
-use Rattle.follow_core.specs.declared.notice.Notice.TheVariants.{Truncated, Replaced}
+use Rattle.follow_core.specs.declared.notice.Notice.TheVariants.{Appeared, Inaccessible, Replaced, Truncated}
 use Rattle.follow_core.specs.Notice.{notice_of, notices_later}
-use Rattle.follow_core.specs.Printing.{PrinterState, Short, no_room, broke as short_broke}
-use Rattle.follow_core.specs.inner.Giving.{Shared, Ends, whole, broke, over}
-use Rattle.follow_core.specs.Sharing.{WroteShort, CanPrint}
-use Rattle.follow_core.specs.Share.{IsFront, Share}
-use Rattle.follow_core.specs.inner.Calls.{CanGoOn, HasStopped, Keeps, bytes_past, lines_past, held_at, Follows, bytes_led, change_between, lines_led, entry_open, bytes_again, lines_again, Catches, Leads}
-use Rattle.follow_core.proofs.GiveLemmas.{tells_state, no_memory, gives_nothing, gives_line, halts_short, front_nil, stops_early, goes_after}
-use Rattle.ports_core.specs.declared.fault.Fault.{Fault}
-use Rattle.watch_core.specs.Watched.{Watched, breaks, no_name, Finds, Reopens, file_seen, is_readable, is_watchable, open_contents, opens, watched_at}
-use Rattle.std.specs.Prelude.{is_none, is_some}
-use Rattle.watch_core.specs.Snapshot.{Snapshot, latest}
+use Rattle.follow_core.specs.inner.Calls.{Adds, CanGoOn, HasStopped, Keeps, Leads, Follows, change_between, lines_past, said_of}
+use Rattle.watch_core.specs.Snapshot.{Snapshot, latest, no_files}
 use Rattle.watch_core.specs.declared.watch.Seen.{Seen}
 use Rattle.follow_core.specs.declared.notice.Notice.{Notice}
-use Rattle.follow_core.specs.Version.{Entry, version, gap, entries_led, entries_open, open_after_look}
-use Rattle.follow_core.specs.Gain.{gains_later, last_from}
+use Rattle.follow_core.specs.Version.{Entry, version, gap, version_in, entries_at_look, entries_led, entries_open, open_after_look}
+use Rattle.follow_core.specs.Gain.{file_of, gains_later, last_from}
 use Rattle.std.proofs.lemmas.Bool.Decides.{nat_tests}
 use Rattle.std.proofs.lemmas.Option.{none-some, same_Some}
 use Rattle.std.proofs.lemmas.Result.{IfOk-weaker}
 use Rattle.follow_core.specs.Standing.{StandsAt}
-use Rattle.follow_core.proofs.RunLemmas.{later-append as gains-append, notices-append}
+use Rattle.follow_core.proofs.RunLemmas.{later-append as gains-append, last_from-append, notices-append}
 use Rattle.ports_core.specs.declared.fault.Fault.TheVariants as fault
 
--- what a call on a name gives, by what the calls in it give
+-- lines that following says, one after another
 
--- standard error stays open
-gives_can : {told : Bool} {printer after : PrinterState} {share : Share} (old : List Slot) {new : List Slot} → Shared told printer share old after new
-    → CanPrint old → CanPrint new
-gives_can [] gives can = absurd (false≢true can.0)
-gives_can (output ∷ []) gives can = absurd (false≢true can.1)
-gives_can {told} {share} (output ∷ error ∷ others) gives can =
-    let (last, said, is) = gives.slots output error others refl in
-    subst CanPrint (sym is) (can.0, ap is_open (tells_state told share.messages error last said) ∙ can.1)
+-- a line that was printed
+pub said_by : {told : Bool} {line said : List ℕ} {old new : Slot} → said ≡ line → Prints told said old new → Tells told line old new
+said_by {said} is printed = record { said = said; is = inl is; printed = printed }
 
-short_error : {told : Bool} {text : List ℕ} {output error : Slot} {others new : List Slot} {why : Fault}
-    → Short told text (output ∷ error ∷ others) new why → is_open error.state ≡ true → HasStopped why new
-short_error (short_broke n part) can = subst (HasStopped (fault.Write 0)) (sym part.slots) (inr (refl, refl), can)
-short_error (no_room n within is) can = subst (HasStopped fault.Memory) (sym is) (inl refl, can)
+-- the message of a failure that was said
+pub failure_said : {told : Bool} {line : List ℕ} {old new : Slot} → IsFailure line → Says told Tail line old new → Tells told line old new
+failure_said failure says = record { said = says.said; is = elim says.is [ inl same ↦ inl same | inr memory ↦ inr (failure, memory) ]; printed = says.printed }
 
--- both streams can be used on, whatever was said or written
+pub tells_state : (told : Bool) (lines : List (List ℕ)) (old new : Slot) → TellsAll told lines old new → new.state ≡ old.state
+tells_state told [] old new is = ap (λ slot. slot.state) is
+tells_state told (line ∷ lines) old new tells = tells_state told lines tells.0 new tells.2 ∙ printed_open told tells.1.said old tells.0 tells.1.printed
+
+pub tells_after : (told : Bool) (lines more : List (List ℕ)) (old mid new : Slot) → TellsAll told lines old mid → TellsAll told more mid new → TellsAll told (lines ++ more) old new
+tells_after told [] more old mid new so_far tells = subst (λ slot. TellsAll told more slot new) so_far tells
+tells_after told (first ∷ lines) more old mid new so_far tells = (so_far.0, so_far.1, tells_after told lines more so_far.0 mid new so_far.2 tells)
+
+-- what is printed under headers
+
+pub no_memory : {told : Bool} {text : List ℕ} {slots : List Slot} → Short told text slots slots fault.Memory
+no_memory {told} {slots} = no_room 0 (omega arith) (sym (nothing_written told slots))
+
+pub short_more : {told : Bool} {text : List ℕ} (more : List ℕ) {old new : List Slot} {why : Fault} → Short told text old new why → Short told (text ++ more) old new why
+short_more {told} {text} more {old} (short_broke n cut) = short_broke n (record {
+  within = let a : length (text ++ more) ≡ length text + length more = length-append text more in let b : n < length text = cut.within in omega arith;
+  slots = cut.slots ∙ ap (λ bytes. with_broken 0 (with_written 0 (told_of told bytes) old)) (sym (take-append-le n text more (let b : n < length text = cut.within in omega arith)));
+})
+short_more {told} {text} more {old} (no_room n within is) = no_room n (let a : length (text ++ more) ≡ length text + length more = length-append text more in omega (arith, within)) (is ∙ ap (λ bytes. with_written 0 (told_of told bytes) old) (sym (take-append-le n text more within)))
+
+pub short_later : {told : Bool} (first : List ℕ) {text : List ℕ} {old mid new : List Slot} {n : ℕ} → mid ≡ with_written 0 (told_of told first) old → BrokeAfter told mid new 0 text n → Short told (first ++ text) old new (fault.Write 0)
+short_later {told} first {text} {old} {mid} {new} {n} one cut = short_broke (length first + n) (subst (λ rest. BrokeAfter told old new 0 (first ++ rest) (length first + n)) (append-nil text) (broke_later told old mid new first text [] n one cut))
+
+pub itself : (name : List ℕ) → bytes_eq name name ≡ true
+itself name = (bytes_eq-Decides name name).1 refl
+
+-- bytes in two pieces are bytes in one, whether the first was given as the file was opened
+in_two : (printer : PrinterState) (opened : Bool) (name first second : List ℕ) (lines more all : List (List ℕ))
+    → (text_under printer (given_share opened name first lines) ++ text_under (printer_under printer (given_share opened name first lines)) (given_share false name second more)
+    ≡ text_under printer (given_share opened name (first ++ second) all))
+    × (printer_under (printer_under printer (given_share opened name first lines)) (given_share false name second more)
+    ≡ printer_under printer (given_share opened name (first ++ second) all))
+in_two printer opened name first second lines more all = by printer.headers opened first (is_last name printer.last) refl where
+  by : (headers opened : Bool) (first : List ℕ) (last : Bool) → is_last name printer.last ≡ last
+      → let before : PrinterState = record { headers = headers; last = printer.last } in
+      (text_under before (given_share opened name first lines) ++ text_under (printer_under before (given_share opened name first lines)) (given_share false name second more)
+      ≡ text_under before (given_share opened name (first ++ second) all))
+      × (printer_under (printer_under before (given_share opened name first lines)) (given_share false name second more)
+      ≡ printer_under before (given_share opened name (first ++ second) all))
+  by false opened first last is = (refl, refl)
+  by true true first last is = rw (itself name, and-false (not (is_empty second))) (append_assoc _ first second, refl)
+  by true false [] last is = (refl, refl)
+  by true false (byte ∷ first) true is = rw (is, is, and-false (not (is_empty second))) (refl, refl)
+  by true false (byte ∷ first) false is = rw (is, itself name, and-false (not (is_empty second))) (append_assoc _ (byte ∷ first) second, refl)
+
+pub short_after : {told : Bool} (first : List ℕ) {second : List ℕ} {old mid new : List Slot} {why : Fault} → mid ≡ with_written 0 (told_of told first) old → Short told second mid new why → Short told (first ++ second) old new why
+short_after first one (short_broke n cut) = short_later first one cut
+short_after {told} first {second} {old} {mid} {new} one (no_room n within is) = no_room (length first + n)
+    (let a : length (first ++ second) ≡ length first + length second = length-append first second in omega (arith, within))
+    (written_both told old mid new first (take n second) one is ∙ ap (λ bytes. with_written 0 (told_of told bytes) old) (sym (take-append-add first second n)))
+
+-- a text after another that came whole, or a beginning of it
+text_after : (told : Bool) (first second : List ℕ) (old : List Slot) {mid : List Slot} (new : List Slot) (over : Option Fault)
+    → mid ≡ with_written 0 (told_of told first) old → CameTo told second mid new over → CameTo told (first ++ second) old new over
+text_after told first second old {mid} new None one is = written_both told old mid new first second one is
+text_after told first second old new (Some why) one short = short_after first one short
+
+-- what standard output and standard error get
+
+pub wrote_none : (told : Bool) {slots : List Slot} → WroteBy told [] [] slots slots None
+wrote_none told = λ output error others is. (error, refl, is ∙ ap (λ slot. slot ∷ error ∷ others) (sym (adds-nil told output)))
+
+wrote_text : (told : Bool) (text : List ℕ) {old : List Slot} (new : List Slot) (over : Option Fault) → CameTo told text old new over → WroteBy told text [] old new over
+wrote_text told text new over came = λ output error others is. (error, refl, subst (λ those. CameTo told text those new over) is came)
+
+pub wrote_line : {told : Bool} {line : List ℕ} {old new : List Slot} → ((output error : Slot) (others : List Slot) → old ≡ output ∷ error ∷ others → (after : Slot) × Tells told line error after × (new ≡ output ∷ after ∷ others)) → WroteBy told [] (line ∷ []) old new None
+wrote_line {told} tells = λ output error others are.
+    let said = tells output error others are in
+    (said.0, (said.0, said.1, refl), said.2 ∙ ap (λ slot. slot ∷ said.0 ∷ others) (sym (adds-nil told output)))
+
+-- a text and lines after others, or a beginning of them, as one text and its lines
+pub wrote_after : (told : Bool) (text more : List ℕ) {both : List ℕ} (lines further : List (List ℕ)) {all : List (List ℕ)} {old mid : List Slot} (new : List Slot)
+    (over : Option Fault) → text ++ more ≡ both → lines ++ further ≡ all → WroteBy told text lines old mid None → WroteBy told more further mid new over
+    → WroteBy told both all old new over
+wrote_after told text more lines further {old} new over same also first second =
+    subst₂ (λ t l. WroteBy told t l old new over) same also (λ output error others is.
+    let (mid_error, said, are) = first output error others is in
+    let (last, said_more, came) = second _ mid_error others are in
+    (last, tells_after told lines further error mid_error last said said_more, text_after told text more (output ∷ last ∷ others) new over refl came))
+
+-- what is given in two steps
+
+pub gives_nothing : {told : Bool} {printer : PrinterState} {name : List ℕ} {slots : List Slot}
+    → Shared told printer (given_share false name [] []) slots printer slots None
+gives_nothing {told} {printer} = record { printer_is = λ none. rw (and-false printer.headers) refl; slots = rw (and-false printer.headers) (wrote_none told) }
+
+-- a line alone
+pub gives_line : {told : Bool} {printer : PrinterState} {name line text : List ℕ} {old new : List Slot} → text ≡ line → PrintsOn told text old new
+    → Shared told printer (given_share false name [] (line ∷ [])) old printer new None
+gives_line {printer} same prints = record {
+  printer_is = λ none. rw (and-false printer.headers) refl;
+  slots = rw (and-false printer.headers)
+      (wrote_line (λ output error others are. let said = prints output error others are in (said.0, said_by same said.1, said.2)));
+}
+
+shared_after : {told opened : Bool} {printer mid after : PrinterState} {name first second : List ℕ} {lines more : List (List ℕ)} {old now new : List Slot}
+    {over : Option Fault} → Shared told printer (given_share opened name first lines) old mid now None
+    → Shared told mid (given_share false name second more) now after new over
+    → Shared told printer (given_share opened name (first ++ second) (lines ++ more)) old after new over
+shared_after {opened} {printer} {name} {first} {second} {lines} {more} {over} one two =
+    let (text, last) = in_two printer opened name first second lines more (lines ++ more) in record {
+      printer_is = λ none. two.printer_is none ∙ ap (λ (p : PrinterState). printer_under p (given_share false name second more)) (one.printer_is refl) ∙ last;
+      slots = wrote_after _ _ _ _ _ _ over (ap (λ (p : PrinterState). text_under printer (given_share opened name first lines) ++ text_under p (given_share false name second more)) (one.printer_is refl) ∙ text)
+          refl one.slots two.slots;
+    }
+
+-- what is given of what is due
+
+front_more : {X : Type 0} (front : List X) {all : List X} (more : List X) → IsFront front all → IsFront front (all ++ more)
+front_more front more (rest, is) = (rest ++ more, ap (λ x. x ++ more) is ∙ append_assoc front rest more)
+
+given_after : {X : Type 0} {done first : List X} (given due : List X) (stop : Option Stop) → done ≡ first → IsGiven stop given due → IsGiven stop (done ++ given) (first ++ due)
+given_after given due None same is = λ i. same i ++ is i
+given_after {done} given due (Some stop) same (rest, is) = (rest, (λ i. sym same i ++ is i) ∙ sym (append_assoc done given rest))
+
+-- what is due may be said in another way
+pub due_as : {told_in told opened : Bool} {printer after : PrinterState} {name due other : List ℕ} {lines more : List (List ℕ)} {old new : List Slot}
+    {stop : Option Stop} → (told_in ≡ true → (due ≡ other) × (lines ≡ more)) → Ends told_in told opened printer name due lines old after new stop
+    → Ends told_in told opened printer name other more old after new stop
+due_as {stop} same ends = record {
+  bytes = ends.bytes;
+  lines = ends.lines;
+  are = λ t. (subst (IsGiven stop ends.bytes) (same t).0 (ends.are t).0, subst (IsGiven stop ends.lines) (same t).1 (ends.are t).1);
+  shared = ends.shared;
+}
+
+-- what stops the first of two steps stops both
+pub stops_early : {told_in told opened : Bool} {printer after : PrinterState} {name due : List ℕ} (more : List ℕ) {lines_due : List (List ℕ)}
+    (more_lines : List (List ℕ)) {old new : List Slot} {stop : Stop} → Ends told_in told opened printer name due lines_due old after new (Some stop)
+    → Ends told_in told opened printer name (due ++ more) (lines_due ++ more_lines) old after new (Some stop)
+stops_early more more_lines ends = record {
+  bytes = ends.bytes;
+  lines = ends.lines;
+  are = λ t. (front_more ends.bytes more (ends.are t).0, front_more ends.lines more_lines (ends.are t).1);
+  shared = ends.shared;
+}
+
+-- once the first is done, both end as the second
+pub goes_after : {told_in told opened : Bool} {printer mid after : PrinterState} {name first second : List ℕ} {lines more : List (List ℕ)}
+    {old now new : List Slot} {stop : Option Stop} → Ends told_in told opened printer name first lines old mid now None
+    → Ends told_in told false mid name second more now after new stop
+    → Ends told_in told opened printer name (first ++ second) (lines ++ more) old after new stop
+goes_after {second} {more} {stop} one two = record {
+  bytes = one.bytes ++ two.bytes;
+  lines = one.lines ++ two.lines;
+  are = λ t. (given_after two.bytes second stop (one.are t).0 (two.are t).0, given_after two.lines more stop (one.are t).1 (two.are t).1);
+  shared = shared_after one.shared two.shared;
+}
+
+pub nothing_due : {told_in told : Bool} {printer : PrinterState} {name : List ℕ} {slots : List Slot} → Ends told_in told false printer name [] [] slots printer slots None
+nothing_due = record { bytes = []; lines = []; are = λ t. (refl, refl); shared = gives_nothing }
+
+-- a call failed before anything was given
+pub broke_first : {told_in told : Bool} {printer : PrinterState} {name due : List ℕ} {lines : List (List ℕ)} {slots : List Slot} {why : Fault}
+    → Ends told_in told false printer name due lines slots printer slots (Some (Broke why))
+broke_first {due} {lines} = record { bytes = []; lines = []; are = λ t. ((due, refl), (lines, refl)); shared = gives_nothing }
+
+front_same : {X : Type 0} {given due : List X} → given ≡ due → IsFront given due
+front_same {X} {given} is = ([], sym is ∙ sym (append-nil given))
+
+-- or after it
+pub broke_after : {told_in told opened : Bool} {printer after : PrinterState} {name due : List ℕ} {lines : List (List ℕ)} {old new : List Slot} {why : Fault}
+    → Ends told_in told opened printer name due lines old after new None → Ends told_in told opened printer name due lines old after new (Some (Broke why))
+broke_after ends = record { bytes = ends.bytes; lines = ends.lines; are = λ t. (front_same (ends.are t).0, front_same (ends.are t).1); shared = ends.shared }
+
+-- bytes were put under the header that was due, or a beginning of both
+pub puts : {told_in told opened : Bool} {printer after : PrinterState} {name bytes : List ℕ} {old mid new : List Slot} {due : Bool} (over : Option Fault)
+    → due ≡ has_header printer.headers printer.last (given_share opened name bytes [])
+    → mid ≡ with_written 0 (told_of told (if due then header_of name (is_none printer.last) else [])) old → CameTo told bytes mid new over
+    → after ≡ record printer { last = if due then Some name else printer.last } → Ends told_in told opened printer name bytes [] old after new (option_map Over over)
+puts {told_in} {told} {opened} {printer} {after} {name} {bytes} {old} {new} over is header came shown = by over (text_after told _ bytes old new over (rw is at header) came) where
+  by : (over : Option Fault) → CameTo told (text_under printer (given_share opened name bytes [])) old new over
+      → Ends told_in told opened printer name bytes [] old after new (option_map Over over)
+  by None came = record { bytes = bytes; lines = []; are = λ t. (refl, refl); shared = record { printer_is = λ none. rw is at shown; slots = wrote_text told _ new None came } }
+  by (Some why) came = record { bytes = bytes; lines = []; are = λ t. (front_same refl, front_same refl); shared = record { printer_is = λ none. rw is at shown; slots = wrote_text told _ new (Some why) came } }
+
+-- the header was not
+pub puts_none : {told_in told opened : Bool} {printer after : PrinterState} {name bytes : List ℕ} {old new : List Slot} {due : Bool} {why : Fault}
+    → due ≡ has_header printer.headers printer.last (given_share opened name bytes [])
+    → Short told (if due then header_of name (is_none printer.last) else []) old new why
+    → Ends told_in told opened printer name bytes [] old after new (Some (Over why))
+puts_none {told} {bytes} {new} {why} is short = record {
+  bytes = bytes;
+  lines = [];
+  are = λ t. (front_same refl, front_same refl);
+  shared = record { printer_is = λ none. absurd (cc); slots = wrote_text told _ new (Some why) (short_more bytes (rw is at short)) };
+}
+
+-- copying, read by read
+
+pub copy_starts : {told_in told : Bool} {printer : PrinterState} {name : List ℕ} (contents : List ℕ) (from : ℕ) {slots : List Slot}
+    → Ends told_in told false printer name (take (from - from) (drop from contents)) [] slots printer slots None
+copy_starts contents from = due_as (λ t. let none : from - from ≡ 0 = omega arith in (sym (ap (λ n. take n (drop from contents)) none), refl)) nothing_due
+
+next_bytes : (contents : List ℕ) {read_old read_new : List ℕ} (tail : List ℕ) {from at n : ℕ} → from ≤ at → n ≤ length read_old → length read_new ≡ length read_old → GaveFrom contents at read_old read_new n
+    → take (at - from) (drop from contents) ++ take n (read_new ++ tail) ≡ take ((at + n) - from) (drop from contents)
+next_bytes contents {read_new} tail {from} {at} {n} past few long gave =
+    let count : (at + n) - from ≡ (at - from) + n = omega (arith, past) in
+    let place : from + (at - from) ≡ at = omega (arith, past) in
+    ap (λ piece. take (at - from) (drop from contents) ++ piece) (take-append-le n read_new tail (omega (arith, few, long)) ∙ gave.front ∙ ap (λ k. take n (drop k contents)) (sym place) ∙ ap (take n) (sym (drop_drop (at - from) from contents)))
+    ∙ sym (ap (λ k. take k (drop from contents)) count ∙ take-add (at - from) n (drop from contents))
+
+-- a piece more, or a beginning of it
+pub copy_more : {told_in told : Bool} {printer mid after : PrinterState} {name contents now_contents : List ℕ} {from at n : ℕ} {old now new : List Slot}
+    {read_old read_new : List ℕ} (tail : List ℕ) {stop : Option Stop} → from ≤ at → contents ≡ now_contents → n ≤ length read_old
+    → length read_new ≡ length read_old → (told_in ≡ true → GaveFrom now_contents at read_old read_new n)
+    → Ends told_in told false printer name (take (at - from) (drop from contents)) [] old mid now None
+    → Ends told_in told false mid name (take n (read_new ++ tail)) [] now after new stop
+    → Ends told_in told false printer name (take ((at + n) - from) (drop from contents)) [] old after new stop
+copy_more {contents} {at} {n} {read_old} {read_new} tail past same few long gave ends more = due_as
+    (λ t. (next_bytes contents tail past few long (subst (λ those. GaveFrom those at read_old read_new n) (sym same) (gave t)), refl)) (goes_after ends more)
+
+pub few_fit : {n room a : ℕ} (b : ℕ) (buffer : List ℕ) → n ≤ length (take room buffer) → room ≡ min a b → n ≤ a
+few_fit {room} b buffer few is = let t : length (take room buffer) ≡ min room (length buffer) = length-take room buffer in omega (arith, few, is)
+
+pub some_left : (room : ℕ) (buffer read : List ℕ) → length read ≡ length (take room buffer) → 0 < length buffer → 0 < length (read ++ drop room buffer)
+some_left room buffer read same some =
+    let a : length (read ++ drop room buffer) ≡ length read + length (drop room buffer) = length-append read (drop room buffer) in
+    let t : length (take room buffer) ≡ min room (length buffer) = length-take room buffer in
+    let d : length (drop room buffer) ≡ length buffer - room = length-drop room buffer in omega (arith, same, some)
+
+-- a copy that was stopped
+pub cut_short : {told_in told : Bool} {printer after : PrinterState} {name all : List ℕ} (n : ℕ) {old new : List Slot} {stop : Stop}
+    → Ends told_in told false printer name (take n all) [] old after new (Some stop) → Ends told_in told false printer name all [] old after new (Some stop)
+cut_short {all} n ends = due_as (λ t. (take-append-drop n all, refl)) (stops_early (drop n all) [] ends)
+
+-- all was copied
+pub copy_done : {told_in told : Bool} {printer after : PrinterState} {name : List ℕ} (contents : List ℕ) (from at : ℕ) {old new : List Slot}
+    → Ends told_in told false printer name (take (at - from) (drop from contents)) [] old after new None → (told_in ≡ true → length contents ≤ at)
+    → Ends told_in told false printer name (drop from contents) [] old after new None
+copy_done contents from at ends past = due_as (λ t. (
+  take_all (at - from) (drop from contents)
+      (let d : length (drop from contents) ≡ length contents - from = length-drop from contents in let p : length contents ≤ at = past t in omega (arith, d, p)),
+  refl,
+)) ends
+
+-- a read that gives nothing stands at the file's end
+pub nothing_left : (buffer : List ℕ) {room : ℕ} {told_in : Bool} {contents now_contents read_new : List ℕ} {at len n : ℕ} → contents ≡ now_contents → at < len → 0 < length buffer → room ≡ min (len - at) (length buffer) → n ≡ 0
+    → (told_in ≡ true → GaveFrom now_contents at (take room buffer) read_new n) → told_in ≡ true → length contents ≤ at
+nothing_left buffer {room} {told_in} {contents} {now_contents} {read_new} {at} {len} {n} same inner some is none gave t =
+    let few : length (take room buffer) ≡ min room (length buffer) = length-take room buffer in
+    let ended : drop at now_contents ≡ [] = ((gave t).ended none (omega (arith, few, is, inner, some))).0 in
+    let long : length (drop at now_contents) ≡ length now_contents - at = length-drop at now_contents in
+    let empty : length (drop at now_contents) ≡ 0 = ap length ended in
+    let size : length contents ≡ length now_contents = ap length same in
+    omega (arith, long, empty, size)
+
+-- how the outputs can be used after a call
+
+use_after : (told : Bool) (text : List ℕ) (output error : Slot) (others new : List Slot) (stop : Option Stop)
+    → CameTo told text (output ∷ error ∷ others) new (over_by stop) → CanPrint (output ∷ error ∷ others) → CanGoOn stop new
+use_after told text output error others new None is can = subst CanPrint (sym is) can
+use_after told text output error others new (Some (Broke why)) is can = subst CanPrint (sym is) can
+use_after told text output error others new (Some (Over why)) (short_broke n part) can = subst (HasStopped (fault.Write 0)) (sym part.slots) (inr (refl, refl), can.1)
+use_after told text output error others new (Some (Over why)) (no_room n within is) can = subst (HasStopped fault.Memory) (sym is) (inl refl, can.1)
+
+pub ends_can : {told_in told opened : Bool} {printer after : PrinterState} {name due : List ℕ} {lines : List (List ℕ)} {old new : List Slot}
+    {stop : Option Stop} → Ends told_in told opened printer name due lines old after new stop → CanPrint old → CanGoOn stop new
+ends_can {old = []} ends can = absurd (false≢true can.0)
+ends_can {old = output ∷ []} ends can = absurd (false≢true can.1)
+ends_can {told} {old = output ∷ error ∷ others} {stop} ends can =
+    let (last, said, came) = ends.shared.slots output error others refl in
+    use_after told _ _ _ _ _ stop came (can.0, ap is_open (tells_state told ends.lines error last said) ∙ can.1)
+
+-- both streams can be used on, whatever was said
 pub said_can : {told : Bool} {tool : Tool} {text : List ℕ} (old : List Slot) {new : List Slot} → SaysOn told tool text old new → CanPrint old → CanPrint new
 said_can [] says can = absurd (false≢true can.0)
 said_can (output ∷ []) says can = absurd (false≢true can.1)
@@ -59,112 +325,21 @@ said_can {told} {tool} {text} (output ∷ error ∷ others) says can =
     let (after, said, is) = says output error others refl in
     subst CanPrint (sym is) (can.0, ap is_open (said_state told tool text error after said) ∙ can.1)
 
-pub written_can : (bytes : List ℕ) (old : List Slot) {new : List Slot} → new ≡ with_written 0 bytes old → CanPrint old → CanPrint new
-written_can bytes [] is can = subst CanPrint (sym is) can
-written_can bytes (output ∷ others) is can = subst CanPrint (sym is) can
-
--- why a beginning was written, and standard error is open
-pub wrote_error : {told : Bool} {text : List ℕ} (lines : List (List ℕ)) (old : List Slot) {new : List Slot} {why : Fault}
-    → WroteShort told text lines old new why → CanPrint old → HasStopped why new
-wrote_error lines [] short can = absurd (false≢true can.0)
-wrote_error lines (output ∷ []) short can = absurd (false≢true can.1)
-wrote_error {told} lines (output ∷ error ∷ others) short can =
-    let (last, said, part) = short output error others refl in
-    short_error part (ap is_open (tells_state told lines error last said) ∙ can.1)
-
-pub short_can : {told : Bool} {text : List ℕ} {old new : List Slot} {why : Fault} → Short told text old new why → CanPrint old → HasStopped why new
-short_can {told} {text} {old} {new} {why} short can =
-    wrote_error [] old (λ output error others is. (error, refl, subst (λ those. Short told text those new why) is short)) can
-
-pub ends_can : {T : Type 0} {told_in told opened : Bool} {printer after : PrinterState} {name due : List ℕ} {lines : List (List ℕ)}
-    {old new : List Slot} {result : Result T Stop} → Ends {T = T} told_in told opened printer name due lines old after new result
-    → CanPrint old → CanGoOn result new
-ends_can {old} (whole value bytes said are gives) can = gives_can old gives can
-ends_can {old} (broke why bytes said are gives) can = gives_can old gives can
-ends_can {old} (over why bytes said are halts) can = wrote_error said old halts.slots can
-
--- what is due may be said in another way
-pub due_as : {T : Type 0} {told_in told opened : Bool} {printer after : PrinterState} {name due other : List ℕ} {lines more : List (List ℕ)}
-    {old new : List Slot} {result : Result T Stop} → (told_in ≡ true → (due ≡ other) × (lines ≡ more))
-    → Ends {T = T} told_in told opened printer name due lines old after new result
-    → Ends {T = T} told_in told opened printer name other more old after new result
-due_as same (whole value bytes said are gives) = whole value bytes said (λ is. ((are is).0 ∙ (same is).0, (are is).1 ∙ (same is).1)) gives
-due_as same (broke why bytes said are gives) =
-    broke why bytes said (λ is. (subst (IsFront bytes) (same is).0 (are is).0, subst (IsFront said) (same is).1 (are is).1)) gives
-due_as same (over why bytes said are halts) =
-    over why bytes said (λ is. (subst (IsFront bytes) (same is).0 (are is).0, subst (IsFront said) (same is).1 (are is).1)) halts
-
--- what a struct prints under is its printer's
-pub ends_viewed : {told_in told opened : Bool} {printer inside after : PrinterState} {name due other : List ℕ} {lines : List (List ℕ)}
-    {old new : List Slot} {result : Result ℕ Stop} → inside ≡ printer → (told_in ≡ true → due ≡ other)
-    → Ends {T = ℕ} told_in told opened inside name due lines old after new result
-    → Ends {T = ℕ} told_in told opened printer name other lines old after new result
-ends_viewed {told_in} {told} {opened} {after} {name} {other} {lines} {old} {new} {result} viewed same ends =
-    subst (λ (p : PrinterState). Ends {T = ℕ} told_in told opened p name other lines old after new result) viewed (due_as (λ is. (same is, refl)) ends)
-
--- another value in its place
-pub ends_as : {T U : Type 0} {told_in told opened : Bool} {printer after : PrinterState} {name due : List ℕ} {lines : List (List ℕ)}
-    {old new : List Slot} {value : T} {other : U} → Ends {T = T} told_in told opened printer name due lines old after new (Ok value)
-    → Ends {T = U} told_in told opened printer name due lines old after new (Ok other)
-ends_as {other} (whole value bytes said are gives) = whole other bytes said are gives
-
-pub ends_so : {T U : Type 0} {told_in told opened : Bool} {printer after : PrinterState} {name due : List ℕ} {lines : List (List ℕ)}
-    {old new : List Slot} {stop : Stop} → Ends {T = T} told_in told opened printer name due lines old after new (Err stop)
-    → Ends {T = U} told_in told opened printer name due lines old after new (Err stop)
-ends_so (broke why bytes said are gives) = broke why bytes said are gives
-ends_so (over why bytes said are halts) = over why bytes said are halts
-
-pub nothing_due : {T : Type 0} {told_in told : Bool} {printer : PrinterState} {name : List ℕ} {slots : List Slot} {value : T}
-    → Ends {T = T} told_in told false printer name [] [] slots printer slots (Ok value)
-nothing_due {value} = whole value [] [] (λ is. (refl, refl)) gives_nothing
-
--- the first call failed
-pub broke_first : {T : Type 0} {told_in told : Bool} {printer : PrinterState} {name due : List ℕ} {lines : List (List ℕ)} {slots : List Slot}
-    {why : Fault} → Ends {T = T} told_in told false printer name due lines slots printer slots (Err (Broke why))
-broke_first {why} = broke why [] [] (λ is. (front_nil, front_nil)) gives_nothing
-
 -- there was no memory for a line
-pub untold : {T : Type 0} {told_in told : Bool} {printer : PrinterState} {name due : List ℕ} {lines : List (List ℕ)} {slots : List Slot}
-    {why : Fault} → why ≡ fault.Memory → Ends {T = T} told_in told false printer name due lines slots printer slots (Err (Over why))
-untold is = rw is (over fault.Memory [] [] (λ is. (front_nil, front_nil)) (halts_short no_memory))
+pub untold : {told_in told : Bool} {printer : PrinterState} {name due : List ℕ} {lines : List (List ℕ)} {slots : List Slot} {why : Fault}
+    → why ≡ fault.Memory → Ends told_in told false printer name due lines slots printer slots (Some (Over why))
+untold {due} {lines} is = rw is (stops_early due lines (puts_none {opened = false} {bytes = []} refl no_memory))
 
 -- a line was told
 pub tells : {told_in told : Bool} {printer : PrinterState} {name line text : List ℕ} {old new : List Slot} → text ≡ line → PrintsOn told text old new
-    → Ends {T = Unit {0}} told_in told false printer name [] (line ∷ []) old printer new (Ok tt)
-tells {line} is prints = whole tt [] (line ∷ []) (λ _. (refl, refl)) (gives_line is prints)
+    → Ends told_in told false printer name [] (line ∷ []) old printer new None
+tells {line} is prints = record { bytes = []; lines = line ∷ []; are = λ t. (refl, refl); shared = gives_line is prints }
 
-pub no_line : (name : List ℕ) {position len : ℕ} → position ≤ len → lines_past name position len ≡ []
-no_line name {position} {len} few = ap (λ t. if t then notice_of Truncated name ∷ [] else []) (le-ltb len position few)
-
-pub goes_on_here : {told_in told : Bool} {printer : PrinterState} {name : List ℕ} {slots : List Slot} {position len : ℕ} → position ≤ len → Ends {T = ℕ} told_in told false printer name [] (lines_past name position len) slots printer slots (Ok position)
-goes_on_here {told_in} {told} {printer} {name} {slots} {position} few = subst (λ lines. Ends {T = ℕ} told_in told false printer name [] lines slots printer slots (Ok position)) (sym (no_line name few)) (nothing_due)
+pub no_line : (name : List ℕ) {position len : ℕ} → position ≤ len → [] ≡ lines_past name position len
+no_line name {position} {len} few = sym (ap (λ t. if t then notice_of Truncated name ∷ [] else []) (le-ltb len position few))
 
 pub line_due : (name : List ℕ) {position len : ℕ} → len < position → notice_of Truncated name ∷ [] ≡ lines_past name position len
 line_due name {position} {len} less = ap (λ t. if t then notice_of Truncated name ∷ [] else []) (sym (lt-ltb len position less))
-
--- a line where the file is shorter, and then the bytes: from the front there, else from the position on
-pub caught_bytes : (position : ℕ) {len from : ℕ} (contents : List ℕ) → len ≡ length contents → from ≡ (if nat_lt len position then 0 else position) → drop from contents ≡ bytes_past position contents
-caught_bytes position contents long is = grind (arith, nat_tests)
-
--- what following a name to where it leads gives
-
--- nothing is due where nothing changed
-pub nothing_led : (name : List ℕ) (snapshot : Snapshot) (opened led : Option ℕ) → change_between opened led ≡ None → (bytes_led snapshot opened led ≡ []) × (lines_led name snapshot opened led ≡ []) × (led ≡ opened)
-nothing_led name snapshot None None is = (refl, refl, refl)
-nothing_led name snapshot (Some opened) None is = absurd (cc)
-nothing_led name snapshot None (Some file) is = absurd (cc)
-nothing_led name snapshot (Some opened) (Some file) is =
-    let same : (file == opened) ≡ true = grind (arith, nat_tests) in rw same (refl, refl, ap Some (eqb-true file opened same))
-
--- where something changed, that is told, and all is due that the name leads to
-pub change_led : (name : List ℕ) (snapshot : Snapshot) (opened led : Option ℕ) {change : Notice} → change_between opened led ≡ Some change → (bytes_led snapshot opened led ≡ held_at snapshot led) × (lines_led name snapshot opened led ≡ notice_of change name ∷ [])
-change_led name snapshot None None is = absurd (cc)
-change_led name snapshot (Some opened) None is = (refl, cc)
-change_led name snapshot None (Some file) is = (append-nil (snapshot.holds file), cc)
-change_led name snapshot (Some opened) (Some file) {change} is =
-    let both : ((file == opened) ≡ false) × (Replaced ≡ change) = grind (arith, nat_tests) in
-    let other : (opened == file) ≡ false = grind (arith, nat_tests) in
-    rw (both.0, other) (append-nil (snapshot.holds file), ap (λ those. notice_of those name ∷ []) both.1)
 
 -- what is found is where the name leads
 pub found_led : (snapshot : Snapshot) {name : List ℕ} {found : Option Seen} → Finds snapshot name found → option_map (λ (file : Seen). file.id) found ≡ snapshot.leads name
@@ -192,17 +367,6 @@ keeps_others {place} change {old} is = record {
 pub reopens_as : {told : Bool} {seen seen_old : List Snapshot} {now old new : List Watched} {place : ℕ} {is_there : Bool} → seen ≡ seen_old → now ≡ old → Reopens told (latest seen) now new place is_there → Reopens told (latest seen_old) old new place is_there
 reopens_as {told} {seen} {old} {new} {place} {is_there} s w reopens = subst (λ those. Reopens told (latest those) old new place is_there) s (subst (λ those. Reopens told (latest seen) those new place is_there) w reopens)
 
--- it was told, and then something else ended so
-pub ends_said : {told_in told : Bool} {printer after : PrinterState} {name due : List ℕ} {more : List (List ℕ)} (snapshot : Snapshot) (opened led : Option ℕ) {change : Notice} {old mid new : List Slot} {value : Unit {0}} {result : Result ℕ Stop} → (told_in ≡ true → change_between opened led ≡ Some change)
-    → (told_in ≡ true → (due ≡ held_at snapshot led) × (more ≡ []))
-    → Ends {T = Unit {0}} told_in told false printer name [] (notice_of change name ∷ []) old printer mid (Ok value)
-    → Ends {T = ℕ} told_in told false printer name due more mid after new result
-    → Ends {T = ℕ} told_in told false printer name (bytes_led snapshot opened led) (lines_led name snapshot opened led) old after new result
-ends_said {name} snapshot opened led {change} is dues line ends =
-    due_as
-    (λ t. ((dues t).0 ∙ sym (change_led name snapshot opened led (is t)).0, ap (λ lines. notice_of change name ∷ lines) (dues t).1 ∙ sym (change_led name snapshot opened led (is t)).1))
-    (goes_after line ends)
-
 pub some_of : (file : Option ℕ) → is_some file ≡ true → (id : ℕ) × (file ≡ Some id)
 some_of None some = absurd (false≢true some)
 some_of (Some id) some = (id, refl)
@@ -211,9 +375,10 @@ pub none_of : {X : Type 0} (x : Option X) → is_some x ≡ false → x ≡ None
 none_of None is = refl
 none_of (Some x) is = absurd (false≢true (sym is))
 
--- the name leads nowhere
-pub held_nowhere : {told : Bool} {snapshot : Snapshot} {old new : List Watched} {place : ℕ} {name : List ℕ} {is_there : Bool} → Reopens told snapshot old new place is_there → is_there ≡ false → (watched_at old place).name ≡ name → told ≡ true → [] ≡ held_at snapshot (snapshot.leads name)
-held_nowhere {snapshot} reopens gone is t = sym (ap (held_at snapshot) (sym (ap snapshot.leads is) ∙ sym (reopens.leads t) ∙ none_of reopens.file (reopens.found ∙ gone)))
+-- what a name's file holds
+abbrev pub held_at : Snapshot → Option ℕ → List ℕ
+held_at snapshot None = []
+held_at snapshot (Some file) = snapshot.holds file
 
 pub contents_open : (snapshot : Snapshot) (watched : Watched) → open_contents snapshot watched ≡ held_at snapshot watched.opened
 contents_open snapshot watched = by watched.opened where
@@ -221,13 +386,18 @@ contents_open snapshot watched = by watched.opened where
   by None = refl
   by (Some file) = refl
 
--- the file that was opened is written whole
-pub contents_led : {told : Bool} {snapshot now : Snapshot} {old new : List Watched} {place : ℕ} {name : List ℕ} {is_there : Bool} → now ≡ snapshot → IsTrue (is_watchable old place) → Reopens told snapshot old new place is_there → (watched_at old place).name ≡ name → told ≡ true
+-- the file that was opened is that to which the name leads
+pub opened_led : {told : Bool} {snapshot : Snapshot} {old new : List Watched} {place : ℕ} {name : List ℕ} {is_there : Bool} → IsTrue (is_watchable old place)
+    → Reopens told snapshot old new place is_there → (watched_at old place).name ≡ name → told ≡ true → (watched_at new place).opened ≡ snapshot.leads name
+opened_led {snapshot} {old} {place} can reopens is t = ap (λ those. (watched_at those place).opened) reopens.names
+    ∙ ap (λ (w : Watched). w.opened) (opened_there old place can) ∙ reopens.leads t ∙ ap snapshot.leads is
+
+-- and is written whole
+pub contents_led : {told : Bool} {snapshot now : Snapshot} {old new : List Watched} {place : ℕ} {name : List ℕ} {is_there : Bool} → now ≡ snapshot
+    → IsTrue (is_watchable old place) → Reopens told snapshot old new place is_there → (watched_at old place).name ≡ name → told ≡ true
     → open_contents now (watched_at new place) ≡ held_at snapshot (snapshot.leads name)
-contents_led {snapshot} {old} {new} {place} seen can reopens is t =
-    ap (λ those. open_contents those (watched_at new place)) seen ∙ ap (λ those. open_contents snapshot (watched_at those place)) reopens.names
-    ∙ ap (open_contents snapshot) (opened_there old place can) ∙ contents_open snapshot (record (watched_at old place) { opened = reopens.file })
-    ∙ ap (held_at snapshot) (reopens.leads t ∙ ap snapshot.leads is)
+contents_led {snapshot} {now} {new} {place} {name} seen can reopens is t =
+    contents_open now (watched_at new place) ∙ ap (held_at now) (opened_led can reopens is t) ∙ ap (λ (s : Snapshot). held_at s (snapshot.leads name)) seen
 
 pub readable_there : {told : Bool} {snapshot : Snapshot} {old new : List Watched} {place : ℕ} {is_there : Bool} → Reopens told snapshot old new place is_there → is_there ≡ true → IsTrue (is_watchable old place) → IsTrue (is_readable new place)
 readable_there {old} {place} reopens there can =
@@ -238,14 +408,22 @@ pub watchable_there : {told : Bool} {snapshot : Snapshot} {old new : List Watche
 watchable_there {old} {place} reopens can =
     ap (λ those. is_watchable those place) reopens.names ∙ ap (λ (those : Watched). is_none those.failed) (opened_there old place can) ∙ can
 
-pub follows_there : {told : Bool} (by_name : Bool) {snapshot : Snapshot} {old mid : List Watched} (new : List Watched) {place : ℕ} {name : List ℕ} {is_there : Bool} (result : Result ℕ Stop) → Reopens told snapshot old mid place is_there → (watched_at old place).name ≡ name → Keeps {T = ℕ} place mid new result → Follows {T = ℕ} told by_name (snapshot.leads name) place old new result
-follows_there by_name {snapshot} new (Ok value) reopens is keeps = (reopens.file, keeps ∙ reopens.names, λ t. reopens.leads t ∙ ap snapshot.leads is)
-follows_there by_name new {place} (Err (Broke why)) reopens is keeps = (reopens.file, keeps.1 ∙ ap (changed_at place (breaks why)) reopens.names, inr keeps.0)
-follows_there by_name new (Err (Over why)) reopens is keeps = (reopens.file, keeps ∙ reopens.names)
+pub follows_stop : (told by_name : Bool) (led file : Option ℕ) (place : ℕ) (old : List Watched) {mid : List Watched} (new : List Watched) (stop : Stop)
+    → mid ≡ changed_at place (opens file) old → Keeps place mid new (Some stop) → Follows told by_name led place old new (Some stop)
+follows_stop told by_name led file place old new (Broke why) opened keeps = (file, keeps.1 ∙ ap (changed_at place (breaks why)) opened, inr keeps.0)
+follows_stop told by_name led file place old new (Over why) opened keeps = (file, keeps ∙ opened)
+
+-- calls that follow one another on the watch: a file was opened, and then a call on it kept the names, or broke this one
+pub follows_from : {told : Bool} (by_name : Bool) {led file : Option ℕ} (place : ℕ) (old : List Watched) {mid : List Watched} (new : List Watched) (stop : Option Stop)
+    → mid ≡ changed_at place (opens file) old → (told ≡ true → file ≡ led) → Keeps place mid new stop → Follows told by_name led place old new stop
+follows_from by_name {file} place old new None opened leads keeps = (file, keeps ∙ opened, leads)
+follows_from {told} by_name {led} {file} place old new (Some stop) opened leads keeps = follows_stop told by_name led file place old new stop opened keeps
 
 -- a call that looks or opens failed, and the open file is as it was
-pub follows_broken : (told : Bool) (led : Option ℕ) {place : ℕ} {old now new : List Watched} {why : Fault} → now ≡ old → why ≡ fault.Open place → new ≡ changed_at place (breaks why) now → Follows {T = ℕ} told true led place old new (Err (Broke why))
-follows_broken told led {place} {old} {why} same is broken = ((watched_at old place).opened, broken ∙ ap (changed_at place (breaks why)) (same ∙ sym (opens_same old place)), inl (is, refl))
+pub follows_broken : (told : Bool) (led : Option ℕ) {place : ℕ} {old now new : List Watched} {why : Fault} → now ≡ old → why ≡ fault.Open place
+    → new ≡ changed_at place (breaks why) now → Follows told true led place old new (Some (Broke why))
+follows_broken told led {place} {old} {why} same is broken =
+    ((watched_at old place).opened, broken ∙ ap (changed_at place (breaks why)) (same ∙ sym (opens_same old place)), inl (is, refl))
 
 -- what was found to have changed is what changed
 pub change_seen : {told : Bool} (snapshot : Snapshot) {old now : List Watched} (place : ℕ) {name : List ℕ} {found : Option Seen} {id : Option ℕ} {result : Option Notice} → result ≡ change_between id (option_map (λ (file : Seen). file.id) found) → id ≡ (watched_at now place).opened → now ≡ old
@@ -254,240 +432,225 @@ change_seen snapshot {old} place {name} {found} {id} is opened same named finds 
     sym (is ∙ ap (λ those. change_between those (option_map (λ (file : Seen). file.id) found)) (opened ∙ ap (λ those. (watched_at those place).opened) same)
     ∙ ap (change_between (watched_at old place).opened) (found_led snapshot {name = (watched_at old place).name} {found = found} (finds t) ∙ ap snapshot.leads named))
 
--- what a later look gives for a name
+-- what came to the open file
 
--- not shorter is not less
 not_shorter : (p n : ℕ) → nat_le p n ≡ not (nat_lt n p)
 not_shorter p n = grind (arith, nat_tests)
 
--- what the open file has past what was seen of it is what its entry adds
-past_open : (name : List ℕ) (last : Entry) (opened : Option ℕ) (snapshot : Snapshot) {position : ℕ} → StandsAt last opened position
-    → (bytes_past position (held_at snapshot opened) ≡ gains_later last (entries_open snapshot opened))
-    × (lines_past name position (length (held_at snapshot opened)) ≡ map (λ notice. notice_of notice name) (notices_later last (entries_open snapshot opened)))
-past_open name gap None snapshot stands = rw stands.seen (refl, refl)
-past_open name (version v) None snapshot stands = absurd (none-some v.file stands.file)
-past_open name gap (Some file) snapshot stands = absurd (none-some file (sym stands.file))
-past_open name (version v) (Some file) snapshot stands =
+-- what the open file has past what was seen of it, or all where it is shorter, is what its entry adds
+caught : (name : List ℕ) (snapshot : Snapshot) (last : Entry) {file position len : ℕ} → StandsAt last (Some file) position → len ≡ length (snapshot.holds file)
+    → (drop (if nat_lt len position then 0 else position) (snapshot.holds file) ≡ gains_later last (version_in snapshot file ∷ []))
+    × (lines_past name position len ≡ said_of name last (version_in snapshot file ∷ []))
+caught name snapshot gap {file} stands long = absurd (none-some file (sym stands.file))
+caught name snapshot (version v) {file} stands long =
     let same = eq-eqb v.file file (sym (same_Some file v.file stands.file)) in
-    rw (stands.seen, same, not_shorter (length v.contents) (length held)) (by (nat_lt (length held) (length v.contents))) where
+    rw (long, stands.seen, same, not_shorter (length v.contents) (length held)) (by (nat_lt (length held) (length v.contents))) where
       held : List ℕ
       held = snapshot.holds file
 
-      by : (test : Bool) → ((if test then held else drop (length v.contents) held) ≡ (if not test then drop (length v.contents) held else held) ++ [])
+      by : (test : Bool) → (drop (if test then 0 else length v.contents) held ≡ (if not test then drop (length v.contents) held else held) ++ [])
           × ((if test then notice_of Truncated name ∷ [] else []) ≡ map (λ notice. notice_of notice name) ((if not test then [] else Truncated ∷ []) ++ []))
       by true = (sym (append-nil _), refl)
       by false = (sym (append-nil _), refl)
 
--- where none is open nothing was seen
-none_seen : (last : Entry) {opened : Option ℕ} {position : ℕ} → StandsAt last opened position → opened ≡ None → position ≡ 0
-none_seen gap stands none = stands.seen
-none_seen (version v) stands none = absurd (none-some v.file (sym none ∙ stands.file))
-
--- after the open file comes where the name leads
-last_open : (last : Entry) (opened : Option ℕ) (snapshot : Snapshot) {position : ℕ} → StandsAt last opened position → last_from last (entries_open snapshot opened) ≡ entry_open snapshot opened
-last_open last (Some file) snapshot stands = refl
-last_open gap None snapshot stands = refl
-last_open (version v) None snapshot stands = absurd (none-some v.file (stands.file))
-
-both_dues : (name : List ℕ) {last : Entry} {opened : Option ℕ} (snapshot : Snapshot) {position : ℕ} → StandsAt last opened position
-    → (bytes_past position (held_at snapshot opened) ++ bytes_led snapshot opened (snapshot.leads name) ≡ bytes_again true name last snapshot opened)
-    × (lines_past name position (length (held_at snapshot opened)) ++ lines_led name snapshot opened (snapshot.leads name)
-    ≡ lines_again true name last snapshot opened)
-both_dues name {last} {opened} snapshot stands =
-    let (bytes, lines) = past_open name last opened snapshot stands in
-    let had = entries_open snapshot opened in
-    let led = entries_led snapshot opened (snapshot.leads name) in
-    let at = sym (last_open last opened snapshot stands) in (
-      ap (λ those. those ++ bytes_led snapshot opened (snapshot.leads name)) bytes ∙ ap (λ entry. gains_later last had ++ gains_later entry led) at
-          ∙ sym (gains-append last had led),
-      ap (λ those. those ++ lines_led name snapshot opened (snapshot.leads name)) lines
-          ∙ ap (λ entry. map (λ notice. notice_of notice name) (notices_later last had) ++ map (λ notice. notice_of notice name) (notices_later entry led)) at
-          ∙ sym (map-append (λ notice. notice_of notice name) (notices_later last had) (notices_later (last_from last had) led))
-          ∙ sym (ap (map (λ notice. notice_of notice name)) (notices-append last had led)),
-    )
-
--- where names aren't followed only the open file gives anything
-open_dues : (name : List ℕ) (last : Entry) (opened : Option ℕ) (snapshot : Snapshot) {position : ℕ} → StandsAt last opened position
-    → (bytes_past position (held_at snapshot opened) ≡ bytes_again false name last snapshot opened)
-    × (lines_past name position (length (held_at snapshot opened)) ≡ lines_again false name last snapshot opened)
-open_dues name last (Some file) snapshot stands = past_open name last (Some file) snapshot stands
-open_dues name gap None snapshot stands = past_open name gap None snapshot stands
-open_dues name (version v) None snapshot stands = absurd (none-some v.file (stands.file))
-
-keeps_follows : (T U : Type 0) (told by_name : Bool) (led : Option ℕ) (place : ℕ) (old new : List Watched) (stop : Stop) → Keeps {T = T} place old new (Err stop) → Follows {T = U} told by_name led place old new (Err stop)
-keeps_follows T U told by_name led place old new (Broke why) keeps = ((watched_at old place).opened, keeps.1 ∙ ap (changed_at place (breaks why)) (sym (opens_same old place)), inr keeps.0)
-keeps_follows T U told by_name led place old new (Over why) keeps = ((watched_at old place).opened, keeps ∙ sym (opens_same old place))
-
--- a look again at a name, before it is told what failed
-pub record LooksAgain (told_in told by_name : Bool) (snapshot : Snapshot) (place : ℕ) (name : List ℕ) (position : ℕ) (watched : List Watched) (printer : PrinterState) (slots : List Slot)
-    (watched_new : List Watched) (after : PrinterState) (slots_new : List Slot) (result : Result ℕ Stop) : Type 0 where
-  pub ends : (last : Entry) → (told_in ≡ true → StandsAt last (watched_at watched place).opened position)
-      → Ends {T = ℕ} told_in told false printer name (bytes_again by_name name last snapshot (watched_at watched place).opened) (lines_again by_name name last snapshot (watched_at watched place).opened) slots after slots_new result
-  pub len : IfOk result (λ n. told_in ≡ true → (last : Entry) → StandsAt last (watched_at watched place).opened position → n ≡ length (held_at snapshot (open_after_look by_name name (watched_at watched place).opened snapshot)))
-  pub follows : Follows {T = ℕ} told_in by_name (open_after_look by_name name (watched_at watched place).opened snapshot) place watched watched_new result
-
--- what stops catching up stops the look
-stopped_again : (by_name : Bool) {told_in told : Bool} {printer after : PrinterState} {name : List ℕ} {last : Entry} {opened : Option ℕ} (snapshot : Snapshot)
-    {position : ℕ} {old new : List Slot} {stop : Stop} → (told_in ≡ true → StandsAt last opened position)
-    → Ends {T = ℕ} told_in told false printer name (bytes_past position (held_at snapshot opened))
-    (lines_past name position (length (held_at snapshot opened))) old after new (Err stop)
-    → Ends {T = ℕ} told_in told false printer name (bytes_again by_name name last snapshot opened) (lines_again by_name name last snapshot opened) old after
-    new (Err stop)
-stopped_again true {name} {opened} snapshot stands ends = due_as (λ is. both_dues name snapshot (stands is))
-    (stops_early (bytes_led snapshot opened (snapshot.leads name)) (lines_led name snapshot opened (snapshot.leads name)) ends)
-stopped_again false {name} {last} {opened} snapshot stands ends = due_as (λ is. open_dues name last opened snapshot (stands is)) ends
-
 pub readable_open : (names : List Watched) (place : ℕ) {id : ℕ} → (watched_at names place).opened ≡ Some id → IsTrue (is_watchable names place) → IsTrue (is_readable names place)
 readable_open names place some can = and_from (is_some (watched_at names place).opened) (is_watchable names place) (ap is_some some) can
 
-abbrev Changes : Bool → Snapshot → List Watched → ℕ → List ℕ → Option Notice → Type 0
-Changes told snapshot watched place name change = told ≡ true → change_between (watched_at watched place).opened (snapshot.leads name) ≡ change
-
-module _ {told_in told : Bool} {snapshot : Snapshot} {place : ℕ} {name : List ℕ} {position : ℕ} {watched : List Watched} {printer : PrinterState} {slots : List Slot} where
-  -- ways out of a look again
-
-  pub stopped_looks : {by_name : Bool} {watched_new : List Watched} {after : PrinterState} {slots_new : List Slot} {stop : Stop}
-      → Catches told_in told snapshot place name position watched printer slots watched_new after slots_new (Err stop)
-      → LooksAgain told_in told by_name snapshot place name position watched printer slots watched_new after slots_new (Err stop)
-  stopped_looks {by_name} {watched_new} {stop} catches = record {
-    ends = λ last stands. stopped_again by_name snapshot stands (catches.ends (λ t. none_seen last (stands t)));
-    len = tt;
-    follows = keeps_follows ℕ ℕ told_in by_name (open_after_look by_name name (watched_at watched place).opened snapshot) place watched watched_new stop catches.keeps;
-  }
-
-  pub caught_looks : {by_name : Bool} {watched_new : List Watched} {after : PrinterState} {slots_new : List Slot} {len : ℕ} → by_name ≡ false
-      → Catches told_in told snapshot place name position watched printer slots watched_new after slots_new (Ok len)
-      → LooksAgain told_in told by_name snapshot place name position watched printer slots watched_new after slots_new (Ok len)
-  caught_looks {watched_new} {after} {slots_new} {len} is catches =
-      subst (λ way. LooksAgain told_in told way snapshot place name position watched printer slots watched_new after slots_new (Ok len)) (sym is) (record {
-        ends = λ last stands. due_as (λ t. open_dues name last (watched_at watched place).opened snapshot (stands t)) (catches.ends (λ t. none_seen last (stands t)));
-        len = λ t last stands. catches.len t (none_seen last stands);
-        follows = ((watched_at watched place).opened, catches.keeps ∙ sym (opens_same watched place), λ t. refl);
-      })
-
-  pub led_looks : {by_name : Bool} {snapshot_mid : Snapshot} {watched_mid watched_new : List Watched} {mid after : PrinterState} {slots_mid slots_new : List Slot}
-      {len : ℕ} {result : Result ℕ Stop} → by_name ≡ true → snapshot_mid ≡ snapshot
-      → Catches told_in told snapshot place name position watched printer slots watched_mid mid slots_mid (Ok len)
-      → Leads told_in told snapshot_mid place name len watched_mid mid slots_mid watched_new after slots_new result
-      → LooksAgain told_in told by_name snapshot place name position watched printer slots watched_new after slots_new result
-  led_looks {watched_new} {mid} {after} {slots_mid} {slots_new} {len} {result} is seen catches leads =
-      subst (λ way. LooksAgain told_in told way snapshot place name position watched printer slots watched_new after slots_new result) (sym is) (record {
-        ends = λ last stands. due_as (λ t. both_dues name snapshot (stands t)) (goes_after (catches.ends (λ t. none_seen last (stands t))) led.ends);
-        len = IfOk-weaker result (λ n. told_in ≡ true → len ≡ length (held_at snapshot opened) → n ≡ length (held_at snapshot (snapshot.leads name))) _
-            (λ n long t last stands. long t (catches.len t (none_seen last stands))) led.len;
-        follows = led.follows;
-      }) where
-        opened : Option ℕ
-        opened = (watched_at watched place).opened
-
-        led : Leads told_in told snapshot place name len watched mid slots_mid watched_new after slots_new result
-        led = subst₂ (λ (s : Snapshot) w. Leads told_in told s place name len w mid slots_mid watched_new after slots_new result) seen catches.keeps leads
+module _ {told_in told : Bool} {name : List ℕ} {opened : Option ℕ} {position : ℕ} {printer : PrinterState} {slots : List Slot} where
+  -- a call failed before anything was given
+  pub adds_broke : {entries : List Entry} {led : Option ℕ} {why : Fault}
+      → Adds told_in told name opened position entries led printer slots printer slots (Err (Broke why))
+  adds_broke = record { ends = λ last stands. broke_first; stands = tt }
 
   -- ways out of catching up
 
-  pub catches_none : (watched_at watched place).opened ≡ None → Catches told_in told snapshot place name position watched printer slots watched printer slots (Ok position)
-  catches_none none = record {
-    ends = λ seen. due_as (λ t. rw (none, seen t none) (refl, refl)) nothing_due;
-    len = λ t seen. seen none ∙ ap (λ file. length (held_at snapshot file)) (sym none);
-    keeps = refl;
-  }
+  pub adds_none : (snapshot : Snapshot) → opened ≡ None → Adds told_in told name opened position (entries_open snapshot opened) opened printer slots printer slots (Ok position)
+  adds_none snapshot none = rw none (record { ends = λ last stands. nothing_due; stands = λ t last stands. stands })
 
-  pub catches_untold : {watched_new : List Watched} {slots_new : List Slot} {len : ℕ} {why : Fault} → watched_new ≡ watched
-      → (told_in ≡ true → len ≡ length (open_contents snapshot (watched_at watched place)))
-      → Ends {T = ℕ} told_in told false printer name [] (lines_past name position len) slots printer slots_new (Err (Over why))
-      → Catches told_in told snapshot place name position watched printer slots watched_new printer slots_new (Err (Over why))
-  catches_untold same long lines = record {
-    ends = λ seen. due_as (λ t. (refl, append-nil _ ∙ ap (lines_past name position) (long t ∙ ap length (contents_open snapshot (watched_at watched place)))))
-        (stops_early (bytes_past position (held_at snapshot (watched_at watched place).opened)) [] lines);
-    len = tt;
-    keeps = same;
-  }
+  pub adds_untold : (snapshot : Snapshot) {file len : ℕ} {after : PrinterState} {slots_new : List Slot} {why : Fault} → opened ≡ Some file
+      → (told_in ≡ true → len ≡ length (held_at snapshot opened))
+      → Ends told_in told false printer name [] (lines_past name position len) slots after slots_new (Some (Over why))
+      → Adds told_in told name opened position (entries_open snapshot opened) opened printer slots after slots_new (Err (Over why))
+  adds_untold snapshot {file} is long line = rw is (record {
+    ends = λ last stands. due_as (λ t. (refl, append-nil _ ∙ (caught name snapshot last (stands t) (long t ∙ ap (λ file. length (held_at snapshot file)) is)).1))
+        (stops_early (gains_later last (version_in snapshot file ∷ [])) [] line);
+    stands = tt;
+  })
 
   -- a line where the file is shorter, and then the bytes: from the front there, else from the position on
-  pub catches_copied : {watched_mid watched_new : List Watched} {inside after : PrinterState} {mid slots_new : List Slot} {len from : ℕ} {copied : List ℕ}
-      {result : Result ℕ Stop} → inside ≡ printer → watched_mid ≡ watched → (told_in ≡ true → len ≡ length (open_contents snapshot (watched_at watched place)))
-      → copied ≡ open_contents snapshot (watched_at watched place) → from ≡ (if nat_lt len position then 0 else position)
-      → Ends {T = ℕ} told_in told false inside name [] (lines_past name position len) slots inside mid (Ok from)
-      → Ends {T = ℕ} told_in told false inside name (drop from copied) [] mid after slots_new result → IfOk result (λ n. n ≡ len)
-      → Keeps {T = ℕ} place watched_mid watched_new result
-      → Catches told_in told snapshot place name position watched printer slots watched_new after slots_new result
-  catches_copied {watched_new} {after} {slots_new} {len} {from} {result} viewed same long are begins lines bytes count keeps = record {
-    ends = λ seen. subst (λ (p : PrinterState). Ends {T = ℕ} told_in told false p name (bytes_past position held) (lines_past name position (length held)) slots after slots_new result) viewed
-        (due_as (λ t. (ap (drop from) (are ∙ holds) ∙ caught_bytes position held (size t) begins, append-nil _ ∙ ap (lines_past name position) (size t))) (goes_after lines bytes));
-    len = IfOk-weaker result (λ n. n ≡ len) _ (λ n is t seen. is ∙ size t) count;
-    keeps = subst (λ (those : List Watched). Keeps {T = ℕ} place those watched_new result) same keeps;
-  } where
-    held : List ℕ
-    held = held_at snapshot (watched_at watched place).opened
+  pub adds_copied : (snapshot : Snapshot) {file len from : ℕ} {copied : List ℕ} {inside after : PrinterState} {mid slots_new : List Slot} {result : Result ℕ Stop}
+      → inside ≡ printer → opened ≡ Some file → (told_in ≡ true → len ≡ length (held_at snapshot opened)) → copied ≡ held_at snapshot opened
+      → from ≡ (if nat_lt len position then 0 else position) → Ends told_in told false inside name [] (lines_past name position len) slots inside mid None
+      → Ends told_in told false inside name (drop from copied) [] mid after slots_new (stop_in result) → IfOk result (λ n. n ≡ len)
+      → Adds told_in told name opened position (entries_open snapshot opened) opened printer slots after slots_new result
+  adds_copied snapshot {file} {len} {from} {copied} {result} viewed is long same begins line copy count = rw (is, ← viewed) (record {
+    ends = λ last stands. due_as (λ t. let (bytes, lines) = caught name snapshot last (stands t) (size t) in (ap (drop from) all ∙ ap (λ n. drop n (snapshot.holds file)) begins ∙ bytes, append-nil _ ∙ lines))
+        (goes_after line copy);
+    stands = IfOk-weaker result (λ n. n ≡ len) _ (λ n whole t last stands. record { file = refl; seen = whole ∙ size t }) count;
+  }) where
+    all : copied ≡ snapshot.holds file
+    all = same ∙ ap (held_at snapshot) is
 
-    holds : open_contents snapshot (watched_at watched place) ≡ held
-    holds = contents_open snapshot (watched_at watched place)
+    size : told_in ≡ true → len ≡ length (snapshot.holds file)
+    size t = long t ∙ ap (λ file. length (held_at snapshot file)) is
 
-    size : told_in ≡ true → len ≡ length held
-    size t = long t ∙ ap length holds
+-- where the name leads
 
+-- nothing is due where nothing changed
+nothing_led : (name : List ℕ) (snapshot : Snapshot) (last : Entry) (led : Option ℕ) {opened : Option ℕ} → opened ≡ file_of last → change_between opened led ≡ None
+    → (gains_later last (entries_led snapshot opened led) ≡ []) × (said_of name last (entries_led snapshot opened led) ≡ [])
+    × (last_from last (entries_led snapshot opened led) ≡ last) × (led ≡ opened)
+nothing_led name snapshot gap None here is = rw here (refl, refl, refl, refl)
+nothing_led name snapshot gap (Some file) here is = let none = rw here at is in absurd (cc)
+nothing_led name snapshot (version v) None here is = let none = rw here at is in absurd (cc)
+nothing_led name snapshot (version v) (Some file) here is =
+    let none = rw here at is in
+    let same : (file == v.file) ≡ true = grind (arith, nat_tests) in rw (here, same) (refl, refl, refl, ap Some (eqb-true file v.file same))
+
+-- a name as its file was just opened
+abbrev fresh : Option ℕ → Entry
+fresh None = gap
+fresh (Some file) = version (record { file = file; contents = [] })
+
+fresh_stands : (file : Option ℕ) → StandsAt (fresh file) file 0
+fresh_stands None = record { file = refl; seen = refl }
+fresh_stands (Some file) = record { file = refl; seen = refl }
+
+-- all of it is due
+fresh_dues : (name : List ℕ) (snapshot : Snapshot) (file : Option ℕ)
+    → (gains_later (fresh file) (entries_open snapshot file) ≡ held_at snapshot file) × (said_of name (fresh file) (entries_open snapshot file) ≡ [])
+fresh_dues name snapshot None = (refl, refl)
+fresh_dues name snapshot (Some file) = rw (eq-eqb file file refl, le-leb 0 (length (snapshot.holds file)) (omega arith)) (append-nil _, refl)
+
+-- where something changed, that is told, and then the name is as its file was just opened
+change_led : (name : List ℕ) (snapshot : Snapshot) (last : Entry) (led : Option ℕ) {opened : Option ℕ} {change : Notice} → opened ≡ file_of last
+    → change_between opened led ≡ Some change → (gains_later last (entries_led snapshot opened led) ≡ held_at snapshot led)
+    × (said_of name last (entries_led snapshot opened led) ≡ notice_of change name ∷ [])
+    × (last_from last (entries_led snapshot opened led) ≡ last_from (fresh led) (entries_open snapshot led))
+change_led name snapshot gap None here is = let none = rw here at is in absurd (cc)
+change_led name snapshot gap (Some file) {change} here is = let found : Appeared ≡ change = cc (rw here at is) in rw here (append-nil _, ap (λ those. notice_of those name ∷ []) found, refl)
+change_led name snapshot (version v) None {change} here is = let found : Inaccessible ≡ change = cc (rw here at is) in (refl, ap (λ those. notice_of those name ∷ []) found, refl)
+change_led name snapshot (version v) (Some file) {change} here is =
+    let found = rw here at is in
+    let both : ((file == v.file) ≡ false) × (Replaced ≡ change) = grind (arith, nat_tests) in
+    let other : (v.file == file) ≡ false = grind (arith, nat_tests) in
+    rw (here, both.0, other) (append-nil _, ap (λ those. notice_of those name ∷ []) both.1, refl)
+
+pub same_led : (opened led : Option ℕ) → change_between opened led ≡ None → opened ≡ led
+same_led opened led none = sym (nothing_led [] no_files (fresh opened) led (fresh_stands opened).file none).3
+
+module _ {told_in told : Bool} {name : List ℕ} {opened : Option ℕ} {position : ℕ} (snapshot : Snapshot) {led : Option ℕ} {printer : PrinterState} {slots : List Slot} where
   -- ways out of following a name
 
-  pub leads_broken : {watched_new : List Watched} {why : Fault} → why ≡ fault.Open place → watched_new ≡ changed_at place (breaks why) watched
-      → Leads told_in told snapshot place name position watched printer slots watched_new printer slots (Err (Broke why))
-  leads_broken is broken = record { ends = broke_first; len = tt; follows = follows_broken told_in (snapshot.leads name) refl is broken }
-
-  pub leads_same : {watched_new : List Watched} → Changes told_in snapshot watched place name None → watched_new ≡ watched
-      → Leads told_in told snapshot place name position watched printer slots watched_new printer slots (Ok position)
-  leads_same none same = record {
-    ends = due_as (λ t. (sym (nothing t).0, sym (nothing t).1)) nothing_due;
-    len = λ t seen. seen ∙ ap (λ file. length (held_at snapshot file)) (sym (nothing t).2);
-    follows = ((watched_at watched place).opened, same ∙ sym (opens_same watched place), λ t. sym (nothing t).2);
-  } where
-    nothing : told_in ≡ true → (bytes_led snapshot (watched_at watched place).opened (snapshot.leads name) ≡ [])
-        × (lines_led name snapshot (watched_at watched place).opened (snapshot.leads name) ≡ []) × (snapshot.leads name ≡ (watched_at watched place).opened)
-    nothing t = nothing_led name snapshot (watched_at watched place).opened (snapshot.leads name) (none t)
-
-  pub leads_untold : {watched_new : List Watched} {mid : List Slot} {change : Notice} {why : Fault} → Changes told_in snapshot watched place name (Some change)
-      → Ends {T = Unit {0}} told_in told false printer name [] (notice_of change name ∷ []) slots printer mid (Err (Over why)) → watched_new ≡ watched
-      → Leads told_in told snapshot place name position watched printer slots watched_new printer mid (Err (Over why))
-  leads_untold changed line same = record {
-    ends = due_as (λ t. (refl, sym (change_led name snapshot (watched_at watched place).opened (snapshot.leads name) (changed t)).1))
-        (stops_early (bytes_led snapshot (watched_at watched place).opened (snapshot.leads name)) [] line);
-    len = tt;
-    follows = ((watched_at watched place).opened, same ∙ sym (opens_same watched place));
+  pub adds_same : (told_in ≡ true → change_between opened led ≡ None)
+      → Adds told_in told name opened position (entries_led snapshot opened led) led printer slots printer slots (Ok position)
+  adds_same none = record {
+    ends = λ last stands. due_as (λ t. let (gains, said, still, same) = nothing_led name snapshot last led (stands t).file (none t) in (sym gains, sym said)) nothing_due;
+    stands = λ t last stands. let (gains, said, still, same) = nothing_led name snapshot last led stands.file (none t) in rw (still, same) stands;
   }
 
-  pub leads_unopened : {watched_mid watched_new : List Watched} {mid : List Slot} {change : Notice} {value : Unit {0}} {why : Fault}
-      → Changes told_in snapshot watched place name (Some change)
-      → Ends {T = Unit {0}} told_in told false printer name [] (notice_of change name ∷ []) slots printer mid (Ok value)
-      → watched_mid ≡ watched → why ≡ fault.Open place → watched_new ≡ changed_at place (breaks why) watched_mid
-      → Leads told_in told snapshot place name position watched printer slots watched_new printer mid (Err (Broke why))
-  leads_unopened changed line same is broken = record {
-    ends = ends_said snapshot (watched_at watched place).opened (snapshot.leads name) changed (λ t. (refl, refl)) line broke_first;
-    len = tt;
-    follows = follows_broken told_in (snapshot.leads name) same is broken;
+  pub adds_unsaid : {after : PrinterState} {slots_new : List Slot} {change : Notice} {why : Fault} → (told_in ≡ true → change_between opened led ≡ Some change)
+      → Ends told_in told false printer name [] (notice_of change name ∷ []) slots after slots_new (Some (Over why))
+      → Adds told_in told name opened position (entries_led snapshot opened led) led printer slots after slots_new (Err (Over why))
+  adds_unsaid changed line = record {
+    ends = λ last stands. due_as (λ t. (refl, sym (change_led name snapshot last led (stands t).file (changed t)).1)) (stops_early (gains_later last (entries_led snapshot opened led)) [] line);
+    stands = tt;
   }
 
-  pub leads_gone : {watched_new : List Watched} {mid : List Slot} {change : Notice} {value : Unit {0}} {is_there : Bool}
-      → Changes told_in snapshot watched place name (Some change)
-      → Ends {T = Unit {0}} told_in told false printer name [] (notice_of change name ∷ []) slots printer mid (Ok value)
-      → Reopens told_in snapshot watched watched_new place is_there → is_there ≡ false → (watched_at watched place).name ≡ name
-      → Leads told_in told snapshot place name position watched printer slots watched_new printer mid (Ok 0)
-  leads_gone changed line reopens gone named = record {
-    ends = ends_said snapshot (watched_at watched place).opened (snapshot.leads name) changed (λ t. (held_nowhere reopens gone named t, refl)) line nothing_due;
-    len = λ t seen. ap length (held_nowhere reopens gone named t);
-    follows = (reopens.file, reopens.names, λ t. reopens.leads t ∙ ap snapshot.leads named);
+  -- it was told, and then all that the file holds was given, or a beginning
+  adds_said : {mid slots_new : List Slot} {after : PrinterState} {due : List ℕ} {more : List (List ℕ)} {change : Notice} {result : Result ℕ Stop}
+      → (told_in ≡ true → change_between opened led ≡ Some change) → Ends told_in told false printer name [] (notice_of change name ∷ []) slots printer mid None
+      → (told_in ≡ true → (due ≡ held_at snapshot led) × (more ≡ [])) → Ends told_in told false printer name due more mid after slots_new (stop_in result)
+      → IfOk result (λ len. told_in ≡ true → StandsAt (last_from (fresh led) (entries_open snapshot led)) led len)
+      → Adds told_in told name opened position (entries_led snapshot opened led) led printer slots after slots_new result
+  adds_said {change} {result} changed line dues rest seen = record {
+    ends = λ last stands. due_as (λ t. let (gains, said, begun) = change_led name snapshot last led (stands t).file (changed t) in
+        ((dues t).0 ∙ sym gains, ap (λ lines. notice_of change name ∷ lines) (dues t).1 ∙ sym said)) (goes_after line rest);
+    stands = IfOk-weaker result _ _ (λ len at t last stands. rw (change_led name snapshot last led stands.file (changed t)).2 (at t)) seen;
   }
 
-  -- a file that was just opened is given whole
-  pub leads_there : {now : Snapshot} {watched_mid watched_new : List Watched} {after : PrinterState} {mid slots_new : List Slot} {change : Notice}
-      {value : Unit {0}} {is_there : Bool} {result : Result ℕ Stop} → Changes told_in snapshot watched place name (Some change)
-      → Ends {T = Unit {0}} told_in told false printer name [] (notice_of change name ∷ []) slots printer mid (Ok value)
-      → now ≡ snapshot → IsTrue (is_watchable watched place) → Reopens told_in snapshot watched watched_mid place is_there → (watched_at watched place).name ≡ name
-      → Catches told_in told now place name 0 watched_mid printer mid watched_new after slots_new result
-      → Leads told_in told snapshot place name position watched printer slots watched_new after slots_new result
-  leads_there {now} {watched_mid} {watched_new} {result} changed line seen can reopens named catches = record {
-    ends = ends_said snapshot (watched_at watched place).opened (snapshot.leads name) changed (λ t. (refl, refl)) line
-        (due_as (λ t. ((grind (arith, nat_tests)) ∙ whole_of t, no_line name (omega arith))) (catches.ends (λ t none. refl)));
-    len = IfOk-weaker result (λ n. told_in ≡ true → ((watched_at watched_mid place).opened ≡ None → ◌≡◌ {A = ℕ} 0 0) → n ≡ length (held_at now (watched_at watched_mid place).opened)) _
-        (λ n long t before. long t (λ none. refl) ∙ ap length (whole_of t)) catches.len;
-    follows = follows_there true watched_new result reopens named catches.keeps;
-  } where
-    whole_of : told_in ≡ true → held_at now (watched_at watched_mid place).opened ≡ held_at snapshot (snapshot.leads name)
-    whole_of t = sym (contents_open now (watched_at watched_mid place)) ∙ contents_led seen can reopens named t
+  pub adds_unopened : {mid : List Slot} {change : Notice} {why : Fault} → (told_in ≡ true → change_between opened led ≡ Some change)
+      → Ends told_in told false printer name [] (notice_of change name ∷ []) slots printer mid None
+      → Adds told_in told name opened position (entries_led snapshot opened led) led printer slots printer mid (Err (Broke why))
+  adds_unopened changed line = adds_said changed line (λ t. (refl, refl)) broke_first tt
+
+  pub adds_opened : {now : Snapshot} {mid slots_new : List Slot} {after : PrinterState} {file : Option ℕ} {change : Notice} {result : Result ℕ Stop}
+      → (told_in ≡ true → change_between opened led ≡ Some change) → Ends told_in told false printer name [] (notice_of change name ∷ []) slots printer mid None
+      → now ≡ snapshot → (told_in ≡ true → file ≡ led) → Adds told_in told name file 0 (entries_open now file) file printer mid after slots_new result
+      → Adds told_in told name opened position (entries_led snapshot opened led) led printer slots after slots_new result
+  adds_opened {now} {file} {result} changed line same leads rest = adds_said changed line
+      (λ t. let (gains, said) = fresh_dues name now file in (gains ∙ ap (λ (s : Snapshot). held_at s file) same ∙ ap (held_at snapshot) (leads t), said))
+      (rest.ends (fresh file) (λ t. fresh_stands file))
+      (IfOk-weaker result _ _ (λ len at t. subst₂ (λ (s : Snapshot) o. StandsAt (last_from (fresh o) (entries_open s o)) o len) same (leads t) (at t (fresh file) (fresh_stands file))) rest.stands)
+
+-- a look again at a name
+
+-- what a look adds: where names aren't followed, as if the name led to the open file
+at_look : (by_name : Bool) (name : List ℕ) (opened : Option ℕ) (snapshot : Snapshot)
+    → entries_open snapshot opened ++ entries_led snapshot opened (open_after_look by_name name opened snapshot) ≡ entries_at_look by_name name opened snapshot
+at_look true name opened snapshot = refl
+at_look false name None snapshot = refl
+at_look false name (Some file) snapshot = rw (eq-eqb file file refl) refl
+
+-- before it is told what failed
+pub record LooksAgain (told_in told by_name : Bool) (snapshot : Snapshot) (place : ℕ) (name : List ℕ) (position : ℕ) (watched : List Watched)
+    (printer : PrinterState) (slots : List Slot) (watched_new : List Watched) (after : PrinterState) (slots_new : List Slot) (result : Result ℕ Stop) : Type 0 where
+  pub adds : let opened = (watched_at watched place).opened in
+      Adds told_in told name opened position (entries_at_look by_name name opened snapshot) (open_after_look by_name name opened snapshot) printer slots after slots_new result
+  pub follows : Follows told_in by_name (open_after_look by_name name (watched_at watched place).opened snapshot) place watched watched_new (stop_in result)
+
+unchanged : (file : Option ℕ) → change_between file file ≡ None
+unchanged None = refl
+unchanged (Some file) = rw (eq-eqb file file refl) refl
+
+said-append : (name : List ℕ) (last : Entry) (entries more : List Entry) → said_of name last (entries ++ more) ≡ said_of name last entries ++ said_of name (last_from last entries) more
+said-append name last entries more = ap (map (λ notice. notice_of notice name)) (notices-append last entries more)
+    ∙ map-append (λ notice. notice_of notice name) (notices_later last entries) (notices_later (last_from last entries) more)
+
+-- one call after another
+adds_both : {told_in told : Bool} {name : List ℕ} {opened led : Option ℕ} {position len : ℕ} {entries more : List Entry} {printer mid after : PrinterState}
+    {slots slots_mid slots_new : List Slot} {result : Result ℕ Stop} → Adds told_in told name opened position entries opened printer slots mid slots_mid (Ok len)
+    → Adds told_in told name opened len more led mid slots_mid after slots_new result
+    → Adds told_in told name opened position (entries ++ more) led printer slots after slots_new result
+adds_both {name} {entries} {more} {result} one two = record {
+  ends = λ last stands. due_as (λ t. (sym (gains-append last entries more), sym (said-append name last entries more)))
+      (goes_after (one.ends last stands) (two.ends (last_from last entries) (λ t. one.stands t last (stands t))));
+  stands = IfOk-weaker result _ _ (λ n at t last stands. rw (last_from-append last entries more) (at t (last_from last entries) (one.stands t last stands))) two.stands;
+}
+
+adds_stop : {told_in told : Bool} {name : List ℕ} {opened led file : Option ℕ} {position : ℕ} {entries : List Entry} (more : List Entry) {printer after : PrinterState}
+    {slots slots_new : List Slot} {stop : Stop} → Adds told_in told name opened position entries file printer slots after slots_new (Err stop)
+    → Adds told_in told name opened position (entries ++ more) led printer slots after slots_new (Err stop)
+adds_stop {name} {entries} more one = record {
+  ends = λ last stands. due_as (λ t. (sym (gains-append last entries more), sym (said-append name last entries more)))
+      (stops_early (gains_later (last_from last entries) more) (said_of name (last_from last entries) more) (one.ends last stands));
+  stands = tt;
+}
+
+module _ {told_in told : Bool} {snapshot : Snapshot} {place : ℕ} {name : List ℕ} {position : ℕ} {watched : List Watched} {printer : PrinterState} {slots : List Slot} where
+  pub stopped_looks : (by_name : Bool) {watched_new : List Watched} {after : PrinterState} {slots_new : List Slot} {stop : Stop}
+      → Adds told_in told name (watched_at watched place).opened position (entries_open snapshot (watched_at watched place).opened) (watched_at watched place).opened printer slots after slots_new (Err stop)
+      → Keeps place watched watched_new (Some stop)
+      → LooksAgain told_in told by_name snapshot place name position watched printer slots watched_new after slots_new (Err stop)
+  stopped_looks by_name {stop} adds keeps = record {
+    adds = rw (← at_look by_name name (watched_at watched place).opened snapshot) (adds_stop _ adds);
+    follows = follows_stop told_in by_name (open_after_look by_name name (watched_at watched place).opened snapshot) _ place watched _ stop (sym (opens_same watched place)) keeps;
+  }
+
+  pub caught_looks : {by_name : Bool} {watched_new : List Watched} {after : PrinterState} {slots_new : List Slot} {len : ℕ} → by_name ≡ false
+      → Adds told_in told name (watched_at watched place).opened position (entries_open snapshot (watched_at watched place).opened) (watched_at watched place).opened printer slots after slots_new (Ok len)
+      → watched_new ≡ watched
+      → LooksAgain told_in told by_name snapshot place name position watched printer slots watched_new after slots_new (Ok len)
+  caught_looks is adds same = rw is (record {
+    adds = rw (← at_look false name (watched_at watched place).opened snapshot) (adds_both adds (adds_same snapshot (λ t. unchanged (watched_at watched place).opened)));
+    follows = follows_from false place watched _ None (sym (opens_same watched place)) (λ t. refl) same;
+  })
+
+  pub led_looks : {by_name : Bool} {now : Snapshot} {watched_mid watched_new : List Watched} {mid after : PrinterState} {slots_mid slots_new : List Slot}
+      {len : ℕ} {result : Result ℕ Stop} → by_name ≡ true → now ≡ snapshot → watched_mid ≡ watched
+      → Adds told_in told name (watched_at watched place).opened position (entries_open snapshot (watched_at watched place).opened) (watched_at watched place).opened printer slots mid slots_mid (Ok len)
+      → Leads told_in told now place name len watched_mid mid slots_mid watched_new after slots_new result
+      → LooksAgain told_in told by_name snapshot place name position watched printer slots watched_new after slots_new result
+  led_looks {watched_new} {mid} {after} {slots_mid} {slots_new} {len} {result} is seen same adds leads =
+      let led = subst₂ (λ (s : Snapshot) w. Leads told_in told s place name len w mid slots_mid watched_new after slots_new result) seen same leads in
+      rw is (record { adds = adds_both adds led.adds; follows = led.follows })

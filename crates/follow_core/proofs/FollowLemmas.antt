@@ -1,51 +1,40 @@
--- A look at all names: at one after another, one look more, and one that was stopped.
-use Rattle.std.proofs.Common.{◌≡◌, ℕ, zero, suc, ◌<◌, ◌≤◌, ◌+◌, Bool, true, false, ◌||◌, List, [], ◌∷◌, ◌++◌, length, take, set, replicate, get_or, slice_index_or, refl, sym, ◌∙◌, ap, subst, arith, append_assoc, inl, inr, ◌⊎◌, Option, if◌then◌else◌, subst₂, Err, not, ◌&&◌, map, Ok, Result}
+-- A look at all names: at one after another, one look more, and one that was stopped; and one look after another.
+use Rattle.std.proofs.Common.{◌≡◌, ℕ, zero, suc, ◌<◌, ◌≤◌, ◌+◌, Bool, true, false, ◌||◌, List, [], ◌∷◌, ◌++◌, length, take, set, replicate, get_or, slice_index_or, refl, sym, ◌∙◌, ap, subst, arith, append_assoc, inl, inr, ◌⊎◌, Option, Some, subst₂, Err, not, ◌&&◌, map, Ok, Result, None, is_some, if◌then◌else◌}
 use Rattle.std.proofs.Math.Bool.{or-false, or-false as or_none, and-false as and_none}
 use Rattle.std.proofs.lemmas.Bool.{cases_eq, cases_lt, and_parts, false≢true, not-true}
-use Rattle.std.proofs.lemmas.List.{append-nil, get_or_default, get_or-map, get_or-set_other, get_or-set_same, length-append, length-map, length-replicate, length-set, length-take-le, take_all, get_or_past, get_or-append-add, get_or_append_left}
-use Rattle.std.proofs.Math.Seq.{get_or-append_seam, map-set_same, take-suc}
+use Rattle.std.proofs.lemmas.List.{append-nil, get_or-map, get_or-set_other, get_or-set_same, length-append, length-map, length-replicate, length-set, length-take-le, take_all, get_or_past, get_or-append-add, get_or_append_left, map-append, take-append-le}
+use Rattle.std.proofs.Math.Seq.{get_or-append_seam, map-set_same, take-suc, take-append_seam}
 use Rattle.ports_core.specs.Slot.{Slot, changed_at, adds}
-use Rattle.follow_core.specs.FollowState.{AllReady, CanLook, FollowState, Holds, IsCause, IsOther, LooksOn, StandsIn, StopsOn, goes_on_at, is_alive, is_alive_from, new_state, nothing, up_to, lacks_memory, output_broke}
+use Rattle.follow_core.specs.FollowState.{AllReady, Begun, CanLook, FollowState, Holds, IsCause, IsOther, LooksOn, StandsIn, StopsOn, goes_on_at, is_alive, is_alive_from, new_state, nothing, up_to, lacks_memory, output_broke, Halted, SawOrNot, opened_follow}
 use Rattle.follow_core.specs.Followed.{any_failed, last_header_from, messages_of, share_text, text_from}
-use Rattle.follow_core.specs.Look.{Fate, Look, Ways, fate_at, is_dropped, sound, snapshots, ways_of}
-use Rattle.follow_core.specs.Share.{BeginsShare, Share, share_by, share_of, no_share, shares_at_look_from, IsFront, shares_at_look, shares_of}
-use Rattle.follow_core.specs.inner.Visits.{Opened, Stopped, KeepsOthers, StoppedAt, Visited, VisitedAll, any_goes_on, goes_on_as, VisitsAll}
+use Rattle.follow_core.specs.Look.{Fate, Look, Ways, is_dropped, sound, snapshots, ways_of}
+use Rattle.follow_core.specs.Share.{BeginsShare, Share, share_by, share_of, shares_at_look_from, IsFront, shares_of}
+use Rattle.follow_core.specs.inner.Visits.{KeepsOthers, Opened, StandFrom, Stopped, Visited, VisitedTo, Visits, VisitsAll, any_goes_on, goes_on_as}
 use Rattle.follow_core.specs.Printing.{PrinterState, Short}
 use Rattle.follow_core.specs.Sharing.{AllShared, AllShort, Wrote, CanPrint}
-use Rattle.follow_core.specs.inner.Giving.{Shared, SharedShort}
-use Rattle.follow_core.specs.Standing.{AllStand, BrokeIn, CanVisit, NameState, Stands, no_state, state_at, texts, AreBroken, IsFollowed}
-use Rattle.follow_core.proofs.GiveLemmas.{wrote_both, wrote_none, wrote_short, no_memory}
+use Rattle.follow_core.specs.inner.Giving.{Shared}
+use Rattle.follow_core.specs.Standing.{AllStand, BrokeIn, CanVisit, NameState, Stands, StandsAmong, no_state, state_at, texts, AreBroken, IsFollowed}
+use Rattle.follow_core.proofs.CallLemmas.{wrote_after, wrote_none, no_memory}
 use Rattle.ports_core.specs.declared.fault.Fault.{Fault}
 use Rattle.watch_core.specs.Snapshot.{Snapshot, latest}
 use Rattle.watch_core.specs.Watched.{Watched, opens, watched_at, added, no_name}
 use Rattle.follow_core.specs.declared.name.Standing.{Standing}
 use Rattle.follow_core.specs.declared.name.Standing.TheVariants.{New, Followed, Left}
 use Rattle.follow_core.proofs.LookLemmas.{broken_sound, unbroken_in, last_file}
-use Rattle.follow_core.proofs.ShareLemmas.{failed-append, last-append, messages-append, text-append, shares_more}
+use Rattle.follow_core.proofs.RunLemmas.{failed-append, last-append, messages-append, text-append, shares_more}
 use Rattle.follow_core.specs.declared.follow.Stage.{Stage}
 use Rattle.follow_core.specs.declared.follow.Stage.TheVariants.{Fresh, Looking, Over}
 use Rattle.follow_core.specs.inner.Calls.{HasStopped}
-use Rattle.follow_core.specs.inner.Looks.{AddsSome, Begins, MakesLook}
+use Rattle.follow_core.specs.inner.Looks.{AddsSome, Begins, MakesLook, LookedAll}
 use Rattle.follow_core.specs.Version.{open_after}
-use Rattle.std.specs.Prelude.{None, is_some}
 use Rattle.watch_core.proofs.NameLemmas.{latest-last}
+use mir.Val.{bool_byte}
+use Rattle.ports_core.proofs.Runs.{as_status}
+use Rattle.follow_core.specs.declared.start.Start.{Start}
+use Rattle.follow_core.specs.Ending.{FollowEndsAs, Made, StoppedIn, looked, seen_first}
 use Rattle.ports_core.specs.declared.fault.Fault.TheVariants as fault
 
 -- A look at one name after another.
-
--- The same of the first names, whatever becomes of the others at that look; those stand as before it.
-pub record VisitedUpTo (told_in told : Bool) (ways : Ways) (looks : List Look) (snapshot : Snapshot) (place : ℕ) (names : List NameState) (printer : PrinterState) (old : List Slot) (after : PrinterState) (new : List Slot) (watched : List Watched) (names_now : List NameState) (failed : Bool) : Type 0 where
-  pub fates : List Fate
-  pub shares : List Share
-  pub count : length fates ≡ ways.first + place
-  pub are : told_in ≡ true → (later : List Fate) → shares ≡ shares_at_look_from ways looks (record { snapshot = snapshot; fates = fates ++ later }) ways.first (take place (texts names))
-  pub is_failed : any_failed shares ≡ failed
-  pub shared : AllShared told printer shares old after new
-  pub same : texts names_now ≡ texts names
-  pub done : (later : List Fate) (other : ℕ) → other < place
-      → Stands told_in ways (looks ++ record { snapshot = snapshot; fates = fates ++ later } ∷ []) (ways.first + other) (state_at names_now other).text (watched_at watched (ways.first + other)) (state_at names_now other).standing
-  pub rest : (other : ℕ) → place ≤ other → other < length names_now
-      → Stands told_in ways looks (ways.first + other) (state_at names_now other).text (watched_at watched (ways.first + other)) (state_at names_now other).standing
 
 pub nothing_shared : {told : Bool} {printer : PrinterState} {slots : List Slot} → AllShared told printer [] slots printer slots
 nothing_shared {told} {slots} = record { printer_is = refl; slots = wrote_none told }
@@ -62,39 +51,39 @@ pub all_both : {told : Bool} {printer mid after : PrinterState} {shares more : L
 all_both {printer} {shares} {more} all rest = record {
   printer_is = rest.printer_is ∙ ap (λ (p : PrinterState). record p { last = last_header_from p.headers p.last more }) all.printer_is
       ∙ ap (λ last. record printer { last = last }) (sym (last-append printer.headers printer.last shares more));
-  slots = wrote_both _ _ _ _ _ (text_all printer shares more all.printer_is) (sym (messages-append shares more)) all.slots rest.slots;
+  slots = wrote_after _ _ _ _ _ _ None (text_all printer shares more all.printer_is) (sym (messages-append shares more)) all.slots rest.slots;
 }
 
 -- one share more, or a beginning of it
 
 pub shared_more : {told : Bool} {printer mid after : PrinterState} {shares : List Share} {share : Share} {old now new : List Slot}
-    → AllShared told printer shares old mid now → Shared told mid share now after new → AllShared told printer (shares ++ share ∷ []) old after new
+    → AllShared told printer shares old mid now → Shared told mid share now after new None → AllShared told printer (shares ++ share ∷ []) old after new
 shared_more {told} {now} {new} all one = all_both all (record {
-  printer_is = one.printer_is;
+  printer_is = one.printer_is refl;
   slots = subst₂ (λ text lines. Wrote told text lines now new) (sym (append-nil _)) (sym (append-nil _)) one.slots;
 })
 
-pub shared_short : {told : Bool} {printer mid : PrinterState} {shares : List Share} {share : Share} {old now new : List Slot} {why : Fault}
-    → AllShared told printer shares old mid now → SharedShort told mid share now new why → AllShort told printer (shares ++ share ∷ []) old new why
-shared_short {printer} {mid} {shares} {share} all one = record {
-  slots = wrote_short _ _ _ (ap (λ rest. text_from printer.headers printer.last shares ++ rest) (sym (append-nil (share_text mid.headers mid.last share)))
+pub shared_short : {told : Bool} {printer mid after : PrinterState} {shares : List Share} {share : Share} {old now new : List Slot} {why : Fault}
+    → AllShared told printer shares old mid now → Shared told mid share now after new (Some why) → AllShort told printer (shares ++ share ∷ []) old new why
+shared_short {printer} {mid} {shares} {share} {new} {why} all one = record {
+  slots = wrote_after _ _ _ _ _ new (Some why) (ap (λ rest. text_from printer.headers printer.last shares ++ rest) (sym (append-nil (share_text mid.headers mid.last share)))
       ∙ text_all printer shares (share ∷ []) all.printer_is)
       (ap (λ rest. messages_of shares ++ rest) (sym (append-nil share.messages)) ∙ sym (messages-append shares (share ∷ []))) all.slots one.slots;
 }
 
 -- names that were not looked at yet
 
-pub visited_none : {told_in told : Bool} {ways : Ways} {looks : List Look} {snapshot : Snapshot} {names : List NameState} {printer : PrinterState} {slots : List Slot} {watched : List Watched} → AllStand told_in ways looks names watched
-    → VisitedUpTo told_in told ways looks snapshot 0 names printer slots printer slots watched names false
+pub visited_none : {told_in told : Bool} {ways : Ways} {looks : List Look} {snapshot : Snapshot} {names : List NameState} {printer : PrinterState} {slots : List Slot}
+    {watched : List Watched} → AllStand told_in ways looks names watched → VisitedTo told_in told ways looks snapshot 0 names printer slots printer slots watched names false
 visited_none {ways} stand = record {
   fates = replicate ways.first sound;
   shares = [];
   count = length-replicate ways.first sound ∙ omega arith;
-  are = λ t later. refl;
+  are = λ t all front. refl;
   is_failed = refl;
   shared = nothing_shared;
   same = refl;
-  done = λ later other below. absurd (omega arith);
+  done = λ all front other below. absurd (omega arith);
   rest = λ other above within. stand other within;
 }
 
@@ -106,15 +95,15 @@ shares_one ways looks look from (first ∷ names) name =
     ap (λ rest. share_of ways looks look from first ∷ rest) (shares_one ways looks look (from + 1) names name
     ∙ ap (λ place. shares_at_look_from ways looks look (from + 1) names ++ share_of ways looks look place name ∷ []) (omega arith))
 
-fate_there : (snapshot : Snapshot) (fates : List Fate) {fate : Fate} (later : List Fate) {place : ℕ} → length fates ≡ place → fate_at place (record { snapshot = snapshot; fates = fates ++ fate ∷ later }) ≡ fate
-fate_there snapshot fates {fate} later count = ap (λ n. slice_index_or (fates ++ fate ∷ later) n sound) (sym count) ∙ get_or-append_seam fates fate later sound
+fate_there : (fates : List Fate) (fate : Fate) {all : List Fate} → IsFront (fates ++ fate ∷ []) all → {place : ℕ} → length fates ≡ place → slice_index_or all place sound ≡ fate
+fate_there fates fate {all} (rest, is) {place} count = ap (λ those. slice_index_or those place sound) (is ∙ append_assoc fates (fate ∷ []) rest)
+    ∙ ap (λ n. slice_index_or (fates ++ fate ∷ rest) n sound) (sym count) ∙ get_or-append_seam fates fate rest sound
+
+front_before : (fates : List Fate) (fate : Fate) {all : List Fate} → IsFront (fates ++ fate ∷ []) all → IsFront fates all
+front_before fates fate (rest, is) = (fate ∷ rest, is ∙ append_assoc fates (fate ∷ []) rest)
 
 text_there : (names now : List NameState) {place : ℕ} → texts now ≡ texts names → place < length now → get_or (texts names) place [] ≡ (state_at now place).text
 text_there names now {place} same within = ap (λ those. get_or those place []) (sym same) ∙ get_or-map (λ (n : NameState). n.text) now place no_state [] within
-
-stands_same : (told : Bool) (ways : Ways) (looks : List Look) (place : ℕ) {name other : NameState} {watched those : Watched} → name ≡ other → watched ≡ those → Stands told ways looks place name.text watched name.standing → Stands told ways looks place other.text those other.standing
-stands_same told ways looks place {name} {those} is same stands =
-    subst (λ (n : NameState). Stands told ways looks place n.text those n.standing) is (subst (λ w. Stands told ways looks place name.text w name.standing) same stands)
 
 pub texts_set : (names : List NameState) {place : ℕ} (default one : NameState) → place < length names → one.text ≡ (get_or names place default).text → texts (set names place one) ≡ texts names
 texts_set names {place} default one within same = map-set_same (λ (n : NameState). n.text) names place one default same
@@ -139,72 +128,37 @@ shares_next ways looks look names now {place} same within =
 failed_one : (shares : List Share) (share : Share) {before failed : Bool} → any_failed shares ≡ before → share.has_failed ≡ failed → any_failed (shares ++ share ∷ []) ≡ (before || failed)
 failed_one shares share {before} {failed} is one = failed-append shares (share ∷ []) ∙ ap (λ first. first || (share.has_failed || false)) is ∙ ap (λ last. before || (last || false)) one ∙ ap (λ last. before || last) (or-false failed)
 
-pub visited_more : {told_in told : Bool} {ways : Ways} {looks : List Look} {snapshot snapshot_now : Snapshot} {names now : List NameState} (default : NameState) {one : NameState} {place : ℕ} {printer mid after : PrinterState} {old slots new : List Slot} {watched watched_new : List Watched} {before failed : Bool}
-    → place < length now → one.text ≡ (get_or now place default).text → KeepsOthers (ways.first + place) watched watched_new → snapshot_now ≡ snapshot
-    → VisitedUpTo told_in told ways looks snapshot place names printer old mid slots watched now before
-    → (Stands told_in ways looks (ways.first + place) (get_or now place default).text (watched_at watched (ways.first + place)) (get_or now place default).standing → Visited told_in told ways looks snapshot_now (ways.first + place) (get_or now place default).text mid slots after new (watched_at watched_new (ways.first + place)) one.standing failed)
-    → {next : ℕ} → suc place ≡ next → VisitedUpTo told_in told ways looks snapshot next names printer old after new watched_new (set now place one) (before || failed)
-visited_more {told_in} {told} {ways} {looks} {snapshot} {names} {now} default {one} {place} {printer} {mid} {after} {old} {slots} {new} {watched} {watched_new} {before} {failed} within same keeps seen sofar visit is = subst (λ n. VisitedUpTo told_in told ways looks snapshot n names printer old after new watched_new (set now place one) (before || failed)) is (record {
+pub visited_more : {told_in told : Bool} {ways : Ways} {looks : List Look} {snapshot : Snapshot} {names now : List NameState} {one : NameState} {place : ℕ}
+    {printer mid after : PrinterState} {old slots new : List Slot} {watched watched_new : List Watched} {before failed : Bool} → place < length now
+    → Visits told_in told ways snapshot (ways.first + place) (state_at now place) watched mid slots one watched_new after new (Ok failed)
+    → VisitedTo told_in told ways looks snapshot place names printer old mid slots watched now before
+    → VisitedTo told_in told ways looks snapshot (place + 1) names printer old after new watched_new (set now place one) (before || failed)
+visited_more {told_in} {told} {ways} {looks} {snapshot} {names} {now} {one} {place} {mid} {after} {slots} {new} {watched} {watched_new} {failed} within visits sofar = record {
   fates = sofar.fates ++ visited.fate ∷ [];
   shares = sofar.shares ++ visited.share ∷ [];
   count = length-append sofar.fates (visited.fate ∷ []) ∙ ap (λ n. n + 1) sofar.count ∙ omega arith;
-  are = λ t later. subst (λ those. sofar.shares ++ visited.share ∷ [] ≡ shares_at_look_from ways looks (record { snapshot = snapshot; fates = those }) ways.first (take (suc place) (texts names))) (sym (append_assoc sofar.fates (visited.fate ∷ []) later)) (both t later);
+  are = λ t all front. let look : Look = record { snapshot = snapshot; fates = all } in
+      ap (λ those. those ++ visited.share ∷ []) (sofar.are t all (front_before sofar.fates visited.fate front))
+      ∙ ap (λ share. shares_at_look_from ways looks look ways.first (take place (texts names)) ++ share ∷ []) (visited.is_share t all (fate_there sofar.fates visited.fate front sofar.count))
+      ∙ shares_next ways looks look names now sofar.same within ∙ ap (λ n. shares_at_look_from ways looks look ways.first (take n (texts names))) (let next : suc place ≡ place + 1 = omega arith in next);
   is_failed = failed_one sofar.shares visited.share sofar.is_failed visited.is_failed;
   shared = shared_more sofar.shared visited.shared;
-  same = texts_set now default one within same ∙ sofar.same;
-  done = λ later other below. subst (λ those. Stands told_in ways (looks ++ record { snapshot = snapshot; fates = those } ∷ []) (ways.first + other) (state_at (set now place one) other).text (watched_at watched_new (ways.first + other)) (state_at (set now place one) other).standing) (sym (append_assoc sofar.fates (visited.fate ∷ []) later)) (there later other below (cases_eq other place));
-  rest = λ other above inside. stands_same told_in ways looks (ways.first + other) (sym (get_or-set_other now place other one no_state (differs other above))) (sym (kept other (differs other above)))
-      (sofar.rest other (omega arith) (subst (λ n. other < n) (length-set now place one) inside));
-}) where
-  item : NameState
-  item = get_or now place default
+  same = texts_set now no_state one within visits.same ∙ sofar.same;
+  done = λ all front other below. there all front other below (cases_eq other place);
+  rest = λ other above inside. stays looks other (λ at. omega arith) (sofar.rest other (omega arith) (subst (λ n. other < n) (length-set now place one) inside));
+} where
+  visited : Visited told_in told ways looks snapshot (ways.first + place) (state_at now place).text mid slots after new (watched_at watched_new (ways.first + place)) one.standing failed
+  visited = visits.visited looks (sofar.rest place (omega arith) within)
 
-  found : item ≡ state_at now place
-  found = get_or_default now place default no_state within
+  -- another name
+  stays : (looks : List Look) (other : ℕ) → (other ≡ place → ⊥) → StandsAmong told_in ways looks now watched other → StandsAmong told_in ways looks (set now place one) watched_new other
+  stays looks other elsewhere stands = rw (get_or-set_other now place other one no_state elsewhere, visits.others.others (ways.first + other) (λ at. elsewhere (omega (arith, at)))) stands
 
-  number : ℕ
-  number = ways.first + place
-
-  visited : Visited told_in told ways looks snapshot number item.text mid slots after new (watched_at watched_new number) one.standing failed
-  visited = subst (λ (s : Snapshot). Visited told_in told ways looks s number item.text mid slots after new (watched_at watched_new number) one.standing failed) seen
-      (visit (subst (λ (n : NameState). Stands told_in ways looks number n.text (watched_at watched number) n.standing) (sym found) (sofar.rest place (omega arith) within)))
-
-  kept : (other : ℕ) → (other ≡ place → ⊥) → watched_at watched_new (ways.first + other) ≡ watched_at watched (ways.first + other)
-  kept = λ other elsewhere. keeps.others (ways.first + other) (λ at. elsewhere (omega (arith, at)))
-
-  both : told_in ≡ true → (later : List Fate) → sofar.shares ++ visited.share ∷ [] ≡ shares_at_look_from ways looks (record { snapshot = snapshot; fates = sofar.fates ++ visited.fate ∷ later }) ways.first (take (suc place) (texts names))
-  both t later =
-      let look : Look = record { snapshot = snapshot; fates = sofar.fates ++ visited.fate ∷ later } in
-      ap (λ front. front ++ visited.share ∷ []) (sofar.are t (visited.fate ∷ later))
-      ∙ ap (λ share. shares_at_look_from ways looks look ways.first (take place (texts names)) ++ share ∷ []) (visited.is_share t (sofar.fates ++ visited.fate ∷ later) (fate_there snapshot sofar.fates later sofar.count))
-      ∙ ap (λ (n : NameState). shares_at_look_from ways looks look ways.first (take place (texts names)) ++ share_of ways looks look number n.text ∷ []) found
-      ∙ shares_next ways looks look names now sofar.same within
-
-  differs : (other : ℕ) → suc place ≤ other → other ≡ place → ⊥
-  differs other above at = omega arith
-
-  there : (later : List Fate) (other : ℕ) → other < suc place → (other ≡ place) ⊎ (other ≡ place → ⊥) → Stands told_in ways (looks ++ record { snapshot = snapshot; fates = sofar.fates ++ visited.fate ∷ later } ∷ []) (ways.first + other) (state_at (set now place one) other).text (watched_at watched_new (ways.first + other)) (state_at (set now place one) other).standing
-  there later other below (inr elsewhere) = stands_same told_in ways (looks ++ record { snapshot = snapshot; fates = sofar.fates ++ visited.fate ∷ later } ∷ []) (ways.first + other) (sym (get_or-set_other now place other one no_state elsewhere)) (sym (kept other elsewhere))
-      (sofar.done (visited.fate ∷ later) other (omega arith))
-  there later other below (inl at) = subst (λ n. Stands told_in ways (looks ++ record { snapshot = snapshot; fates = sofar.fates ++ visited.fate ∷ later } ∷ []) (ways.first + n) (state_at (set now place one) n).text (watched_at watched_new (ways.first + n)) (state_at (set now place one) n).standing) (sym at)
-      (subst (λ (n : NameState). Stands told_in ways (looks ++ record { snapshot = snapshot; fates = sofar.fates ++ visited.fate ∷ later } ∷ []) number n.text (watched_at watched_new number) n.standing) (sym (get_or-set_same now place one no_state within))
-      (subst (λ name. Stands told_in ways (looks ++ record { snapshot = snapshot; fates = sofar.fates ++ visited.fate ∷ later } ∷ []) number name (watched_at watched_new number) one.standing) (sym same)
-      (visited.stands (sofar.fates ++ visited.fate ∷ later) (fate_there snapshot sofar.fates later sofar.count))))
-
--- all names
-
-pub visited_all : {told_in told : Bool} {ways : Ways} {looks : List Look} {snapshot : Snapshot} {names now : List NameState} {place : ℕ} {printer after : PrinterState} {old new : List Slot} {watched : List Watched} {failed : Bool} → place ≡ length now
-    → VisitedUpTo told_in told ways looks snapshot place names printer old after new watched now failed → VisitedAll told_in told ways looks snapshot names printer old after new watched now failed
-visited_all {told_in} {ways} {looks} {snapshot} {names} {now} {place} {watched} end sofar = record {
-  fates = sofar.fates;
-  shares = sofar.shares;
-  are = λ t. sofar.are t [] ∙ ap (λ those. shares_at_look_from ways looks (record { snapshot = snapshot; fates = those }) ways.first (take place (texts names))) (append-nil sofar.fates)
-      ∙ ap (shares_at_look_from ways looks (record { snapshot = snapshot; fates = sofar.fates }) ways.first) (take_all place (texts names) (subst (λ n. n ≤ place) (sym (length_texts names now sofar.same)) (omega arith)));
-  is_failed = sofar.is_failed;
-  shared = sofar.shared;
-  same = sofar.same;
-  stand = λ other within. subst (λ those. Stands told_in ways (looks ++ record { snapshot = snapshot; fates = those } ∷ []) (ways.first + other) (state_at now other).text (watched_at watched (ways.first + other)) (state_at now other).standing) (append-nil sofar.fates) (sofar.done [] other (omega arith));
-}
+  there : (all : List Fate) → IsFront (sofar.fates ++ visited.fate ∷ []) all → (other : ℕ) → other < place + 1 → (other ≡ place) ⊎ (other ≡ place → ⊥)
+      → StandsAmong told_in ways (looks ++ record { snapshot = snapshot; fates = all } ∷ []) (set now place one) watched_new other
+  there all front other below (inr elsewhere) = stays (looks ++ record { snapshot = snapshot; fates = all } ∷ []) other elsewhere
+      (sofar.done all (front_before sofar.fates visited.fate front) other (omega arith))
+  there all front other below (inl at) = rw (at, get_or-set_same now place one no_state within, visits.same) (visited.stands all (fate_there sofar.fates visited.fate front sofar.count))
 
 -- by what a name broke, as it stands
 pub broken_there : (told : Bool) {ways : Ways} {looks : List Look} {place : ℕ} (name : List ℕ) (watched : Watched) (standing : Standing) → Stands told ways looks place name watched standing → BrokeIn ways looks place watched.failed
@@ -224,52 +178,43 @@ opens_failed (name ∷ names) (suc place) zero file = refl
 opens_failed (name ∷ names) (suc place) (suc other) file = opens_failed names place other file
 
 -- a look that was stopped at a name
-pub visited_short : {told_in told : Bool} {ways : Ways} {looks : List Look} {snapshot snapshot_now : Snapshot} {names now : List NameState} (default : NameState) {place : ℕ} {printer mid : PrinterState} {old slots new : List Slot} {watched watched_new : List Watched} {before : Bool} {why : Fault}
-    → place < length now → snapshot_now ≡ snapshot → Opened (ways.first + place) watched watched_new
-    → VisitedUpTo told_in told ways looks snapshot place names printer old mid slots watched now before
-    → (Stands told_in ways looks (ways.first + place) (get_or now place default).text (watched_at watched (ways.first + place)) (get_or now place default).standing → (is_dropped (ways.first + place) looks ≡ false) × Stopped told_in told ways looks snapshot_now (get_or now place default).text mid slots new why)
-    → StoppedAt told_in told ways looks snapshot (texts names) printer old watched_new new why
-visited_short {told_in} {told} {ways} {looks} {snapshot} {names} {now} default {place} {mid} {slots} {new} {watched} {watched_new} {why} within seen opened sofar stop = record {
-  fates = sofar.fates;
-  place = place;
-  count = sofar.count;
-  shares = sofar.shares;
-  share = stopped.1.share;
-  within = subst (λ n. place < n) (sym (length_texts names now sofar.same)) within;
-  are = λ t. sofar.are t [] ∙ ap (λ those. shares_at_look_from ways looks (record { snapshot = snapshot; fates = those }) ways.first (take place (texts names))) (append-nil sofar.fates);
-  begins = λ t. subst (BeginsShare stopped.1.share) (share_is t) (stopped.1.begins t sofar.fates);
-  broken = λ other inside. subst (BrokeIn ways (looks ++ look ∷ []) (ways.first + other)) (sym (same (ways.first + other))) (there other (subst (λ n. other < n) (length_texts names now sofar.same) inside) (cases_lt other place));
-  short = shared_short sofar.shared stopped.1.short;
-} where
-  item : NameState
-  item = get_or now place default
-
-  found : item ≡ state_at now place
-  found = get_or_default now place default no_state within
-
+pub visited_short : {told_in told : Bool} {ways : Ways} {looks : List Look} {snapshot : Snapshot} {names now : List NameState} {one : NameState} {place : ℕ}
+    {printer mid after : PrinterState} {old slots new : List Slot} {watched watched_new : List Watched} {before : Bool} {why : Fault} → place < length now
+    → Visits told_in told ways snapshot (ways.first + place) (state_at now place) watched mid slots one watched_new after new (Err why)
+    → VisitedTo told_in told ways looks snapshot place names printer old mid slots watched now before → length watched_new ≡ ways.first + length names
+    → (more : List Share) × Begun told_in ways (texts names) looks snapshot watched_new more × AllShort told printer more old new why
+visited_short {told_in} {told} {ways} {looks} {snapshot} {names} {now} {place} {mid} {slots} {new} {watched} {watched_new} {why} within visits sofar many = (
+  sofar.shares ++ stopped.1.share ∷ [],
+  up_to sofar.fates place sofar.shares stopped.1.share sofar.count (omega (arith, within, size))
+      (omega (arith, many, size), λ above. omega (arith, many, size), λ other inside. rw (opened.1, opens_failed watched number (ways.first + other) opened.0) (there other (omega (arith, inside, many, size)) (cases_lt other place)))
+      (λ t. sofar.are t sofar.fates front) (λ t. subst (BeginsShare stopped.1.share) (share_is t) (stopped.1.begins t sofar.fates)),
+  shared_short sofar.shared stopped.1.short,
+) where
   number : ℕ
   number = ways.first + place
 
-  stopped : (is_dropped number looks ≡ false) × Stopped told_in told ways looks snapshot item.text mid slots new why
-  stopped = subst (λ (s : Snapshot). (is_dropped number looks ≡ false) × Stopped told_in told ways looks s item.text mid slots new why) seen
-      (stop (subst (λ (n : NameState). Stands told_in ways looks number n.text (watched_at watched number) n.standing) (sym found) (sofar.rest place (omega arith) within)))
+  opened : Opened number watched watched_new
+  opened = visits.halts
+
+  size : (length (texts names) ≡ length now) × (length names ≡ length now)
+  size = (length_texts names now sofar.same, same_length names now sofar.same)
+
+  front : IsFront sofar.fates sofar.fates
+  front = ([], sym (append-nil sofar.fates))
+
+  stopped : (is_dropped number looks ≡ false) × Stopped told_in told ways looks snapshot (state_at now place).text mid slots new why
+  stopped = visits.stopped looks (sofar.rest place (omega arith) within)
 
   look : Look
   look = record { snapshot = snapshot; fates = sofar.fates }
 
-  share_is : told_in ≡ true → share_by ways item.text looks look sound ≡ share_of ways looks look number (get_or (texts names) place [])
+  share_is : told_in ≡ true → share_by ways (state_at now place).text looks look sound ≡ share_of ways looks look number (get_or (texts names) place [])
   share_is t =
       let count = sofar.count in
-      ap (share_by ways item.text looks look) (sym (get_or_past sofar.fates number sound (omega (arith, count))))
-      ∙ ap (λ test. if test then no_share item.text else share_by ways item.text looks look (fate_at number look)) (sym stopped.0)
-      ∙ ap (share_of ways looks look number) (ap (λ (n : NameState). n.text) found ∙ sym (text_there names now sofar.same within))
-
-  same : (other : ℕ) → (watched_at watched_new other).failed ≡ (watched_at watched other).failed
-  same other = ap (λ (those : List Watched). (watched_at those other).failed) opened.1 ∙ opens_failed watched number other opened.0
+      rw (text_there names now sofar.same within, stopped.0, get_or_past sofar.fates number sound (omega (arith, count))) refl
 
   there : (other : ℕ) → other < length now → (other < place) ⊎ (place ≤ other) → BrokeIn ways (looks ++ look ∷ []) (ways.first + other) (watched_at watched (ways.first + other)).failed
-  there other inside (inl less) = broken_there told_in (state_at now other).text (watched_at watched (ways.first + other)) (state_at now other).standing
-      (subst (λ those. Stands told_in ways (looks ++ record { snapshot = snapshot; fates = those } ∷ []) (ways.first + other) (state_at now other).text (watched_at watched (ways.first + other)) (state_at now other).standing) (append-nil sofar.fates) (sofar.done [] other less))
+  there other inside (inl less) = broken_there told_in (state_at now other).text (watched_at watched (ways.first + other)) (state_at now other).standing (sofar.done sofar.fates front other less)
   there other inside (inr more) =
       let count = sofar.count in
       broken_sound looks look (get_or_past sofar.fates (ways.first + other) sound (omega (arith, count, more)))
@@ -289,21 +234,21 @@ none_stop {told} {slots} = record { slots = λ output error others is. (error, r
 
 -- names that are looked at
 
-stand_in : {told_in told : Bool} {ways : Ways} {headers : Bool} {names : List (List ℕ)} {looks : List Look} {first : List Slot} {follow : FollowState} {watched : List Watched} {slots : List Slot} → follow.stage ≡ Looking → Holds told_in told ways headers names looks first follow watched slots
-    → AllStand told_in (ways_of ways.first follow.by_name follow.start) looks follow.names watched
-stand_in {told_in} {ways} {looks} {follow} {watched} looking holds =
-    subst (λ way. AllStand told_in way looks follow.names watched) holds.asked (subst (StandsIn told_in ways looks follow.names watched) looking holds.stand).0
-
 -- as many names
 length_names : (follow : FollowState) {names : List (List ℕ)} → texts follow.names ≡ names → length follow.names ≡ length names
 length_names follow same = sym (length-map follow.names (λ (n : NameState). n.text)) ∙ ap length same
 
--- the number of the first
-first_there : {told_in told : Bool} {ways : Ways} {headers : Bool} {names : List (List ℕ)} {looks : List Look} {first : List Slot} {follow : FollowState} {watched : List Watched} {slots : List Slot} → follow.stage ≡ Looking → Holds told_in told ways headers names looks first follow watched slots
-    → 0 < length follow.names → follow.first ≡ ways.first
-first_there {follow} looking holds some = holds.numbered looking (subst (λ n. 0 < n) (length_names follow holds.same) some)
+-- they stand as the looks before left them
+stand_from : {told_in told : Bool} {ways : Ways} {headers : Bool} {names : List (List ℕ)} {looks : List Look} {first : List Slot} {follow : FollowState}
+    {watched : List Watched} {slots : List Slot} → follow.stage ≡ Looking → Holds told_in told ways headers names looks first follow watched slots
+    → StandFrom told_in (ways_of ways.first follow.by_name follow.start) looks follow.first follow.names watched
+stand_from {told_in} {ways} {looks} {follow} {watched} looking holds =
+    let (stand, many) = subst (StandsIn told_in ways looks follow.names watched) looking holds.stand in
+    subst (λ way. StandFrom told_in way looks follow.first follow.names watched) holds.asked
+    (record { numbered = λ some. holds.numbered looking (subst (λ n. 0 < n) (length_names follow holds.same) some); stand = stand; many = many })
 
-look_made : {told_in told : Bool} {snapshot : Snapshot} {old : FollowState} {names : List NameState} {watched watched_new : List Watched} {printer : PrinterState} {slots slots_new : List Slot} {failed : Bool} → old.stage ≡ Looking
+look_made : {told_in told : Bool} {snapshot : Snapshot} {old : FollowState} {names : List NameState} {watched watched_new : List Watched} {printer : PrinterState}
+    {slots slots_new : List Slot} {failed : Bool} → old.stage ≡ Looking
     → VisitsAll told_in told snapshot old.by_name old.start old.first old.names watched old.printer slots names watched_new printer slots_new (Ok failed)
     → LooksOn told_in told snapshot old watched slots (record old { names = names; printer = printer; has_failed = old.has_failed || failed }) watched_new slots_new
 look_made {told_in} {told} {snapshot} {old} {names} {watched} {watched_new} {printer} {slots} {slots_new} {failed} looking visits ways headers asked looks first holds = (
@@ -313,46 +258,51 @@ look_made {told_in} {told} {snapshot} {old} {names} {watched} {watched_new} {pri
     same = visited.same ∙ holds.same;
     numbered = holds.numbered;
     stand = subst (StandsIn told_in ways (looks ++ look ∷ []) names watched_new) (sym looking) (
-      visited.stand,
-      visits.count
-          ∙ (subst (StandsIn told_in ways looks old.names watched) looking holds.stand).1 ∙ ap (λ n. ways.first + n) (same_length old.names names visited.same),
+      (λ place within. visited.done visited.fates front place (omega (arith, within, many))),
+      visits.count ∙ stood.many ∙ ap (λ n. ways.first + n) many,
     );
     shares = holds.shares ++ visited.shares;
     are = λ t. ap (λ those. those ++ visited.shares) (holds.are t) ∙ ap (λ those. shares_of ways asked looks ++ those)
-        (visited.are t ∙ ap (λ those. shares_at_look ways those looks look) holds.same) ∙ sym (shares_more ways asked looks look);
+        (visited.are t visited.fates front ∙ ap (shares_at_look_from ways looks look ways.first) (take_all (length old.names) (texts old.names) (omega (arith, size)) ∙ holds.same)) ∙ sym (shares_more ways asked looks look);
     shared = all_both holds.shared visited.shared;
     failed = failed-append holds.shares visited.shares ∙ ap (λ before. before || any_failed visited.shares) holds.failed
         ∙ ap (λ now. old.has_failed || now) visited.is_failed;
   },
 ) where
-  visited : VisitedAll told_in told ways looks snapshot old.names old.printer slots printer slots_new watched_new names failed
-  visited = subst (λ way. VisitedAll told_in told way looks snapshot old.names old.printer slots printer slots_new watched_new names failed) (sym holds.asked)
-      (visits.visited ways.first looks (first_there looking holds) (stand_in looking holds))
+  stood : StandFrom told_in (ways_of ways.first old.by_name old.start) looks old.first old.names watched
+  stood = stand_from looking holds
+
+  visited : VisitedTo told_in told ways looks snapshot (length old.names) old.names old.printer slots printer slots_new watched_new names failed
+  visited = subst (λ way. VisitedTo told_in told way looks snapshot (length old.names) old.names old.printer slots printer slots_new watched_new names failed) (sym holds.asked)
+      (visits.visited ways.first looks stood)
 
   look : Look
   look = record { snapshot = snapshot; fates = visited.fates }
+
+  front : IsFront visited.fates visited.fates
+  front = ([], sym (append-nil visited.fates))
+
+  many : length old.names ≡ length names
+  many = same_length old.names names visited.same
+
+  size : length (texts old.names) ≡ length old.names
+  size = length-map old.names (λ (n : NameState). n.text)
 
 look_stopped : {told_in told : Bool} {snapshot : Snapshot} {old : FollowState} {names : List NameState} {watched watched_new : List Watched}
     {printer : PrinterState} {slots slots_new : List Slot} {why : Fault} → old.stage ≡ Looking
     → VisitsAll told_in told snapshot old.by_name old.start old.first old.names watched old.printer slots names watched_new printer slots_new (Err why)
     → StopsOn told_in told snapshot old watched slots watched_new slots_new why
-look_stopped {told_in} {told} {snapshot} {old} {watched} {watched_new} {slots} {slots_new} {why} looking visits ways headers names looks first holds = record {
-  shares = holds.shares;
-  are = holds.are;
-  printer = old.printer;
-  reached = slots;
-  shared = holds.shared;
-  more = stopped.shares ++ stopped.share ∷ [];
-  begun = up_to stopped.fates stopped.place stopped.shares stopped.share stopped.count stopped.within
-      ((let as_many = all in omega (arith, as_many)), (λ above. all), λ other within. stopped.broken other (let as_many = all in omega (arith, as_many, within))) stopped.are stopped.begins;
-  short = stopped.short;
-} where
-  stopped : StoppedAt told_in told ways looks snapshot names old.printer slots watched_new slots_new why
-  stopped = subst₂ (λ way those. StoppedAt told_in told way looks snapshot those old.printer slots watched_new slots_new why) (sym holds.asked) holds.same
-      (visits.stopped ways.first looks (first_there looking holds) (stand_in looking holds))
-
-  all : length watched_new ≡ ways.first + length names
-  all = visits.count ∙ (subst (StandsIn told_in ways looks old.names watched) looking holds.stand).1 ∙ ap (λ n. ways.first + n) (length_names old holds.same)
+look_stopped {told_in} {told} {snapshot} {old} {watched_new} {slots} {slots_new} {why} looking visits ways headers names looks first holds =
+    let (more, begun, short) = visits.stopped ways.first looks (stand_from looking holds) in record {
+      shares = holds.shares;
+      are = holds.are;
+      printer = old.printer;
+      reached = slots;
+      shared = holds.shared;
+      more = more;
+      begun = subst₂ (λ way those. Begun told_in way those looks snapshot watched_new more) (sym holds.asked) holds.same begun;
+      short = short;
+    }
 
 -- whatever looks were made, the names broke just where they tell so
 abbrev pub Unbroken : (told_in told : Bool) → FollowState → List Watched → List Slot → List Watched → Type 0
@@ -601,19 +551,19 @@ makes_look {told_in} {told} {shows} {shows_mid} {seen} {seen_mid} {seen_turned} 
       saw : seen_new ≡ seen ++ snapshot ∷ []
       saw = seen_is ∙ turned ∙ ap (λ (those : List Snapshot). those ++ shows_mid (length seen_mid) ∷ []) seen_same ∙ ap (λ one. seen ++ one ∷ []) next
 
-      Made : Result Bool Fault → Type 0
-      Made those = VisitsAll told_in told snapshot inside.by_name inside.start inside.first inside.names watched_mid inside.printer slots names_new watched_new printer slots_new those
+      Seen : Result Bool Fault → Type 0
+      Seen those = VisitsAll told_in told snapshot inside.by_name inside.start inside.first inside.names watched_mid inside.printer slots names_new watched_new printer slots_new those
 
-      made : Made result
+      made : Seen result
       made = subst₂ (λ (s : Snapshot) w. VisitsAll told_in told s inside.by_name inside.start inside.first inside.names w inside.printer slots names_new watched_new printer slots_new result)
           (ap latest turned ∙ latest-last seen_mid (shows_mid (length seen_mid)) ∙ next) watched_same
           (subst₂ (λ these now. VisitsAll told_in told (latest seen_turned) inside.by_name inside.start inside.first these watched_turned inside.printer slots now watched_new printer slots_new result) names_are names_now visits)
 
-      others : {those : Result Bool Fault} → Made those → (number : ℕ) → IsOther old watched number → watched_at watched_new number ≡ watched_at watched number
+      others : {those : Result Bool Fault} → Seen those → (number : ℕ) → IsOther old watched number → watched_at watched_new number ≡ watched_at watched number
       others visits number other =
           let (others, same) = begins.others number other in visits.others number (not_own inside watched_mid begins.stage others) ∙ same
 
-      by : (result : Result Bool Fault) → Made result → MakesLook told_in told snapshot seen old watched slots seen_new
+      by : (result : Result Bool Fault) → Seen result → MakesLook told_in told snapshot seen old watched slots seen_new
           (record inside { names = names_new; printer = printer; has_failed = or_failed inside.has_failed result }) watched_new slots_new (as_made result)
       by (Ok failed) visits = record {
         looked = λ ways headers names looks first holds. look_made begins.stage visits ways headers names looks first (begins.holds told ways headers names looks first slots holds);
@@ -639,3 +589,117 @@ makes_look {told_in} {told} {shows} {shows_mid} {seen} {seen_mid} {seen_turned} 
         error = visits.error.1;
         others = others visits;
       }
+
+-- as many looks were made, and then a further one can give something, or not
+pub record Progress (told_in told : Bool) (ways : Ways) (headers : Bool) (names : List (List ℕ)) (shows : ℕ → Snapshot) (first : List Slot) (made : ℕ)
+    (going : Bool) (follow : FollowState) (seen : List Snapshot) (watched : List Watched) (slots : List Slot) : Type 0 where
+  pub looks : List Look
+  pub count : length looks ≡ made
+  pub observed : seen ≡ snapshots looks
+  pub is_made : Made told_in ways names shows looks
+  pub alive : told_in ≡ true → 0 < length looks → is_alive ways names looks ≡ going
+  pub holds : Holds told_in told ways headers names looks first follow watched slots
+
+made_more : {told_in : Bool} {ways : Ways} {names : List (List ℕ)} {shows : ℕ → Snapshot} {looks : List Look} (look : Look) → look.snapshot ≡ shows (length looks)
+    → Made told_in ways names shows looks → (told_in ≡ true → 0 < length looks → is_alive ways names looks ≡ true)
+    → Made told_in ways names shows (looks ++ look ∷ [])
+made_more {told_in} {ways} {names} {shows} {looks} look is before alive = record {
+  saw = map-append (λ (l : Look). l.snapshot) looks (look ∷ []) ∙ (λ i. before.saw i ++ is i ∷ []) ∙ ap (seen_first shows) (sym long);
+  alive = λ t n above below. by t n above (cases_lt n (length looks)) (subst (λ m. n < m) long below);
+} where
+  long : length (looks ++ look ∷ []) ≡ suc (length looks)
+  long = length-append looks (look ∷ []) ∙ omega arith
+
+  by : told_in ≡ true → (n : ℕ) → 0 < n → (n < length looks) ⊎ (length looks ≤ n) → n < suc (length looks) → is_alive ways names (take n (looks ++ look ∷ [])) ≡ true
+  by t n above (inl below) inside = ap (is_alive ways names) (take-append-le n looks (look ∷ []) (omega arith)) ∙ before.alive t n above below
+  by t n above (inr past) inside =
+      let at : n ≡ length looks = omega (arith, past, inside) in
+      ap (λ m. is_alive ways names (take m (looks ++ look ∷ []))) at ∙ ap (is_alive ways names) (take-append_seam looks (look ∷ [])) ∙ alive t (subst (λ m. 0 < m) at above)
+
+module _ {told_in told : Bool} {ways : Ways} {headers : Bool} {names : List (List ℕ)} {shows : ℕ → Snapshot} {first : List Slot} where
+  pub none_made : {follow : FollowState} {seen : List Snapshot} {watched : List Watched} {slots : List Slot} → seen ≡ []
+      → Holds told_in told ways headers names [] first follow watched slots → Progress told_in told ways headers names shows first 0 true follow seen watched slots
+  none_made unseen holds = record {
+    looks = [];
+    count = refl;
+    observed = unseen;
+    is_made = record { saw = refl; alive = λ t n above below. absurd (omega arith) };
+    alive = λ t above. absurd (omega arith);
+    holds = holds;
+  }
+
+  -- the next look sees what the watch shows then
+  next_is : {made : ℕ} {now : ℕ → Snapshot} {going : Bool} {follow : FollowState} {seen : List Snapshot} {watched : List Watched} {slots : List Slot} → now ≡ shows
+      → (p : Progress told_in told ways headers names shows first made going follow seen watched slots) → now (length seen) ≡ shows (length p.looks)
+  next_is {seen} same p = ap (λ (f : ℕ → Snapshot). f (length seen)) same ∙ ap shows (ap length p.observed ∙ length-map p.looks (λ (l : Look). l.snapshot))
+
+  pub one_more : {made : ℕ} {now : ℕ → Snapshot} {old new : FollowState} {seen seen_new : List Snapshot} {watched watched_new : List Watched} {slots slots_new : List Slot}
+      {going : Bool} {next : ℕ} → now ≡ shows → Progress told_in told ways headers names shows first made true old seen watched slots
+      → LooksOn told_in told (now (length seen)) old watched slots new watched_new slots_new → seen_new ≡ seen ++ now (length seen) ∷ []
+      → ((told : Bool) (ways : Ways) (headers : Bool) (names : List (List ℕ)) (looks : List Look) (first slots : List Slot) (watched : List Watched)
+      → Holds true told ways headers names looks first new watched slots → going ≡ is_alive ways names looks)
+      → suc made ≡ next → Progress told_in told ways headers names shows first next going new seen_new watched_new slots_new
+  one_more {now} {new} {seen} {watched_new} {slots_new} same p looks_on more alive is =
+      let (fates, holds) = looks_on ways headers names p.looks first p.holds in
+      let look : Look = record { snapshot = now (length seen); fates = fates } in record {
+        looks = p.looks ++ look ∷ [];
+        count = length-append p.looks (look ∷ []) ∙ ap (λ n. n + 1) p.count ∙ omega (arith, is);
+        observed = more ∙ ap (λ front. front ++ look.snapshot ∷ []) p.observed ∙ sym (map-append (λ (l : Look). l.snapshot) p.looks (look ∷ []));
+        is_made = made_more look (next_is same p) p.is_made p.alive;
+        alive = λ t above. sym (alive told ways headers names (p.looks ++ look ∷ []) first slots_new watched_new
+            (subst (λ known. Holds known told ways headers names (p.looks ++ look ∷ []) first new watched_new slots_new) t holds));
+        holds = holds;
+      }
+
+  pub one_stopped : {made : ℕ} {now : ℕ → Snapshot} {count : ℕ} {old : FollowState} {seen seen_new : List Snapshot} {watched watched_new : List Watched}
+      {slots slots_new : List Slot} {why : Fault} → now ≡ shows → Progress told_in told ways headers names shows first made true old seen watched slots
+      → SawOrNot seen (now (length seen)) seen_new → made < count → StopsOn told_in told (now (length seen)) old watched slots watched_new slots_new why
+      → StoppedIn told_in told ways headers names count shows first seen_new watched_new slots_new why
+  one_stopped {count} {seen_new} {watched_new} {slots_new} {why} same p saw below stops = record {
+    looks = p.looks;
+    saw = subst₂ (λ those s. SawOrNot those s seen_new) p.observed (next_is same p) saw;
+    made = p.is_made;
+    within = subst (λ n. n < count) (sym p.count) below;
+    alive = p.alive;
+    halted = subst (λ s. Halted told_in told ways headers names p.looks s first watched_new slots_new why) (next_is same p)
+        (stops ways headers names p.looks first p.holds);
+  }
+
+  -- no further look was made: as many were asked for, or it could give nothing
+  pub ended : {made count : ℕ} {going : Bool} {follow : FollowState} {seen : List Snapshot} {watched : List Watched} {slots : List Slot} → made ≤ count
+      → (made < count → (0 < made) × (going ≡ false)) → Progress told_in told ways headers names shows first made going follow seen watched slots
+      → LookedAll told_in told ways headers names count shows first follow seen watched slots
+  ended within over p = let count = p.count in record {
+    looks = p.looks;
+    observed = p.observed;
+    made = p.is_made;
+    within = omega (arith, count, within);
+    over = λ fewer. let (some, stops) = over (omega (arith, count, fewer)) in let above : 0 < length p.looks = omega (arith, count, some) in (above, λ t. p.alive t above ∙ stops);
+    holds = p.holds;
+  }
+
+-- a whole run
+
+texts_of_new : (names : List (List ℕ)) → texts (map new_state names) ≡ names
+texts_of_new [] = refl
+texts_of_new (name ∷ names) = ap (λ rest. name ∷ rest) (texts_of_new names)
+
+pub open_holds : {told_in told by_name : Bool} {start : Start} {headers : Bool} {names : List (List ℕ)} {follow : FollowState} {watched : List Watched} {slots : List Slot} → follow ≡ opened_follow by_name start headers names → watched ≡ [] → Holds told_in told (ways_of 0 by_name start) headers names [] slots follow watched slots
+open_holds {told_in} {told} {by_name} {start} {headers} {names} {watched} {slots} is unwatched = subst (λ (f : FollowState). Holds told_in told (ways_of 0 by_name start) headers names [] slots f watched slots) (sym is) (record {
+  asked = refl;
+  same = texts_of_new names;
+  numbered = λ looking some. refl;
+  stand = (refl, ap (map new_state) (sym (texts_of_new names)), ap length unwatched);
+  shares = [];
+  are = λ t. refl;
+  shared = nothing_shared;
+  failed = refl;
+})
+
+pub ends_looked : {told_in told : Bool} {ways : Ways} {headers : Bool} {names : List (List ℕ)} {count : ℕ} {shows : ℕ → Snapshot} {first slots : List Slot} {seen : List Snapshot} {watched : List Watched} {follow : FollowState} {failed : Bool} {status : ℕ} → failed ≡ follow.has_failed → status ≡ bool_byte failed
+    → LookedAll told_in told ways headers names count shows first follow seen watched slots → FollowEndsAs told_in told ways headers names count shows first seen watched slots status
+ends_looked {failed} is status_is all =
+    looked all.looks all.holds.shares all.observed (broken_are all.holds) all.made all.within all.over all.holds.are (record {
+      wrote = all.holds.shared.slots;
+      status_is = status_is ∙ as_status failed ∙ ap (λ those. if those then 1 else 0) (is ∙ sym all.holds.failed);
+    })

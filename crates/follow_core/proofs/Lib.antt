@@ -1,10 +1,6 @@
 pub mod RunLemmas
-pub mod ShareLemmas
 pub mod LookLemmas
 pub mod AgreeLemmas
-pub mod GiveLemmas
 pub mod CallLemmas
 pub mod StartLemmas
-pub mod VisitLemmas
 pub mod FollowLemmas
-pub mod EndingLemmas

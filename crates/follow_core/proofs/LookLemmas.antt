@@ -1,21 +1,19 @@
--- A look at a name: what it gives, from where the looks before left it, and what is told of it.
-use Rattle.follow_core.specs.Standing.{BrokeIn, StandsAt}
-use Rattle.follow_core.proofs.CallLemmas.{none_of}
-use Rattle.std.proofs.Common.{◌≡◌, ℕ, ◌==◌, Bool, true, false, List, [], ◌∷◌, ◌++◌, length, Option, Some, None, refl, sym, ◌∙◌, ap, if◌then◌else◌, map, drop, subst, take, Ok, Err, inl, inr, ◌⊎◌, append_assoc, Result, not, ◌&&◌, subst₂}
-use Rattle.std.proofs.lemmas.Bool.{eqb-true}
+-- A look at a name: what it gives, from where the looks before left it, what is told of it, and how it stands then.
+use Rattle.follow_core.specs.Standing.{BrokeIn, StandsAt, CanVisit, IsFollowed, IsLeft, IsMissed, NameState, Stands}
+use Rattle.follow_core.proofs.CallLemmas.{held_at, none_of, gives_nothing, failure_said, wrote_after, wrote_line, keeps_others, opened_there, opens_same, LooksAgain, some_of, nothing_due}
+use Rattle.std.proofs.Common.{◌≡◌, ℕ, ◌==◌, Bool, true, false, List, [], ◌∷◌, ◌++◌, length, Option, Some, None, refl, sym, ◌∙◌, ap, if◌then◌else◌, map, drop, subst, take, inl, inr, ◌⊎◌, append_assoc, ◌&&◌, eqb-true, Result, Ok, Err, ◌<◌, IsTrue, IfOk, subst₂, is_none, is_some, IfErr}
 use Rattle.std.proofs.lemmas.List.{append-nil, map-append}
 use Rattle.watch_core.specs.Snapshot.{Snapshot}
-use Rattle.follow_core.specs.Version.{Entry, gap, version_in, entries_at_look, entries_led, entries_later, entries_of, entries_open, open_after, open_after_later, open_after_look}
-use Rattle.follow_core.specs.Gain.{file_of, last_from, last_of, gains_later, gains_after}
-use Rattle.follow_core.specs.inner.Calls.{held_at, bytes_again, lines_again}
+use Rattle.follow_core.specs.Version.{Entry, gap, version_in, entries_at_look, entries_led, entries_later, entries_of, entries_open, open_after, open_after_later, open_after_look, version}
+use Rattle.follow_core.specs.Gain.{file_of, last_from, last_of, gains_later, gains_after, seen_length}
+use Rattle.follow_core.specs.inner.Calls.{said_of, Keeps, Follows}
 use Rattle.follow_core.specs.Look.{Fate, Look, Ways, entries_in, failed_by, failed_in, fate_at, is_dropped, snapshots, sound, unopened, unread, is_first}
 use Rattle.std.proofs.Math.Seq.{drop-append_seam as drop_front, take-append_seam}
 use Rattle.follow_core.specs.Run.{AreKept, name_text}
 use Rattle.follow_core.specs.Notice.{notice_of, notices_of, notices_later, is_missing}
-use Rattle.follow_core.specs.Share.{share_by, share_of, gain, gains_from, new_entries, said_at_look, IsFront, missing_share, Share, BeginsShare}
-use Rattle.follow_core.proofs.RunLemmas.{gains-append, notices-append, text_goes_on, text_is_gains}
-use Rattle.follow_core.proofs.ShareLemmas.{entries-append}
-use Rattle.ports_core.specs.Slot.{Slot, told_of, with_written}
+use Rattle.follow_core.specs.Share.{share_by, gain, gains_from, new_entries, said_at_look, IsFront, missing_share, Share, BeginsShare, no_share}
+use Rattle.follow_core.proofs.RunLemmas.{gains-append, last_from-append, notices-append, text_goes_on, text_is_gains, entries-append}
+use Rattle.ports_core.specs.Slot.{Slot, changed_at}
 use Rattle.ports_core.specs.Text.{message_of}
 use Rattle.ports_core.specs.Message.{SaysOn}
 use Rattle.ports_core.specs.declared.tool.Tool.TheVariants.{Tail}
@@ -23,15 +21,19 @@ use Rattle.ports_core.specs.declared.fault.Fault.{Fault}
 use Rattle.ports_core.specs.declared.fault.Fault.TheVariants.{Open, Read}
 use Rattle.follow_core.specs.declared.visitor.Stop.TheVariants.{Broke, Over}
 use Rattle.follow_core.specs.declared.visitor.Came.TheVariants.{Through, Dropped, Missing}
-use Rattle.follow_core.specs.inner.Giving.{Ends, broke, over, whole, is_due, text_under, Shared, opened_under, opening_under, given_share}
-use Rattle.follow_core.specs.inner.Visits.{Stopped, has_failed}
-use Rattle.follow_core.specs.Printing.{PrinterState, Short}
+use Rattle.follow_core.specs.inner.Giving.{Ends, text_under, Shared, given_share, stop_in}
+use Rattle.follow_core.specs.inner.Visits.{Stopped, has_failed, failed_then, standing_then, Visits, TellsStop, standing_after, Looks, Visited}
+use Rattle.follow_core.specs.Printing.{PrinterState}
 use Rattle.follow_core.specs.Telling.{IsFailure}
 use Rattle.follow_core.specs.declared.visitor.Came.{Came}
-use Rattle.std.proofs.Math.Bool.{and-false}
-use Rattle.follow_core.proofs.GiveLemmas.{front_nil, gives_nothing, failure_said, itself, wrote_both, wrote_line, wrote_short, wrote_text}
 use Rattle.follow_core.specs.declared.visitor.Stop.{Stop}
-use Rattle.follow_core.specs.Followed.{header_after, share_text, is_empty}
+use Rattle.std.proofs.lemmas.Bool.{false≢true}
+use Rattle.watch_core.proofs.NameLemmas.{watchable_within}
+use Rattle.ports_core.proofs.SlotLemmas.{changed_at-again, length-changed_at, changed_there}
+use Rattle.watch_core.specs.Watched.{Reopens, Watched, breaks, is_watchable, no_name, opens, watched_at}
+use Rattle.follow_core.specs.declared.name.Standing.{Standing}
+use Rattle.follow_core.specs.declared.name.Standing.TheVariants.{New, Followed, Left}
+use Rattle.std.proofs.lemmas.Result.{IfOk-weaker}
 
 -- what a look gives for a name, from where the looks before left it
 
@@ -100,19 +102,7 @@ more_said ways name before looks look =
     ap (map (λ notice. notice_of notice name)) (ap (λ those. drop (length (notices_of entries)) (notices_of those)) (entries_more ways name before looks look)
     ∙ later_said _ (some_at ways.by_name name before.snapshot (snapshots looks)))
 
-pub later_share : (ways : Ways) {name : List ℕ} (before : Look) (looks : List Look) (look : Look) (place : ℕ)
-    → is_dropped place (before ∷ looks) ≡ false → fate_at place look ≡ sound → share_of ways (before ∷ looks) look place name ≡ given_share false name
-    (gains_later (last_of (entries_in ways name (before ∷ looks))) (entries_at_look ways.by_name name (open_after ways.by_name name (snapshots (before ∷ looks))) look.snapshot))
-    (map (λ notice. notice_of notice name) (notices_later (last_of (entries_in ways name (before ∷ looks))) (entries_at_look ways.by_name name (open_after ways.by_name name (snapshots (before ∷ looks))) look.snapshot)))
-later_share ways {name} before looks look place kept fine = rw (kept, fine)
-    (ap (λ bytes. given_share false name bytes (said_at_look ways name (before ∷ looks) look)) (gain_more ways name before looks look)
-    ∙ ap (given_share false name _) (more_said ways name before looks look))
-
 -- the last entry of a name: the file that is open, and how much of it was seen
-
-last_from-append : (last : Entry) (entries more : List Entry) → last_from last (entries ++ more) ≡ last_from (last_from last entries) more
-last_from-append last [] more = refl
-last_from-append last (entry ∷ entries) more = last_from-append entry entries more
 
 last_more : {entries : List Entry} (more : List Entry) → Some_entries entries → last_of (entries ++ more) ≡ last_from (last_of entries) more
 last_more more some = rw some.are (last_from-append some.first some.rest more)
@@ -157,18 +147,14 @@ last_file ways name before looks = by (before.snapshot.leads name) where
   by (Some file) = later_file ways.by_name name (version_in before.snapshot file) (snapshots looks) refl
 
 -- one look more
-pub last_later : (ways : Ways) (name : List ℕ) (before : Look) (looks : List Look) (look : Look) {opened : Option ℕ} → opened ≡ file_of (last_of (entries_in ways name (before ∷ looks)))
-    → StandsAt (last_of (entries_in ways name ((before ∷ looks) ++ look ∷ []))) (open_after_look ways.by_name name opened look.snapshot)
-    (length (held_at look.snapshot (open_after_look ways.by_name name opened look.snapshot)))
-last_later ways name before looks look {opened} is =
-    let last = last_of (entries_in ways name (before ∷ looks)) in
-    let more : last_of (entries_in ways name ((before ∷ looks) ++ look ∷ [])) ≡ last_from last (entries_at_look ways.by_name name opened look.snapshot) =
+pub last_added : (ways : Ways) (name : List ℕ) (before : Look) (looks : List Look) (look : Look) {opened : Option ℕ} → opened ≡ file_of (last_of (entries_in ways name (before ∷ looks)))
+    → last_of (entries_in ways name ((before ∷ looks) ++ look ∷ [])) ≡ last_from (last_of (entries_in ways name (before ∷ looks))) (entries_at_look ways.by_name name opened look.snapshot)
+last_added ways name before looks look is =
     ap last_of (entries_more ways name before looks look) ∙ last_more _ (some_at ways.by_name name before.snapshot (snapshots looks))
-    ∙ ap (λ those. last_from last (entries_at_look ways.by_name name those look.snapshot)) (last_file ways name before looks ∙ sym is) in
-    rw more (look_leaves ways.by_name name opened look.snapshot last)
+    ∙ ap (λ those. last_from (last_of (entries_in ways name (before ∷ looks))) (entries_at_look ways.by_name name those look.snapshot)) (last_file ways name before looks ∙ sym is)
 
 -- a name that no look broke came through each
-came_through : (place : ℕ) (fate : Fate) (later : Option Fault) → failed_by place fate later ≡ None → fate ≡ sound
+pub came_through : (place : ℕ) (fate : Fate) (later : Option Fault) → failed_by place fate later ≡ None → fate ≡ sound
 came_through place sound later none = refl
 came_through place (unopened notices bytes) later none = absurd (cc)
 came_through place (unread notices bytes) later none = absurd (cc)
@@ -243,15 +229,15 @@ pub record Looked (told_in told : Bool) (ways : Ways) (before : List Look) (snap
   pub is_share : told_in ≡ true → (fates : List Fate) → share ≡ share_by ways name before (seeing snapshot fates) fate
   pub fault : failed_by place fate None ≡ broke_by
   pub failed : share.has_failed ≡ has_failed came
-  pub shared : Shared told printer share old after new
+  pub shared : Shared told printer share old after new None
 
 -- the message of a failure is told after a share
-said_after : {told : Bool} {printer after : PrinterState} {share : Share} {line : List ℕ} {old mid new : List Slot} → Shared told printer share old after mid
+said_after : {told : Bool} {printer after : PrinterState} {share : Share} {line : List ℕ} {old mid new : List Slot} → Shared told printer share old after mid None
     → IsFailure line → SaysOn told Tail line mid new
-    → Shared told printer (record share { messages = share.messages ++ line ∷ []; has_failed = true }) old after new
+    → Shared told printer (record share { messages = share.messages ++ line ∷ []; has_failed = true }) old after new None
 said_after {printer} {share} shared failure says = record {
   printer_is = shared.printer_is;
-  slots = wrote_both _ _ _ _ _ (append-nil (share_text printer.headers printer.last share)) refl shared.slots
+  slots = wrote_after _ _ _ _ _ _ None (append-nil (text_under printer share)) refl shared.slots
       (wrote_line (λ output error others are. let said = says output error others are in (said.0, failure_said failure said.1, said.2)));
 }
 
@@ -261,20 +247,6 @@ due_share : {told_in : Bool} {ways : Ways} {before : List Look} {snapshot : Snap
     → given_share (is_first before) name bytes lines ≡ share_by ways name before (seeing snapshot fates) sound
 due_share {before} {name} dues is fates = let due = dues.is is fates in rw due.0 (λ i. given_share (is_first before) name (due.1 i) (due.2 i))
 
--- all that is due was given
-pub looked_whole : {told_in told : Bool} {ways : Ways} {before : List Look} {snapshot : Snapshot} {place : ℕ} {name due : List ℕ} {lines_due : List (List ℕ)}
-    {printer after : PrinterState} {old new : List Slot} {len : ℕ} → IsDue told_in ways before snapshot name due lines_due
-    → Ends {T = ℕ} told_in told (is_first before) printer name due lines_due old after new (Ok len)
-    → Looked told_in told ways before snapshot place name printer old after new (Through len) None
-looked_whole {before} {name} dues (whole len bytes lines are shared) = record {
-  fate = sound;
-  share = given_share (is_first before) name bytes lines;
-  is_share = λ is fates. (λ i. given_share (is_first before) name ((are is).0 i) ((are is).1 i)) ∙ due_share dues is fates;
-  fault = refl;
-  failed = refl;
-  shared = shared;
-}
-
 -- why a name broke: the first look opens no file once it gave something
 abbrev pub FailsAs : ℕ → Bool → List Look → Stop → Type 0
 FailsAs place by_name before (Broke why) = ((why ≡ Open place) × (by_name ≡ true) × (is_first before ≡ false)) ⊎ (why ≡ Read place)
@@ -283,42 +255,52 @@ FailsAs place by_name before (Over why) = Unit {0}
 front_taken : {X : Type 0} {bytes due all : List X} → IsFront bytes due → due ≡ all → bytes ≡ take (length bytes) all
 front_taken {bytes} (rest, is) same = sym (ap (take (length bytes)) (sym same ∙ is) ∙ take-append_seam bytes rest)
 
--- a call failed: a beginning was given, and the message follows
-pub looked_broke : {told_in told : Bool} {ways : Ways} {before : List Look} {snapshot : Snapshot} {place : ℕ} {name due : List ℕ} {lines_due : List (List ℕ)}
-    {printer after : PrinterState} {old mid new : List Slot} {why : Fault} → IsDue told_in ways before snapshot name due lines_due
-    → FailsAs place ways.by_name before (Broke why)
-    → Ends {T = ℕ} told_in told (is_first before) printer name due lines_due old after mid (Err (Broke why)) → SaysOn told Tail (message_of Tail why name) mid new
-    → Looked told_in told ways before snapshot place name printer old after new Dropped (Some why)
-looked_broke {before} {name} dues (inl (opening, way, later)) (broke why bytes lines are shared) says = record {
-  fate = unopened (length lines) (length bytes);
-  share = failed_share (is_first before) name bytes (lines ++ message_of Tail why name ∷ []);
-  is_share = λ is fates. let due = dues.is is fates in
-      rw later (λ i. failed_share false name (front_taken (are is).0 due.1 i) (front_taken (are is).1 due.2 i ++ message_of Tail (opening i) name ∷ []));
-  fault = ap Some (sym opening);
-  failed = refl;
-  shared = said_after shared (name, inl (ap (λ those. message_of Tail those name) opening)) says;
-}
-looked_broke {before} {name} dues (inr read) (broke why bytes lines are shared) says = record {
-  fate = unread (length lines) (length bytes);
-  share = failed_share (is_first before) name bytes (lines ++ message_of Tail why name ∷ []);
-  is_share = λ is fates. let due = dues.is is fates in
-      λ i. failed_share (is_first before) name (front_taken (are is).0 due.1 i) (front_taken (are is).1 due.2 i ++ message_of Tail (read i) name ∷ []);
-  fault = ap Some (sym read);
-  failed = refl;
-  shared = said_after shared (name, inr (ap (λ those. message_of Tail those name) read)) says;
-}
+module _ {told_in told : Bool} {ways : Ways} {before : List Look} {snapshot : Snapshot} {name due : List ℕ} {lines_due : List (List ℕ)} {printer after : PrinterState} {old mid : List Slot} (dues : IsDue told_in ways before snapshot name due lines_due) where
+  -- all that is due was given
+  pub looked_whole : {place len : ℕ} → Ends told_in told (is_first before) printer name due lines_due old after mid None
+      → Looked told_in told ways before snapshot place name printer old after mid (Through len) None
+  looked_whole ends = record {
+    fate = sound;
+    share = given_share (is_first before) name ends.bytes ends.lines;
+    is_share = λ is fates. (λ i. given_share (is_first before) name ((ends.are is).0 i) ((ends.are is).1 i)) ∙ due_share dues is fates;
+    fault = refl;
+    failed = refl;
+    shared = ends.shared;
+  }
 
--- following ended: a beginning was given
-pub looked_over : {told_in told : Bool} {ways : Ways} {before : List Look} {snapshot : Snapshot} {name due : List ℕ} {lines_due : List (List ℕ)}
-    {printer after : PrinterState} {old new : List Slot} {why : Fault} → IsDue told_in ways before snapshot name due lines_due
-    → Ends {T = ℕ} told_in told (is_first before) printer name due lines_due old after new (Err (Over why))
-    → Stopped told_in told ways before snapshot name printer old new why
-looked_over {before} {name} dues (over why bytes lines are short) = record {
-  share = given_share (is_first before) name bytes lines;
-  begins = λ is fates. subst (BeginsShare (given_share (is_first before) name bytes lines)) (due_share dues is fates)
-      (record { name = refl; opened = refl; bytes = (are is).0; messages = (are is).1 });
-  short = short;
-}
+  -- a call failed: a beginning was given, and the message follows
+  pub looked_broke : {place : ℕ} {new : List Slot} {why : Fault} → FailsAs place ways.by_name before (Broke why)
+      → Ends told_in told (is_first before) printer name due lines_due old after mid (Some (Broke why)) → SaysOn told Tail (message_of Tail why name) mid new
+      → Looked told_in told ways before snapshot place name printer old after new Dropped (Some why)
+  looked_broke {why} (inl (opening, way, later)) ends says = record {
+    fate = unopened (length ends.lines) (length ends.bytes);
+    share = failed_share (is_first before) name ends.bytes (ends.lines ++ message_of Tail why name ∷ []);
+    is_share = λ is fates. let due = dues.is is fates in
+        rw later (λ i. failed_share false name (front_taken (ends.are is).0 due.1 i) (front_taken (ends.are is).1 due.2 i ++ message_of Tail (opening i) name ∷ []));
+    fault = ap Some (sym opening);
+    failed = refl;
+    shared = said_after ends.shared (name, inl (ap (λ those. message_of Tail those name) opening)) says;
+  }
+  looked_broke {why} (inr read) ends says = record {
+    fate = unread (length ends.lines) (length ends.bytes);
+    share = failed_share (is_first before) name ends.bytes (ends.lines ++ message_of Tail why name ∷ []);
+    is_share = λ is fates. let due = dues.is is fates in
+        λ i. failed_share (is_first before) name (front_taken (ends.are is).0 due.1 i) (front_taken (ends.are is).1 due.2 i ++ message_of Tail (read i) name ∷ []);
+    fault = ap Some (sym read);
+    failed = refl;
+    shared = said_after ends.shared (name, inr (ap (λ those. message_of Tail those name) read)) says;
+  }
+
+  -- following ended: a beginning was given
+  pub looked_over : {why : Fault} → Ends told_in told (is_first before) printer name due lines_due old after mid (Some (Over why))
+      → Stopped told_in told ways before snapshot name printer old mid why
+  looked_over ends = record {
+    share = given_share (is_first before) name ends.bytes ends.lines;
+    after = after;
+    begins = λ is fates. subst (BeginsShare (given_share (is_first before) name ends.bytes ends.lines)) (due_share dues is fates)
+        (record { name = refl; opened = refl; bytes = (ends.are is).0; messages = (ends.are is).1 });
+    short = ends.shared;
+  }
 
 -- the first look
 
@@ -366,61 +348,6 @@ first_due {ways} {snapshot} {name} found same = record {
       );
 }
 
--- after the header that a file is opened under none is due
-opened_not_due : (printer : PrinterState) (name bytes : List ℕ) → is_due (opened_under printer name) name bytes ≡ false
-opened_not_due printer name bytes = by printer.headers printer.last where
-  by : (headers : Bool) (last : Option (List ℕ)) → is_due (opened_under (record { headers = headers; last = last }) name) name bytes ≡ false
-  by true last = rw (itself name) (and-false (not (is_empty bytes)))
-  by false last = refl
-
--- so both are one share's
-opened_share : (printer : PrinterState) (name bytes : List ℕ) (lines : List (List ℕ))
-    → (opened_under printer name ≡ record printer { last = header_after printer.headers printer.last (given_share true name bytes lines) })
-    × (opening_under printer name ++ bytes ≡ share_text printer.headers printer.last (given_share true name bytes lines))
-opened_share printer name bytes lines = by printer.headers printer.last where
-  by : (headers : Bool) (last : Option (List ℕ)) → (opened_under (record { headers = headers; last = last }) name
-      ≡ record { headers = headers; last = header_after headers last (given_share true name bytes lines) })
-      × (opening_under (record { headers = headers; last = last }) name ++ bytes ≡ share_text headers last (given_share true name bytes lines))
-  by true last = (refl, refl)
-  by false last = (refl, refl)
-
-opened_bytes : (printer : PrinterState) (name bytes : List ℕ) (lines : List (List ℕ))
-    → opening_under printer name ++ text_under (opened_under printer name) name bytes ≡ share_text printer.headers printer.last (given_share true name bytes lines)
-opened_bytes printer name bytes lines = rw (opened_not_due printer name bytes) (opened_share printer name bytes lines).1
-
--- the header, and then what is given under it
-pub ends_opened : {told_in told : Bool} {printer after : PrinterState} {name due : List ℕ} {lines_due : List (List ℕ)} {old mid new : List Slot}
-    {result : Result ℕ Stop} {under : PrinterState} → mid ≡ with_written 0 (told_of told (opening_under printer name)) old
-    → under ≡ opened_under printer name → Ends {T = ℕ} told_in told false under name due lines_due mid after new result
-    → Ends {T = ℕ} told_in told true printer name due lines_due old after new result
-ends_opened {told_in} {told} {printer} {after} {name} {due} {lines_due} {old} {mid} {new} {result} first is ends =
-    by (subst (λ (p : PrinterState). Ends {T = ℕ} told_in told false p name due lines_due mid after new result) is ends) where
-      gives : {bytes : List ℕ} {lines : List (List ℕ)} → Shared told (opened_under printer name) (given_share false name bytes lines) mid after new
-          → Shared told printer (given_share true name bytes lines) old after new
-      gives {bytes} {lines} shared = record {
-        printer_is = shared.printer_is ∙ rw (opened_not_due printer name bytes) (opened_share printer name bytes lines).0;
-        slots = wrote_both told (opening_under printer name) (text_under (opened_under printer name) name bytes) [] lines (opened_bytes printer name bytes lines) refl (wrote_text told (opening_under printer name) first) shared.slots;
-      }
-
-      by : {due : List ℕ} {lines_due : List (List ℕ)} {told_in : Bool} {result : Result ℕ Stop}
-          → Ends {T = ℕ} told_in told false (opened_under printer name) name due lines_due mid after new result
-          → Ends {T = ℕ} told_in told true printer name due lines_due old after new result
-      by (whole value bytes lines are shared) = whole value bytes lines are (gives shared)
-      by (broke why bytes lines are shared) = broke why bytes lines are (gives shared)
-      by (over why bytes lines are halts) = over why bytes lines are
-          (record { slots = wrote_short (opening_under printer name) [] lines (opened_bytes printer name bytes lines) refl (wrote_text told (opening_under printer name) first) halts.slots })
-
--- the header could not be written
-pub ends_unopened : {told_in told : Bool} {printer after : PrinterState} {name due : List ℕ} {old new : List Slot} {why : Fault}
-    → Short told (opening_under printer name) old new why → Ends {T = ℕ} told_in told true printer name due [] old after new (Err (Over why))
-ends_unopened {told} {printer} {name} {new} {why} short = over why [] [] (λ is. (front_nil, front_nil)) (record {
-  slots = λ output error others is. (
-    error,
-    refl,
-    subst₂ (λ text those. Short told text those new why) (sym (append-nil _) ∙ (opened_share printer name [] []).1) is short,
-  );
-})
-
 -- a later look
 
 abbrev pub last_in : Ways → List ℕ → Look → List Look → Entry
@@ -428,15 +355,339 @@ last_in ways name before looks = last_of (entries_in ways name (before ∷ looks
 
 -- what is due then
 pub later_due : {told_in : Bool} {ways : Ways} {name : List ℕ} {before : Look} {looks : List Look} {snapshot : Snapshot} {opened : Option ℕ} {position : ℕ}
-    → (told_in ≡ true → StandsAt (last_in ways name before looks) opened position)
-    → IsDue told_in ways (before ∷ looks) snapshot name (bytes_again ways.by_name name (last_in ways name before looks) snapshot opened)
-    (lines_again ways.by_name name (last_in ways name before looks) snapshot opened)
+    → (told_in ≡ true → StandsAt (last_in ways name before looks) opened position) → let entries = entries_at_look ways.by_name name opened snapshot in
+    IsDue told_in ways (before ∷ looks) snapshot name (gains_later (last_in ways name before looks) entries) (said_of name (last_in ways name before looks) entries)
 later_due {ways} {name} {before} {looks} {snapshot} {opened} stands = record {
   is = λ is fates.
       let same : opened ≡ open_after ways.by_name name (snapshots (before ∷ looks)) = (stands is).file ∙ sym (last_file ways name before looks) in
       let last = last_in ways name before looks in (
         refl,
-        ap (bytes_again ways.by_name name last snapshot) same ∙ sym (gain_more ways name before looks (seeing snapshot fates)),
-        ap (lines_again ways.by_name name last snapshot) same ∙ sym (more_said ways name before looks (seeing snapshot fates)),
+        ap (λ file. gains_later last (entries_at_look ways.by_name name file snapshot)) same ∙ sym (gain_more ways name before looks (seeing snapshot fates)),
+        ap (λ file. said_of name last (entries_at_look ways.by_name name file snapshot)) same ∙ sym (more_said ways name before looks (seeing snapshot fates)),
       );
+}
+
+-- Whatever looks were made before at a name that stood so: what is due at this one was given, call by call, before it is told what
+-- failed. Then this much of the file was seen to which the name led.
+pub record Gave (told_in told : Bool) (ways : Ways) (looks : List Look) (snapshot : Snapshot) (place : ℕ) (name : List ℕ) (led : Option ℕ)
+    (printer : PrinterState) (slots : List Slot) (after : PrinterState) (slots_new : List Slot) (result : Result ℕ Stop) : Type 0 where
+  pub kept : is_dropped place looks ≡ false
+  pub due : List ℕ
+  pub lines : List (List ℕ)
+  pub is_due : IsDue told_in ways looks snapshot name due lines
+  pub ends : Ends told_in told (is_first looks) printer name due lines slots after slots_new (stop_in result)
+  pub last : IfOk result (λ len. told_in ≡ true → (ways.by_name ≡ false → is_some led ≡ true)
+      × ((fates : List Fate) → StandsAt (last_of (entries_in ways name (looks ++ seeing snapshot fates ∷ []))) led len))
+  pub fails : IfErr result (FailsAs place ways.by_name looks)
+
+-- this file of it is open now
+opened_now : (place : ℕ) {file : Option ℕ} (old : List Watched) {new : List Watched} → new ≡ changed_at place (opens file) old → IsTrue (is_watchable old place)
+    → watched_at new place ≡ record (watched_at old place) { opened = file }
+opened_now place old is can = ap (λ those. watched_at those place) is ∙ opened_there old place can
+
+broken_now : (place : ℕ) (file : Option ℕ) {why : Fault} (old : List Watched) {new : List Watched} → new ≡ changed_at place (breaks why) (changed_at place (opens file) old)
+    → IsTrue (is_watchable old place) → (watched_at new place).failed ≡ Some why
+broken_now place file {why} old is can =
+    ap (λ (names : List Watched). (watched_at names place).failed) is
+    ∙ ap (λ (w : Watched). w.failed) (changed_there no_name place (breaks why) (changed_at place (opens file) old) within) where
+      within : place < length (changed_at place (opens file) old)
+      within = subst (λ n. place < n) (sym (length-changed_at place (opens file) old)) (watchable_within old place can)
+
+none_there : (failed : Option Fault) → is_none failed ≡ true → failed ≡ None
+none_there None is = refl
+none_there (Some why) is = absurd (false≢true is)
+
+-- a look more
+begun_more : (looks : List Look) (look : Look) → is_first (looks ++ look ∷ []) ≡ false
+begun_more [] look = refl
+begun_more (before ∷ looks) look = refl
+
+kept_more : (place : ℕ) (looks : List Look) (look : Look) {fate : Fate} {broke_by : Option Fault} → is_dropped place looks ≡ false
+    → fate_at place look ≡ fate → failed_by place fate None ≡ broke_by → is_dropped place (looks ++ look ∷ []) ≡ is_some broke_by
+kept_more place looks look kept at is = ap is_some (failed_more place looks look (none_of (failed_in place looks) kept) at ∙ is)
+
+-- a name that came through it stands at its last entry
+through_stands : {told : Bool} {ways : Ways} (looks : List Look) (look : Look) {place : ℕ} {name : List ℕ} {file led : Option ℕ} {len : ℕ}
+    (old : List Watched) {new : List Watched} {fate : Fate} → (watched_at old place).name ≡ name → IsTrue (is_watchable old place) → is_dropped place looks ≡ false
+    → new ≡ changed_at place (opens file) old → fate_at place look ≡ fate → failed_by place fate None ≡ None → (told ≡ true → file ≡ led)
+    → (told ≡ true → (ways.by_name ≡ false → is_some led ≡ true) × StandsAt (last_of (entries_in ways name (looks ++ look ∷ []))) led len)
+    → IsFollowed told ways (looks ++ look ∷ []) place name (watched_at new place) len
+through_stands looks look {place} old named can kept is at through leads last =
+    let now = opened_now place old is can in
+    record {
+      named = ap (λ (w : Watched). w.name) now ∙ named;
+      unbroken = ap (λ (w : Watched). w.failed) now ∙ none_there (watched_at old place).failed can;
+      kept = kept_more place looks look kept at through;
+      begun = begun_more looks look;
+      stands = λ t. record { file = ap (λ (w : Watched). w.opened) now ∙ leads t ∙ (last t).1.file; seen = (last t).1.seen };
+      there = λ t way. ap (λ (w : Watched). is_some w.opened) now ∙ ap is_some (leads t) ∙ (last t).0 way;
+    }
+
+-- one that broke is looked at no more
+dropped_stands : {told : Bool} {ways : Ways} (looks : List Look) (look : Look) {place : ℕ} {name : List ℕ} (file : Option ℕ) (old : List Watched)
+    {new : List Watched} {fate : Fate} {why : Fault} → IsTrue (is_watchable old place) → is_dropped place looks ≡ false
+    → new ≡ changed_at place (breaks why) (changed_at place (opens file) old) → fate_at place look ≡ fate → failed_by place fate None ≡ Some why
+    → (is_first looks ≡ false → ways.by_name ≡ false → why ≡ Read place) → IsLeft told ways (looks ++ look ∷ []) place name (watched_at new place)
+dropped_stands looks look {place} file old can kept is at fault read = record {
+  begun = begun_more looks look;
+  why = inl (kept_more place looks look kept at fault, broken_more looks look (broken_now place file old is can) fault kept at read);
+}
+
+-- what a look gave, and how the name stands then
+looked_visited : {told_in told : Bool} {ways : Ways} {looks : List Look} {snapshot : Snapshot} {place : ℕ} {name : List ℕ} {printer after : PrinterState}
+    {slots slots_new : List Slot} {watched : Watched} {came : Came} {standing : Standing} {failed : Option Fault} → is_dropped place looks ≡ false
+    → (looked : Looked told_in told ways looks snapshot place name printer slots after slots_new came failed)
+    → ((fates : List Fate) → fate_at place (seeing snapshot fates) ≡ looked.fate → Stands told_in ways (looks ++ seeing snapshot fates ∷ []) place name watched standing)
+    → Visited told_in told ways looks snapshot place name printer slots after slots_new watched standing (has_failed came)
+looked_visited kept looked stands = record {
+  fate = looked.fate;
+  share = looked.share;
+  is_share = λ is fates at. rw (kept, at) (looked.is_share is fates);
+  is_failed = looked.failed;
+  shared = looked.shared;
+  stands = stands;
+}
+
+-- a call that opens is made at a later look only where names are followed
+only_read : {place : ℕ} {by_name : Bool} (looks : List Look) {why : Fault} → FailsAs place by_name looks (Broke why)
+    → is_first looks ≡ false → by_name ≡ false → why ≡ Read place
+only_read looks (inl (opening, is, later)) first way = absurd (false≢true (sym way ∙ is))
+only_read looks (inr read) first way = read
+
+module _ {told_in told : Bool} {ways : Ways} {snapshot : Snapshot} {place : ℕ} {name : List ℕ} {standing : Standing} {old new : List Watched} {printer after : PrinterState} {slots slots_new : List Slot} where
+  came_looks : (came : Came) (change : Watched → Watched) → new ≡ changed_at place change old
+      → CanVisit (record { text = name; standing = standing_after ways.by_name came }) (watched_at new place)
+      → ((looks : List Look) → Stands told_in ways looks place name (watched_at old place) standing
+      → Visited told_in told ways looks snapshot place name printer slots after slots_new (watched_at new place) (standing_after ways.by_name came) (has_failed came))
+      → Looks told_in told ways snapshot place name standing old printer slots new after slots_new (Ok came)
+  came_looks came change is ready visited =
+      record { visits = record { visited = visited; stopped = tt; same = refl; ready = ready; others = keeps_others change is; halts = tt } }
+
+  -- it broke
+  drops_looks : (file : Option ℕ) (why : Fault) → IsTrue (is_watchable old place) → new ≡ changed_at place (breaks why) (changed_at place (opens file) old)
+      → ((looks : List Look) → Stands told_in ways looks place name (watched_at old place) standing → (is_dropped place looks ≡ false)
+      × Looked told_in told ways looks snapshot place name printer slots after slots_new Dropped (Some why) × (is_first looks ≡ false → ways.by_name ≡ false → why ≡ Read place))
+      → Looks told_in told ways snapshot place name standing old printer slots new after slots_new (Ok Dropped)
+  drops_looks file why can is gave = came_looks Dropped (λ w. breaks why (opens file w)) (is ∙ changed_at-again place (opens file) (breaks why) old) tt (λ looks stands.
+      let (kept, looked, read) = gave looks stands in
+      looked_visited kept looked (λ fates at. dropped_stands looks (seeing snapshot fates) file old can kept is at looked.fault read))
+
+  -- it came through; what stopped it is told, or ends following
+  pub gave_through : {led : Option ℕ} {len : ℕ} → (watched_at old place).name ≡ name
+      → IsTrue (is_watchable old place) → Follows told_in ways.by_name led place old new None
+      → ((looks : List Look) → Stands told_in ways looks place name (watched_at old place) standing
+      → Gave told_in told ways looks snapshot place name led printer slots after slots_new (Ok len))
+      → Looks told_in told ways snapshot place name standing old printer slots new after slots_new (Ok (Through len))
+  gave_through {len} named can (file, is, leads) gave =
+      came_looks (Through len) (opens file) is (rw (opened_now place old is can) (named, none_there (watched_at old place).failed can)) (λ looks stands.
+      let made = gave looks stands in let looked = looked_whole made.is_due {len = len} made.ends in looked_visited made.kept looked
+      (λ fates at. through_stands looks (seeing snapshot fates) old named can made.kept is at looked.fault leads (λ t. ((made.last t).0, (made.last t).1 fates))))
+
+  pub gave_fails : {led : Option ℕ} {mid : List Slot} (stop : Stop) {result : Result Came Fault}
+      → IsTrue (is_watchable old place) → Follows told_in ways.by_name led place old new (Some stop)
+      → ((looks : List Look) → Stands told_in ways looks place name (watched_at old place) standing
+      → Gave told_in told ways looks snapshot place name led printer slots after mid (Err stop)) → TellsStop told name mid slots_new stop result
+      → Looks told_in told ways snapshot place name standing old printer slots new after slots_new result
+  gave_fails (Broke why) can (file, is, those) gave (tells, says) = rw tells (drops_looks file why can is (λ looks stands.
+      let made = gave looks stands in (made.kept, looked_broke made.is_due made.fails made.ends says, only_read looks made.fails)))
+  gave_fails (Over why) can follows gave (tells, same) = rw (tells, same) (record {
+    visits = record {
+      visited = tt;
+      stopped = λ looks stands. let made = gave looks stands in (made.kept, looked_over made.is_due made.ends);
+      same = refl;
+      ready = tt;
+      others = tt;
+      halts = follows;
+    };
+  })
+
+-- ways out of the first look
+
+pub first_missing : {told_in told : Bool} {ways : Ways} {snapshot : Snapshot} {place : ℕ} {name : List ℕ} {printer : PrinterState}
+    {slots slots_new : List Slot} {old new : List Watched} {is_there : Bool} → Reopens told_in snapshot old new place is_there → is_there ≡ false
+    → (watched_at old place).name ≡ name → IsTrue (is_watchable old place) → SaysOn told Tail (message_of Tail (Open place) name) slots slots_new
+    → Looks told_in told ways snapshot place name New old printer slots new printer slots_new (Ok Missing)
+first_missing {told_in} {told} {ways} {snapshot} {place} {name} {printer} {slots} {slots_new} {old} {new} reopens gone named can says =
+    came_looks Missing (opens reopens.file) reopens.names (ready ways.by_name)
+    (λ looks fresh. rw fresh.0 (looked_visited refl looked (λ fates at. stands fates at ways.by_name refl))) where
+      nowhere : told_in ≡ true → snapshot.leads name ≡ None
+      nowhere t = sym (reopens.leads t ∙ ap snapshot.leads named) ∙ none_of reopens.file (reopens.found ∙ gone)
+
+      looked : Looked told_in told ways [] snapshot place name printer slots printer slots_new Missing None
+      looked = meets_nothing nowhere says
+
+      unbroken : (watched_at new place).failed ≡ None
+      unbroken = ap (λ (w : Watched). w.failed) (opened_now place old reopens.names can) ∙ none_there (watched_at old place).failed can
+
+      ready : (by_name : Bool) → CanVisit (record { text = name; standing = if by_name then Followed 0 else Left }) (watched_at new place)
+      ready true = (ap (λ (w : Watched). w.name) (opened_now place old reopens.names can) ∙ named, unbroken)
+      ready false = tt
+
+      stands : (fates : List Fate) → fate_at place (seeing snapshot fates) ≡ looked.fate → (by_name : Bool) → ways.by_name ≡ by_name
+          → Stands told_in ways (seeing snapshot fates ∷ []) place name (watched_at new place) (if by_name then Followed 0 else Left)
+      stands fates at true way = through_stands [] (seeing snapshot fates) old named can refl reopens.names at looked.fault (λ t. reopens.leads t ∙ ap snapshot.leads named) (λ t. (
+        λ other. absurd (false≢true (sym other ∙ way)),
+        subst (λ len. StandsAt (last_of (entries_in ways name (seeing snapshot fates ∷ []))) (snapshot.leads name) len)
+            (ap (λ led. length (held_at snapshot led)) (nowhere t)) (first_last ways (seeing snapshot fates)),
+      ))
+      stands fates at false way = record { begun = refl; why = inr (record { way = way; unbroken = unbroken; kept = kept_more place [] (seeing snapshot fates) refl at looked.fault; unopened = nowhere }) }
+
+pub first_unopened : {told_in told : Bool} {ways : Ways} {snapshot : Snapshot} {place : ℕ} {name : List ℕ} {printer : PrinterState}
+    {slots slots_new : List Slot} {old new : List Watched} {why : Fault} {result : Result Came Fault} → IsTrue (is_watchable old place) → why ≡ Open place
+    → new ≡ changed_at place (breaks why) old → TellsStop told name slots slots_new (Broke why) result
+    → Looks told_in told ways snapshot place name New old printer slots new printer slots_new result
+first_unopened {place} {old} {why} can is broken (tells, says) =
+    rw tells (drops_looks (watched_at old place).opened why can (broken ∙ ap (changed_at place (breaks why)) (sym (opens_same old place)))
+    (λ looks fresh. rw (fresh.0, is) (refl, meets_unopened (rw is at says), λ late. absurd (false≢true (sym late)))))
+
+-- the file was opened: its start part was given under its header, or a beginning of it
+pub first_gave : {told_in told : Bool} {ways : Ways} {snapshot : Snapshot} {place : ℕ} {name contents : List ℕ} {printer inside after : PrinterState}
+    {slots slots_new : List Slot} {old mid : List Watched} (new : List Watched) {is_there : Bool} {result : Result ℕ Stop} → inside ≡ printer
+    → Reopens told_in snapshot old mid place is_there → is_there ≡ true → (watched_at old place).name ≡ name
+    → (told_in ≡ true → contents ≡ held_at snapshot (snapshot.leads name)) → Keeps place mid new (stop_in result)
+    → IfOk result (λ len. told_in ≡ true → len ≡ length contents)
+    → Ends told_in told true inside name (ways.start contents) [] slots after slots_new (stop_in result)
+    → (looks : List Look) → Stands told_in ways looks place name (watched_at old place) New
+    → Gave told_in told ways looks snapshot place name (snapshot.leads name) printer slots after slots_new result
+first_gave {told_in} {told} {ways} {snapshot} {place} {name} {contents} {after} {slots} {slots_new} {mid} new {result} viewed reopens there named same keeps long ends looks fresh =
+    subst₂ (λ (p : PrinterState) those. Gave told_in told ways those snapshot place name (snapshot.leads name) p slots after slots_new result) viewed (sym fresh.0) (record {
+      kept = refl;
+      due = ways.start contents;
+      lines = [];
+      is_due = first_due found same;
+      ends = ends;
+      last = IfOk-weaker result (λ len. told_in ≡ true → len ≡ length contents) _ (λ len is t. (
+        λ way. ap is_some (found t).1,
+        λ fates. subst (λ n. StandsAt (last_of (entries_in ways name (seeing snapshot fates ∷ []))) (snapshot.leads name) n)
+            (sym (is t ∙ ap length (same t))) (first_last ways (seeing snapshot fates)),
+      )) long;
+      fails = fails result keeps;
+    }) where
+      found : told_in ≡ true → (id : ℕ) × (snapshot.leads name ≡ Some id)
+      found t = some_of (snapshot.leads name) (ap is_some (sym (reopens.leads t ∙ ap snapshot.leads named)) ∙ reopens.found ∙ there)
+
+      fails : (result : Result ℕ Stop) → Keeps place mid new (stop_in result) → IfErr result (FailsAs place ways.by_name [])
+      fails (Ok len) keeps = tt
+      fails (Err (Broke why)) keeps = inr keeps.0
+      fails (Err (Over why)) keeps = tt
+
+-- a later look at a name whose file was seen so far
+pub later_gave : {told_in told : Bool} {ways : Ways} {snapshot : Snapshot} {place : ℕ} {name : List ℕ} {position : ℕ} {printer after : PrinterState}
+    {slots slots_new : List Slot} {old new : List Watched} {result : Result ℕ Stop}
+    → LooksAgain told_in told ways.by_name snapshot place name position old printer slots new after slots_new result
+    → (looks : List Look) → Stands told_in ways looks place name (watched_at old place) (Followed position)
+    → Gave told_in told ways looks snapshot place name (open_after_look ways.by_name name (watched_at old place).opened snapshot) printer slots after slots_new result
+later_gave again [] followed = absurd (false≢true (sym followed.begun))
+later_gave {told_in} {ways} {snapshot} {place} {name} {position} {old} {new} {result} again (before ∷ looks) followed = record {
+  kept = followed.kept;
+  due = gains_later (last_in ways name before looks) (entries_at_look ways.by_name name opened snapshot);
+  lines = said_of name (last_in ways name before looks) (entries_at_look ways.by_name name opened snapshot);
+  is_due = later_due followed.stands;
+  ends = again.adds.ends (last_in ways name before looks) followed.stands;
+  last = IfOk-weaker result _ _ (λ n is t. (
+    λ way. ap (λ by_name. is_some (open_after_look by_name name opened snapshot)) way ∙ followed.there t way,
+    λ fates. rw (at_last t fates) (is t (last_in ways name before looks) (followed.stands t)),
+  )) again.adds.stands;
+  fails = fails result again.follows;
+} where
+  opened : Option ℕ
+  opened = (watched_at old place).opened
+
+  led : Option ℕ
+  led = open_after_look ways.by_name name opened snapshot
+
+  at_last : told_in ≡ true → (fates : List Fate) → last_of (entries_in ways name ((before ∷ looks) ++ seeing snapshot fates ∷ []))
+      ≡ last_from (last_in ways name before looks) (entries_at_look ways.by_name name opened snapshot)
+  at_last t fates = last_added ways name before looks (seeing snapshot fates) (followed.stands t).file
+
+  fails : (result : Result ℕ Stop) → Follows told_in ways.by_name led place old new (stop_in result) → IfErr result (FailsAs place ways.by_name (before ∷ looks))
+  fails (Ok len) follows = tt
+  fails (Err (Broke why)) follows = elim follows.2 [ inl opening ↦ inl (opening.0, opening.1, refl) | inr read ↦ inr read ]
+  fails (Err (Over why)) follows = tt
+
+pub later_through : {told_in told : Bool} {ways : Ways} {snapshot : Snapshot} {place : ℕ} {name : List ℕ} {position : ℕ} {old new : List Watched}
+    {printer after : PrinterState} {slots slots_new : List Slot} {len : ℕ} → (watched_at old place).name ≡ name → IsTrue (is_watchable old place)
+    → LooksAgain told_in told ways.by_name snapshot place name position old printer slots new after slots_new (Ok len)
+    → Looks told_in told ways snapshot place name (Followed position) old printer slots new after slots_new (Ok (Through len))
+later_through named can again = gave_through named can again.follows (later_gave again)
+
+pub later_fails : {told_in told : Bool} {ways : Ways} {snapshot : Snapshot} {place : ℕ} {name : List ℕ} {position : ℕ} {old new : List Watched}
+    {printer after : PrinterState} {slots mid slots_new : List Slot} {stop : Stop} {result : Result Came Fault} → IsTrue (is_watchable old place)
+    → LooksAgain told_in told ways.by_name snapshot place name position old printer slots new after mid (Err stop)
+    → TellsStop told name mid slots_new stop result
+    → Looks told_in told ways snapshot place name (Followed position) old printer slots new after slots_new result
+later_fails {stop} can again tells = gave_fails stop can again.follows (later_gave again) tells
+
+-- the name itself, after the look
+pub visit_made : {told_in told : Bool} {ways : Ways} {snapshot : Snapshot} {place : ℕ} {text : List ℕ} {standing : Standing} {old new : NameState}
+    {watched watched_new : List Watched} {printer after : PrinterState} {slots slots_new : List Slot} {result : Result Came Fault} {other : Result Bool Fault}
+    → text ≡ old.text → old.standing ≡ standing → new ≡ record old { standing = standing_then ways.by_name standing result } → failed_then result ≡ other
+    → Looks told_in told ways snapshot place text standing watched printer slots watched_new after slots_new result
+    → Visits told_in told ways snapshot place old watched printer slots new watched_new after slots_new other
+visit_made {told_in} {told} {ways} {snapshot} {place} {standing} {old} {watched} {watched_new} {printer} {after} {slots} {slots_new} {result} same stood state failed looks =
+    subst₂ (λ (n : NameState) r. Visits told_in told ways snapshot place old watched printer slots n watched_new after slots_new r) (sym state) failed
+    (subst₂ (λ t s. Visits told_in told ways snapshot place (record { text = t; standing = s }) watched printer slots
+    (record { text = t; standing = standing_then ways.by_name standing result }) watched_new after slots_new (failed_then result)) same (sym stood) looks.visits)
+
+-- a name that is looked at no more
+
+-- where no file is open, and names aren't followed, nothing is due
+left_due : {told_in : Bool} {ways : Ways} (looks : List Look) {snapshot : Snapshot} {place : ℕ} {name : List ℕ} {watched : Watched} → is_first looks ≡ false
+    → IsMissed told_in ways looks place name watched → IsDue told_in ways looks snapshot name [] []
+left_due [] first missed = absurd (false≢true (sym first))
+left_due {ways} (before ∷ looks) {snapshot} {name} first missed = record {
+  is = λ t fates.
+      let here = sym (missed.unopened t) ∙ last_file ways name before looks in
+      let (kept, gains, said) = (later_due {ways = ways} {name = name} {before = before} {looks = looks} {snapshot = snapshot} {opened = None} {position = seen_length (last_in ways name before looks)}
+      (λ t. record { file = here; seen = refl })).is t fates in
+      let (none, silent) = gap_gives ways.by_name name (last_in ways name before looks) snapshot here missed.way in (kept, none ∙ gains, silent ∙ said);
+} where
+  gap_gives : (by_name : Bool) (name : List ℕ) (last : Entry) (snapshot : Snapshot) → None ≡ file_of last → by_name ≡ false
+      → ([] ≡ gains_later last (entries_at_look by_name name None snapshot)) × ([] ≡ said_of name last (entries_at_look by_name name None snapshot))
+  gap_gives by_name name gap snapshot here way = rw way (refl, refl)
+  gap_gives by_name name (version v) snapshot here way = absurd (cc)
+
+still_open : (name : List ℕ) (opened : Option ℕ) (snaps : List Snapshot) → open_after_later false name opened snaps ≡ opened
+still_open name opened [] = refl
+still_open name opened (snapshot ∷ snaps) = still_open name opened snaps
+
+still_left : {told : Bool} {ways : Ways} (looks : List Look) (look : Look) {place : ℕ} {name : List ℕ} {watched : Watched} → fate_at place look ≡ sound → IsLeft told ways looks place name watched → IsLeft told ways (looks ++ look ∷ []) place name watched
+still_left [] look fine left = absurd (false≢true (sym left.begun))
+still_left {ways} (before ∷ looks) look {place} {name} {watched} fine left = record {
+  begun = refl;
+  why = elim left.why [
+    | inl dropped ↦ inl (ap is_some (failed_sound place (before ∷ looks) look fine) ∙ dropped.0, broken_sound (before ∷ looks) look fine dropped.1)
+    | inr missed ↦ inr (record {
+      way = missed.way;
+      unbroken = missed.unbroken;
+      kept = ap is_some (failed_sound place (before ∷ looks) look fine) ∙ missed.kept;
+      unopened = λ t. rw missed.way (still_open name _ (snapshots (looks ++ look ∷ [])) ∙ sym (still_open name _ (snapshots looks)) ∙ rw missed.way at (missed.unopened t));
+    })
+  ];
+}
+
+left_visited : {told_in told : Bool} {ways : Ways} {snapshot : Snapshot} {place : ℕ} {name : List ℕ} {printer : PrinterState} {slots : List Slot} {watched : Watched}
+    (looks : List Look) → IsLeft told_in ways looks place name watched → Visited told_in told ways looks snapshot place name printer slots printer slots watched Left false
+left_visited {snapshot} {place} {name} looks left = elim left.why [
+  | inl dropped ↦ record {
+    fate = sound;
+    share = no_share name;
+    is_share = λ t fates at. rw dropped.0 refl;
+    is_failed = refl;
+    shared = gives_nothing;
+    stands = λ fates at. still_left looks (seeing snapshot fates) at left;
+  }
+  | inr missed ↦ let looked = looked_whole (left_due looks left.begun missed) {place = place} {len = 0} (rw left.begun nothing_due) in
+      looked_visited missed.kept looked (λ fates at. still_left looks (seeing snapshot fates) (at ∙ came_through place looked.fate None looked.fault) left)
+]
+
+pub visit_left : {told_in told : Bool} {ways : Ways} {snapshot : Snapshot} {place : ℕ} {name : NameState} {watched : List Watched} {printer : PrinterState} {slots : List Slot} → name.standing ≡ Left → CanVisit name (watched_at watched place)
+    → Visits told_in told ways snapshot place name watched printer slots name watched printer slots (Ok false)
+visit_left left can = record {
+  visited = λ looks stands. rw left (left_visited looks (rw left at stands));
+  stopped = tt;
+  same = refl;
+  ready = can;
+  others = record { count = refl; others = λ other differs. refl };
+  halts = tt;
 }

@@ -1,13 +1,17 @@
--- The text of a name goes on by what each entry adds.
+-- The text of a name goes on by what each entry adds, and all that is written by what one look more gives.
 use Rattle.follow_core.specs.Notice.{notices_later, notices_between}
 use Rattle.std.proofs.Math.Seq.{drop-append_seam as drop_front}
-use Rattle.std.proofs.Common.{◌≡◌, ℕ, Bool, true, false, List, [], ◌∷◌, ◌++◌, length, drop, refl, sym, ◌∙◌, ap, append_assoc, if◌then◌else◌}
-use Rattle.std.proofs.lemmas.List.{append-nil}
+use Rattle.std.proofs.Common.{◌≡◌, ℕ, Bool, true, false, List, [], ◌∷◌, ◌++◌, length, drop, refl, sym, ◌∙◌, ap, append_assoc, if◌then◌else◌, append-nil, Option, None, ◌||◌}
 use Rattle.std.specs.List.{onto_first}
 use Rattle.ports_core.specs.Part.{IsBeginning}
-use Rattle.follow_core.specs.Version.{Version, Entry, version, gap}
+use Rattle.follow_core.specs.Version.{Version, Entry, version, gap, entries_of, entries_later, entries_at_look, open_after_look, open_after_later, open_after, entries_led}
 use Rattle.follow_core.specs.Run.{goes_on, runs_of, last_contents, whole_text, begun_text, name_text, KeptFrom, AreKept}
 use Rattle.follow_core.specs.Gain.{gain_between, gains_later, started, last_from, gains_after}
+use Rattle.std.proofs.Math.Bool.{or_assoc}
+use Rattle.watch_core.specs.Snapshot.{Snapshot}
+use Rattle.follow_core.specs.Look.{Ways, Look}
+use Rattle.follow_core.specs.Share.{Share, shares_of, shares_from, shares_at_look}
+use Rattle.follow_core.specs.Followed.{text_from, share_text, header_after, last_header, last_header_from, messages_of, any_failed, followed}
 
 -- the run that a version begins, and what comes after it
 record Begun (v : Version) (entries : List Entry) : Type 0 where
@@ -93,3 +97,56 @@ text_goes_on start entries more all =
 pub notices-append : (last : Entry) (entries more : List Entry) → notices_later last (entries ++ more) ≡ notices_later last entries ++ notices_later (last_from last entries) more
 notices-append last [] more = refl
 notices-append last (entry ∷ entries) more = ap (λ x. notices_between last entry ++ x) (notices-append entry entries more) ∙ sym (append_assoc (notices_between last entry) (notices_later entry entries) _)
+
+pub last_from-append : (last : Entry) (entries more : List Entry) → last_from last (entries ++ more) ≡ last_from (last_from last entries) more
+last_from-append last [] more = refl
+last_from-append last (entry ∷ entries) more = last_from-append entry entries more
+
+shares_from-append : (ways : Ways) (names : List (List ℕ)) (before looks : List Look) (look : Look) → shares_from ways names before (looks ++ look ∷ []) ≡ shares_from ways names before looks ++ shares_at_look ways names (before ++ looks) look
+shares_from-append ways names before [] look = append-nil (shares_at_look ways names before look) ∙ ap (λ those. shares_at_look ways names those look) (sym (append-nil before))
+shares_from-append ways names before (next ∷ looks) look =
+    ap (λ x. shares_at_look ways names before next ++ x)
+    (shares_from-append ways names (before ++ next ∷ []) looks look ∙ ap (λ those. shares_from ways names (before ++ next ∷ []) looks ++ shares_at_look ways names those look) (append_assoc before (next ∷ []) looks))
+    ∙ sym (append_assoc (shares_at_look ways names before next) (shares_from ways names (before ++ next ∷ []) looks) _)
+
+pub shares_more : (ways : Ways) (names : List (List ℕ)) (looks : List Look) (look : Look) → shares_of ways names (looks ++ look ∷ []) ≡ shares_of ways names looks ++ shares_at_look ways names looks look
+shares_more ways names looks look = shares_from-append ways names [] looks look
+
+pub text-append : (headers : Bool) (last : Option (List ℕ)) (shares more : List Share) → text_from headers last (shares ++ more) ≡ text_from headers last shares ++ text_from headers (last_header_from headers last shares) more
+text-append headers last [] more = refl
+text-append headers last (share ∷ shares) more =
+    ap (λ x. share_text headers last share ++ x) (text-append headers (header_after headers last share) shares more) ∙ sym (append_assoc (share_text headers last share) _ _)
+
+pub last-append : (headers : Bool) (last : Option (List ℕ)) (shares more : List Share) → last_header_from headers last (shares ++ more) ≡ last_header_from headers (last_header_from headers last shares) more
+last-append headers last [] more = refl
+last-append headers last (share ∷ shares) more = last-append headers (header_after headers last share) shares more
+
+pub messages-append : (shares more : List Share) → messages_of (shares ++ more) ≡ messages_of shares ++ messages_of more
+messages-append [] more = refl
+messages-append (share ∷ shares) more = ap (λ x. share.messages ++ x) (messages-append shares more) ∙ sym (append_assoc share.messages (messages_of shares) (messages_of more))
+
+pub failed-append : (shares more : List Share) → any_failed (shares ++ more) ≡ (any_failed shares || any_failed more)
+failed-append [] more = refl
+failed-append (share ∷ shares) more = ap (λ x. share.has_failed || x) (failed-append shares more) ∙ sym (or_assoc share.has_failed (any_failed shares) (any_failed more))
+
+-- what one look more writes, says and comes to
+pub out_more : (ways : Ways) (headers : Bool) (names : List (List ℕ)) (looks : List Look) (look : Look) → (followed ways headers names (looks ++ look ∷ [])).out ≡ (followed ways headers names looks).out ++ text_from headers (last_header ways headers names looks) (shares_at_look ways names looks look)
+out_more ways headers names looks look = ap (text_from headers None) (shares_more ways names looks look) ∙ text-append headers None (shares_of ways names looks) (shares_at_look ways names looks look)
+
+pub messages_more : (ways : Ways) (headers : Bool) (names : List (List ℕ)) (looks : List Look) (look : Look) → (followed ways headers names (looks ++ look ∷ [])).messages ≡ (followed ways headers names looks).messages ++ messages_of (shares_at_look ways names looks look)
+messages_more ways headers names looks look = ap messages_of (shares_more ways names looks look) ∙ messages-append (shares_of ways names looks) (shares_at_look ways names looks look)
+
+pub failed_more : (ways : Ways) (headers : Bool) (names : List (List ℕ)) (looks : List Look) (look : Look) → (followed ways headers names (looks ++ look ∷ [])).has_failed ≡ ((followed ways headers names looks).has_failed || any_failed (shares_at_look ways names looks look))
+failed_more ways headers names looks look = ap any_failed (shares_more ways names looks look) ∙ failed-append (shares_of ways names looks) (shares_at_look ways names looks look)
+
+-- the entries of one look more
+looks-append : (by_name : Bool) (name : List ℕ) (opened : Option ℕ) (snaps : List Snapshot) (snapshot : Snapshot) → entries_later by_name name opened (snaps ++ snapshot ∷ []) ≡ entries_later by_name name opened snaps ++ entries_at_look by_name name (open_after_later by_name name opened snaps) snapshot
+looks-append by_name name opened [] snapshot = append-nil _
+looks-append by_name name opened (next ∷ snaps) snapshot =
+    ap (λ x. entries_at_look by_name name opened next ++ x) (looks-append by_name name (open_after_look by_name name opened next) snaps snapshot)
+    ∙ sym (append_assoc (entries_at_look by_name name opened next) _ _)
+
+pub entries-append : (by_name : Bool) (name : List ℕ) (first : Snapshot) (snaps : List Snapshot) (snapshot : Snapshot) → entries_of by_name name ((first ∷ snaps) ++ snapshot ∷ []) ≡ entries_of by_name name (first ∷ snaps) ++ entries_at_look by_name name (open_after by_name name (first ∷ snaps)) snapshot
+entries-append by_name name first snaps snapshot =
+    ap (λ x. entries_led first None (first.leads name) ++ x) (looks-append by_name name (first.leads name) snaps snapshot)
+    ∙ sym (append_assoc (entries_led first None (first.leads name)) _ _)

@@ -1,9 +1,8 @@
 -- Where the first look begins to write: blocks that are read, and the lines in them.
-use Rattle.std.proofs.Common.{◌≡◌, ℕ, ◌+◌, ◌-◌, ◌<◌, ◌≤◌, List, [], ◌++◌, length, take, drop, Bool, true, refl, sym, ◌∙◌, ap, subst, arith, ◌==◌, zero, suc, false, ◌∷◌, length-append, if◌then◌else◌}
+use Rattle.std.proofs.Common.{◌≡◌, ℕ, ◌+◌, ◌-◌, ◌<◌, ◌≤◌, List, [], ◌++◌, length, take, drop, Bool, true, refl, sym, ◌∙◌, ap, subst, arith, ◌==◌, zero, suc, false, ◌∷◌, length-append, if◌then◌else◌, min}
 use Rattle.std.proofs.Math.Seq.{take-add, take-append-add}
 use Rattle.std.proofs.lemmas.List.{length-take, length-drop, append-nil, drop-drop, take-append-drop, take_all, take-take, drop_at, drop-append-le, drop-take, take-append-le}
 use Rattle.std.proofs.lemmas.Slice.{take-put_mid, take-put_mid_below}
-use Rattle.std.specs.Prelude.{min}
 use borrow.Rule.Slice.PartMut.{put_mid}
 use Rattle.watch_core.specs.Snapshot.{Snapshot, latest}
 use Rattle.watch_core.specs.Watched.{Watched, GaveFrom, open_contents, watched_at}

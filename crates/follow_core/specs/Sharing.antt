@@ -1,24 +1,31 @@
 -- How what a look gives for a name comes to the outputs: text to standard output, under a header where one is due, and
 -- lines to standard error.
-use Rattle.std.specs.Prelude.{◌≡◌, ℕ, Bool, true, List, ◌∷◌, IsTrue}
-use Rattle.ports_core.specs.Slot.{Slot, adds, is_open, is_writable, slot_at, told_of}
+use Rattle.std.specs.Prelude.{◌≡◌, ℕ, Bool, true, List, ◌∷◌, Option, Some, None, IsTrue}
+use Rattle.ports_core.specs.Slot.{Slot, is_open, is_writable, slot_at, told_of, with_written}
 use Rattle.follow_core.specs.Telling.{TellsAll}
 use Rattle.follow_core.specs.Followed.{last_header_from, messages_of, text_from}
 use Rattle.follow_core.specs.Printing.{PrinterState, Short}
 use Rattle.follow_core.specs.Share.{Share}
 use Rattle.ports_core.specs.declared.fault.Fault.{Fault}
 
--- this text came to standard output, and these lines to standard error; no other output changed
-abbrev pub Wrote : Bool → List ℕ → List (List ℕ) → List Slot → List Slot → Type 0
-Wrote told text lines old new = (output error : Slot) (others : List Slot) → old ≡ output ∷ error ∷ others
-    → (error_after : Slot) × TellsAll told lines error error_after
-    × (new ≡ adds (told_of told text) output ∷ error_after ∷ others)
+-- the text came to standard output, or a beginning of it before this fault
+abbrev pub CameTo : Bool → List ℕ → List Slot → List Slot → Option Fault → Type 0
+CameTo told text old new None = new ≡ with_written 0 (told_of told text) old
+CameTo told text old new (Some fault) = Short told text old new fault
 
--- these lines did, and a beginning of the text, before standard output broke or memory was wanting
-abbrev pub WroteShort : Bool → List ℕ → List (List ℕ) → List Slot → List Slot → Fault → Type 0
-WroteShort told text lines old new fault = (output error : Slot) (others : List Slot) → old ≡ output ∷ error ∷ others
+-- so did this text, and these lines came to standard error; no other output changed
+abbrev pub WroteBy : Bool → List ℕ → List (List ℕ) → List Slot → List Slot → Option Fault → Type 0
+WroteBy told text lines old new fault = (output error : Slot) (others : List Slot) → old ≡ output ∷ error ∷ others
     → (error_after : Slot) × TellsAll told lines error error_after
-    × Short told text (output ∷ error_after ∷ others) new fault
+    × CameTo told text (output ∷ error_after ∷ others) new fault
+
+-- the text and the lines
+abbrev pub Wrote : Bool → List ℕ → List (List ℕ) → List Slot → List Slot → Type 0
+Wrote told text lines old new = WroteBy told text lines old new None
+
+-- the lines, and a beginning of the text, before standard output broke or memory was wanting
+abbrev pub WroteShort : Bool → List ℕ → List (List ℕ) → List Slot → List Slot → Fault → Type 0
+WroteShort told text lines old new fault = WroteBy told text lines old new (Some fault)
 
 -- all shares came there, one after another
 pub record AllShared (told : Bool) (printer : PrinterState) (shares : List Share) (old : List Slot)

@@ -81,8 +81,12 @@ Stands told ways looks place name watched New = (looks ≡ []) × (watched ≡ a
 Stands told ways looks place name watched (Followed position) = IsFollowed told ways looks place name watched position
 Stands told ways looks place name watched Left = IsLeft told ways looks place name watched
 
--- all names stand so, each by its number
+-- the name at this place stands so, by its number
+abbrev pub StandsAmong : Bool → Ways → List Look → List NameState → List Watched → ℕ → Type 0
+StandsAmong told ways looks names watched place = Stands told ways looks (ways.first + place)
+    (state_at names place).text (watched_at watched (ways.first + place)) (state_at names place).standing
+
+-- all names do
 abbrev pub AllStand : Bool → Ways → List Look → List NameState → List Watched → Type 0
 AllStand told ways looks names watched = (place : ℕ) → place < length names
-    → Stands told ways looks (ways.first + place) (state_at names place).text (watched_at watched (ways.first + place))
-    (state_at names place).standing
+    → StandsAmong told ways looks names watched place

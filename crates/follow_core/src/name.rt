@@ -3,7 +3,8 @@ ghost use Rattle.std.specs.Prelude.{◌≡◌, ◌<◌, ◌≤◌, ◌+◌, ◌^
 ghost use Rattle.watch_core.specs.Snapshot.{latest};
 ghost use Rattle.watch_core.specs.Watched.{added, watched_at};
 ghost use Rattle.follow_core.specs.Sharing.{CanPrint};
-ghost use Rattle.follow_core.specs.inner.Calls.{HasStopped};
+ghost use Rattle.follow_core.specs.inner.Calls.{CanGoOn};
+ghost use Rattle.follow_core.specs.inner.Giving.{over_in};
 ghost use Rattle.follow_core.specs.FollowState.{AllReady, new_state};
 ghost use Rattle.follow_core.specs.Look.{Look, ways_of};
 ghost use Rattle.follow_core.specs.inner.Looks.{AddsSome};
@@ -92,8 +93,7 @@ impl Name {
         requires ready { CanVisit self.old (watched_at (W.watched watch.old) place) }
         requires can { CanPrint (O.slots outs.old) }
         ensures visits { (first : ℕ) → Visits W.told O.told (ways_of first by_name start) (latest (W.seen watch.old)) place self.old (W.watched watch.old) visitor.old (O.slots outs.old) self.new (W.watched watch.new) visitor.new (O.slots outs.new) result }
-        ensures can { OnOk result (CanPrint (O.slots outs.new)) }
-        ensures error { IfErr result (λ why. HasStopped why (O.slots outs.new)) }
+        ensures can { CanGoOn (over_in result) (O.slots outs.new) }
         ensures seen { W.seen watch.new ≡ W.seen watch.old }
         ensures shows { W.shows watch.new ≡ W.shows watch.old }
     {

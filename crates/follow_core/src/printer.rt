@@ -1,9 +1,10 @@
 //! Where the bytes of followed names go, under headers.
-ghost use Rattle.std.specs.Prelude.{◌≡◌, ◌≤◌, ◌++◌, [], ℕ, List, Option, Some, false, IsTrue, IfErr, OnOk, string_bytes, option_map, is_none};
+ghost use Rattle.std.specs.Prelude.{◌≡◌, Bool, [], Some, IsTrue, IfErr, OnOk, if◌then◌else◌, string_bytes, option_map, is_none};
 ghost use Rattle.ports_core.specs.Slot.{is_writable, with_written, told_of};
+ghost use Rattle.ports_core.specs.Text.{header_of};
 ghost use Rattle.follow_core.specs.Printing.{PrinterState, Short, fresh_printer};
-ghost use Rattle.follow_core.specs.inner.Giving.{text_under, front_under, printer_under, header_under, is_due, opened_under, opening_under};
-ghost use Rattle.follow_core.specs.Followed.{is_last};
+ghost use Rattle.follow_core.specs.inner.Giving.{Ends, given_share, over_in};
+ghost use Rattle.follow_core.specs.Followed.{has_header, is_last};
 
 use ports_core::{Fault, Outs, header, write_whole};
 use std::alloc::Global;
@@ -35,84 +36,53 @@ impl Printer {
         }
     }
 
-    /// Writes bytes of a name, after its header where one is due.
+    /// Writes bytes of a name, after its header where one is due: where its file was just opened, if headers are written, or where there
+    /// are bytes and the last header was not of this name.
     ///
     /// # Errors
     ///
     /// `Memory` where there is no room for the header, `Write(0)` where standard output broke.
     pub(crate) fn put<O: Outs>(
         &mut self,
+        opened: bool,
         name: &str,
         bytes: &[u8],
         outs: &mut O,
     ) -> Result<(), Fault>
         requires { IsTrue (is_writable (O.slots outs.old) 0) }
-        ensures out { OnOk result (O.slots outs.new ≡ with_written 0 (told_of O.told (text_under self.old name.now bytes.now)) (O.slots outs.old)) }
-        ensures last { OnOk result (self.new ≡ printer_under self.old name.now bytes.now) }
-        ensures short { IfErr result (Short O.told (text_under self.old name.now bytes.now) (O.slots outs.old) (O.slots outs.new)) }
+        ensures ends { (told_in : Bool) → Ends told_in O.told opened self.old name.now bytes.now [] (O.slots outs.old) self.new (O.slots outs.new) (over_in result) }
     {
-        self.show_if_due(name, bytes, outs)?;
+        if let Err(fault) = self.show(self.is_due(opened, name, bytes), name, outs) {
+            return Err(fault);
+        }
         match write_whole(outs, 0, bytes) {
             Ok(()) => Ok(()),
             Err(_) => Err(Fault::Write(0)),
         }
     }
 
-    /// Writes the header that is due before bytes of a name.
-    ///
-    /// # Errors
-    ///
-    /// `Memory` where there is no room for the header, `Write(0)` where standard output broke.
-    fn show_if_due<O: Outs>(&mut self, name: &str, bytes: &[u8], outs: &mut O) -> Result<(), Fault>
-        requires { IsTrue (is_writable (O.slots outs.old) 0) }
-        ensures out { OnOk result (O.slots outs.new ≡ with_written 0 (told_of O.told (front_under self.old name.now bytes.now)) (O.slots outs.old)) }
-        ensures last { OnOk result (self.new ≡ printer_under self.old name.now bytes.now) }
-        ensures writable { OnOk result (IsTrue (is_writable (O.slots outs.new) 0)) }
-        ensures short { IfErr result (Short O.told (front_under self.old name.now bytes.now) (O.slots outs.old) (O.slots outs.new)) }
-    {
-        if !self.is_due(name, bytes) {
-            return Ok(());
-        }
-        self.show(name, outs)
-    }
-
     /// Whether a header is due before bytes of a name.
-    fn is_due(&self, name: &str, bytes: &[u8]) -> bool
-        ensures { result ≡ is_due self.now name.now bytes.now }
+    fn is_due(&self, opened: bool, name: &str, bytes: &[u8]) -> bool
+        ensures { result ≡ has_header self.now.headers self.now.last (given_share opened name.now bytes.now []) }
     {
-        self.headers && !bytes.is_empty() && !self.is_last(name)
+        self.headers && (opened || (!bytes.is_empty() && !self.is_last(name)))
     }
 
-    /// Writes the header of a name whose file was opened first, if headers are written.
+    /// Writes the header of a name, if one is due.
     ///
     /// # Errors
     ///
     /// `Memory` where there is no room for the header, `Write(0)` where standard output broke.
-    pub(crate) fn open<O: Outs>(&mut self, name: &str, outs: &mut O) -> Result<(), Fault>
+    fn show<O: Outs>(&mut self, due: bool, name: &str, outs: &mut O) -> Result<(), Fault>
         requires { IsTrue (is_writable (O.slots outs.old) 0) }
-        ensures out { OnOk result (O.slots outs.new ≡ with_written 0 (told_of O.told (opening_under self.old name.now)) (O.slots outs.old)) }
-        ensures last { OnOk result (self.new ≡ opened_under self.old name.now) }
+        ensures out { OnOk result (O.slots outs.new ≡ with_written 0 (told_of O.told (if due then header_of name.now (is_none self.old.last) else [])) (O.slots outs.old)) }
+        ensures last { OnOk result (self.new ≡ record self.old { last = if due then Some name.now else self.old.last }) }
         ensures writable { OnOk result (IsTrue (is_writable (O.slots outs.new) 0)) }
-        ensures short { IfErr result (Short O.told (opening_under self.old name.now) (O.slots outs.old) (O.slots outs.new)) }
+        ensures short { IfErr result (Short O.told (if due then header_of name.now (is_none self.old.last) else []) (O.slots outs.old) (O.slots outs.new)) }
     {
-        if !self.headers {
+        if !due {
             return Ok(());
         }
-        self.show(name, outs)
-    }
-
-    /// Writes the header of a name.
-    ///
-    /// # Errors
-    ///
-    /// `Memory` where there is no room for the header, `Write(0)` where standard output broke.
-    fn show<O: Outs>(&mut self, name: &str, outs: &mut O) -> Result<(), Fault>
-        requires { IsTrue (is_writable (O.slots outs.old) 0) }
-        ensures out { OnOk result (O.slots outs.new ≡ with_written 0 (told_of O.told (header_under self.old name.now)) (O.slots outs.old)) }
-        ensures last { OnOk result (self.new ≡ record self.old { last = Some name.now }) }
-        ensures writable { OnOk result (IsTrue (is_writable (O.slots outs.new) 0)) }
-        ensures short { IfErr result (Short O.told (header_under self.old name.now) (O.slots outs.old) (O.slots outs.new)) }
-    {
         let Ok(text) = header(self.alloc, name, self.is_first()) else {
             return Err(Fault::Memory);
         };

@@ -1,15 +1,15 @@
 //! A look at one name: what came to its file is written, and what changed or failed is told.
-ghost use Rattle.std.specs.Prelude.{◌≡◌, ◌≤◌, ◌<◌, ◌-◌, ◌∷◌, [], ℕ, List, Bool, true, false, length, drop, nat_lt, option_map, if◌then◌else◌, IsTrue, IfOk, IfErr, OnOk, Err};
+ghost use Rattle.std.specs.Prelude.{◌≡◌, ◌≤◌, ◌<◌, ◌-◌, ◌∷◌, [], ℕ, List, Bool, true, false, length, drop, nat_lt, option_map, if◌then◌else◌, IsTrue, IfOk, IfErr, OnOk, Some};
 ghost use Rattle.ends_core.specs.Ends.{tail_of};
-ghost use Rattle.ports_core.specs.Slot.{is_writable};
 ghost use Rattle.watch_core.specs.Snapshot.{latest};
 ghost use Rattle.watch_core.specs.Watched.{is_readable, is_watchable, open_contents, watched_at};
 ghost use Rattle.follow_core.specs.declared.name.Standing.TheVariants.{New, Followed};
 ghost use Rattle.follow_core.specs.Notice.{notice_of};
 ghost use Rattle.follow_core.specs.Printing.{PrinterState, fresh_printer};
-ghost use Rattle.follow_core.specs.inner.Calls.{CanGoOn, HasStopped, Keeps, as_stop, change_between, lines_past, Catches, Leads};
+ghost use Rattle.follow_core.specs.inner.Calls.{Adds, CanGoOn, Keeps, Leads, change_between, lines_past};
 ghost use Rattle.follow_core.specs.Sharing.{CanPrint};
-ghost use Rattle.follow_core.specs.inner.Giving.{Ends};
+ghost use Rattle.follow_core.specs.inner.Giving.{Ends, over_in, stop_in};
+ghost use Rattle.follow_core.specs.Version.{entries_open};
 ghost use Rattle.follow_core.specs.inner.Visits.{TellsStop, Looks};
 ghost use Rattle.follow_core.specs.Look.{ways_of};
 
@@ -94,8 +94,7 @@ impl Visitor {
         requires name { (watched_at (W.watched watch.old) place).name ≡ name.now }
         requires can { CanPrint (O.slots outs.old) }
         ensures looks { (first : ℕ) (by_name : Bool) → Looks W.told O.told (ways_of first by_name start) (latest (W.seen watch.old)) place name.now New (W.watched watch.old) self.old (O.slots outs.old) (W.watched watch.new) self.new (O.slots outs.new) result }
-        ensures can { OnOk result (CanPrint (O.slots outs.new)) }
-        ensures error { IfErr result (λ why. HasStopped why (O.slots outs.new)) }
+        ensures can { CanGoOn (over_in result) (O.slots outs.new) }
         ensures seen { W.seen watch.new ≡ W.seen watch.old }
         ensures shows { W.shows watch.new ≡ W.shows watch.old }
     {
@@ -107,7 +106,7 @@ impl Visitor {
             }
             Err(fault) => return self.stop(Stop::Broke(fault), name, outs),
         }
-        if let Err(fault) = self.printer.open(name, outs) {
+        if let Err(fault) = self.printer.put(true, name, b"", outs) {
             return Err(fault);
         }
         match self.write_start(start, watch, place, name, outs) {
@@ -132,10 +131,10 @@ impl Visitor {
         requires readable { IsTrue (is_readable (W.watched watch.old) place) }
         requires can { CanPrint (O.slots outs.old) }
         ensures ends { let contents = open_contents (latest (W.seen watch.old)) (watched_at (W.watched watch.old) place) in
-            Ends W.told O.told false self.old name.now (tail_of start.delim start.unit start.from_nth start.count contents) [] (O.slots outs.old) self.new (O.slots outs.new) result }
+            Ends W.told O.told false self.old name.now (tail_of start.delim start.unit start.from_nth start.count contents) [] (O.slots outs.old) self.new (O.slots outs.new) (stop_in result) }
         ensures len { IfOk result (λ len. W.told ≡ true → len ≡ length (open_contents (latest (W.seen watch.old)) (watched_at (W.watched watch.old) place))) }
-        ensures keeps { Keeps place (W.watched watch.old) (W.watched watch.new) result }
-        ensures can { CanGoOn result (O.slots outs.new) }
+        ensures keeps { Keeps place (W.watched watch.old) (W.watched watch.new) (stop_in result) }
+        ensures can { CanGoOn (stop_in result) (O.slots outs.new) }
         ensures seen { W.seen watch.new ≡ W.seen watch.old }
         ensures shows { W.shows watch.new ≡ W.shows watch.old }
     {
@@ -178,8 +177,7 @@ impl Visitor {
         requires name { (watched_at (W.watched watch.old) place).name ≡ name.now }
         requires can { CanPrint (O.slots outs.old) }
         ensures looks { (first : ℕ) (start : List ℕ → List ℕ) → Looks W.told O.told (record { first = first; by_name = by_name; start = start }) (latest (W.seen watch.old)) place name.now (Followed position) (W.watched watch.old) self.old (O.slots outs.old) (W.watched watch.new) self.new (O.slots outs.new) result }
-        ensures can { OnOk result (CanPrint (O.slots outs.new)) }
-        ensures error { IfErr result (λ why. HasStopped why (O.slots outs.new)) }
+        ensures can { CanGoOn (over_in result) (O.slots outs.new) }
         ensures seen { W.seen watch.new ≡ W.seen watch.old }
         ensures shows { W.shows watch.new ≡ W.shows watch.old }
     {
@@ -214,7 +212,7 @@ impl Visitor {
         requires name { (watched_at (W.watched watch.old) place).name ≡ name.now }
         requires can { CanPrint (O.slots outs.old) }
         ensures leads { Leads W.told O.told (latest (W.seen watch.old)) place name.now position (W.watched watch.old) self.old (O.slots outs.old) (W.watched watch.new) self.new (O.slots outs.new) result }
-        ensures can { CanGoOn result (O.slots outs.new) }
+        ensures can { CanGoOn (stop_in result) (O.slots outs.new) }
         ensures seen { W.seen watch.new ≡ W.seen watch.old }
         ensures shows { W.shows watch.new ≡ W.shows watch.old }
     {
@@ -228,12 +226,8 @@ impl Visitor {
         if let Err(fault) = tell(self.alloc, change, name, outs) {
             return Err(Stop::Over(fault));
         }
-        let is_there = match watch.reopen(place) {
-            Ok(is_there) => is_there,
-            Err(fault) => return Err(Stop::Broke(fault)),
-        };
-        if !is_there {
-            return Ok(0);
+        if let Err(fault) = watch.reopen(place) {
+            return Err(Stop::Broke(fault));
         }
         self.catch_up(watch, place, name, 0, outs)
     }
@@ -254,8 +248,10 @@ impl Visitor {
     ) -> Result<u64, Stop>
         requires watchable { IsTrue (is_watchable (W.watched watch.old) place) }
         requires can { CanPrint (O.slots outs.old) }
-        ensures catches { Catches W.told O.told (latest (W.seen watch.old)) place name.now position (W.watched watch.old) self.old (O.slots outs.old) (W.watched watch.new) self.new (O.slots outs.new) result }
-        ensures can { CanGoOn result (O.slots outs.new) }
+        ensures adds { let opened = (watched_at (W.watched watch.old) place).opened in
+            Adds W.told O.told name.now opened position (entries_open (latest (W.seen watch.old)) opened) opened self.old (O.slots outs.old) self.new (O.slots outs.new) result }
+        ensures keeps { Keeps place (W.watched watch.old) (W.watched watch.new) (stop_in result) }
+        ensures can { CanGoOn (stop_in result) (O.slots outs.new) }
         ensures seen { W.seen watch.new ≡ W.seen watch.old }
         ensures shows { W.shows watch.new ≡ W.shows watch.old }
     {
@@ -288,10 +284,9 @@ impl Visitor {
     ///
     /// The fault that ends following, which is handed on.
     fn stop<O: Outs>(&self, stop: Stop, name: &str, outs: &mut O) -> Result<Came, Fault>
-        requires can { CanGoOn {T = ℕ} (Err stop) (O.slots outs.old) }
+        requires can { CanGoOn (Some stop) (O.slots outs.old) }
         ensures tells { TellsStop O.told name.now (O.slots outs.old) (O.slots outs.new) stop result }
-        ensures can { OnOk result (CanPrint (O.slots outs.new)) }
-        ensures error { IfErr result (λ why. HasStopped why (O.slots outs.new)) }
+        ensures can { CanGoOn (over_in result) (O.slots outs.new) }
     {
         match stop {
             Stop::Broke(fault) => {
@@ -319,13 +314,13 @@ fn copy<W: Watch, O: Outs>(
     outs: &mut O,
 ) -> Result<u64, Stop>
     requires readable { IsTrue (is_readable (W.watched watch.old) place) }
-    requires writable { IsTrue (is_writable (O.slots outs.old) 0) }
+    requires can { CanPrint (O.slots outs.old) }
     requires within { from ≤ len }
     requires room { 0 < length buffer.old }
     requires whole { W.told ≡ true → len ≡ length (open_contents (latest (W.seen watch.old)) (watched_at (W.watched watch.old) place)) }
-    ensures ends { Ends {T = ℕ} W.told O.told false printer.old name.now (drop from (open_contents (latest (W.seen watch.old)) (watched_at (W.watched watch.old) place))) [] (O.slots outs.old) printer.new (O.slots outs.new) result }
+    ensures ends { Ends W.told O.told false printer.old name.now (drop from (open_contents (latest (W.seen watch.old)) (watched_at (W.watched watch.old) place))) [] (O.slots outs.old) printer.new (O.slots outs.new) (stop_in result) }
     ensures len { IfOk result (λ n. n ≡ len) }
-    ensures keeps { Keeps place (W.watched watch.old) (W.watched watch.new) result }
+    ensures keeps { Keeps place (W.watched watch.old) (W.watched watch.new) (stop_in result) }
     ensures seen { W.seen watch.new ≡ W.seen watch.old }
     ensures shows { W.shows watch.new ≡ W.shows watch.old }
 {
@@ -335,7 +330,7 @@ fn copy<W: Watch, O: Outs>(
         match watch.read_at(place, at, &mut buffer[..room]) {
             Ok(0) => return Ok(len),
             Ok(n) => {
-                match printer.put(name, &buffer[..n], outs) {
+                match printer.put(false, name, &buffer[..n], outs) {
                     Ok(()) => at += n as u64,
                     Err(fault) => return Err(Stop::Over(fault)),
                 }
@@ -360,10 +355,9 @@ fn begin_at<O: Outs>(
     outs: &mut O,
 ) -> Result<u64, Fault>
     requires can { CanPrint (O.slots outs.old) }
-    ensures ends { (told_in : Bool) (printer : PrinterState) → Ends told_in O.told false printer name.now [] (lines_past name.now position len) (O.slots outs.old) printer (O.slots outs.new) (as_stop result) }
+    ensures ends { (told_in : Bool) (printer : PrinterState) → Ends told_in O.told false printer name.now [] (lines_past name.now position len) (O.slots outs.old) printer (O.slots outs.new) (over_in result) }
     ensures from { IfOk result (λ from. from ≡ (if nat_lt len position then 0 else position)) }
-    ensures can { OnOk result (CanPrint (O.slots outs.new)) }
-    ensures error { IfErr result (λ why. HasStopped why (O.slots outs.new)) }
+    ensures can { CanGoOn (over_in result) (O.slots outs.new) }
 {
     if len >= position {
         return Ok(position);
@@ -381,9 +375,8 @@ fn begin_at<O: Outs>(
 /// `Memory` where there was none for the line.
 fn tell<O: Outs>(alloc: Global, found: Notice, name: &str, outs: &mut O) -> Result<(), Fault>
     requires can { CanPrint (O.slots outs.old) }
-    ensures ends { (told_in : Bool) (printer : PrinterState) → Ends told_in O.told false printer name.now [] (notice_of found name.now ∷ []) (O.slots outs.old) printer (O.slots outs.new) (as_stop result) }
-    ensures can { OnOk result (CanPrint (O.slots outs.new)) }
-    ensures error { IfErr result (λ why. HasStopped why (O.slots outs.new)) }
+    ensures ends { (told_in : Bool) (printer : PrinterState) → Ends told_in O.told false printer name.now [] (notice_of found name.now ∷ []) (O.slots outs.old) printer (O.slots outs.new) (over_in result) }
+    ensures can { CanGoOn (over_in result) (O.slots outs.new) }
 {
     match notice_line(alloc, found, name) {
         Ok(line) => {

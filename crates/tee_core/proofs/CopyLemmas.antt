@@ -1,21 +1,112 @@
--- Lemmas on copying a piece: what the outputs have after it, and what is said of it.
-use Rattle.std.proofs.Common.{append_assoc, ◌≡◌, ℕ, ◌+◌, ◌<◌, ◌≤◌, zero, suc, List, [], ◌∷◌, ◌++◌, length, map, take, Bool, true, false, not, ◌&&◌, Option, Some, None, inl, inr, refl, sym, ◌∙◌, ap, subst, arith, length-append}
+-- Lemmas on copying: what the outputs have after a piece and at the end, and what is said of those that broke.
+use Rattle.std.proofs.lemmas.Bool.Decides.{nat_tests}
+use Rattle.std.proofs.lemmas.Bool.{cond_both, false≢true, eq-eqb, ne_eqb, le-ltb, lt-ltb}
+use Rattle.std.proofs.Common.{◌≡◌, ℕ, ◌+◌, ◌<◌, zero, suc, List, [], ◌∷◌, ◌++◌, length, map, take, drop, get_or, set, Bor, Bool, true, false, not, ◌&&◌, if◌then◌else◌, refl, sym, ◌∙◌, ap, subst, arith, append_assoc, ◌≤◌, Option, Some, None, inl, inr, length-append, append-nil, is_none}
+use Rattle.std.proofs.Math.ListN.{get_or-map}
+use Rattle.std.proofs.lemmas.List.{append-nil, length-map}
+use Rattle.ports_core.specs.Slot.{Slot, no_slot, slot_at, is_open, changed_at, opened, adds, breaks, told_of}
+use Rattle.ports_core.specs.Text.{message_of}
+use Rattle.ports_core.specs.Message.{SaysOn, SaysAll}
+use Rattle.ports_core.specs.declared.tool.Tool.TheVariants.{Tee}
+use Rattle.ports_core.specs.declared.fault.Fault.{Fault}
+use Rattle.ports_core.proofs.MessageLemmas.{all_said_state, says_more, says_after}
+use Rattle.tee_core.specs.Run.{output_names, OutputLeft, output_whole, output_cut, broke_before, broke_in, fault_in, none_left, said_in, said_before, FileLeft, file_whole, file_unopened, file_cut, file_unclosed, said_of_input}
+use Rattle.tee_core.specs.inner.Steps.{HasStreams, SaysTo, broken_of, output_slot, said_since, Copies, FileHas, has_all, has_none, has_begun, EachFile, no_more, one_more, IsTeeOf, all_of, HasCopied}
 use Rattle.std.specs.List.{concat}
 use Rattle.std.proofs.lemmas.List.Folds.{concat-append}
-use Rattle.std.proofs.lemmas.List.{append-nil}
-use Rattle.std.proofs.lemmas.Bool.{false≢true, eq-eqb, ne_eqb, le-ltb, lt-ltb}
-use Rattle.ports_core.specs.Slot.{Slot, slot_at, changed_at, is_open, opened, adds, breaks, told_of}
-use Rattle.ports_core.specs.Message.{SaysAll}
 use Rattle.ports_core.specs.declared.slot.Mode.{Mode}
-use Rattle.ports_core.specs.declared.tool.Tool.TheVariants.{Tee}
-use Rattle.ports_core.proofs.MessageLemmas.{all_said_state, says_after}
 use Rattle.ports_core.specs.Streams.{standard_output, standard_error}
-use Rattle.tee_core.specs.Outputs.{ChangesEach, Gets, gets_all, breaks_off, gets_none, IsFile, IsOutput, IsReady, IsUsable}
-use Rattle.tee_core.specs.Run.{OutputLeft, output_whole, output_cut, broke_before, broke_in, fault_in, none_left, output_names, said_in, said_before}
-use Rattle.tee_core.specs.inner.Steps.{Copies, FileHas, has_all, has_none, has_begun, EachFile, no_more, one_more, HasStreams, IsTeeOf, SaysTo, all_of, broken_of, said_since}
+use Rattle.tee_core.specs.Outputs.{ChangesEach, Gets, gets_all, breaks_off, gets_none, IsFile, IsOutput, IsReady, IsUsable, Closes, is_closed, fails_to_close, was_broken}
 use Rattle.tee_core.specs.TeeState.{TeeState}
 use Rattle.ports_core.proofs.Runs.{adds_both}
-use Rattle.tee_core.proofs.TellLemmas.{count_broken}
+
+-- what is said of one output
+
+abbrev said_one : Fault → List ℕ → Bool → Bool → List (List ℕ)
+said_one fault name was now = if not was && now then message_of Tee fault name ∷ [] else []
+
+said_next : (fault : Fault) (names : List (List ℕ)) (known broken : List Bool) (n : ℕ) → n < length names → length known ≡ length names → length broken ≡ length names
+    → said_since fault (drop n names) (drop n known) (drop n broken) ≡ said_one fault (get_or names n []) (get_or known n false) (get_or broken n false) ++ said_since fault (drop (suc n) names) (drop (suc n) known) (drop (suc n) broken)
+said_next fault (name ∷ names) (was ∷ known) (now ∷ broken) zero within known_many many = grind (arith, nat_tests)
+said_next fault (name ∷ names) (was ∷ known) (now ∷ broken) (suc n) within known_many many = said_next fault names known broken n (omega arith) (omega (arith, known_many)) (omega (arith, many))
+said_next fault names known broken n within known_many many = absurd (omega (arith, known_many, many))
+
+-- flags that are brought up to date one after another
+
+set_next : (n : ℕ) (known broken : List Bool) → n < length known → length broken ≡ length known → set (take n broken ++ drop n known) n (get_or broken n false) ≡ take (suc n) broken ++ drop (suc n) known
+set_next zero (was ∷ known) (now ∷ broken) within many = refl
+set_next (suc n) (was ∷ known) (now ∷ broken) within many = ap (λ rest. now ∷ rest) (set_next n known broken (omega arith) (omega (arith, many)))
+set_next n known broken within many = absurd (omega (arith, many))
+
+get_next : (n : ℕ) (known broken : List Bool) (other : Bool) → n < length known → length broken ≡ length known → get_or (take n broken ++ drop n known) n other ≡ get_or known n false
+get_next zero (was ∷ known) (now ∷ broken) other within many = refl
+get_next (suc n) (was ∷ known) (now ∷ broken) other within many = get_next n known broken other (omega arith) (omega (arith, many))
+get_next n known broken other within many = absurd (omega (arith, many))
+
+-- where outputs stand
+
+broken_at : (output error : Slot) (files : List Slot) (n : ℕ) → (slot_at (output ∷ error ∷ files) (output_slot n)).is_broken ≡ get_or (broken_of (output ∷ error ∷ files)) n false
+broken_at output error files zero = refl
+broken_at output error files (suc n) = sym (get_or-map (λ (file : Slot). file.is_broken) files n no_slot)
+
+pub count_broken : {slots : List Slot} {count : ℕ} → HasStreams slots count → length (broken_of slots) ≡ count + 1
+count_broken {count} has = ap (λ those. length (broken_of those)) has.are ∙ (let many : length (map (λ (file : Slot). file.is_broken) has.files) ≡ length has.files = length-map has.files _ in let same : length has.files ≡ count = has.files_are in let e : suc (length (map (λ (file : Slot). file.is_broken) has.files)) ≡ count + 1 = omega arith in e)
+
+-- standard error alone is written
+
+pub says_too : (told : Bool) (texts : List (List ℕ)) (text : List ℕ) {count : ℕ} {old : List Slot} (now new : List Slot) → HasStreams old count → SaysTo told texts old now → SaysOn told Tee text now new → SaysTo told (texts ++ text ∷ []) old new
+says_too told texts text now new has so_far says =
+    let first = subst (λ those. SaysTo told texts those now) has.are so_far in let said = says has.output first.0 has.files first.2 in
+    subst (λ those. SaysTo told (texts ++ text ∷ []) those new) (sym has.are)
+    (said.0, says_more told Tee texts text has.error first.0 said.0 first.1 said.1, said.2)
+
+broken_still : (told : Bool) (texts : List (List ℕ)) (output error : Slot) (files now : List Slot) (n : ℕ) → SaysTo told texts (output ∷ error ∷ files) now → (slot_at now (output_slot n)).is_broken ≡ get_or (broken_of (output ∷ error ∷ files)) n false
+broken_still told texts output error files now n said = ap (λ those. (slot_at those (output_slot n)).is_broken) said.2 ∙ broken_at output said.0 files n
+
+-- how far the loop over the outputs has come
+pub record Telling (told : Bool) (fault : Fault) (names : List (List ℕ)) (known_before : List Bool) (n : ℕ) (old now : List Slot) (known : List Bool) : Type 0 where
+  pub so_far : List (List ℕ)
+  pub said : SaysTo told so_far old now
+  pub rest : so_far ++ said_since fault (drop n names) (drop n known_before) (drop n (broken_of old)) ≡ said_since fault names known_before (broken_of old)
+  pub known_are : known ≡ take n (broken_of old) ++ drop n known_before
+
+pub error_open : (told : Bool) {fault : Fault} {names : List (List ℕ)} {before known : List Bool} {n count : ℕ} {old now : List Slot} → HasStreams old count → Telling told fault names before n old now known → is_open (slot_at now 1).state ≡ true
+error_open told {now} has so_far =
+    let said : SaysTo told so_far.so_far (has.output ∷ has.error ∷ has.files) now = subst (λ those. SaysTo told so_far.so_far those now) has.are so_far.said in
+    ap (λ those. is_open (slot_at those 1).state) said.2 ∙ ap is_open (all_said_state told Tee so_far.so_far has.error said.0 said.1) ∙ has.opened
+
+pub tells_next : (told : Bool) {fault : Fault} {names : List (List ℕ)} {before known : List Bool} (other : Bool) {n count : ℕ} {old now new : List Slot} {name : List ℕ} {broken : Bool} → HasStreams old count → length names ≡ count + 1 → length before ≡ count + 1 → n < length before → Telling told fault names before n old now known
+    → name ≡ get_or names n [] → broken ≡ (slot_at now (output_slot n)).is_broken → ((not (get_or known n other) && broken) ≡ true → SaysOn told Tee (message_of Tee fault name) now new) → ((not (get_or known n other) && broken) ≡ false → new ≡ now)
+    → Telling told fault names before (n + 1) old new (set known n broken)
+tells_next told {fault} {names} {before} {known} other {n} {count} {old} {now} {new} {name} {broken} has names_many many within so_far named tells says quiet =
+    subst (λ k. Telling told fault names before k old new (set known n broken)) (let e : suc n ≡ n + 1 = omega arith in e) (record {
+      so_far = so_far.so_far ++ here_said;
+      said = cond_both (not (get_or known n other) && broken) (message_of Tee fault name ∷ []) [] (λ texts. SaysTo told (so_far.so_far ++ texts) old new)
+          (λ is. says_too told so_far.so_far (message_of Tee fault name) now new has so_far.said (says is))
+          (λ is. rw (append-nil so_far.so_far, quiet is) so_far.said);
+      rest = append_assoc so_far.so_far here_said _ ∙ ap (λ texts. so_far.so_far ++ texts) (sym step) ∙ so_far.rest;
+      known_are = flags;
+    }) where
+      here_said : List (List ℕ)
+      here_said = if not (get_or known n other) && broken then message_of Tee fault name ∷ [] else []
+
+      broken_are : length (broken_of old) ≡ count + 1
+      broken_are = count_broken has
+
+      here : broken ≡ get_or (broken_of old) n false
+      here = tells ∙ broken_still told so_far.so_far has.output has.error has.files now n (subst (λ those. SaysTo told so_far.so_far those now) has.are so_far.said) ∙ ap (λ those. get_or (broken_of those) n false) (sym has.are)
+
+      was : get_or known n other ≡ get_or before n false
+      was = ap (λ those. get_or those n other) so_far.known_are ∙ get_next n before (broken_of old) other within (broken_are ∙ sym many)
+
+      flags : set known n broken ≡ take (suc n) (broken_of old) ++ drop (suc n) before
+      flags = ap (λ those. set those n broken) so_far.known_are ∙ ap (set (take n (broken_of old) ++ drop n before) n) here ∙ set_next n before (broken_of old) within (broken_are ∙ sym many)
+
+      step : said_since fault (drop n names) (drop n before) (drop n (broken_of old)) ≡ here_said ++ said_since fault (drop (suc n) names) (drop (suc n) before) (drop (suc n) (broken_of old))
+      step = cc (said_next fault names before (broken_of old) n (omega (arith, names_many, within, many)) (many ∙ sym names_many) (broken_are ∙ sym names_many), named, was, here)
+
+pub count_names : (names : List (Bor (List ℕ))) → length (output_names (map (λ name. name.now) names)) ≡ length names + 1
+count_names names = let many : length (map (λ (name : Bor (List ℕ)). name.now) names) ≡ length names = length-map names _ in let e : suc (length (map (λ (name : Bor (List ℕ)). name.now) names)) ≡ length names + 1 = omega arith in e
 
 -- What a call added to what broke when: it is said where the flag rose, and what broke in the calls before stays.
 pub record Marks (call : ℕ) (before after : Option ℕ) (was now : Bool) : Type 0 where
@@ -302,3 +393,87 @@ module _ (told : Bool) (mode : Mode) (names : List (List ℕ)) where
 
   pub known_many : {pieces : List (List ℕ)} {messages : List (List ℕ)} {slots : List Slot} {known : List Bool} → Copies told mode names pieces messages slots known → length known ≡ length names + 1
   known_many copies = ap length copies.known_are ∙ count_broken (copies_streams copies)
+
+-- an output that isn't closed
+output_kept : (told : Bool) {pieces : List (List ℕ)} {first : Option ℕ} {output : Slot} → OutputLeft told pieces first output → Marks (suc (length pieces)) first first output.is_broken output.is_broken
+output_kept told output_whole = marked_none
+output_kept told (output_cut before that after n is within) = marked_before (call_before before after that is)
+
+-- a file that is
+file_ends : (told : Bool) {mode : Mode} {pieces : List (List ℕ)} {name : List ℕ} {first : Option ℕ} {old new : Slot} → FileHas told mode pieces name first old → Closes old new
+    → Marked (FileLeft told mode pieces name) (suc (length pieces)) first old.is_broken new
+file_ends told has_all (is_closed sound) = (None, file_whole, marked_none)
+file_ends told {pieces} has_all (fails_to_close sound) = (Some (suc (length pieces)), file_unclosed, marked_now)
+file_ends told has_all (was_broken broken) = absurd (false≢true broken)
+file_ends told (has_none kept named) (is_closed sound) = absurd (false≢true (sym sound))
+file_ends told (has_none kept named) (fails_to_close sound) = absurd (false≢true (sym sound))
+file_ends told (has_none kept named) (was_broken broken) = (Some 0, file_unopened kept named, marked_before (omega arith))
+file_ends told (has_begun before that after n is within) (is_closed sound) = absurd (false≢true (sym sound))
+file_ends told (has_begun before that after n is within) (fails_to_close sound) = absurd (false≢true (sym sound))
+file_ends told (has_begun before that after n is within) (was_broken broken) = (Some (suc (length before)), file_cut before that after n is within, marked_before (call_before before after that is))
+
+-- a broken output is one that broke in some call
+
+output_flag : (told : Bool) {pieces : List (List ℕ)} {first : Option ℕ} {output : Slot} → OutputLeft told pieces first output → output.is_broken ≡ not (is_none first)
+output_flag told output_whole = refl
+output_flag told (output_cut before that after n is within) = refl
+
+file_flag : (told : Bool) {mode : Mode} {pieces : List (List ℕ)} {name : List ℕ} {first : Option ℕ} {file : Slot} → FileLeft told mode pieces name first file → file.is_broken ≡ not (is_none first)
+file_flag told file_whole = refl
+file_flag told (file_unopened kept named) = refl
+file_flag told (file_cut before that after n is within) = refl
+file_flag told file_unclosed = refl
+
+file_flags : (told : Bool) {mode : Mode} {pieces : List (List ℕ)} {names : List (List ℕ)} {broke : List (Option ℕ)} {files : List Slot} → EachFile (FileLeft told mode pieces) names broke files → flags files ≡ map (λ (when : Option ℕ). not (is_none when)) broke
+file_flags told no_more = refl
+file_flags told (one_more name names first broke file files one rest) =
+    ap (λ (flag : Bool). flag ∷ flags files) (file_flag told one) ∙ ap (λ flags. not (is_none first) ∷ flags) (file_flags told rest)
+
+module _ (told : Bool) (mode : Mode) (names : List (List ℕ)) where
+  -- a text more on standard error, while the files are open
+  pub copies_said : {pieces : List (List ℕ)} {texts : List (List ℕ)} {old new : List Slot} {known : List Bool} → Copies told mode names pieces [] old known → SaysTo told texts old new → Copies told mode names pieces texts new known
+  copies_said {pieces} {texts} {new} copies says = record {
+    output = copies.output;
+    error = says.0;
+    files = copies.files;
+    first = copies.first;
+    broke = copies.broke;
+    are = new_is;
+    output_has = copies.output_has;
+    files_have = copies.files_have;
+    said = subst (λ those. SaysAll told Tee (those ++ texts) standard_error says.0) (append-nil _)
+        (says_after told Tee (said_before (suc (length pieces)) (output_names names) (copies.first ∷ copies.broke) ++ []) texts standard_error copies.error says.0 copies.said (subst (λ slot. SaysAll told Tee texts slot says.0) (ap (λ those. slot_at those 1) copies.are) says.1));
+    known_are = copies.known_are ∙ ap broken_of copies.are ∙ sym (ap broken_of new_is);
+    some_left = copies.some_left;
+    is_vain = copies.is_vain;
+  } where
+    new_is : new ≡ copies.output ∷ says.0 ∷ copies.files
+    new_is = says.2 ∙ ap (changed_at 1 (λ _. says.0)) copies.are
+
+  -- the files were closed
+
+  pub closed_next : {pieces messages : List (List ℕ)} {old mid : List Slot} {known : List Bool} {tee : TeeState} → IsTeeOf names tee → (copies : Copies told mode names pieces messages old known)
+      → ChangesEach Closes (IsFile tee) old mid → After told mode names (OutputLeft told pieces) (FileLeft told mode pieces) (suc (length pieces)) copies mid
+  closed_next {pieces} is copies closes =
+      called told mode names is copies (suc (length pieces)) closes.count (closes.others 1 (λ file. error_no_output is (inr file)))
+      (λ output here. rw (← here, closes.others 0 (λ file. let there = file_place 0 is file in omega (arith, there.1)), copies.are)
+      (copies.first, copies.output_has, output_kept told copies.output_has))
+      closes.each (λ name first old new has ends. file_ends told has ends)
+
+  pub closing_said : {pieces : List (List ℕ)} {fault : Option Fault} {old mid new : List Slot} {known now : List Bool} (copies : Copies told mode names pieces (said_of_input fault) old known)
+      → After told mode names (OutputLeft told pieces) (FileLeft told mode pieces) (suc (length pieces)) copies mid
+      → SaysTo told (said_since (fault_in (suc (length pieces))) (output_names names) known (broken_of mid)) mid new → now ≡ broken_of mid → HasCopied told mode names pieces fault (all_of known) new now
+  closing_said {pieces} copies next says flags_are = record {
+    output = next.output;
+    error = says.0;
+    files = next.files;
+    first = next.first;
+    broke = next.broke;
+    are = says.2 ∙ ap (changed_at 1 (λ _. says.0)) next.are;
+    output_left = next.output_is;
+    files_left = next.files_are;
+    said = said_after told mode names copies next says;
+    known_are = cc (flags_are, next.are, output_flag told next.output_is, file_flags told next.files_are);
+    some_left = none_sooner (length pieces) (omega arith) next.marked ∙ copies.some_left;
+    vain_is = none_sooner (suc (length pieces)) (omega arith) next.marked ∙ copies.is_vain;
+  }

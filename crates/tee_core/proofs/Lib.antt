@@ -1,10 +1,5 @@
 pub mod ChangeLemmas
-pub mod CloseLemmas
 pub mod CopyLemmas
 pub mod EndLemmas
-pub mod GetsLemmas
-pub mod OpeningLemmas
-pub mod ReadLemmas
 pub mod StartLemmas
-pub mod TellLemmas
 pub mod AgreedLemmas

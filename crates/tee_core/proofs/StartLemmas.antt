@@ -1,19 +1,128 @@
--- Lemmas on a run's start: the files that were opened, and the messages for those that could not be.
-use Rattle.std.proofs.Common.{◌≡◌, ℕ, ◌+◌, ◌<◌, suc, List, [], ◌∷◌, length, map, replicate, Bool, false, Option, Some, None, Bor, refl, sym, ◌∙◌, ap, subst, arith}
-use Rattle.std.proofs.lemmas.List.{append-nil, length-map}
-use Rattle.ports_core.specs.Slot.{Slot, slot_at, changed_at, opened, streams}
-use Rattle.ports_core.specs.Message.{SaysAll}
+-- Lemmas on a run's start: files that are opened one after another, and the messages for those that could not be.
+use Rattle.std.proofs.Common.{◌≡◌, ℕ, ◌+◌, ◌-◌, ◌^◌, ◌<◌, ◌≤◌, zero, suc, List, [], ◌∷◌, ◌++◌, length, map, take, drop, get_or, Bor, true, inl, inr, refl, sym, ◌∙◌, ap, subst, arith, append_assoc, length-append, replicate, Bool, false, Option, Some, None}
+use Rattle.std.proofs.lemmas.List.{append-nil, get_or-append-add, get_or_append_left, take_all, length-map}
+use Rattle.std.proofs.lemmas.Bool.{false≢true}
+use Rattle.ports_core.specs.Slot.{Slot, no_slot, slot_at, opened, unopened, is_open, FailsToOpen, broke, changed_at, streams}
 use Rattle.ports_core.specs.declared.slot.Mode.{Mode}
+use Rattle.tee_core.specs.Opening.{OpensAs, is_opened, is_unopened, OpensEach, no_more, one_more, Opens, OpensSome}
+use Rattle.tee_core.specs.inner.Opening.{OpensOne}
+use Rattle.tee_core.specs.Outputs.{IsOutput, IsReady, IsUsable}
+use Rattle.tee_core.specs.TeeState.{TeeState}
+use Rattle.ports_core.specs.Message.{SaysAll}
 use Rattle.ports_core.specs.declared.tool.Tool.TheVariants.{Tee}
 use Rattle.ports_core.proofs.Runs.{adds-nil}
 use Rattle.ports_core.specs.Streams.{standard_output, standard_error}
-use Rattle.tee_core.specs.Opening.{OpensAs, is_opened, is_unopened, OpensEach, no_more, one_more, Opens}
 use Rattle.tee_core.specs.Run.{OutputLeft, output_whole, fault_in, output_names}
 use Rattle.tee_core.specs.inner.Steps.{Copies, FileHas, has_all, has_none, EachFile, HasStreams, IsTeeOf, SaysTo, all_of, broken_of, said_since}
-use Rattle.tee_core.specs.inner.Steps as steps
-use Rattle.tee_core.specs.TeeState.{TeeState}
 use Rattle.tee_core.proofs.CopyLemmas.{AllMark, Marked, all_marked, marked_none, marked_now, none_marked, none_now, said_marked}
-use Rattle.tee_core.proofs.OpeningLemmas.{length-since}
+use Rattle.ports_core.specs.declared.fault.Fault.TheVariants as fault
+use Rattle.tee_core.specs.inner.Steps as steps
+
+-- one file
+
+pub opened_one : {mode : Mode} {name : List ℕ} {old new : List Slot} → new ≡ old ++ opened name mode ∷ [] → OpensOne mode name old new
+opened_one {mode} {name} is = record { slot = opened name mode; opens = is_opened; slots = is }
+
+pub in_vain : {mode : Mode} {name : List ℕ} {old new : List Slot} {slot : ℕ} → FailsToOpen old name new (fault.Open slot)
+    → (slot ≡ length old) × OpensOne mode name old new
+in_vain {slot} (broke _ kept is named made) = (is, record { slot = unopened kept; opens = is_unopened kept named; slots = made })
+
+-- one after another
+
+pub opens_none : {mode : Mode} {slots : List Slot} → Opens mode [] slots slots
+opens_none {slots} = record { since = []; each = no_more; slots = sym (append-nil slots) }
+
+pub opens_next : {mode : Mode} {name : List ℕ} {names : List (List ℕ)} {old mid new : List Slot} → OpensOne mode name old mid → Opens mode names mid new → Opens mode (name ∷ names) old new
+opens_next {name} {names} {old} one rest = record {
+  since = one.slot ∷ rest.since;
+  each = one_more name names one.slot rest.since one.opens rest.each;
+  slots = rest.slots ∙ ap (λ front. front ++ rest.since) one.slots ∙ append_assoc old (one.slot ∷ []) rest.since;
+}
+
+pub some_none : {mode : Mode} {names : List (List ℕ)} {slots : List Slot} → OpensSome mode names slots slots
+some_none {names} = record { first = []; rest = names; names_are = refl; opens = opens_none }
+
+pub some_next : {mode : Mode} {name : List ℕ} {names : List (List ℕ)} {old mid new : List Slot} → OpensOne mode name old mid → OpensSome mode names mid new → OpensSome mode (name ∷ names) old new
+some_next {name} one rest = record {
+  first = name ∷ rest.first;
+  rest = rest.rest;
+  names_are = ap (λ those. name ∷ those) rest.names_are;
+  opens = opens_next one rest.opens;
+}
+
+pub length-one : {mode : Mode} {name : List ℕ} {old new : List Slot} → OpensOne mode name old new → length new ≡ length old + 1
+length-one {old} one = ap length one.slots ∙ length-append old (one.slot ∷ [])
+
+-- how far the loop over the names has come
+pub record Opening (mode : Mode) (names left : List (List ℕ)) (old now : List Slot) : Type 0 where
+  pub whole : (new : List Slot) → Opens mode left now new → Opens mode names old new
+  pub some : (new : List Slot) → OpensSome mode left now new → OpensSome mode names old new
+  pub counts : length now + length left ≡ length old + length names
+  pub small : length now ≤ 2 ^ 64
+
+pub begins_opening : {mode : Mode} {names : List (List ℕ)} {slots : List Slot} → length slots ≤ 2 ^ 64 → Opening mode names names slots slots
+begins_opening small = record { whole = λ new opens. opens; some = λ new opens. opens; counts = refl; small = small }
+
+pub opens_more : {mode : Mode} {names : List (List ℕ)} {name : List ℕ} {left : List (List ℕ)} {old now new : List Slot} {slot : ℕ} → Opening mode names (name ∷ left) old now → slot ≡ length now → slot < 2 ^ 64 → OpensOne mode name now new → Opening mode names left old new
+opens_more {names} {left} {old} {now} so_far number small one = record {
+  whole = λ last opens. so_far.whole last (opens_next one opens);
+  some = λ last opens. so_far.some last (some_next one opens);
+  counts = omega (arith, so_far.counts, length-one one);
+  small = omega (arith, length-one one);
+}
+
+-- a tee can go on with what was opened
+
+opened_usable : {mode : Mode} {name : List ℕ} {slot : Slot} → OpensAs mode name slot → IsUsable slot
+opened_usable is_opened = λ sound. refl
+opened_usable (is_unopened kept named) = λ sound. absurd (false≢true (sym sound))
+
+since_usable : {mode : Mode} (names : List (List ℕ)) (slots : List Slot) (place : ℕ) → OpensEach mode names slots → place < length slots → IsUsable (slot_at slots place)
+since_usable [] [] place no_more within = absurd (omega arith)
+since_usable _ _ zero (one_more name names slot slots one rest) within = opened_usable one
+since_usable _ _ (suc place) (one_more name names slot slots one rest) within = since_usable names slots place rest (omega arith)
+
+pub length-since : {mode : Mode} (names : List (List ℕ)) (slots : List Slot) → OpensEach mode names slots → length slots ≡ length names
+length-since [] [] no_more = refl
+length-since _ _ (one_more name names slot slots one rest) = ap suc (length-since names slots rest)
+
+pub ready_to_go : {mode : Mode} {names : List (List ℕ)} {old new : List Slot} (tee : TeeState) → 0 < length old → is_open (slot_at old 0).state ≡ true → Opens mode names old new → tee.count ≡ length names → (0 < tee.count → tee.first ≡ length old) → IsReady tee new
+ready_to_go {names} {old} {new} tee some standard opens count first place is = by is where
+  by : IsOutput tee place → IsUsable (slot_at new place)
+  by (inl here) = λ sound. ap (λ at. is_open (slot_at new at).state) here ∙ ap (λ those. is_open (slot_at those 0).state) opens.slots ∙ ap (λ (slot : Slot). is_open slot.state) (get_or_append_left old opens.since no_slot 0 some) ∙ standard
+  by (inr file) =
+      let start = first (omega (arith, file.0, file.1)) in let many = length-since names opens.since opens.each in
+      let there : place ≡ length old + (place - length old) = omega (arith, start, file.0) in
+      subst IsUsable (sym (ap (λ at. slot_at new at) there ∙ ap (λ those. slot_at those (length old + (place - length old))) opens.slots ∙ get_or-append-add old opens.since (place - length old) no_slot))
+      (since_usable names opens.since (place - length old) opens.each (omega (arith, start, file.0, file.1, many, count)))
+
+-- the same of names as the code has them
+
+pub none_left : {mode : Mode} (names : List (Bor (List ℕ))) {slots : List Slot} → length names < 1 → Opens mode (map (λ name. name.now) names) slots slots
+none_left [] few = opens_none
+none_left (name ∷ names) few = absurd (omega arith)
+
+pub first_and_rest : (other : Bor (List ℕ)) (names : List (Bor (List ℕ))) → 1 ≤ length names → map (λ name. name.now) names ≡ (get_or names 0 other).now ∷ map (λ name. name.now) (take (length names - 1) (drop 1 names))
+first_and_rest other [] some = absurd (omega arith)
+first_and_rest other (name ∷ names) some = ap (λ rest. name.now ∷ map (λ (name : Bor (List ℕ)). name.now) rest) (sym (ap (λ n. take n names) (let e : suc (length names) - 1 ≡ length names = omega arith in e) ∙ take_all (length names) names (omega arith)))
+
+pub opens_more_at : {mode : Mode} {names : List (List ℕ)} (other : Bor (List ℕ)) (left : List (Bor (List ℕ))) {old now new : List Slot} {slot : ℕ} → 1 ≤ length left → Opening mode names (map (λ name. name.now) left) old now → slot ≡ length now → slot < 2 ^ 64 → OpensOne mode (get_or left 0 other).now now new
+    → Opening mode names (map (λ name. name.now) (take (length left - 1) (drop 1 left))) old new
+opens_more_at {mode} {names} other left {old} {now} some so_far number small one =
+    opens_more (subst (λ those. Opening mode names those old now) (first_and_rest other left some) so_far) number small one
+
+pub opens_next_at : {mode : Mode} (other : Bor (List ℕ)) (names : List (Bor (List ℕ))) {old mid new : List Slot} → 1 ≤ length names → OpensOne mode (get_or names 0 other).now old mid → Opens mode (map (λ name. name.now) (take (length names - 1) (drop 1 names))) mid new → Opens mode (map (λ name. name.now) names) old new
+opens_next_at other names some one rest = rw (first_and_rest other names some) (opens_next one rest)
+
+pub some_next_at : {mode : Mode} (other : Bor (List ℕ)) (names : List (Bor (List ℕ))) {old mid new : List Slot} → 1 ≤ length names → OpensOne mode (get_or names 0 other).now old mid → OpensSome mode (map (λ name. name.now) (take (length names - 1) (drop 1 names))) mid new → OpensSome mode (map (λ name. name.now) names) old new
+some_next_at other names some one rest = rw (first_and_rest other names some) (some_next one rest)
+
+pub some_now : {mode : Mode} {names : List (List ℕ)} {old new : List Slot} → new ≡ old → OpensSome mode names old new
+some_now is = rw is (some_none)
+
+-- the numbers of the files
+pub in_range : {mode : Mode} {names : List (List ℕ)} {old new : List Slot} → Opens mode names old new → length new ≡ length old + length names
+in_range {names} {old} opens = ap length opens.slots ∙ length-append old opens.since ∙ ap (λ n. length old + n) (length-since names opens.since opens.each)
 
 file_starts : (told : Bool) {mode : Mode} {name : List ℕ} {file : Slot} → OpensAs mode name file → Marked (FileHas told mode [] name) 0 None false file
 file_starts told {mode} {name} is_opened = (None, subst (FileHas told mode [] name None) (adds-nil told (opened name mode)) has_all, marked_none)

@@ -1,10 +1,9 @@
 -- A watch over real files, where one of its names changes.
-use Rattle.std.proofs.Common.{◌≡◌, ℕ, Bool, false, IsTrue, List, ap, get_or, set}
+use Rattle.std.proofs.Common.{◌≡◌, ℕ, Bool, false, IsTrue, List, ap, get_or, set, is_some}
 use Rattle.std.proofs.lemmas.Bool.{false≢true}
 use Rattle.ports_core.specs.Slot.{changed_at}
 use Rattle.watch_core.specs.Snapshot.{Snapshot}
 use Rattle.watch_core.specs.Watched.{Watched, Reopens, is_watchable, opens}
-use Rattle.std.specs.Prelude.{is_some}
 use Rattle.watch_core.specs.DirWatchState.{DirWatchState}
 use Rattle.watch_core.proofs.NameLemmas.{name_changes, names_within}
 

@@ -1,69 +1,57 @@
 -- What a look gives for one name, call by call: bytes on standard output, under headers, and lines on standard error.
-use Rattle.std.specs.Prelude.{◌≡◌, ◌&&◌, not, ℕ, Bool, true, false, Some, List, [], ◌++◌, Result, Ok, Err, if◌then◌else◌, is_none}
+use Rattle.std.specs.Prelude.{◌≡◌, Bool, true, false, ℕ, List, Option, Some, None, Result, Ok, Err}
 use Rattle.ports_core.specs.Slot.{Slot}
 use Rattle.ports_core.specs.declared.fault.Fault.{Fault}
 use Rattle.follow_core.specs.declared.visitor.Stop.{Stop}
 use Rattle.follow_core.specs.declared.visitor.Stop.TheVariants.{Broke, Over}
-use Rattle.follow_core.specs.Followed.{header_after, is_empty, is_last, share_text}
-use Rattle.ports_core.specs.Text.{header_of}
+use Rattle.follow_core.specs.Followed.{header_after, share_text}
 use Rattle.follow_core.specs.Printing.{PrinterState}
 use Rattle.follow_core.specs.Share.{IsFront, Share}
-use Rattle.follow_core.specs.Sharing.{Wrote, WroteShort}
+use Rattle.follow_core.specs.Sharing.{WroteBy}
 
--- the header of a name
-abbrev pub header_under : PrinterState → List ℕ → List ℕ
-header_under printer name = header_of name (is_none printer.last)
+-- a share with the header that stands before it
+abbrev pub text_under : PrinterState → Share → List ℕ
+text_under printer share = share_text printer.headers printer.last share
 
--- a header stands before these bytes
-abbrev pub is_due : PrinterState → List ℕ → List ℕ → Bool
-is_due printer name bytes = printer.headers && (not (is_empty bytes) && not (is_last name printer.last))
-
-abbrev pub front_under : PrinterState → List ℕ → List ℕ → List ℕ
-front_under printer name bytes = if is_due printer name bytes then header_under printer name else []
-
--- the bytes with what stands before them
-abbrev pub text_under : PrinterState → List ℕ → List ℕ → List ℕ
-text_under printer name bytes = front_under printer name bytes ++ bytes
-
-abbrev pub printer_under : PrinterState → List ℕ → List ℕ → PrinterState
-printer_under printer name bytes = record printer { last = if is_due printer name bytes then Some name else printer.last }
+abbrev pub printer_under : PrinterState → Share → PrinterState
+printer_under printer share = record printer { last = header_after printer.headers printer.last share }
 
 -- what a look gave for a name so far, whether it opened a file for it or not
 abbrev pub given_share : (opened : Bool) → List ℕ → List ℕ → List (List ℕ) → Share
 given_share opened name bytes lines =
     record { name = name; is_opened = opened; bytes = bytes; messages = lines; has_failed = false }
 
--- all of a share came to the outputs
+-- all of a share came to the outputs, or a beginning of it before this fault
 pub record Shared (told : Bool) (printer : PrinterState) (share : Share) (old : List Slot) (after : PrinterState)
-    (new : List Slot) : Type 0 where
-  pub printer_is : after ≡ record printer { last = header_after printer.headers printer.last share }
-  pub slots : Wrote told (share_text printer.headers printer.last share) share.messages old new
+    (new : List Slot) (over : Option Fault) : Type 0 where
+  pub printer_is : over ≡ None → after ≡ printer_under printer share
+  pub slots : WroteBy told (text_under printer share) share.messages old new over
 
--- a beginning of it did, before standard output broke or memory was wanting
-pub record SharedShort (told : Bool) (printer : PrinterState) (share : Share) (old new : List Slot)
-    (fault : Fault) : Type 0 where
-  pub slots : WroteShort told (share_text printer.headers printer.last share) share.messages old new fault
+-- what stopped a call on a name
+abbrev pub stop_in : {T : Type 0} → Result T Stop → Option Stop
+stop_in (Ok value) = None
+stop_in (Err stop) = Some stop
 
--- How giving what is due of a name ends: all was given; or a call on the name failed, or following ends, and a
--- beginning was. Where the files don't tell their bytes, something was given.
-pub data Ends {T : Type 0} (told_in told opened : Bool) (printer : PrinterState) (name due : List ℕ)
-    (lines_due : List (List ℕ)) (old : List Slot) (after : PrinterState) (new : List Slot) : Result T Stop
-    → Type 0 where
-  whole : (value : T) (bytes : List ℕ) (lines : List (List ℕ)) → (told_in ≡ true → (bytes ≡ due) × (lines ≡ lines_due))
-      → Shared told printer (given_share opened name bytes lines) old after new
-      → Ends told_in told opened printer name due lines_due old after new (Ok value)
-  broke : (why : Fault) (bytes : List ℕ) (lines : List (List ℕ))
-      → (told_in ≡ true → IsFront bytes due × IsFront lines lines_due)
-      → Shared told printer (given_share opened name bytes lines) old after new
-      → Ends told_in told opened printer name due lines_due old after new (Err (Broke why))
-  over : (why : Fault) (bytes : List ℕ) (lines : List (List ℕ))
-      → (told_in ≡ true → IsFront bytes due × IsFront lines lines_due)
-      → SharedShort told printer (given_share opened name bytes lines) old new why
-      → Ends told_in told opened printer name due lines_due old after new (Err (Over why))
+-- a fault that ends following
+abbrev pub over_in : {T : Type 0} → Result T Fault → Option Stop
+over_in (Ok value) = None
+over_in (Err why) = Some (Over why)
 
--- the header that stands before a file as it is opened first
-abbrev pub opening_under : PrinterState → List ℕ → List ℕ
-opening_under printer name = if printer.headers then header_under printer name else []
+-- what is due, or a beginning of it where the call was stopped
+abbrev pub IsGiven : {X : Type 0} → Option Stop → List X → List X → Type 0
+IsGiven None given due = given ≡ due
+IsGiven (Some stop) given due = IsFront given due
 
-abbrev pub opened_under : PrinterState → List ℕ → PrinterState
-opened_under printer name = record printer { last = if printer.headers then Some name else printer.last }
+abbrev pub over_by : Option Stop → Option Fault
+over_by None = None
+over_by (Some (Broke why)) = None
+over_by (Some (Over why)) = Some why
+
+-- What is due of a name was given, or a beginning of it where a call on the name failed or following ends. Where the
+-- files don't tell their bytes, something was given.
+pub record Ends (told_in told opened : Bool) (printer : PrinterState) (name due : List ℕ) (lines_due : List (List ℕ))
+    (old : List Slot) (after : PrinterState) (new : List Slot) (stop : Option Stop) : Type 0 where
+  pub bytes : List ℕ
+  pub lines : List (List ℕ)
+  pub are : told_in ≡ true → IsGiven stop bytes due × IsGiven stop lines lines_due
+  pub shared : Shared told printer (given_share opened name bytes lines) old after new (over_by stop)

@@ -1,10 +1,10 @@
 -- What a look at one name leaves, and at one name after another.
-use Rattle.std.specs.Prelude.{Bool, true, false, ◌||◌, List, [], ◌∷◌, if◌then◌else◌, ◌≡◌, ℕ, ◌++◌, Option, length, Result, Ok, Err, ◌<◌, take, slice_index_or, IfErr, IfOk, OnOk, ◌+◌}
+use Rattle.std.specs.Prelude.{Bool, true, false, ◌||◌, List, [], ◌∷◌, if◌then◌else◌, ◌≡◌, ℕ, ◌++◌, Option, Some, None, length, Result, Ok, Err, ◌<◌, take, ◌≤◌, IfErr, IfOk, OnOk, ◌+◌}
 use Rattle.follow_core.specs.declared.visitor.Came.{Came}
 use Rattle.follow_core.specs.declared.visitor.Came.TheVariants.{Through, Missing, Dropped}
 use Rattle.follow_core.specs.declared.name.Standing.{Standing}
 use Rattle.follow_core.specs.declared.name.Standing.TheVariants.{New, Followed, Left}
-use Rattle.follow_core.specs.Standing.{NameState, AllStand, BrokeIn, CanVisit, Stands, texts}
+use Rattle.follow_core.specs.Standing.{NameState, AllStand, CanVisit, Stands, StandsAmong, texts}
 use Rattle.ports_core.specs.Slot.{Slot, changed_at}
 use Rattle.ports_core.specs.Message.{SaysOn}
 use Rattle.ports_core.specs.Text.{message_of}
@@ -12,15 +12,15 @@ use Rattle.ports_core.specs.declared.tool.Tool.TheVariants.{Tail}
 use Rattle.ports_core.specs.declared.fault.Fault.{Fault}
 use Rattle.watch_core.specs.Snapshot.{Snapshot}
 use Rattle.watch_core.specs.Watched.{Watched, opens, watched_at}
-use Rattle.follow_core.specs.Share.{BeginsShare, Share, share_by, share_of, shares_at_look, shares_at_look_from}
+use Rattle.follow_core.specs.Share.{BeginsShare, IsFront, Share, share_by, share_of, shares_at_look_from}
 use Rattle.follow_core.specs.Look.{Fate, Look, Ways, sound, fate_at, is_dropped, ways_of}
 use Rattle.follow_core.specs.Printing.{PrinterState}
-use Rattle.follow_core.specs.inner.Giving.{Shared, SharedShort}
+use Rattle.follow_core.specs.inner.Giving.{Shared}
 use Rattle.follow_core.specs.declared.visitor.Stop.{Stop}
 use Rattle.follow_core.specs.declared.visitor.Stop.TheVariants.{Broke, Over}
 use Rattle.follow_core.specs.Followed.{any_failed}
 use Rattle.follow_core.specs.inner.Calls.{HasStopped}
-use Rattle.follow_core.specs.FollowState.{AllReady}
+use Rattle.follow_core.specs.FollowState.{AllReady, Begun}
 use Rattle.follow_core.specs.declared.start.Start.{Start}
 use Rattle.follow_core.specs.Sharing.{AllShared, AllShort, CanPrint}
 
@@ -51,9 +51,10 @@ has_failed Dropped = true
 pub record Stopped (told_in told : Bool) (ways : Ways) (before : List Look) (snapshot : Snapshot) (name : List ℕ)
     (printer : PrinterState) (old new : List Slot) (why : Fault) : Type 0 where
   pub share : Share
+  pub after : PrinterState
   pub begins : told_in ≡ true → (fates : List Fate)
       → BeginsShare share (share_by ways name before (record { snapshot = snapshot; fates = fates }) sound)
-  pub short : SharedShort told printer share old new why
+  pub short : Shared told printer share old after new (Some why)
 
 -- A call on the name failed, which was told, so that it is dropped; or following ends, and nothing more was told.
 abbrev pub TellsStop : Bool → List ℕ → List Slot → List Slot → Stop → Result Came Fault → Type 0
@@ -81,7 +82,7 @@ pub record Visited (told_in told : Bool) (ways : Ways) (looks : List Look) (snap
       → fate_at place (record { snapshot = snapshot; fates = fates }) ≡ fate
       → share ≡ share_of ways looks (record { snapshot = snapshot; fates = fates }) place name
   pub is_failed : share.has_failed ≡ failed
-  pub shared : Shared told printer share old after new
+  pub shared : Shared told printer share old after new None
   pub stands : (fates : List Fate) → fate_at place (record { snapshot = snapshot; fates = fates }) ≡ fate
       → Stands told_in ways (looks ++ record { snapshot = snapshot; fates = fates } ∷ []) place name watched standing
 
@@ -133,52 +134,44 @@ pub record Looks (told_in told : Bool) (ways : Ways) (snapshot : Snapshot) (plac
       slots (record { text = name; standing = standing_then ways.by_name standing result }) watched_new printer_new
       slots_new (failed_then result)
 
--- the outputs have what the look gives for all names, and these stand as after it
-pub record VisitedAll (told_in told : Bool) (ways : Ways) (looks : List Look) (snapshot : Snapshot)
+-- The outputs have what the look gives for the names before this place, whatever fates those from it on have, and they
+-- stand as after that look; those from it on stand as before it.
+pub record VisitedTo (told_in told : Bool) (ways : Ways) (looks : List Look) (snapshot : Snapshot) (place : ℕ)
     (names : List NameState) (printer : PrinterState) (old : List Slot) (after : PrinterState) (new : List Slot)
     (watched : List Watched) (names_now : List NameState) (failed : Bool) : Type 0 where
   pub fates : List Fate
   pub shares : List Share
-  pub are : told_in ≡ true → shares ≡ shares_at_look ways (texts names) looks
-      (record { snapshot = snapshot; fates = fates })
+  pub count : length fates ≡ ways.first + place
+  pub are : told_in ≡ true → (all : List Fate) → IsFront fates all → shares ≡ shares_at_look_from ways looks
+      (record { snapshot = snapshot; fates = all }) ways.first (take place (texts names))
   pub is_failed : any_failed shares ≡ failed
   pub shared : AllShared told printer shares old after new
   pub same : texts names_now ≡ texts names
-  pub stand : AllStand told_in ways (looks ++ record { snapshot = snapshot; fates = fates } ∷ []) names_now watched
+  pub done : (all : List Fate) → IsFront fates all → (other : ℕ) → other < place
+      → StandsAmong told_in ways (looks ++ record { snapshot = snapshot; fates = all } ∷ []) names_now watched other
+  pub rest : (other : ℕ) → place ≤ other → other < length names_now
+      → StandsAmong told_in ways looks names_now watched other
 
--- The look was stopped at some name: of the names before it the outputs have all that the look gives, of it a
--- beginning, and of the names after it nothing.
-pub record StoppedAt (told_in told : Bool) (ways : Ways) (looks : List Look) (snapshot : Snapshot)
-    (names : List (List ℕ)) (printer : PrinterState) (old : List Slot) (watched : List Watched) (new : List Slot)
-    (why : Fault) : Type 0 where
-  pub fates : List Fate
-  pub place : ℕ
-  pub shares : List Share
-  pub share : Share
-  pub count : length fates ≡ ways.first + place
-  pub within : place < length names
-  pub are : told_in ≡ true → shares ≡ shares_at_look_from ways looks (record { snapshot = snapshot; fates = fates })
-      ways.first (take place names)
-  pub begins : told_in ≡ true → BeginsShare share (share_of ways looks
-      (record { snapshot = snapshot; fates = fates }) (ways.first + place) (slice_index_or names place []))
-  pub broken : (other : ℕ) → other < length names
-      → BrokeIn ways (looks ++ record { snapshot = snapshot; fates = fates } ∷ []) (ways.first + other)
-      (watched_at watched (ways.first + other)).failed
-  pub short : AllShort told printer (shares ++ share ∷ []) old new why
+-- after these looks the names stand, of which the first has this number
+pub record StandFrom (told_in : Bool) (ways : Ways) (looks : List Look) (first : ℕ) (names : List NameState)
+    (watched : List Watched) : Type 0 where
+  pub numbered : 0 < length names → first ≡ ways.first
+  pub stand : AllStand told_in ways looks names watched
+  pub many : length watched ≡ ways.first + length names
 
 -- What a look at all these names leaves, of which the first has this number, whatever looks were made before.
 pub record VisitsAll (told_in told : Bool) (snapshot : Snapshot) (by_name : Bool) (start : Start) (first : ℕ)
     (names : List NameState) (watched : List Watched) (printer : PrinterState) (slots : List Slot)
     (names_new : List NameState) (watched_new : List Watched) (printer_new : PrinterState) (slots_new : List Slot)
     (result : Result Bool Fault) : Type 0 where
-  pub visited : IfOk result (λ failed. (from : ℕ) (looks : List Look) → (0 < length names → first ≡ from)
-      → AllStand told_in (ways_of from by_name start) looks names watched
-      → VisitedAll told_in told (ways_of from by_name start) looks snapshot names printer slots printer_new slots_new
-      watched_new names_new failed)
-  pub stopped : IfErr result (λ why. (from : ℕ) (looks : List Look) → (0 < length names → first ≡ from)
-      → AllStand told_in (ways_of from by_name start) looks names watched
-      → StoppedAt told_in told (ways_of from by_name start) looks snapshot (texts names) printer slots watched_new
-      slots_new why)
+  pub visited : IfOk result (λ failed. (from : ℕ) (looks : List Look)
+      → StandFrom told_in (ways_of from by_name start) looks first names watched
+      → VisitedTo told_in told (ways_of from by_name start) looks snapshot (length names) names printer slots
+      printer_new slots_new watched_new names_new failed)
+  pub stopped : IfErr result (λ why. (from : ℕ) (looks : List Look)
+      → StandFrom told_in (ways_of from by_name start) looks first names watched
+      → (more : List Share) × Begun told_in (ways_of from by_name start) (texts names) looks snapshot watched_new more
+      × AllShort told printer more slots slots_new why)
   pub ready : OnOk result (AllReady names_new first watched_new)
   pub count : length watched_new ≡ length watched
   pub others : (number : ℕ) → ((place : ℕ) → place < length names → number ≡ first + place → ⊥)

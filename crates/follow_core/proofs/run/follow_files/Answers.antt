@@ -1,7 +1,7 @@
 use Rattle.std.proofs.Common.{Bor, ℕ, List, map, refl}
 use Rattle.follow_core.specs.Ending.{stopped}
 use Rattle.follow_core.specs.Look.{ways_of}
-use Rattle.follow_core.proofs.EndingLemmas.{ends_looked, open_holds}
+use Rattle.follow_core.proofs.FollowLemmas.{ends_looked, open_holds}
 use Rattle.follow_core.proofs.run.follow_files.Goals as goal
 
 pub returns-in-Ok-make_looks : goal.returns-in-Ok-make_looks

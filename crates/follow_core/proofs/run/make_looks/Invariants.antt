@@ -1,10 +1,9 @@
-use Rattle.std.proofs.Common.{◌≡◌, ◌≤◌, ◌-◌, ℕ, Bool, List, []}
+use Rattle.std.proofs.Common.{◌≡◌, ◌≤◌, ◌-◌, ℕ, Bool, true, List, []}
 use Rattle.ports_core.specs.Slot.{Slot}
 use Rattle.follow_core.specs.Sharing.{HasError}
-use Rattle.follow_core.specs.Ending.{seen_first}
 use Rattle.follow_core.specs.FollowState.{CanLook, Holds}
 use Rattle.follow_core.specs.Look.{Ways}
-use Rattle.follow_core.proofs.EndingLemmas.{Progress}
+use Rattle.follow_core.proofs.FollowLemmas.{Progress}
 use Rattle.follow_core.proofs.run.make_looks.Given as goal
 
 abbrev pub invariant-loop-made : goal.invariant-loop-made
@@ -12,10 +11,9 @@ invariant-loop-made g l = record {
   within : l.made ≤ l.looks;
   can : CanLook l.follow (g.W.Watch.watched l.watch) (g.O.Outs.slots l.outs);
   error : HasError (g.O.Outs.slots l.outs);
-  seen : g.W.Watch.seen l.watch ≡ seen_first (g.W.Watch.shows l.fn.watch) l.made;
   shows : g.W.Watch.shows l.watch ≡ g.W.Watch.shows l.fn.watch;
   progress : (ways : Ways) (headers : Bool) (names : List (List ℕ)) (first : List Slot) → Holds g.W.Watch.told g.O.Outs.told ways headers names [] first l.fn.follow (g.W.Watch.watched l.fn.watch) (g.O.Outs.slots l.fn.outs)
-      → Progress g.W.Watch.told g.O.Outs.told ways headers names (g.W.Watch.shows l.fn.watch) first l.made l.follow (g.W.Watch.watched l.watch) (g.O.Outs.slots l.outs);
+      → Progress g.W.Watch.told g.O.Outs.told ways headers names (g.W.Watch.shows l.fn.watch) first l.made true l.follow (g.W.Watch.seen l.watch) (g.W.Watch.watched l.watch) (g.O.Outs.slots l.outs);
 }
 
 abbrev pub decreases-loop-made : goal.decreases-loop-made

@@ -1,8 +1,7 @@
 use Rattle.std.proofs.Common.{◌+◌, ap, subst, ◌∙◌}
 use Rattle.std.proofs.lemmas.List.{length-map}
 use Rattle.tee_core.specs.inner.Steps.{HasStreams}
-use Rattle.tee_core.proofs.CopyLemmas.{after_streams, copies_ready, known_many}
-use Rattle.tee_core.proofs.CloseLemmas.{closed_next, closing_said}
+use Rattle.tee_core.proofs.CopyLemmas.{after_streams, copies_ready, known_many, closed_next, closing_said}
 use Rattle.tee_core.proofs.run.close_all.Goals as goal
 
 pub close-requires : goal.close-requires

@@ -3,8 +3,7 @@ use Rattle.std.proofs.lemmas.Grind.{common_steps}
 use Rattle.std.proofs.lemmas.List.{length-map}
 use Rattle.tee_core.specs.Run.{said_of_input}
 use Rattle.tee_core.specs.inner.Steps.{HasStreams, all_of}
-use Rattle.tee_core.proofs.CloseLemmas.{copies_said}
-use Rattle.tee_core.proofs.CopyLemmas.{copies_streams}
+use Rattle.tee_core.proofs.CopyLemmas.{copies_said, copies_streams}
 use Rattle.tee_core.proofs.StartLemmas.{length-names, opened_streams, some_at_first, starts}
 use Rattle.tee_core.proofs.run.copy_all.Goals as goal
 

@@ -1,9 +1,8 @@
-use Rattle.std.proofs.Common.{◌∷◌, ap, ◌++◌, ◌∙◌, [], take, true, false, Some, inl, inr, arith, refl, sym}
-use Rattle.ports_core.specs.Source.{source_at}
-use Rattle.ports_core.proofs.InputsLemmas.{asked_again, asked_at_end, broken_now, keeps_again, keeps_itself, keeps_others, nothing_read, of_content, read_more, sound_at, still_readable}
-use Rattle.std.proofs.lemmas.Bool.{false≢true}
+use Rattle.std.proofs.Common.{◌≡◌, ◌+◌, length, length-take, ◌∷◌, ap, ◌++◌, ◌∙◌, [], take, Some, inl, inr, arith, refl, sym}
+use Rattle.ports_core.proofs.InputsLemmas.{asked_again, asked_at_end, keeps_again, keeps_itself, keeps_others, nothing_read, read_more, sound_at, still_readable}
 use Rattle.tee_core.proofs.CopyLemmas.{joined_more}
-use Rattle.tee_core.proofs.ReadLemmas.{reads_copied, broken_read, broken_untold, counted_more, ended_read, ended_untold, long_read, long_untold, more_sized, none_sized, vain_copied, vain_read, vain_untold}
+use Rattle.tee_core.specs.Run.{to_break, to_end, to_last_output, to_limit}
+use Rattle.tee_core.proofs.EndLemmas.{counted_more, more_sized, none_sized, reads_copied, seen_broken, seen_ended, seen_more}
 use Rattle.tee_core.proofs.run.copy_pieces.Goals as goal
 
 pub pieces-init : goal.pieces-init
@@ -49,10 +48,15 @@ pieces-preserved g c =
 pub returns-in-Err-clause-copies : goal.returns-in-Err-clause-copies
 returns-in-Err-clause-copies g c mode at =
     let so_far = c.pieces.invariant in
-    of_content g.I.Inputs.told _ (record { bytes = so_far.came; breaks_off = true }) (source_at (g.I.Inputs.sources c.read.new.self) 0) _
-    (λ told. reads_copied _ so_far.joined so_far.left so_far.sized (omega (arith, so_far.counted, so_far.small)) (inl (ap Some c.in-Err.ensures.err.0)) (broken_read _ _ (so_far.read told) so_far.readable (c.in-Err.ensures.break_off told) c.in-Err.ensures.err.0 c.in-Err.ensures.err.1) (so_far.copies mode at))
-    (λ untold. reads_copied _ so_far.joined so_far.left so_far.sized (omega (arith, so_far.counted, so_far.small)) (inl (ap Some c.in-Err.ensures.err.0)) (broken_untold _ (source_at (g.I.Inputs.sources c.read.new.self) 0) untold c.in-Err.ensures.err.0) (so_far.copies mode at))
-    (λ _. broken_now _ _ _ _ so_far.readable c.in-Err.ensures.err.1)
+    let (content, is, bytes, ended, leaves, breaks) = seen_broken _ _ _ _ _ _ so_far.read so_far.readable c.in-Err.ensures.break_off c.in-Err.ensures.err.1 in (
+      content,
+      is,
+      (
+        reads_copied _ so_far.joined so_far.left so_far.sized (omega (arith, so_far.counted, so_far.small)) (inl (ap Some c.in-Err.ensures.err.0))
+            (rw c.in-Err.ensures.err.0 (to_break _ bytes ended leaves)) (so_far.copies mode at),
+        breaks,
+      ),
+    )
 
 pub returns-in-Err-clause-others : goal.returns-in-Err-clause-others
 returns-in-Err-clause-others g c = keeps_again _ _ _ _ c.pieces.invariant.others (keeps_others _ _ _ _ c.in-Err.ensures.err.1)
@@ -65,10 +69,15 @@ returns-in-Err-clause-asked g c within = asked_at_end _ _ _ _ _ c.pieces.invaria
 pub returns-then-n-eq0-clause-copies : goal.returns-then-n-eq0-clause-copies
 returns-then-n-eq0-clause-copies g c mode at =
     let so_far = c.pieces.invariant in
-    of_content g.I.Inputs.told _ (record { bytes = so_far.came; breaks_off = false }) (source_at (g.I.Inputs.sources c.read.new.self) 0) _
-    (λ told. reads_copied _ so_far.joined so_far.left so_far.sized (omega (arith, so_far.counted, so_far.small)) (inr (sound_at (g.I.Inputs.sources c.read.new.self) 0 (still_readable _ _ _ _ c.in-Ok.n c.in-Ok.ensures.rest so_far.readable))) (ended_read _ _ (so_far.read told) so_far.readable (c.in-Ok.ensures.bytes told) c.if-n-eq0.true (omega (arith, c.requires.room, c.pieces.auto.buffer)) c.in-Ok.ensures.rest) (so_far.copies mode at))
-    (λ untold. reads_copied _ so_far.joined so_far.left so_far.sized (omega (arith, so_far.counted, so_far.small)) (inr (sound_at (g.I.Inputs.sources c.read.new.self) 0 (still_readable _ _ _ _ c.in-Ok.n c.in-Ok.ensures.rest so_far.readable))) (ended_untold _ (source_at (g.I.Inputs.sources c.read.new.self) 0) untold) (so_far.copies mode at))
-    (λ breaks. absurd (false≢true breaks))
+    let (content, is, bytes, ended, leaves, breaks) = seen_ended _ _ _ _ _ _ so_far.read so_far.readable c.in-Ok.ensures.bytes c.if-n-eq0.true (omega (arith, c.requires.room, c.pieces.auto.buffer)) c.in-Ok.ensures.rest in (
+      content,
+      is,
+      (
+        reads_copied _ so_far.joined so_far.left so_far.sized (omega (arith, so_far.counted, so_far.small)) (inr (sound_at (g.I.Inputs.sources c.read.new.self) 0 (still_readable _ _ _ _ c.in-Ok.n c.in-Ok.ensures.rest so_far.readable)))
+            (to_end _ bytes ended leaves) (so_far.copies mode at),
+        breaks,
+      ),
+    )
 
 pub returns-then-n-eq0-clause-others : goal.returns-then-n-eq0-clause-others
 returns-then-n-eq0-clause-others g c = keeps_again _ _ _ _ c.pieces.invariant.others (keeps_others _ _ _ _ c.in-Ok.ensures.rest)
@@ -81,10 +90,16 @@ returns-then-n-eq0-clause-asked g c within = asked_again _ _ _ _ _ _ c.pieces.in
 pub returns-in_default-clause-copies : goal.returns-in_default-clause-copies
 returns-in_default-clause-copies g c mode at =
     let so_far = c.pieces.invariant in
-    of_content g.I.Inputs.told _ (record { bytes = so_far.came ++ take c.in-Ok.n c.read.new.buffer; breaks_off = false }) (source_at (g.I.Inputs.sources c.read.new.self) 0) _
-    (λ told. reads_copied _ so_far.joined so_far.left so_far.sized (omega (arith, so_far.counted, so_far.small)) (inr (sound_at (g.I.Inputs.sources c.read.new.self) 0 (still_readable _ _ _ _ c.in-Ok.n c.in-Ok.ensures.rest so_far.readable))) (long_read _ _ (so_far.read told) so_far.readable (c.in-Ok.ensures.bytes told) so_far.counted (omega (arith, c.in-Ok.ensures.bound, c.read.auto.buffer)) (omega (arith, c.requires.most, c.read.auto.buffer, c.pieces.auto.buffer)) (omega (arith, c.in_default.ensures)) c.in-Ok.ensures.rest) (so_far.copies mode at))
-    (λ untold. reads_copied _ so_far.joined so_far.left so_far.sized (omega (arith, so_far.counted, so_far.small)) (inr (sound_at (g.I.Inputs.sources c.read.new.self) 0 (still_readable _ _ _ _ c.in-Ok.n c.in-Ok.ensures.rest so_far.readable))) (long_untold _ _ (source_at (g.I.Inputs.sources c.read.new.self) 0) untold so_far.counted (omega (arith, c.in-Ok.ensures.bound, c.read.auto.buffer)) (omega (arith, c.requires.most, c.read.auto.buffer, c.pieces.auto.buffer)) (omega (arith, c.in_default.ensures))) (so_far.copies mode at))
-    (λ breaks. absurd (false≢true breaks))
+    let (content, rest, is, bytes, leaves, breaks) = seen_more _ _ _ _ _ _ so_far.read so_far.readable c.in-Ok.ensures.bytes c.in-Ok.ensures.rest in
+    let long : length (so_far.came ++ take c.in-Ok.n c.read.new.buffer) ≡ c.pieces.fed + c.in-Ok.n = sym (counted_more so_far.came c.read.new.buffer c.in-Ok.n so_far.counted (omega (arith, c.in-Ok.ensures.bound, c.read.auto.buffer)) refl) in (
+      content,
+      is,
+      (
+        reads_copied _ so_far.joined so_far.left so_far.sized (omega (arith, so_far.counted, so_far.small)) (inr (sound_at (g.I.Inputs.sources c.read.new.self) 0 (still_readable _ _ _ _ c.in-Ok.n c.in-Ok.ensures.rest so_far.readable)))
+            (to_limit so_far.came (take c.in-Ok.n c.read.new.buffer) rest bytes (omega (arith, long, c.in_default.ensures)) (omega (arith, c.requires.most, c.read.auto.buffer, c.pieces.auto.buffer, length-take c.in-Ok.n c.read.new.buffer)) leaves) (so_far.copies mode at),
+        breaks,
+      ),
+    )
 
 pub returns-in_default-clause-others : goal.returns-in_default-clause-others
 returns-in_default-clause-others g c = keeps_again _ _ _ _ c.pieces.invariant.others (keeps_others _ _ _ _ c.in-Ok.ensures.rest)
@@ -97,14 +112,18 @@ returns-in_default-clause-asked g c within = asked_again _ _ _ _ _ _ c.pieces.in
 pub returns-then-are_all-clause-copies : goal.returns-then-are_all-clause-copies
 returns-then-are_all-clause-copies g c mode at =
     let so_far = c.pieces.invariant in
-    of_content g.I.Inputs.told _ (record { bytes = so_far.came ++ take c.in-Ok.n c.read.new.buffer; breaks_off = false }) (source_at (g.I.Inputs.sources c.read.new.self) 0) _
-    (λ told. vain_copied _ _ _ so_far.joined (sym c.are_all.ensures ∙ c.if-are_all.true) so_far.sized c.if-n-eq0.false (omega (arith, c.in-Ok.ensures.bound, c.read.auto.buffer)) (omega (arith, c.requires.most, c.read.auto.buffer, c.pieces.auto.buffer)) so_far.counted c.in-Some.ensures.1 (omega (arith, c.in-Some.ensures.0, c.in-Some.ensures.1))
-    (sound_at (g.I.Inputs.sources c.read.new.self) 0 (still_readable _ _ _ _ c.in-Ok.n c.in-Ok.ensures.rest so_far.readable))
-    (vain_read _ _ (so_far.read told) so_far.readable (c.in-Ok.ensures.bytes told) c.in-Ok.ensures.rest) (c.copy_piece.ensures.copies mode so_far.pieces (so_far.copies mode at)))
-    (λ untold. vain_copied _ _ _ so_far.joined (sym c.are_all.ensures ∙ c.if-are_all.true) so_far.sized c.if-n-eq0.false (omega (arith, c.in-Ok.ensures.bound, c.read.auto.buffer)) (omega (arith, c.requires.most, c.read.auto.buffer, c.pieces.auto.buffer)) so_far.counted c.in-Some.ensures.1 (omega (arith, c.in-Some.ensures.0, c.in-Some.ensures.1))
-    (sound_at (g.I.Inputs.sources c.read.new.self) 0 (still_readable _ _ _ _ c.in-Ok.n c.in-Ok.ensures.rest so_far.readable))
-    (vain_untold _ (source_at (g.I.Inputs.sources c.read.new.self) 0) untold) (c.copy_piece.ensures.copies mode so_far.pieces (so_far.copies mode at)))
-    (λ breaks. absurd (false≢true breaks))
+    let (content, rest, is, bytes, leaves, breaks) = seen_more _ _ _ _ _ _ so_far.read so_far.readable c.in-Ok.ensures.bytes c.in-Ok.ensures.rest in (
+      content,
+      is,
+      (
+        reads_copied _ (ap (λ bytes. bytes ++ take c.in-Ok.n c.read.new.buffer) so_far.joined ∙ joined_more so_far.pieces (take c.in-Ok.n c.read.new.buffer)) (sym c.are_all.ensures ∙ c.if-are_all.true)
+            (more_sized so_far.pieces c.read.new.buffer so_far.sized c.if-n-eq0.false (omega (arith, c.in-Ok.ensures.bound, c.read.auto.buffer)) (omega (arith, c.requires.most, c.read.auto.buffer, c.pieces.auto.buffer)))
+            (omega (arith, counted_more so_far.came c.read.new.buffer c.in-Ok.n so_far.counted (omega (arith, c.in-Ok.ensures.bound, c.read.auto.buffer)) c.in-Some.ensures.1, c.in-Some.ensures.0, c.in-Some.ensures.1))
+            (inr (sound_at (g.I.Inputs.sources c.read.new.self) 0 (still_readable _ _ _ _ c.in-Ok.n c.in-Ok.ensures.rest so_far.readable)))
+            (to_last_output _ rest bytes leaves) (c.copy_piece.ensures.copies mode so_far.pieces (so_far.copies mode at)),
+        breaks,
+      ),
+    )
 
 pub returns-then-are_all-clause-others : goal.returns-then-are_all-clause-others
 returns-then-are_all-clause-others g c = keeps_again _ _ _ _ c.pieces.invariant.others (keeps_others _ _ _ _ c.in-Ok.ensures.rest)

@@ -5,7 +5,7 @@ use Rattle.ports_core.specs.declared.slot.Mode.{Mode}
 use Rattle.ports_core.specs.Inputs.{KeepsOthers}
 use Rattle.ports_core.proofs.InputsLemmas.{HasRead}
 use Rattle.tee_core.specs.inner.Steps.{Copies, all_of}
-use Rattle.tee_core.proofs.ReadLemmas.{AreSized}
+use Rattle.tee_core.proofs.EndLemmas.{AreSized}
 use Rattle.tee_core.proofs.run.copy_pieces.Given as goal
 
 abbrev pub invariant-pieces : goal.invariant-pieces

@@ -1,6 +1,6 @@
 use Rattle.std.proofs.Common.{◌∙◌, ap, arith}
 use Rattle.ports_core.specs.Slot.{slot_at}
-use Rattle.tee_core.proofs.TellLemmas.{count_names, error_open, tells_next}
+use Rattle.tee_core.proofs.CopyLemmas.{count_names, error_open, tells_next}
 use Rattle.tee_core.proofs.run.tell_broken.Goals as goal
 
 pub tell_one-requires : goal.tell_one-requires

@@ -1,6 +1,6 @@
 use Rattle.std.proofs.Common.{map}
 use Rattle.tee_core.specs.Run.{output_names}
-use Rattle.tee_core.proofs.TellLemmas.{Telling}
+use Rattle.tee_core.proofs.CopyLemmas.{Telling}
 use Rattle.tee_core.proofs.run.tell_broken.Given as goal
 
 abbrev pub invariant-loop-n : goal.invariant-loop-n

@@ -1,5 +1,5 @@
 use Rattle.std.proofs.Common.{sym, ◌∙◌, rules}
-use Rattle.tee_core.proofs.GetsLemmas.{not_closed, closed_whole, closed_short}
+use Rattle.tee_core.proofs.ChangeLemmas.{not_closed, closed_whole, closed_short}
 use Rattle.tee_core.proofs.tee.close_file.Goals as goal
 
 pub returns-then-broken : goal.returns-then-broken

@@ -1,4 +1,4 @@
-use Rattle.tee_core.proofs.OpeningLemmas.{opened_one, in_vain}
+use Rattle.tee_core.proofs.StartLemmas.{opened_one, in_vain}
 use Rattle.tee_core.proofs.tee.open_file.Goals as goal
 
 pub returns-in-Ok-clause-ok : goal.returns-in-Ok-clause-ok

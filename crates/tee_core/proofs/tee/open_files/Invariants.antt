@@ -1,5 +1,5 @@
 use Rattle.std.proofs.Common.{length, map}
-use Rattle.tee_core.proofs.OpeningLemmas.{Opening}
+use Rattle.tee_core.proofs.StartLemmas.{Opening}
 use Rattle.tee_core.proofs.tee.open_files.Given as goal
 
 abbrev pub invariant-loop-left : goal.invariant-loop-left

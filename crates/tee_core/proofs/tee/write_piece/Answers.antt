@@ -1,5 +1,5 @@
 use Rattle.std.proofs.Common.{sym, ◌∙◌, rules}
-use Rattle.tee_core.proofs.GetsLemmas.{left_out, written_whole, written_short}
+use Rattle.tee_core.proofs.ChangeLemmas.{left_out, written_whole, written_short}
 use Rattle.tee_core.proofs.tee.write_piece.Goals as goal
 
 pub returns-then-broken : goal.returns-then-broken

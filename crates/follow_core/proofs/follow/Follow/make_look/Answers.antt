@@ -1,7 +1,6 @@
-use Rattle.std.proofs.Common.{Ok, Err, sym, ◌∙◌, subst, arith}
+use Rattle.std.proofs.Common.{sym, ◌∙◌, arith}
 use Rattle.std.proofs.lemmas.List.{with_items_is}
 use Rattle.std.proofs.lemmas.Grind.{common_steps}
-use Rattle.follow_core.specs.FollowState.{AllReady, FollowState}
 use Rattle.follow_core.proofs.FollowLemmas.{makes_all, makes_few, makes_look}
 use Rattle.follow_core.proofs.follow.Follow.make_look.Goals as goal
 
@@ -11,12 +10,6 @@ returns-in-Err-clause-makes g c = makes_few c.in-Err.ensures.err.1 c.in-Err.ensu
 pub returns-in-Err-turn-clause-makes : goal.returns-in-Err-turn-clause-makes
 returns-in-Err-turn-clause-makes g c = makes_all c.in_default.ensures.begins c.turn.ensures.watched c.requires.live c.requires.can
     c.in-Err-turn.ensures.err.0 (c.in-Err-turn.ensures.err.1 ∙ c.begin.ensures.seen)
-
-pub visit_all-requires-clause-ready : goal.visit_all-requires-clause-ready
-visit_all-requires-clause-ready g c =
-    subst (λ those. AllReady c.deref_mut.result.now c.self.inside.first those) (sym c.turn.ensures.watched)
-    (subst (λ those. AllReady those c.self.inside.first (g.W.Watch.watched c.begin.new.watch)) (sym c.deref_mut.ensures.value)
-    (subst (λ (state : FollowState). AllReady state.names state.first (g.W.Watch.watched c.begin.new.watch)) (sym c.self.view_is) c.in_default.ensures.begins.ready))
 
 pub invariant_of-self : goal.invariant_of-self
 invariant_of-self g c = grind (arith, common_steps)

@@ -2,7 +2,7 @@ use Rattle.std.proofs.Common.{Ok, ◌≡◌, ◌∙◌, ap, sym, refl}
 use Rattle.follow_core.specs.declared.name.Standing.TheVariants.{New, Followed}
 use Rattle.follow_core.specs.Standing.{NameState}
 use Rattle.follow_core.specs.Look.{ways_of}
-use Rattle.follow_core.proofs.VisitLemmas.{visit_left, visit_made}
+use Rattle.follow_core.proofs.LookLemmas.{visit_left, visit_made}
 use Rattle.follow_core.proofs.name.Name.visit.Goals as goal
 
 pub returns-in-Ok-clause-visits : goal.returns-in-Ok-clause-visits

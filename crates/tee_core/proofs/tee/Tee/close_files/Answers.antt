@@ -2,8 +2,7 @@ use Rattle.std.proofs.Common.{◌≡◌, ◌+◌, subst}
 use Rattle.tee_core.specs.Outputs.{Closes}
 use Rattle.tee_core.specs.TeeState.{TeeState}
 use Rattle.tee_core.specs.inner.Turns.{Turns}
-use Rattle.tee_core.proofs.ChangeLemmas.{next_in_turn, none_in_turn}
-use Rattle.tee_core.proofs.GetsLemmas.{closed_broken}
+use Rattle.tee_core.proofs.ChangeLemmas.{next_in_turn, none_in_turn, closed_broken}
 use Rattle.tee_core.proofs.tee.Tee.close_files.Goals as goal
 
 pub loop-n-init : goal.loop-n-init

@@ -2,8 +2,7 @@ use Rattle.std.proofs.Common.{◌≡◌, ◌+◌, subst}
 use Rattle.tee_core.specs.Outputs.{Gets}
 use Rattle.tee_core.specs.TeeState.{TeeState}
 use Rattle.tee_core.specs.inner.Turns.{Turns}
-use Rattle.tee_core.proofs.ChangeLemmas.{next_in_turn, none_in_turn}
-use Rattle.tee_core.proofs.GetsLemmas.{still_broken}
+use Rattle.tee_core.proofs.ChangeLemmas.{next_in_turn, none_in_turn, still_broken}
 use Rattle.tee_core.proofs.tee.Tee.write_files.Goals as goal
 
 pub loop-n-init : goal.loop-n-init
