@@ -10,9 +10,8 @@ use Rattle.operand_core.specs.Reading.{Aim, line, match, Spelled, Aimed, aims, f
 use Rattle.operand_core.specs.Word.{Spelling, number, search, wrong, spelling, closed_at, closing, offset_of, repeated, numbered, number_of, searched, braced, before_brace}
 use Rattle.csplit_core.specs.Operand.{is_kept, Line, has_more}
 use Rattle.tools_core.specs.Promises.{SkipNothing, skips, Run, Does, HasInput, AreNumbered, AreSections, IsSound, contents_of, files_of, in_turn, last_section, left_out, text_at}
-use Rattle.std.specs.List.{All}
 use Rattle.std.proofs.lemmas.List.{length-map, map-append, drop-drop, take-append-drop, take_all}
-use Rattle.std.proofs.lemmas.List.Elements.{All-nil}
+use Rattle.std.proofs.lemmas.List.Elements.{All-append, All-cons, All-map, All-nil}
 use Rattle.seg_core.specs.Line.{joined, lines_of}
 use Rattle.seg_core.proofs.FirstLines.{joined-append}
 use Rattle.seg_core.proofs.LinesOf.{joined-lines_of}
@@ -20,7 +19,6 @@ use Rattle.ports_core.specs.Name.{numbered_name}
 use Rattle.ports_core.specs.Part.{File}
 use Rattle.ports_core.specs.Slot.{Slot}
 use Rattle.ports_core.specs.declared.slot.Mode.TheVariants.{Fresh}
-use Rattle.ports_core.specs.declared.slot.State.TheVariants.{Open, Closed}
 use Rattle.operand_core.specs.Style.{Style}
 use Rattle.csplit_core.specs.Csplit.{verdict_of}
 use Rattle.csplit_core.specs.Input.{all_lines, marked, newline}
@@ -33,10 +31,11 @@ use Rattle.csplit_core.specs.laws.SectionLaws.{are_within}
 use Rattle.csplit_core.proofs.WholeLemmas.{ends_after_all, none_lost_at_end}
 use Rattle.words_core.specs.CsplitAsked.{CsplitAsked}
 use Rattle.words_core.specs.declared.settings.Settings.TheVariants.{Csplit}
-use Rattle.tools_core.specs.Outcome.{CsplitEndsAs}
+use Rattle.tools_core.specs.Tasks.{csplit_task}
 use Rattle.tools_core.proofs.NumberLemmas.{numbered_in_order}
-use Rattle.tools_core.proofs.PromiseLemmas.{DidOne, did_one, one_done, slot_of}
-use Rattle.tools_core.proofs.SplitPromises.{AreNamed, bytes_written, named_step, sound_step}
+use Rattle.tools_core.proofs.OutcomeLemmas.{numbered_each, slot_of}
+use Rattle.tools_core.proofs.PromiseLemmas.{did_one, one_made}
+use Rattle.tools_core.proofs.SplitPromises.{AreNamed, bytes_written, named_step}
 use Rattle.operand_core.specs.declared.operand_fault.OperandFaultKind.TheVariants as kind
 
 -- Where no word of `csplit`'s operands skips a section, each operand keeps its section.
@@ -208,23 +207,6 @@ numbered_from style start (contents ∷ all) k within =
     named_step (numbered_name style.prefix style.digits) start (file_at style start contents) (files_by style (start + 1) all) (files_by style start all)
     (makes_file style contents) refl (numbered_from style (start + 1) all) (numbered_from style start all) k within
 
--- They were closed.
-
-abbrev AllClosed : List Section → Type 0
-AllClosed [] = Unit {0}
-AllClosed (section ∷ sections) = (section.is_closed ≡ true) × AllClosed sections
-
-closed_steps : (lines : List Line) (steps : List Step) (last : Section) → last.is_closed ≡ true → AllClosed (map (section_of lines) steps ++ last ∷ [])
-closed_steps lines [] last is = (is, tt)
-closed_steps lines (step ∷ steps) last is = (refl, closed_steps lines steps last is)
-
-all_sound : (style : Style) (place : ℕ) (sections : List Section) → AllClosed sections → All (IsSound Fresh) (map slot_of (files_by style place (map contents_in sections)))
-all_sound style place [] closed = All-nil (IsSound Fresh)
-all_sound style place (section ∷ sections) closed =
-    sound_step (file_at style place (contents_in section)) (files_by style (place + 1) (map contents_in sections)) (files_by style place (map contents_in sections))
-    (makes_file style (contents_in section)) (refl, ap (λ closed. cond closed Closed Open) closed.0, refl) (all_sound style (place + 1) sections closed.1)
-    (all_sound style place sections closed.1)
-
 -- What a run leaves
 
 -- a plan that ends well has no cut below the current line
@@ -238,23 +220,20 @@ pub record IsCsplit (run : Run) (asked : CsplitAsked) (input : List ℕ) : Type 
   pub well : is_final (plan asked.style.suppress operands (all_lines input)).ending ≡ false
   pub files : files_of run ≡ map slot_of (files_by asked.style 0 (map contents_in (whole_sections (all_lines input) (plan asked.style.suppress operands (all_lines input)))))
 
-was_cut : {run : Run} {asked : CsplitAsked} {input : List ℕ} (one : DidOne run (Csplit asked) input) → CsplitEndsAs true true asked (one.input ∷ []) run.inputs run.outputs 0 → IsCsplit run asked input
-was_cut one does =
-    let made = one_done one.content does.ends in record {
-      operands = does.operands;
-      asks = does.asks;
-      well = ends_well _ made.unjudged;
-      files = ap (drop 2) made.slots;
-    }
-
 is_csplit : {run : Run} {asked : CsplitAsked} {input : List ℕ} → Does run (Csplit asked) → HasInput run input → IsCsplit run asked input
-is_csplit does has = let one = did_one does has in was_cut one one.does
+is_csplit {asked = asked} does has =
+    let one = did_one does has in
+    let (operands, asks, is) = one.makes in
+    let made = one_made one (csplit_task asked operands) is in
+    record { operands = operands; asks = asks; well = ends_well _ made.unjudged; files = ap (drop 2) made.slots }
 
 pub are_numbered : (run : Run) (asked : CsplitAsked) (input : List ℕ) → Does run (Csplit asked) → HasInput run input → AreNumbered asked.style.prefix asked.style.digits (files_of run)
 are_numbered run asked input does has =
     let split = is_csplit does has in
     let lines = all_lines input in
     let sections = whole_sections lines (plan asked.style.suppress split.operands lines) in
+    let steps = (plan asked.style.suppress split.operands lines).steps in
+    let IsClosed = λ (section : Section). (place : ℕ) → IsSound Fresh (slot_of (file_at asked.style place (contents_in section))) in
     let files = map slot_of (files_by asked.style 0 (map contents_in sections)) in
     let size : length (map (λ (file : Slot). file.name) files) ≡ length files = length-map files (λ (file : Slot). file.name) in
     let named : (place : ℕ) → place < length files → text_at (map (λ (file : Slot). file.name) files) place ≡ numbered_name asked.style.prefix asked.style.digits place =
@@ -262,7 +241,8 @@ are_numbered run asked input does has =
     subst (AreNumbered asked.style.prefix asked.style.digits) (sym split.files) (record {
       named = named;
       in_order = λ few least. numbered_in_order asked.style.prefix asked.style.digits (map (λ (file : Slot). file.name) files) (λ place within. named place (omega (arith, size, within))) (omega (arith, size, few)) (omega (arith, size, least));
-      sound = all_sound asked.style 0 sections (closed_steps lines (plan asked.style.suppress split.operands lines).steps _ refl);
+      sound = All-map (IsSound Fresh) slot_of _ (numbered_each (λ (file : File). IsSound Fresh (slot_of file)) asked.style 0 (map contents_in sections)
+          (All-map (λ contents. (place : ℕ) → IsSound Fresh (slot_of (file_at asked.style place contents))) contents_in sections (All-append IsClosed (map (section_of lines) steps) _ (All-map IsClosed (section_of lines) steps (λ k step within place. (refl, refl, refl))) (All-cons IsClosed _ [] (λ place. (refl, refl, refl)) (All-nil IsClosed)))));
     })
 
 pub none_is_lost : (run : Run) (asked : CsplitAsked) (input : List ℕ) → Does run (Csplit asked) → HasInput run input → asked.style.suppress ≡ false → SkipNothing asked.operands → joined (contents_of run) ≡ input

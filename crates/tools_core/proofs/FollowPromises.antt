@@ -27,7 +27,7 @@ use Rattle.words_core.specs.EndsAsked.{EndsAsked}
 use Rattle.words_core.specs.declared.value.Followed.{Followed}
 use Rattle.tools_core.specs.Following.{FollowingEndsAt, is_name, start_of}
 use Rattle.tools_core.specs.Tasks.{has_headers, is_plus}
-use Rattle.tools_core.proofs.PromiseLemmas.{not_one, unfailed}
+use Rattle.tools_core.proofs.LeftLemmas.{unfailed}
 
 -- The text of a name whose file only grows: its start part at the first look, and then all that came.
 
@@ -214,8 +214,8 @@ wrote_text ways name shows count seen watched new keeps_bytes (looked looks shar
       full = full;
       is = ap (λ those. (slot_at those 0).written) slots ∙ ap (text_from false None) shares_are ∙ text.is ∙ ap (λ those. name_text ways.start (entries_of ways.by_name name those)) (sym seen_is);
     }
-wrote_text ways name shows count seen watched new keeps_bytes (stopped mid why stop says failed) = absurd (not_one failed)
-wrote_text ways name shows count seen watched new keeps_bytes (no_room unseen unwatched says failed) = absurd (not_one failed)
+wrote_text ways name shows count seen watched new keeps_bytes (stopped mid why stop says failed) = absurd (omega (arith, failed))
+wrote_text ways name shows count seen watched new keeps_bytes (no_room unseen unwatched says failed) = absurd (omega (arith, failed))
 
 follows_text : {run : FollowRun} {options : EndsAsked} {followed : Followed} {name : List ℕ} → Follows run options followed → IsBare options → options.names ≡ name ∷ [] → (run.seen ≡ seen_first run.shows (length run.seen) → AreKept (entries_of (is_name followed) name run.seen))
     → WroteText (ways_of 0 (is_name followed) (start_of options)) name run.shows run.count run.seen run.outputs

@@ -9,14 +9,13 @@ use Rattle.std.proofs.lemmas.Bool.{cases_lt}
 use Rattle.std.proofs.lemmas.List.{length-map, length-take, length-take-le, length-drop, get_or-take, get_or_past, take-append-drop}
 use Rattle.std.proofs.lemmas.List.FromFn.{get_or-map-range_with_len, length-map-range_with_len}
 use Rattle.std.proofs.lemmas.Nat.{div-add-mod', mod_below}
-use Rattle.std.proofs.lemmas.List.Elements.{All-nil, All-cons}
+use Rattle.std.proofs.lemmas.List.Elements.{All-nil, All-cons, All-map}
 use Rattle.seg_core.specs.Line.{joined, lines_of, line_count, delimiters, ends_with, first_lines, after_lines}
 use Rattle.seg_core.proofs.Delimiters.{delimiters-le-length}
 use Rattle.seg_core.proofs.LinesOf.{joined-lines_of}
 use Rattle.seg_core.proofs.FirstLines.{delimiters-first_lines, first_lines-append, first_lines-cons, first_lines-full, first_lines-more, first_lines-short, lines_of-first_lines, lines_of-after_lines}
 use Rattle.seg_core.proofs.LineCounts.{line_count-open, line_count_near}
 use Rattle.seg_core.specs.declared.cut.Cut.{Cut}
-use Rattle.seg_core.specs.declared.cut.Cut.TheVariants.{Lines, Bytes, LineBytes, Round}
 use Rattle.ports_core.specs.Name.{Naming}
 use Rattle.ports_core.specs.Part.{File}
 use Rattle.ports_core.specs.Slot.{Slot}
@@ -39,23 +38,14 @@ use Rattle.split_core.proofs.SectionLemmas.{joined_parts, part_lines, part_bytes
 use Rattle.words_core.specs.declared.settings.Settings.TheVariants.{Split}
 use Rattle.words_core.specs.SplitAsked.{SplitAsked}
 use Rattle.words_core.specs.SplitWords.{CanSplit, IsInLimits}
-use Rattle.tools_core.specs.Tasks.{naming_of}
+use Rattle.tools_core.specs.Tasks.{naming_of, split_task}
 use Rattle.tools_core.specs.Promises.{Run, Does, HasInput, AreInOrder, AreListed, ArePieces, AreLinePieces, AreUncut, AreDealt, EndsLine, IsFilled, IsSound, contents_of, files_of, text_at}
 use Rattle.tools_core.proofs.RunLemmas.{can_run}
-use Rattle.tools_core.proofs.PromiseLemmas.{did_one, one_done, slot_of}
+use Rattle.tools_core.proofs.OutcomeLemmas.{named_each, pieces_of, shares_are, slot_of}
+use Rattle.tools_core.proofs.PromiseLemmas.{did_one, one_made}
 use Rattle.split_core.proofs.ShareLaws.{bytes_of_shares}
 
 -- The pieces, and their files
-
-abbrev pub pieces_of : ℕ → Cut → Bool → List ℕ → List (List ℕ)
-pieces_of delim (Lines n) elide x = parts (limit.Lines n delim) x
-pieces_of delim (Bytes n) elide x = parts (limit.Bytes n) x
-pieces_of delim (LineBytes n) elide x = parts (limit.LineBytes n delim) x
-pieces_of delim (Round n) elide x = dealt_files delim elide n x
-
-shares_are : (delim : ℕ) (cut : Cut) (elide : Bool) (x : List ℕ) → whole_shares delim cut elide x ≡ map (share Closed) (pieces_of delim cut elide x)
-shares_are delim (Lines n) elide x = refl
-shares_are delim cut elide x = refl
 
 -- a name for each
 pub not_short : (has : Bool) → cond (not has) (Some Suffixes) None ≡ None → has ≡ true
@@ -108,16 +98,6 @@ have_names names start [] k within = absurd (omega (arith, within))
 have_names names start (share ∷ shares) k within = named_step (name_of names) start (file_at names start share) (named names (start + 1) shares) []
     (is_named names start) refl (have_names names (start + 1) shares) (λ k within. absurd (omega (arith, within))) k within
 
-pub sound_step : (file : File) (made others : List File) (has : Bool) → IsSound Fresh (slot_of file) → All (IsSound Fresh) (map slot_of made)
-    → All (IsSound Fresh) (map slot_of others) → All (IsSound Fresh) (map slot_of (cond has (file ∷ made) others))
-sound_step file made others true sound are without = All-cons (IsSound Fresh) _ _ sound are
-sound_step file made others false sound are without = without
-
-all_sound : (names : Naming) (place : ℕ) (pieces : List (List ℕ)) → All (IsSound Fresh) (map slot_of (named names place (map (share Closed) pieces)))
-all_sound names place [] = All-nil (IsSound Fresh)
-all_sound names place (bytes ∷ pieces) = sound_step (file_at names place (share Closed bytes)) (named names (place + 1) (map (share Closed) pieces)) []
-    (is_named names place) (refl, refl, refl) (all_sound names (place + 1) pieces) (All-nil (IsSound Fresh))
-
 -- What a run leaves
 
 pub record IsSplit (run : Run) (asked : SplitAsked) (input : List ℕ) : Type 0 where
@@ -128,17 +108,22 @@ pub record IsSplit (run : Run) (asked : SplitAsked) (input : List ℕ) : Type 0 
 pub is_split : {run : Run} {asked : SplitAsked} {input : List ℕ} → Does run (Split asked) → HasInput run input → IsSplit run asked input
 is_split {run} {asked} {input} does has =
     let one = did_one does has in
-    let made = one_done one.content one.does in
+    let made = one_made one (split_task asked) one.makes in
     let can = can_run run.words does.ran.read in
     let names = naming_of asked in
     let pieces = pieces_of asked.delim asked.cut asked.elide input in
     let shares : whole_shares asked.delim asked.cut asked.elide input ≡ map (share Closed) pieces = shares_are asked.delim asked.cut asked.elide input in
     let files : files_of run ≡ map slot_of (named names 0 (map (share Closed) pieces)) = ap (drop 2) made.slots ∙ ap (λ those. map slot_of (named names 0 those)) shares in
+    let IsMade = λ (file : File). IsSound Fresh (slot_of file) in
     let are : are_named names (length (map (share Closed) pieces)) ≡ true =
     ap (λ (those : List Share). are_named names (length those)) (sym shares) ∙ not_short _ made.unjudged in
     record {
       can = can;
-      listed = subst (AreListed asked) (sym files) (record { named = λ place within. have_names names 0 (map (share Closed) pieces) place within ∙ ap (name_of names) (omega arith); in_order = names_in_order names 0 (map (share Closed) pieces) can.width.0; sound = all_sound names 0 pieces });
+      listed = subst (AreListed asked) (sym files) (record {
+        named = λ place within. have_names names 0 (map (share Closed) pieces) place within ∙ ap (name_of names) (omega arith);
+        in_order = names_in_order names 0 (map (share Closed) pieces) can.width.0;
+        sound = All-map (IsSound Fresh) slot_of _ (named_each IsMade names 0 (map (share Closed) pieces) (All-map (λ one. (place : ℕ) → IsMade (file_at names place one)) (share Closed) pieces (λ k bytes within place. (refl, refl, refl))));
+      });
       contents = ap (map (λ (file : Slot). file.written)) files ∙ all_named names are;
     }
 
