@@ -19,7 +19,7 @@ use Rattle.std.proofs.lemmas.Bool.{false≢true}
 use Rattle.ports_core.specs.Slot.{Slot, changed_at, slot_at, streams}
 use Rattle.ports_core.specs.Source.{Content, Source, source_at, IsFresh}
 use Rattle.ports_core.specs.Text.{message_of}
-use Rattle.ports_core.specs.Message.{Says, SaysOn}
+use Rattle.ports_core.specs.Message.{Says, SaysAll}
 use Rattle.ports_core.specs.declared.fault.Fault.TheVariants.{Memory, Usage}
 use Rattle.ports_core.specs.declared.slot.Mode.{Mode}
 use Rattle.ports_core.specs.Inputs.{BreaksOnly, KeepsOthers, OfContent, empty}
@@ -163,33 +163,9 @@ unread_source true {sources} fresh =
     let is = ap (λ those. source_at those 0) fresh.only in ((source_at sources 0).left, λ t. refl, ((fresh.standard, is, λ t. sym (ap (λ (source : Source). source.left) is)), λ untold. absurd (false≢true (sym untold))))
 unread_source false fresh = (empty, λ t. absurd (false≢true t), ((fresh.standard, ap (λ those. source_at those 0) fresh.only, λ t. absurd (false≢true t)), λ untold breaks. absurd (false≢true breaks)))
 
-unread_task : {told_in told : Bool} {laid : ℕ → List ℕ → Option Content} {sources : List Source} {task : Task} {names : List (List ℕ)} {new : List Slot} {error : Slot} → IsFresh sources
-    → Says told task.tool (message_of task.tool Memory []) standard_error error → new ≡ streams_with error
-    → RunsOver told_in (world_of laid sources) names (λ found. EndsAs told_in told task found sources new 1)
-unread_task {told_in} {laid} {sources} {names} {error} fresh says slots =
-    let untouched = none_touched {told_in = told_in} {laid = laid} {names = names} fresh in (untouched.0, untouched.1, no_room error (error, says, refl) slots untouched.2 (ap length fresh.only) refl)
-
-unread_tee : {told_in told : Bool} {laid : ℕ → List ℕ → Option Content} {sources : List Source} {asked : TeeAsked} {new : List Slot} {error : Slot} → IsFresh sources
-    → Says told tool.Tee (message_of tool.Tee Memory []) standard_error error → new ≡ streams_with error
-    → RunsOver told_in (world_of laid sources) (codes "-" ∷ []) (λ found. TeeEndsAs told_in told asked found sources new 1)
-unread_tee {told_in} {sources} {error} fresh says slots =
-    let (content, there, (unread, breaks)) = unread_source told_in fresh in (
-      standard_input content ∷ [],
-      finds_standard sources there,
-      record { content = content; input = refl; ends = copies.no_room error (error, says, refl) unread slots refl; breaks = breaks; whole = λ t well. absurd (cc) },
-    )
-
 -- want of memory is one of the faults of operands
 pub lacks_memory : (asked : CsplitAsked) → HasBadOperand asked Memory
 lacks_memory asked = (record { kind = kind.Memory; index = 0 }, no_memory 0, refl)
-
-unread_settings : {told_in told : Bool} {laid : ℕ → List ℕ → Option Content} {sources : List Source} (words : List (List ℕ)) (settings : Settings) {new : List Slot} {error : Slot} → IsFresh sources → RefusesFor told words Memory new 1
-    → Says told (tool_of settings) (message_of (tool_of settings) Memory []) standard_error error → new ≡ streams_with error
-    → RunsOver told_in (world_of laid sources) (names_of settings) (λ found. RunEndsAt told_in told words found sources sources new 1 (Ok settings))
-unread_settings {told_in} {laid} {sources} words (Csplit asked) fresh refuses says slots =
-    let untouched = none_touched {told_in = told_in} {laid = laid} {names = asked.input ∷ []} fresh in (untouched.0, untouched.1, inr (refl, (Memory, lacks_memory asked, refuses)))
-unread_settings words (Tee asked) fresh refuses says slots = let (found, finds, does) = unread_tee fresh says slots in (found, finds, inl does)
-unread_settings words asked fresh refuses says slots = let (found, finds, does) = unread_task fresh says slots in (found, finds, inl does)
 
 -- words that are refused, or weren't read for want of memory
 
@@ -201,39 +177,36 @@ refused_memory words fault refuses = record {
   failed = refuses.failed;
 }
 
-unread_for : {told_in told : Bool} {laid : ℕ → List ℕ → Option Content} {sources : List Source} (words : List (List ℕ)) (meant : Result Settings Fault) {new : List Slot} {error : Slot} → IsFresh sources → settings_of words ≡ meant
-    → Says told (speaker words) (message_of (speaker words) Memory []) standard_error error → new ≡ streams_with error
-    → RunsOver told_in (world_of laid sources) (names_at meant) (λ found. RunEndsAt told_in told words found sources sources new 1 meant)
-unread_for {told} words (Ok settings) {new} {error} fresh is says slots =
-    unread_settings words settings fresh (record { error = error; says = says; slots = slots; failed = refl })
-    (subst (λ (which : Tool). Says told which (message_of which Memory []) standard_error error) (runs_as_named words is) says) slots
-unread_for words (Err fault) {new} {error} fresh is says slots = (
-  [],
-  record { are = refl; there = λ t. refl },
-  (refl, refused_memory words fault (record { error = error; says = says; slots = slots; failed = refl })),
-)
+-- what is said of the words is said by the tool that they ask for
+says_as : {told : Bool} (words : List (List ℕ)) {settings : Settings} {new : List Slot} {status : ℕ} → settings_of words ≡ Ok settings → (refuses : RefusesFor told words Memory new status)
+    → SaysAll told (tool_of settings) (message_of (tool_of settings) Memory [] ∷ []) standard_error refuses.error
+says_as {told} words is refuses = subst (λ (which : Tool). SaysAll told which (message_of which Memory [] ∷ []) standard_error refuses.error) (runs_as_named words is) (refuses.error, refuses.says, refl)
 
--- the words ask for something whose operands can't be read
-operands_refused : {told_in told : Bool} {laid : ℕ → List ℕ → Option Content} {sources : List Source} (words : List (List ℕ)) (settings : Settings) (fault : Fault) {new : List Slot} {status : ℕ} → IsFresh sources → HasBadOperands settings fault
-    → RefusesFor told words fault new status → RunsOver told_in (world_of laid sources) (names_of settings) (λ found. RunEndsAt told_in told words found sources sources new status (Ok settings))
-operands_refused {told_in} {laid} {sources} words settings fault fresh bad refuses =
-    let untouched = none_touched {told_in = told_in} {laid = laid} {names = names_of settings} fresh in (untouched.0, untouched.1, inr (refl, (fault, bad, refuses)))
+module _ (told_in told : Bool) (words : List (List ℕ)) (laid : ℕ → List ℕ → Option Content) (sources : List Source) (new : List Slot) (status : ℕ) (fresh : IsFresh sources) where
+  -- no input was touched by a run of words that mean this
+  abbrev pub EndsUnread : Result Settings Fault → Type 0
+  EndsUnread meant = RunsOver told_in (world_of laid sources) (names_at meant) (λ found. RunEndsAt told_in told words found sources sources new status meant)
 
-pub refused_or_memory : {told_in told : Bool} {laid : ℕ → List ℕ → Option Content} {sources : List Source} (words : List (List ℕ)) {fault : Fault} {new : List Slot} {status : ℕ} → IsFresh sources → IsRefused HasBadOperands (settings_of words) fault
-    → RefusesFor told words fault new status → RunsOver told_in (world_of laid sources) (names_read words) (λ found. RunEnds told_in told words found sources sources new status)
-refused_or_memory {told_in} {told} {laid} {sources} words {new} {status} fresh (inr (inl is)) refuses =
-    subst (λ (meant : Result Settings Fault). RunsOver told_in (world_of laid sources) (names_at meant) (λ found. RunEndsAt told_in told words found sources sources new status meant)) (sym is) (
-      [],
-      record { are = refl; there = λ t. refl },
-      (refl, refuses),
-    )
-refused_or_memory {told_in} {told} {laid} {sources} words {fault} {new} {status} fresh (inr (inr (settings, is, bad))) refuses =
-    subst (λ (meant : Result Settings Fault). RunsOver told_in (world_of laid sources) (names_at meant) (λ found. RunEndsAt told_in told words found sources sources new status meant)) (sym is)
-    (operands_refused words settings fault fresh bad refuses)
-refused_or_memory {told_in} {told} {laid} {sources} words {new} {status} fresh (inl is) refuses =
-    let said : RefusesFor told words Memory new status = subst (λ why. RefusesFor told words why new status) is refuses in
-    subst (λ those. RunsOver told_in (world_of laid sources) (names_read words) (λ found. RunEnds told_in told words found sources sources new those)) (sym said.failed)
-    (unread_for words (settings_of words) fresh refl said.says said.slots)
+  -- the words ask for something whose operands can't be read
+  operands_refused : (settings : Settings) (fault : Fault) → HasBadOperands settings fault → RefusesFor told words fault new status → EndsUnread (Ok settings)
+  operands_refused settings fault bad refuses = let (found, finds, untouched) = none_touched fresh in (found, finds, inr (refl, (fault, bad, refuses)))
+
+  unread_for : (meant : Result Settings Fault) → settings_of words ≡ meant → RefusesFor told words Memory new status → EndsUnread meant
+  unread_for (Err fault) is refuses = ([], record { are = refl; there = λ t. refl }, (refl, refused_memory words fault refuses))
+  unread_for (Ok (Csplit asked)) is refuses = operands_refused (Csplit asked) Memory (lacks_memory asked) refuses
+  unread_for (Ok (Tee asked)) is refuses =
+      let (content, there, (unread, breaks)) = unread_source told_in fresh in (
+        standard_input content ∷ [],
+        finds_standard sources there,
+        inl (record { content = content; input = refl; ends = copies.no_room refuses.error (says_as words is refuses) unread refuses.slots refuses.failed; breaks = breaks; whole = λ t well. absurd (omega (arith, well, refuses.failed)) }),
+      )
+  unread_for (Ok settings) is refuses =
+      let (found, finds, untouched) = none_touched fresh in (found, finds, inl (no_room refuses.error (says_as words is refuses) refuses.slots untouched (ap length fresh.only) refuses.failed))
+
+  pub refused_or_memory : {fault : Fault} → IsRefused HasBadOperands (settings_of words) fault → RefusesFor told words fault new status → EndsUnread (settings_of words)
+  refused_or_memory (inr (inl is)) refuses = subst EndsUnread (sym is) ([], record { are = refl; there = λ t. refl }, (refl, refuses))
+  refused_or_memory {fault} (inr (inr (settings, is, bad))) refuses = subst EndsUnread (sym is) (operands_refused settings fault bad refuses)
+  refused_or_memory (inl is) refuses = unread_for (settings_of words) refl (subst (λ why. RefusesFor told words why new status) is refuses)
 
 -- `csplit` cuts at the operands that were read
 pub csplit_runs : {told_in told : Bool} {world : World} {asked : CsplitAsked} {input : List ℕ} {operands : List Operand} {sources : List Source} {new : List Slot} {status : ℕ} → input ≡ asked.input → Asks asked.operands operands
@@ -270,37 +243,32 @@ follows_as {told_in} {told} asked followed {by_name} {start} {headers} {names} {
       F : Bool → Start → Bool → List (List ℕ) → List Slot → Type 0
       F b s h n f = FollowEndsAs told_in told (ways_of 0 b s) h n looks shows f seen watched new status
 
--- words that weren't read for want of memory, where they ask for this
+module _ (told_in told : Bool) (words : List (List ℕ)) (looks : ℕ) (shows : ℕ → Snapshot) (seen : List Snapshot) (watched : List Watched) (new : List Slot) (status : ℕ) (unseen : seen ≡ []) (unwatched : watched ≡ []) where
+  -- words that weren't read for want of memory
 
-says_at : {told : Bool} (words : List (List ℕ)) {new : List Slot} {status : ℕ} → speaker words ≡ tool.Tail → RefusesFor told words Memory new status → SaysOn told tool.Tail (message_of tool.Tail Memory []) streams new
-says_at {told} words speaks refuses output error since are = (
-  refuses.error,
-  subst (λ slot. Says told tool.Tail (message_of tool.Tail Memory []) slot refuses.error) (ap (λ slots. slot_at slots 1) are)
-      (subst (λ (which : Tool). Says told which (message_of which Memory []) standard_error refuses.error) speaks refuses.says),
-  refuses.slots ∙ ap (changed_at 1 (λ _. refuses.error)) are,
-)
+  unread_tail : (asked : EndsAsked) (followed : Option Followed) → speaker words ≡ tool.Tail → RefusesFor told words Memory new status → FollowsTail told_in told words asked followed looks shows seen watched new status
+  unread_tail asked None speaks refuses = (unseen, unwatched, refused_memory words (Usage BadFollow 0) refuses)
+  unread_tail asked (Some followed) speaks refuses = no_room_yet unseen unwatched (λ output error since are. (
+    refuses.error,
+    subst (λ slot. Says told tool.Tail (message_of tool.Tail Memory []) slot refuses.error) (ap (λ slots. slot_at slots 1) are)
+        (subst (λ (which : Tool). Says told which (message_of which Memory []) standard_error refuses.error) speaks refuses.says),
+    refuses.slots ∙ ap (changed_at 1 (λ _. refuses.error)) are,
+  )) refuses.failed
 
-unread : (told_in told : Bool) (words : List (List ℕ)) (asked : EndsAsked) (followed : Option Followed) (looks : ℕ) (shows : ℕ → Snapshot) (seen : List Snapshot) (watched : List Watched) (new : List Slot) (status : ℕ) → speaker words ≡ tool.Tail → seen ≡ [] → watched ≡ [] → RefusesFor told words Memory new status → FollowsTail told_in told words asked followed looks shows seen watched new status
-unread told_in told words asked (Some followed) looks shows seen watched new status speaks unseen unwatched refuses = no_room_yet unseen unwatched (says_at words speaks refuses) refuses.failed
-unread told_in told words asked None looks shows seen watched new status speaks unseen unwatched refuses = (unseen, unwatched, refused_memory words (Usage BadFollow 0) refuses)
+  unread_files : (meant : Result Settings Fault) → settings_of words ≡ meant → RefusesFor told words Memory new status → FollowingEndsAt told_in told words looks shows seen watched new status meant
+  unread_files (Ok (Tail asked)) is refuses = unread_tail asked.ends asked.followed (runs_as_named words is) refuses
+  unread_files (Ok (Csplit asked)) is refuses = inr (unseen, unwatched, (Memory, lacks_memory asked, refuses))
+  unread_files (Ok asked) is refuses = inl (tt, (unseen, unwatched, refused_memory words (Usage BadFollow 0) refuses))
+  unread_files (Err fault) is refuses = (unseen, unwatched, refused_memory words fault refuses)
 
-unread_files : (told_in : Bool) {told : Bool} (words : List (List ℕ)) (meant : Result Settings Fault) (looks : ℕ) (shows : ℕ → Snapshot) {seen : List Snapshot} {watched : List Watched} {new : List Slot} {status : ℕ} → settings_of words ≡ meant → seen ≡ [] → watched ≡ [] → RefusesFor told words Memory new status → FollowingEndsAt told_in told words looks shows seen watched new status meant
-unread_files told_in {told} words (Ok (Tail asked)) looks shows {seen} {watched} {new} {status} is unseen unwatched refuses = unread told_in told words asked.ends asked.followed looks shows seen watched new status (runs_as_named words is) unseen unwatched refuses
-unread_files told_in words (Ok (Csplit asked)) looks shows is unseen unwatched refuses = inr (unseen, unwatched, (Memory, lacks_memory asked, refuses))
-unread_files told_in {told} words (Ok asked) looks shows {new} {status} is unseen unwatched refuses = inl (tt, (unseen, unwatched, refused_memory words (Usage BadFollow 0) refuses))
-unread_files told_in {told} words (Err fault) looks shows {new} {status} is unseen unwatched refuses = (unseen, unwatched, refused_memory words fault refuses)
+  operands_unread : (settings : Settings) (fault : Fault) → HasBadOperands settings fault → RefusesFor told words fault new status → FollowingEndsAt told_in told words looks shows seen watched new status (Ok settings)
+  operands_unread (Csplit asked) fault bad refuses = inr (unseen, unwatched, (fault, bad, refuses))
+  operands_unread asked fault bad refuses = absurd bad
 
--- operands that can't be read
-operands_unread : (told_in : Bool) {told : Bool} (words : List (List ℕ)) (settings : Settings) (fault : Fault) (looks : ℕ) (shows : ℕ → Snapshot) {seen : List Snapshot} {watched : List Watched} {new : List Slot} {status : ℕ} → HasBadOperands settings fault → seen ≡ [] → watched ≡ [] → RefusesFor told words fault new status → FollowingEndsAt told_in told words looks shows seen watched new status (Ok settings)
-operands_unread told_in words (Csplit asked) fault looks shows bad unseen unwatched refuses = inr (unseen, unwatched, (fault, bad, refuses))
-operands_unread told_in words asked fault looks shows bad unseen unwatched refuses = absurd bad
-
-pub refused_words : (told_in : Bool) {told : Bool} (words : List (List ℕ)) {fault : Fault} (looks : ℕ) (shows : ℕ → Snapshot) {seen : List Snapshot} {watched : List Watched} {new : List Slot} {status : ℕ} → IsRefused HasBadOperands (settings_of words) fault → seen ≡ [] → watched ≡ [] → RefusesFor told words fault new status → FollowingEnds told_in told words looks shows seen watched new status
-refused_words told_in {told} words looks shows {seen} {watched} {new} {status} (inr (inl is)) unseen unwatched refuses = subst (λ (meant : Result Settings Fault). FollowingEndsAt told_in told words looks shows seen watched new status meant) (sym is) (unseen, unwatched, refuses)
-refused_words told_in {told} words {fault} looks shows {seen} {watched} {new} {status} (inr (inr (settings, is, bad))) unseen unwatched refuses =
-    subst (λ (meant : Result Settings Fault). FollowingEndsAt told_in told words looks shows seen watched new status meant) (sym is) (operands_unread told_in words settings fault looks shows bad unseen unwatched refuses)
-refused_words told_in {told} words looks shows {seen} {watched} {new} {status} (inl is) unseen unwatched refuses =
-    unread_files told_in words (settings_of words) looks shows refl unseen unwatched (subst (λ why. RefusesFor told words why new status) is refuses)
+  pub refused_words : {fault : Fault} → IsRefused HasBadOperands (settings_of words) fault → RefusesFor told words fault new status → FollowingEnds told_in told words looks shows seen watched new status
+  refused_words (inr (inl is)) refuses = subst (FollowingEndsAt told_in told words looks shows seen watched new status) (sym is) (unseen, unwatched, refuses)
+  refused_words {fault} (inr (inr (settings, is, bad))) refuses = subst (FollowingEndsAt told_in told words looks shows seen watched new status) (sym is) (operands_unread settings fault bad refuses)
+  refused_words (inl is) refuses = unread_files (settings_of words) refl (subst (λ why. RefusesFor told words why new status) is refuses)
 
 -- Which of both runs the words ask for.
 
@@ -323,5 +291,5 @@ pub program_refuses : (told_in told_watched : Bool) {told : Bool} (words : List 
     → ProgramEnds told_in told_watched told words laid sources sources shows seen watched new status
 program_refuses told_in told_watched {told} words laid {sources} shows {seen} {watched} {fault} {new} {status} fresh unseen unwatched refused refuses = by (looks_at (settings_of words)) where
   by : (asked : Option ℕ) → ProgramEndsAt told_in told_watched told words laid sources sources shows seen watched new status asked
-  by (Some looks) = (refl, refused_words told_watched words looks shows refused unseen unwatched refuses)
-  by None = (unseen, unwatched, refused_or_memory words fresh refused refuses)
+  by (Some looks) = (refl, refused_words told_watched told words looks shows seen watched new status unseen unwatched refused refuses)
+  by None = (unseen, unwatched, refused_or_memory told_in told words laid sources new status fresh refused refuses)

@@ -10,4 +10,4 @@ returns-in-Ok g c = subst (λ (meant : Result Settings Fault). FollowingEndsAt g
     (sym c.in-Ok.ensures.ok) c.follow_asked.ensures
 
 pub returns-in-Err : goal.returns-in-Err
-returns-in-Err g c = refused_words g.W.Watch.told (map (λ word. word.now) c.args.words.now) c.args.looks (g.W.Watch.shows c.args.watch.now) c.in-Err.ensures.err c.requires.unseen c.requires.unwatched c.refuse_words.ensures
+returns-in-Err g c = refused_words _ _ (map (λ word. word.now) c.args.words.now) c.args.looks (g.W.Watch.shows c.args.watch.now) _ _ _ _ c.requires.unseen c.requires.unwatched c.in-Err.ensures.err c.refuse_words.ensures
