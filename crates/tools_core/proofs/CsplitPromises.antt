@@ -10,6 +10,7 @@ use Rattle.operand_core.specs.Reading.{Aim, line, match, Spelled, Aimed, aims, f
 use Rattle.operand_core.specs.Word.{Spelling, number, search, wrong, spelling, closed_at, closing, offset_of, repeated, numbered, number_of, searched, braced, before_brace}
 use Rattle.csplit_core.specs.Operand.{is_kept, Line, has_more}
 use Rattle.tools_core.specs.Promises.{SkipNothing, skips, Run, Does, HasInput, AreNumbered, AreSections, IsSound, contents_of, files_of, in_turn, last_section, left_out, text_at}
+use Rattle.std.proofs.lemmas.Bool.{cond_both, false≢true}
 use Rattle.std.proofs.lemmas.List.{length-map, map-append, drop-drop, take-append-drop, take_all}
 use Rattle.std.proofs.lemmas.List.Elements.{All-append, All-cons, All-map, All-nil}
 use Rattle.seg_core.specs.Line.{joined, lines_of}
@@ -56,25 +57,16 @@ repeated_keeps : (times : Option Times) → KeepsSpelling (repeated times)
 repeated_keeps None = tt
 repeated_keeps (Some times) = tt
 
-line_keeps : (n : ℕ) (is_zero : Bool) → KeepsSpelling (cond is_zero (wrong kind.LineZero) (number n))
-line_keeps n true = tt
-line_keeps n false = tt
-
 numbered_keeps : (n : Option ℕ) → KeepsSpelling (numbered n)
 numbered_keeps None = tt
-numbered_keeps (Some n) = line_keeps n (eqb n 0)
-
-by_first : (is_slash is_percent is_brace : Bool) (slash percent brace other : Spelling) → (is_slash ≡ true → KeepsSpelling slash) → is_percent ≡ false → KeepsSpelling brace → KeepsSpelling other
-    → KeepsSpelling (cond is_slash slash (cond is_percent percent (cond is_brace brace other)))
-by_first true is_percent is_brace slash percent brace other first differs second third = first refl
-by_first false true is_brace slash percent brace other first differs second third = absurd (cc)
-by_first false false true slash percent brace other first differs second third = second
-by_first false false false slash percent brace other first differs second third = third
+numbered_keeps (Some n) = cond_both (eqb n 0) _ _ KeepsSpelling (λ is. tt) (λ some. tt)
 
 word_keeps : (word : List ℕ) → skips word ≡ false → KeepsSpelling (spelling word)
 word_keeps [] differs = tt
 word_keeps (byte ∷ text) differs =
-    by_first (eqb byte 47) (eqb byte 37) (eqb byte 123) _ _ _ _ (closed_keeps byte text (closing byte false text)) differs (repeated_keeps (braced (before_brace text))) (numbered_keeps (number_of (byte ∷ text)))
+    cond_both (eqb byte 47) _ _ KeepsSpelling (closed_keeps byte text (closing byte false text)) (λ other.
+    cond_both (eqb byte 37) _ _ KeepsSpelling (λ is. absurd (false≢true (sym differs ∙ is))) (λ kept.
+    cond_both (eqb byte 123) _ _ KeepsSpelling (λ is. repeated_keeps (braced (before_brace text))) (λ none. numbered_keeps (number_of (byte ∷ text)))))
 
 -- what operands aim at
 
@@ -86,12 +78,8 @@ abbrev KeepsAimed : Aimed → Type 0
 KeepsAimed (aims aim) = KeepsAim aim
 KeepsAimed (fails what) = Unit {0}
 
-in_order_keeps : (n : ℕ) (is_less : Bool) → KeepsAimed (cond is_less (fails kind.LineOrder) (aims (line n)))
-in_order_keeps n true = tt
-in_order_keeps n false = tt
-
 aimed_keeps : (least : ℕ) (spelled : Spelling) → KeepsSpelling spelled → KeepsAimed (aim_of least spelled)
-aimed_keeps least (number n) keeps = in_order_keeps n (nat_lt n least)
+aimed_keeps least (number n) keeps = cond_both (nat_lt n least) _ _ KeepsAimed (λ is. tt) (λ is. tt)
 aimed_keeps least (search delimiter text offset) keeps = keeps
 aimed_keeps least spelled keeps = tt
 
@@ -182,22 +170,19 @@ abbrev written_in : List File → List ℕ
 written_in files = joined (map (λ (file : Slot). file.written) (map slot_of files))
 
 -- a section that makes no file is empty
-made_or_empty : (elide kept : Bool) (bytes : List ℕ) → kept ≡ true → ((kept && not (elide && is_empty bytes)) ≡ true) ⊎ (((kept && not (elide && is_empty bytes)) ≡ false) × (bytes ≡ []))
-made_or_empty elide false bytes is = absurd (cc)
-made_or_empty false true bytes is = inl refl
-made_or_empty true true [] is = inr (refl, refl)
-made_or_empty true true (byte ∷ bytes) is = inl refl
+left_empty : (elide kept : Bool) (bytes : List ℕ) → kept ≡ true → (kept && not (elide && is_empty bytes)) ≡ false → bytes ≡ []
+left_empty elide kept [] is none = refl
+left_empty elide false (byte ∷ bytes) is none = absurd (false≢true is)
+left_empty true true (byte ∷ bytes) is none = absurd (false≢true (sym none))
+left_empty false true (byte ∷ bytes) is none = absurd (false≢true (sym none))
 
 files_joined : (style : Style) (place : ℕ) (sections : List Section) → AllKept sections → written_in (files_by style place (map contents_in sections)) ≡ bytes_of (lines_in sections)
 files_joined style place [] kept = refl
-files_joined style place (section ∷ sections) kept = elim (made_or_empty style.elide section.is_kept (bytes_of section.lines) kept.0) [
-  | inl made ↦
-      ap (λ has. written_in (cond has (file_at style place (contents_in section) ∷ files_by style (place + 1) (map contents_in sections)) (files_by style place (map contents_in sections)))) made
-      ∙ ap (λ rest. bytes_of section.lines ++ rest) (files_joined style (place + 1) sections kept.1) ∙ sym (bytes_then section.lines (lines_in sections))
-  | inr empty ↦
-      ap (λ has. written_in (cond has (file_at style place (contents_in section) ∷ files_by style (place + 1) (map contents_in sections)) (files_by style place (map contents_in sections)))) empty.0
-      ∙ files_joined style place sections kept.1 ∙ sym (bytes_then section.lines (lines_in sections) ∙ ap (λ front. front ++ bytes_of (lines_in sections)) empty.1)
-]
+files_joined style place (section ∷ sections) kept =
+    let both = bytes_then section.lines (lines_in sections) in
+    cond_both (makes_file style (contents_in section)) _ _ (λ files. written_in files ≡ bytes_of (lines_in (section ∷ sections)))
+    (λ made. ap (λ rest. bytes_of section.lines ++ rest) (files_joined style (place + 1) sections kept.1) ∙ sym both)
+    (λ none. files_joined style place sections kept.1 ∙ sym (both ∙ ap (λ front. front ++ bytes_of (lines_in sections)) (left_empty style.elide section.is_kept (bytes_of section.lines) kept.0 none)))
 
 -- Their names
 
