@@ -1,5 +1,5 @@
 -- What `csplit` leaves of its input.
-use Rattle.std.proofs.Common.{◌≡◌, ℕ, ◌+◌, suc, take, drop, Bool, true, false, cond, eqb, nat_lt, List, [], ◌∷◌, Option, Some, None, refl, ◌∙◌, ◌-◌, ◌<◌, ◌≤◌, not, ◌&&◌, ◌++◌, length, length-drop, map, inl, inr, ◌⊎◌, sym, ap, subst, arith}
+use Rattle.std.proofs.Common.{◌≡◌, ℕ, ◌+◌, suc, take, drop, Bool, true, false, eqb, nat_lt, List, [], ◌∷◌, Option, Some, None, refl, ◌∙◌, ◌-◌, ◌<◌, ◌≤◌, not, ◌&&◌, ◌++◌, length, length-drop, map, sym, ap, subst, arith}
 use Rattle.operand_core.specs.declared.operand.Offset.{Offset}
 use Rattle.operand_core.specs.declared.operand.Operand.{Operand}
 use Rattle.operand_core.specs.declared.operand.Target.{Target}
@@ -7,7 +7,7 @@ use Rattle.operand_core.specs.declared.operand.Target.TheVariants.{Number, Searc
 use Rattle.operand_core.specs.declared.operand.Times.{Times}
 use Rattle.operand_core.specs.declared.operand.Times.TheVariants.{Count}
 use Rattle.operand_core.specs.Reading.{Aim, line, match, Spelled, Aimed, aims, fails, Words, AreRead, Asks, IsTarget, aim_of, failed, least_after, no_more, times_by, with_operand, words_from, words_of}
-use Rattle.operand_core.specs.Word.{Spelling, number, search, wrong, spelling, closed_at, closing, offset_of, repeated, numbered, number_of, searched, braced, before_brace}
+use Rattle.operand_core.specs.Word.{Spelling, number, search, spelling, closed_at, closing, offset_of, repeated, numbered, number_of, searched, braced, before_brace}
 use Rattle.csplit_core.specs.Operand.{is_kept, Line, has_more}
 use Rattle.tools_core.specs.Promises.{SkipNothing, skips, Run, Does, HasInput, AreNumbered, AreSections, IsSound, contents_of, files_of, in_turn, last_section, left_out, text_at}
 use Rattle.std.proofs.lemmas.Bool.{cond_both, false≢true}
@@ -37,7 +37,6 @@ use Rattle.tools_core.proofs.NumberLemmas.{numbered_in_order}
 use Rattle.tools_core.proofs.OutcomeLemmas.{numbered_each, slot_of}
 use Rattle.tools_core.proofs.PromiseLemmas.{did_one, one_made}
 use Rattle.tools_core.proofs.SplitPromises.{AreNamed, bytes_written, named_step}
-use Rattle.operand_core.specs.declared.operand_fault.OperandFaultKind.TheVariants as kind
 
 -- Where no word of `csplit`'s operands skips a section, each operand keeps its section.
 

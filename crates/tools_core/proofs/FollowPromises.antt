@@ -1,8 +1,6 @@
 -- What `tail` writes of one file that only grows, where it follows it and meets no fault.
 use Rattle.std.proofs.Common.{◌≡◌, ℕ, ◌+◌, ◌<◌, ◌≤◌, zero, suc, Bool, true, false, List, [], ◌∷◌, ◌++◌, length, drop, Option, Some, None, refl, sym, ◌∙◌, ap, subst, arith, append_assoc, append-nil, ◌&&◌, cond, is_some, not, ◌||◌, inl, inr}
 use Rattle.std.proofs.Math.Seq.{drop-append_seam as drop_front}
-use Rattle.ports_core.specs.Part.{IsBeginning}
-use Rattle.ports_core.proofs.PartLemmas.{begins_itself, begins_trans}
 use Rattle.watch_core.specs.Snapshot.{Snapshot}
 use Rattle.follow_core.specs.Ending.{seen_first, FollowEndsAs, looked, no_room, stopped}
 use Rattle.follow_core.specs.Gain.{gains_later}

@@ -1,13 +1,11 @@
 -- Numbered names are in the order of their numbers, while none has more digits than it is filled to.
-use Rattle.std.proofs.Common.{◌≡◌, ℕ, ◌+◌, ◌-◌, ◌/◌, ◌%◌, ◌^◌, ◌<◌, ◌≤◌, zero, suc, List, [], ◌∷◌, ◌++◌, length, map, replicate, inl, inr, refl, sym, ◌∙◌, ap, subst, arith, append_assoc, length-append, decimal, Less}
+use Rattle.std.proofs.Common.{◌≡◌, ℕ, ◌+◌, ◌-◌, ◌/◌, ◌%◌, ◌^◌, ◌<◌, ◌≤◌, zero, suc, List, [], ◌∷◌, ◌++◌, length, replicate, inl, inr, refl, sym, ◌∙◌, ap, subst, arith, append_assoc, length-append, decimal, Less}
 use Rattle.std.specs.Ordering.{nat_cmp}
 use Rattle.std.specs.Cmp.Lexicographic.{slice_cmp}
-use Rattle.std.specs.Int.Digits.{digits_of}
 use Rattle.std.proofs.Math.Nat.{mod-lt, pow-suc, pow-zero}
 use Rattle.std.proofs.lemmas.Bool.{cases_lt}
 use Rattle.std.proofs.lemmas.Fmt.{decimal_by_steps}
-use Rattle.std.proofs.lemmas.Int.Digits.{digits_of_step, length-digits_of_step}
-use Rattle.std.proofs.lemmas.List.{append-nil, length-map, map-append}
+use Rattle.std.proofs.lemmas.List.{append-nil}
 use Rattle.std.proofs.lemmas.Nat.{div-add-mod'}
 use Rattle.ports_core.specs.Name.{numbered_name, zero_filled}
 use Rattle.ports_core.proofs.OrderLemmas.{IsBelow, first_less, same_front}
@@ -86,9 +84,13 @@ by_places : (names : List (List ℕ)) → ((k : ℕ) → k + 1 < length names �
 by_places (name ∷ next ∷ names) each = (each 0 (omega arith), by_places (next ∷ names) (λ k within. each (suc k) (omega (arith, within))))
 by_places names each = tt
 
+-- texts that are named by their places
+pub order_by : (name : ℕ → List ℕ) (names : List (List ℕ)) → ((place : ℕ) → place < length names → text_at names place ≡ name place)
+    → ((k : ℕ) → suc k < length names → slice_cmp nat_cmp (name k) (name (suc k)) ≡ Less) → AreInOrder names
+order_by name names named less = by_places names (λ k within.
+    ap (λ one. slice_cmp nat_cmp one (text_at names (suc k))) (named k (omega (arith, within))) ∙ ap (slice_cmp nat_cmp (name k)) (named (suc k) (omega (arith, within))) ∙ less k (omega (arith, within)))
+
 pub numbered_in_order : (prefix : List ℕ) (digits : ℕ) (names : List (List ℕ)) → ((place : ℕ) → place < length names → text_at names place ≡ numbered_name prefix digits place)
     → length names ≤ 10 ^ digits → length names ≤ 2 ^ 64 → AreInOrder names
-numbered_in_order prefix digits names named few least = by_places names (λ k within.
-    ap (λ name. slice_cmp nat_cmp name (text_at names (suc k))) (named k (omega (arith, within)))
-    ∙ ap (slice_cmp nat_cmp (numbered_name prefix digits k)) (named (suc k) (omega (arith, within)))
-    ∙ names_below prefix digits (omega arith) (omega (arith, within, few)) (omega (arith, within, least)))
+numbered_in_order prefix digits names named few least =
+    order_by (numbered_name prefix digits) names named (λ k next. names_below prefix digits (omega arith) (omega (arith, next, few)) (omega (arith, next, least)))

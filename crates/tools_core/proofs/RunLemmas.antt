@@ -26,9 +26,8 @@ use Rattle.ports_core.specs.Inputs.{BreaksOnly, KeepsOthers, OfContent, empty}
 use Rattle.run_core.specs.Input.{Input, World, Finds, standard_input}
 use Rattle.run_core.specs.Reading.{count_after}
 use Rattle.run_core.specs.RunEnds.{EndsAs, no_room, RunsOver}
-use Rattle.ports_core.specs.Streams.{standard_error, streams_with}
+use Rattle.ports_core.specs.Streams.{standard_error}
 use Rattle.run_core.specs.RunSteps.{world_of}
-use Rattle.run_core.specs.Task.{Task}
 use Rattle.run_core.proofs.InputLemmas.{none_touched}
 use Rattle.seg_core.specs.declared.count.Count.{Count}
 use Rattle.seg_core.specs.declared.unit.Unit.{Unit as Counted}

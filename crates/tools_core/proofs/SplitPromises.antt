@@ -1,9 +1,6 @@
 -- What `split` leaves of its input.
 use Rattle.std.proofs.Common.{◌≡◌, ℕ, ◌+◌, ◌-◌, ◌*◌, ◌/◌, ◌%◌, ◌<◌, ◌≤◌, zero, suc, min, Bool, true, false, not, cond, List, [], ◌∷◌, ◌++◌, append_assoc, length-append, length, map, take, drop, filter, get_or, Some, None, inl, inr, refl, sym, ◌∙◌, ap, subst, arith}
 use Rattle.std.specs.List.{All}
-use Rattle.std.specs.Ordering.{nat_cmp}
-use Rattle.std.specs.Cmp.Lexicographic.{slice_cmp}
-use Rattle.std.specs.declared.cmp.Ordering.TheVariants.{Less}
 use Rattle.std.proofs.Math.Nat.{mul-le-mul_right, suc-mul}
 use Rattle.std.proofs.lemmas.Bool.{cases_lt}
 use Rattle.std.proofs.lemmas.List.{length-map, length-take, length-take-le, length-drop, get_or-take, get_or_past, take-append-drop}
@@ -33,14 +30,16 @@ use Rattle.split_core.specs.laws.CutLaws.{whole_of_lines, whole_of_none}
 use Rattle.split_core.specs.laws.DealLaws.{share_none}
 use Rattle.split_core.proofs.CutLaws.{first_then_after}
 use Rattle.split_core.proofs.AgreedLemmas.{bytes_named, each_named, named_bytes}
+use Rattle.split_core.proofs.MoveLemmas.{named_before}
 use Rattle.split_core.proofs.PlaceLemmas.{line_at, all_dealt, first_files}
 use Rattle.split_core.proofs.SectionLemmas.{joined_parts, part_lines, part_bytes, lines_count, bytes_count, line_bytes_are_parts, line_bytes_within}
 use Rattle.words_core.specs.declared.settings.Settings.TheVariants.{Split}
 use Rattle.words_core.specs.SplitAsked.{SplitAsked}
 use Rattle.words_core.specs.SplitWords.{CanSplit, IsInLimits}
 use Rattle.tools_core.specs.Tasks.{naming_of, split_task}
-use Rattle.tools_core.specs.Promises.{Run, Does, HasInput, AreInOrder, AreListed, ArePieces, AreLinePieces, AreUncut, AreDealt, EndsLine, IsFilled, IsSound, contents_of, files_of, text_at}
+use Rattle.tools_core.specs.Promises.{Run, Does, HasInput, AreListed, ArePieces, AreLinePieces, AreUncut, AreDealt, EndsLine, IsFilled, IsSound, contents_of, files_of, text_at}
 use Rattle.tools_core.proofs.RunLemmas.{can_run}
+use Rattle.tools_core.proofs.NumberLemmas.{order_by}
 use Rattle.tools_core.proofs.OutcomeLemmas.{named_each, pieces_of, shares_are, slot_of}
 use Rattle.tools_core.proofs.PromiseLemmas.{did_one, one_made}
 use Rattle.split_core.proofs.ShareLaws.{bytes_of_shares}
@@ -65,24 +64,6 @@ all_named names {pieces} are =
 
 -- Their names
 
-name_step : (names : Naming) (place : ℕ) (one two : Share) (rest : List File) (has next : Bool) → (next ≡ true → slice_cmp nat_cmp (name_of names place) (name_of names (place + 1)) ≡ Less)
-    → AreInOrder (map (λ (file : Slot). file.name) (map slot_of (cond next (file_at names (place + 1) two ∷ rest) [])))
-    → AreInOrder (map (λ (file : Slot). file.name) (map slot_of (cond has (file_at names place one ∷ cond next (file_at names (place + 1) two ∷ rest) []) [])))
-name_step names place one two rest true true less ordered = (less refl, ordered)
-name_step names place one two rest has next less ordered = tt
-
-name_last : (names : Naming) (place : ℕ) (one : Share) (has : Bool) → AreInOrder (map (λ (file : Slot). file.name) (map slot_of (cond has (file_at names place one ∷ []) [])))
-name_last names place one true = tt
-name_last names place one false = tt
-
-names_in_order : (names : Naming) (place : ℕ) (shares : List Share) → 0 < names.width → AreInOrder (map (λ (file : Slot). file.name) (map slot_of (named names place shares)))
-names_in_order names place [] wide = tt
-names_in_order names place (one ∷ []) wide = name_last names place one (is_named names place)
-names_in_order names place (one ∷ two ∷ shares) wide =
-    name_step names place one two (named names (place + 1 + 1) shares) (is_named names place) (is_named names (place + 1))
-    (λ has. in_order names.prefix names.alphabet names.width names.auto names.ending place (place + 1) wide (omega arith) has)
-    (names_in_order names (place + 1) (two ∷ shares) wide)
-
 -- the files have these names from this place on
 abbrev pub AreNamed : (ℕ → List ℕ) → ℕ → List File → Type 0
 AreNamed name start files = (k : ℕ) → k < length (map slot_of files) → text_at (map (λ (file : Slot). file.name) (map slot_of files)) k ≡ name (start + k)
@@ -97,6 +78,10 @@ have_names : (names : Naming) (start : ℕ) (shares : List Share) → AreNamed (
 have_names names start [] k within = absurd (omega (arith, within))
 have_names names start (share ∷ shares) k within = named_step (name_of names) start (file_at names start share) (named names (start + 1) shares) []
     (is_named names start) refl (have_names names (start + 1) shares) (λ k within. absurd (omega (arith, within))) k within
+
+named_below : (names : Naming) (count : ℕ) → are_named names count ≡ true → (place : ℕ) → place < count → is_named names place ≡ true
+named_below names zero are place less = absurd (omega (arith, less))
+named_below names (suc last) are place less = named_before names place last are (omega (arith, less))
 
 -- What a run leaves
 
@@ -114,14 +99,20 @@ is_split {run} {asked} {input} does has =
     let pieces = pieces_of asked.delim asked.cut asked.elide input in
     let shares : whole_shares asked.delim asked.cut asked.elide input ≡ map (share Closed) pieces = shares_are asked.delim asked.cut asked.elide input in
     let files : files_of run ≡ map slot_of (named names 0 (map (share Closed) pieces)) = ap (drop 2) made.slots ∙ ap (λ those. map slot_of (named names 0 those)) shares in
-    let IsMade = λ (file : File). IsSound Fresh (slot_of file) in
     let are : are_named names (length (map (share Closed) pieces)) ≡ true =
     ap (λ (those : List Share). are_named names (length those)) (sym shares) ∙ not_short _ made.unjudged in
+    let slots = map slot_of (named names 0 (map (share Closed) pieces)) in
+    let size : length (map (λ (file : Slot). file.name) slots) ≡ length slots = length-map slots (λ (file : Slot). file.name) in
+    let count : length slots ≡ length (map (share Closed) pieces) = sym (length-map slots (λ (file : Slot). file.written)) ∙ ap length (all_named names are) ∙ sym (length-map pieces (share Closed)) in
+    let called : (place : ℕ) → place < length (map (λ (file : Slot). file.name) slots) → text_at (map (λ (file : Slot). file.name) slots) place ≡ name_of names place =
+    λ place within. have_names names 0 (map (share Closed) pieces) place (omega (arith, size, within)) ∙ ap (name_of names) (omega arith) in
+    let IsMade = λ (file : File). IsSound Fresh (slot_of file) in
     record {
       can = can;
       listed = subst (AreListed asked) (sym files) (record {
-        named = λ place within. have_names names 0 (map (share Closed) pieces) place within ∙ ap (name_of names) (omega arith);
-        in_order = names_in_order names 0 (map (share Closed) pieces) can.width.0;
+        named = λ place within. called place (omega (arith, size, within));
+        in_order = order_by (name_of names) _ called (λ k next.
+            in_order names.prefix names.alphabet names.width names.auto names.ending k (suc k) can.width.0 (omega arith) (named_below names _ are (suc k) (omega (arith, size, count, next))));
         sound = All-map (IsSound Fresh) slot_of _ (named_each IsMade names 0 (map (share Closed) pieces) (All-map (λ one. (place : ℕ) → IsMade (file_at names place one)) (share Closed) pieces (λ k bytes within place. (refl, refl, refl))));
       });
       contents = ap (map (λ (file : Slot). file.written)) files ∙ all_named names are;
@@ -142,27 +133,16 @@ AreFew count n all = (all ≤ count * n) × (count * n < all + n)
 run_size : {X : Type 0} (n i : ℕ) (xs : List X) → length (take n (drop (i * n) xs)) ≡ min n (length xs - i * n)
 run_size n i xs = length-take n (drop (i * n) xs) ∙ ap (min n) (length-drop (i * n) xs)
 
-run_some : {X : Type 0} {n count i : ℕ} (xs : List X) → 0 < n → AreFew count n (length xs) → i < count → 0 < length (take n (drop (i * n) xs))
-run_some {n} {count} {i} xs some few within = let here = up_to i count n within in let size = run_size n i xs in omega (arith, here, size, few.1, some)
-
-run_most : {X : Type 0} {n : ℕ} (i : ℕ) (xs : List X) → length (take n (drop (i * n) xs)) ≤ n
-run_most {n} i xs = let size = run_size n i xs in omega (arith, size)
-
-run_full : {X : Type 0} {n count : ℕ} (i : ℕ) (xs : List X) → AreFew count n (length xs) → i + 1 < count → length (take n (drop (i * n) xs)) ≡ n
-run_full {n} {count} i xs few next =
-    let there = up_to (suc i) count n (omega (arith, next)) in
-    let step : suc i * n ≡ i * n + n = suc-mul i n in
-    let size = run_size n i xs in omega (arith, there, step, size, few.1)
+run_pieces : (size : List ℕ → ℕ) {n all : ℕ} {x : List ℕ} {pieces : List (List ℕ)} → 0 < n → joined pieces ≡ x → AreFew (length pieces) n all → ((i : ℕ) → size (text_at pieces i) ≡ min n (all - i * n)) → ArePieces size n x pieces
+run_pieces size {n} {pieces = pieces} some are few each = record {
+  all = are;
+  some = λ i within. let here = up_to i (length pieces) n within in let one = each i in omega (arith, one, here, few.1, some);
+  most = λ i within. let one = each i in omega (arith, one);
+  full = λ i next. let there = up_to (suc i) (length pieces) n (omega (arith, next)) in let step : suc i * n ≡ i * n + n = suc-mul i n in let one = each i in omega (arith, one, there, step, few.1);
+}
 
 pub line_pieces : (delim : ℕ) {n : ℕ} {x : List ℕ} → 0 < n → ArePieces (line_count delim) n x (parts (limit.Lines n delim) x)
-line_pieces delim {n} {x} some =
-    let few = lines_count delim n x some in
-    let pieces = parts (limit.Lines n delim) x in record {
-      all = joined_parts (limit.Lines n delim) x;
-      some = λ i within. subst (λ size. 0 < size) (sym (ap length (part_lines delim n i x some))) (run_some (lines_of delim x) some few within);
-      most = λ i within. subst (λ size. size ≤ n) (sym (ap length (part_lines delim n i x some))) (run_most i (lines_of delim x));
-      full = λ i next. ap length (part_lines delim n i x some) ∙ run_full i (lines_of delim x) few next;
-    }
+line_pieces delim {n} {x} some = run_pieces (line_count delim) some (joined_parts (limit.Lines n delim) x) (lines_count delim n x some) (λ i. ap length (part_lines delim n i x some) ∙ run_size n i (lines_of delim x))
 
 -- as many lines as there are delimiters end with one
 lines_end : (delim : ℕ) {k : ℕ} (bytes : List ℕ) (ends : Bool) → 0 < k → k ≤ delimiters delim bytes → ends_with delim (first_lines delim k bytes) ≡ ends → ends ≡ true
@@ -194,14 +174,7 @@ line_ends delim {n} x some i next =
     ap (ends_with delim) (line_part delim i x some) ∙ lines_end delim rest _ some (omega (arith, left, near, more)) refl
 
 pub byte_pieces : {n : ℕ} {x : List ℕ} → 0 < n → ArePieces length n x (parts (limit.Bytes n) x)
-byte_pieces {n} {x} some =
-    let few = bytes_count n x some in
-    let pieces = parts (limit.Bytes n) x in record {
-      all = joined_parts (limit.Bytes n) x;
-      some = λ i within. subst (λ size. 0 < size) (sym (ap length (part_bytes n i x some))) (run_some x some few within);
-      most = λ i within. subst (λ size. size ≤ n) (sym (ap length (part_bytes n i x some))) (run_most i x);
-      full = λ i next. ap length (part_bytes n i x some) ∙ run_full i x few next;
-    }
+byte_pieces {n} {x} some = run_pieces length some (joined_parts (limit.Bytes n) x) (bytes_count n x some) (λ i. ap length (part_bytes n i x some) ∙ run_size n i x)
 
 -- Pieces of whole lines within n bytes
 
