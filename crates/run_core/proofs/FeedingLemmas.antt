@@ -13,7 +13,7 @@ use Rattle.ports_core.specs.declared.fault.Fault.{Fault}
 use Rattle.ports_core.specs.declared.fault.Fault.TheVariants.{Memory, Write, Open, Suffixes, NoMatch, Range}
 use Rattle.run_core.specs.declared.feeding.Fed.{Fed}
 use Rattle.run_core.specs.declared.feeding.Fed.TheVariants.{Whole, Enough, Broken}
-use Rattle.ports_core.specs.Inputs.{empty, KeepsOthers}
+use Rattle.ports_core.specs.Inputs.{empty, KeepsOthers, OfContent}
 use Rattle.run_core.specs.Feeding.{Stops, HasAll, to_end, enough, call_of, feeds, closes, FedAs, whole, had_enough, broke_off, judged, stopped, IsUnread, Uses}
 use Rattle.run_core.specs.inner.Feeding.{EndsSo, finished, fell_short}
 use Rattle.ports_core.proofs.LoadLemmas.{passed_at}
@@ -223,6 +223,18 @@ piece_within {n} buffer within = omega (arith, length-take n buffer)
 
 pub needed_more : {is_complete : List ℕ → Bool} {most n : ℕ} (x buffer : List ℕ) → is_complete x ≡ false → n ≤ most → IsNeeded is_complete most (x ++ take n buffer)
 needed_more {n} x buffer going within = inr (x, take n buffer, refl, piece_within buffer within, going)
+
+-- the input that is there, where it tells its bytes, and else one that has what was read of it
+
+pub of_read : (told : Bool) (there : Content) (bytes : List ℕ) (breaks_off is_broken : Bool) (P : Content → Type 0) → (told ≡ true → (there.bytes ≡ bytes) × (there.breaks_off ≡ breaks_off)) → (breaks_off ≡ true → is_broken ≡ true)
+    → ((content : Content) → (told ≡ true → content.bytes ≡ there.bytes) → content.bytes ≡ bytes → content.breaks_off ≡ breaks_off → P content) → OfContent told there (λ content. P content × (told ≡ false → content.breaks_off ≡ true → is_broken ≡ true))
+of_read true there bytes breaks_off is_broken P all broke holds = (there, λ t. refl, (holds there (λ t. refl) (all refl).0 (all refl).1, λ untold. absurd (false≢true (sym untold))))
+of_read false there bytes breaks_off is_broken P all broke holds = (record { bytes = bytes; breaks_off = breaks_off }, λ t. absurd (false≢true t), (holds _ (λ t. absurd (false≢true t)) refl refl, λ untold. broke))
+
+pub of_more : (told : Bool) (there : Content) (x rest : List ℕ) (is_broken : Bool) (P : Content → Type 0) → (told ≡ true → there.bytes ≡ x ++ rest)
+    → ((content : Content) → (told ≡ true → content.bytes ≡ there.bytes) → (rest : List ℕ) → content.bytes ≡ x ++ rest → P content) → OfContent told there (λ content. P content × (told ≡ false → content.breaks_off ≡ true → is_broken ≡ true))
+of_more true there x rest is_broken P all holds = (there, λ t. refl, (holds there (λ t. refl) rest (all refl), λ untold. absurd (false≢true (sym untold))))
+of_more false there x rest is_broken P all holds = (record { bytes = x; breaks_off = false }, λ t. absurd (false≢true t), (holds _ (λ t. absurd (false≢true t)) [] (sym (append-nil x)), λ untold breaks. absurd (false≢true breaks)))
 
 -- the same of the fault that is handed on
 pub given_so : {told : Bool} {before new : List Slot} {work : Work} {opening : Needs} {most : ℕ} {content : Content} (WasRead : List ℕ → Type 0) {given fault : Fault} → given ≡ fault → FedAs told before work opening most content WasRead new (Err fault) → FedAs told before work opening most content WasRead new (Err given)

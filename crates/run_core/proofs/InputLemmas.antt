@@ -2,7 +2,7 @@
 use Rattle.std.proofs.Common.{◌⊎◌, arith, inl, inr, ◌≡◌, ℕ, ◌<◌, ◌≤◌, Bool, true, false, not, ◌||◌, IsTrue, List, [], ◌∷◌, length, take, Option, Some, None, Result, Ok, Err, refl, sym, ◌∙◌, ap, subst, if◌then◌else◌, ◌++◌, lit≤, codes, ◌-◌, ◌&&◌, drop, map, get_or, Bor, append_assoc, lit<}
 use Rattle.std.proofs.lemmas.Bool.{false≢true, or_left, or_right, and_parts, false_from_ne_true, or_parts}
 use Rattle.std.proofs.Math.Bool.{and-false, and-true, or-false, or-true, or_assoc}
-use Rattle.ports_core.specs.Slot.{Slot, is_open, slot_at, is_writable, told_of, with_written, streams}
+use Rattle.ports_core.specs.Slot.{Slot, adds, is_open, slot_at, is_writable, told_of, with_written, streams}
 use Rattle.ports_core.specs.Write.{BrokeAfter}
 use Rattle.ports_core.specs.Source.{Content, Source, source_at, source_of, missing, is_readable, IsFresh, Opens as OpensFile, OpensNothing}
 use Rattle.ports_core.specs.Part.{Part, only_out, OutputsAt, StoppedBetween, nothing}
@@ -26,11 +26,11 @@ use Rattle.ports_core.specs.Inputs.{BreaksOnly, OfContent, empty, AsksAtMost, la
 use Rattle.run_core.specs.Reading.{IsDone, Leaves, AreDone, AreUntouched, count_after}
 use Rattle.run_core.specs.RunEnds.{unheaded, heading, calling, step_after, EndsAs, as_defined, stopped as run_stopped, no_room as run_unmade, RunsOver, RunStep, unopened}
 use Rattle.ports_core.specs.Streams.{streams_with, standard_output, standard_error}
-use Rattle.run_core.specs.inner.RunSteps.{HeaderFails, no_room, broke, TookInput, took, cut_off, OfSource, KeepsOther, TookAll, all, stopped_at, not_begun, HasStreams, after_input, OfName, is_unopened, standard_source}
+use Rattle.run_core.specs.inner.RunSteps.{HeaderFails, no_room, broke, TookInput, took, cut_off, input_from, OfSource, KeepsOther, TookAll, all, stopped_at, not_begun, HasStreams, OfName, is_unopened, standard_source}
 use Rattle.run_core.specs.RunSteps.{Opens, OpensShort, world_of}
 use Rattle.run_core.specs.Task.{Task, Outcome, after_part, header_text, of_content, made_by, no_outcome, joined, of_input, of_inputs, is_missing, are_missing, ends_badly}
 use Rattle.run_core.proofs.ReadingLemmas.{left_of, StayDone, all_done, count_more, done_more, done_with, last_source, missing_done, rest_untouched, still_done}
-use Rattle.run_core.proofs.StopLemmas.{after_assoc, out_on, at_after, stop_after, none_to_sweep, nothing_after, swept_from, said_swept, swept_error, error_open, stop_error, stop_swept, message_some, said_at}
+use Rattle.run_core.proofs.StopLemmas.{after_assoc, out_on, at_after, stop_after, none_to_sweep, nothing_after, swept_from, said_swept, swept_error, error_open, stop_error, stop_swept, said_at}
 use Rattle.ports_core.proofs.MessageLemmas.{says_more, all_said_state, says_after}
 use Rattle.run_core.specs.Input.{Input, World, has_dash, AreFrom, is_dash, input_of, inputs_from, inputs_at, file_input, standard_input, read_before, next_slot}
 use Rattle.std.proofs.lemmas.List.{append-nil, nil_from_length, take_rest}
@@ -82,9 +82,9 @@ made_well task is_first name content enough well = simp (enough, well, and-false
 
 -- the header could not be written
 
-pub stopped_in_header : {told_in told : Bool} {task : Task} {most : ℕ} (is_first : Bool) (name : List ℕ) {source : Option ℕ} {content : Content} {outcome : Outcome} {progress : Progress} {was_read : Bool} {so_far : Part} {error : Slot} {sources : List Source} {old new : List Slot} {fault : Fault} → task.with_header ≡ true → Leaves told_in content source sources []
+pub stopped_in_header : {told_in told : Bool} {task : Task} {most : ℕ} (is_first : Bool) (name : List ℕ) {source : Option ℕ} {content : Content} {outcome : Outcome} {failed was_read : Bool} {so_far : Part} {error : Slot} {sources : List Source} {old new : List Slot} {fault : Fault} → task.with_header ≡ true → Leaves told_in content source sources []
     → OutputsAt told (streams_with error) so_far old → HeaderFails told (header_text task.with_header is_first name) old new fault
-    → TookInput told_in told task most outcome (header_text task.with_header is_first name) source (Some content) progress was_read so_far error (length old) sources new (Err fault)
+    → TookInput told_in told task most (input_from name source content) outcome is_first failed was_read so_far error (length old) sources new (Err fault)
 stopped_in_header {told} {task} is_first name {content} {so_far} {error} {old} {new} due unread at (no_room is) =
     cut_off Memory _ new (unheaded content due unread) refl
     (stopped_here told (streams_with error) so_far so_far Memory old new at (part_begins_itself so_far) is tt)
@@ -98,43 +98,45 @@ stopped_in_header {told} {task} is_first name {content} {so_far} {error} {old} {
     (none_to_sweep task.work.clears new (omega (arith, count)))
 
 -- the engine's part of an input, after the header
-module _ (told_in told : Bool) (task : Task) (most : ℕ) (is_first : Bool) (name : List ℕ) (progress : Progress) (so_far : Part) (error : Slot) (count : ℕ) (source : Option ℕ) (sources : List Source) (mid : List Slot) (counted : length mid ≡ count) (streams_there : 2 ≤ count)
+module _ (told_in told : Bool) (task : Task) (most : ℕ) (is_first failed was_read : Bool) (name : List ℕ) (so_far : Part) (error : Slot) (count : ℕ) (source : Option ℕ) (sources : List Source) (mid : List Slot) (counted : length mid ≡ count) (streams_there : 2 ≤ count)
     (at : OutputsAt told (streams_with error) (after_part so_far (only_out (header_text task.with_header is_first name))) mid) where
   abbrev pub TookSo : Content → List Slot → Result Progress Fault → Type 0
-  TookSo content new result = TookInput told_in told task most (of_content task is_first name (Some content)) (header_text task.with_header is_first name) source (Some content) progress progress.was_read so_far error count sources new result
+  TookSo content new result = TookInput told_in told task most (input_from name source content) (of_content task is_first name (Some content)) is_first failed was_read so_far error count sources new result
 
   part_after : (error_now : Slot) (part : Part) {reached : List Slot} → OutputsAt told (streams_with error_now) (after_part (after_part so_far (only_out (header_text task.with_header is_first name))) part) reached
       → OutputsAt told (streams_with error_now) (after_part so_far (after_part (only_out (header_text task.with_header is_first name)) part)) reached
   part_after error_now part {reached} there = subst (λ those. OutputsAt told (streams_with error_now) those reached) (after_assoc so_far (only_out (header_text task.with_header is_first name)) part) there
 
   -- it went well
-  went_well : (content : Content) (new : List Slot) → IsDone told_in task.work most source (Some content) sources → is_enough task.work content ≡ true → task.work.verdict content.bytes ≡ None → OutputsAt told mid (task.work.whole content.bytes) new → TookSo content new (Ok (record progress { is_first = false }))
+  went_well : (content : Content) (new : List Slot) → IsDone told_in task.work most source (Some content) sources → is_enough task.work content ≡ true → task.work.verdict content.bytes ≡ None → OutputsAt told mid (task.work.whole content.bytes) new → TookSo content new (Ok (record { was_read = was_read; is_first = false; failed = failed }))
   went_well content new done enough well there =
-      subst (λ outcome. TookInput told_in told task most outcome (header_text task.with_header is_first name) source (Some content) progress progress.was_read so_far error count sources new (Ok (record progress { is_first = false }))) (sym (made_well task is_first name content enough well))
-      (took (record progress { is_first = false }) error new (simp (and-false, or-false)) done refl (part_after error _ (at_after at there)) refl)
+      subst (λ outcome. TookInput told_in told task most (input_from name source content) outcome is_first failed was_read so_far error count sources new (Ok (record { was_read = was_read; is_first = false; failed = failed }))) (sym (made_well task is_first name content enough well))
+      (took (record { was_read = was_read; is_first = false; failed = failed }) error new (simp (and-false, or-false)) done refl (part_after error _ (at_after at there)) refl)
 
   -- a message is due
   went_badly : (content : Content) (part : Part) (text : List ℕ) (reached old new : List Slot) → IsDone told_in task.work most source (Some content) sources
       → of_content task is_first name (Some content) ≡ record { part = after_part (only_out (header_text task.with_header is_first name)) part; messages = text ∷ []; failed = true; sweeps = task.work.clears }
-      → OutputsAt told mid part reached → Swept task.work.clears (length mid) reached old → SaysOn told task.tool text old new → TookSo content new (Ok (record progress { is_first = false; failed = true }))
+      → OutputsAt told mid part reached → Swept task.work.clears (length mid) reached old → SaysOn told task.tool text old new → TookSo content new (Ok (record { was_read = was_read; is_first = false; failed = true }))
   went_badly content part text reached old new done made there swept says =
-      let said = said_swept told task.tool text task.work.clears old new count streams_there (at_after at there) (subst (λ n. Swept task.work.clears n reached old) counted swept) says in
-      subst (λ outcome. TookInput told_in told task most outcome (header_text task.with_header is_first name) source (Some content) progress progress.was_read so_far error count sources new (Ok (record progress { is_first = false; failed = true }))) (sym made)
-      (took (record progress { is_first = false; failed = true }) said.0 said.2.0
-      (simp (and-false, or-true)) done (said.0, said.1, refl) (part_after said.0 part said.2.1) said.2.2)
+      let top = adds (told_of told (after_part so_far (after_part (only_out (header_text task.with_header is_first name)) part)).out) standard_output in
+      let all = part_after error part (at_after at there) in
+      let said = said_swept told task.tool text task.work.clears old new count streams_there (subst (λ slots. Swept task.work.clears count slots old) all.slots (subst (λ n. Swept task.work.clears n reached old) counted swept)) says in
+      subst (λ outcome. TookInput told_in told task most (input_from name source content) outcome is_first failed was_read so_far error count sources new (Ok (record { was_read = was_read; is_first = false; failed = true }))) (sym made)
+      (took (record { was_read = was_read; is_first = false; failed = true }) said.after (top ∷ said.after ∷ all.since)
+      (simp (and-false, or-true)) done (said.after, said.says, refl) (record { standard = lit< tt; since = all.since; slots = refl; files = all.files }) said.swept)
 
-  pub took_well : {content : Content} {new : List Slot} {fed : Fed} → IsDone told_in task.work most source (Some content) sources → (fed ≡ Whole) ⊎ (fed ≡ Enough) → FedAs told mid task.work task.opening most content (Leaves told_in content source sources) new (Ok fed) → TookSo content new (Ok (record progress { is_first = false }))
+  pub took_well : {content : Content} {new : List Slot} {fed : Fed} → IsDone told_in task.work most source (Some content) sources → (fed ≡ Whole) ⊎ (fed ≡ Enough) → FedAs told mid task.work task.opening most content (Leaves told_in content source sources) new (Ok fed) → TookSo content new (Ok (record { was_read = was_read; is_first = false; failed = failed }))
   took_well {content} {new} done good (whole sound going well there) = went_well content new done (or_left _ _ (ap not sound)) well there
   took_well {content} {new} done good (had_enough complete well there) = went_well content new done (or_right _ _ complete) well there
   took_well done good (broke_off breaks going reached there swept) = absurd (elim good [ inl is ↦ cc | inr is ↦ cc ])
 
-  pub took_broken : {content : Content} {old new : List Slot} {fed : Fed} → IsDone told_in task.work most source (Some content) sources → fed ≡ Broken → FedAs told mid task.work task.opening most content (Leaves told_in content source sources) old (Ok fed) → SaysOn told task.tool (message_of task.tool (Read 0) name) old new → TookSo content new (Ok (record progress { is_first = false; failed = true }))
+  pub took_broken : {content : Content} {old new : List Slot} {fed : Fed} → IsDone told_in task.work most source (Some content) sources → fed ≡ Broken → FedAs told mid task.work task.opening most content (Leaves told_in content source sources) old (Ok fed) → SaysOn told task.tool (message_of task.tool (Read 0) name) old new → TookSo content new (Ok (record { was_read = was_read; is_first = false; failed = true }))
   took_broken {content} {old} {new} done is (broke_off breaks going reached there swept) says =
       went_badly content (task.work.settled content.bytes) (message_of task.tool (Read 0) name) reached old new done
       (let short : is_enough task.work content ≡ false = ap (λ (b : Bool). not b || task.work.is_complete content.bytes) breaks ∙ going in simp (short, and-true)) there swept says
   took_broken done is ends says = absurd (cc)
 
-  pub took_verdict : {content : Content} {old new : List Slot} {fault : Fault} → IsDone told_in task.work most source (Some content) sources → is_verdict fault ≡ true → FedAs told mid task.work task.opening most content (Leaves told_in content source sources) old (Err fault) → SaysOn told task.tool (message_of task.tool fault (task.subject fault)) old new → TookSo content new (Ok (record progress { is_first = false; failed = true }))
+  pub took_verdict : {content : Content} {old new : List Slot} {fault : Fault} → IsDone told_in task.work most source (Some content) sources → is_verdict fault ≡ true → FedAs told mid task.work task.opening most content (Leaves told_in content source sources) old (Err fault) → SaysOn told task.tool (message_of task.tool fault (task.subject fault)) old new → TookSo content new (Ok (record { was_read = was_read; is_first = false; failed = true }))
   took_verdict {content} {old} {new} {fault} done judging (judged _ is enough judges reached there swept) says =
       went_badly content (task.work.whole content.bytes) (message_of task.tool fault (task.subject fault)) reached old new done (simp (enough, judges, and-true)) there swept says
   took_verdict done judging (stopped _ unjudged call is_call read reached why stop swept) says = absurd (false≢true (sym unjudged ∙ judging))
@@ -220,7 +222,7 @@ pub ran_into : {told_in told : Bool} {task : Task} {found : List Input} {sources
     → EndsAs told_in told task found sources new 1
 ran_into {told} {task} {mid} {fault} (stopped_at _ before input after error step reached among done untouched is_step stops said stop swept) says =
     let text = message_of task.tool fault (output_named mid fault) in
-    let said_so = stop_swept step task.work.clears (message_some task.tool fault (output_named mid fault)) (lit≤ tt)
+    let said_so = stop_swept told task.tool text step task.work.clears (lit≤ tt)
     (ap is_open (all_said_state told task.tool (made_by task before).messages standard_error error said)) stop stops swept says in
     run_stopped fault before input after said_so.after step said_so.reached among done untouched is_step said_so.why said_so.stop said_so.swept
     (subst (λ name. SaysAll told task.tool ((made_by task before).messages ++ message_of task.tool fault name ∷ []) standard_error said_so.after) (sym said_so.named)
@@ -258,92 +260,65 @@ of_file world was_read {slot} {name} {content} P differs lies holds = (
   holds,
 )
 
-dash_at : {told : Bool} (was_read : Bool) (laid : ℕ → List ℕ → Option Content) (sources : List Source) (slot : ℕ) (name : List ℕ) (P : Option ℕ → Content → Type 0) (Q : Input → Type 0) → is_dash name ≡ true
-    → ((content : Content) → P (Some 0) content → Q (standard_input content)) → (P None empty → Q read_before)
-    → OfSource told (standard_source was_read) sources (P (standard_source was_read)) → OfName told (world_of laid sources) was_read slot name Q
-dash_at true laid sources slot name P Q dash first again holds = (
+dash_at : {told : Bool} (was_read : Bool) (laid : ℕ → List ℕ → Option Content) (sources : List Source) (slot : ℕ) (name : List ℕ) (P : Input → Type 0) → is_dash name ≡ true
+    → OfSource told (standard_source was_read) sources (λ content. P (input_from (codes "standard input") (standard_source was_read) content)) → OfName told (world_of laid sources) was_read slot name P
+dash_at true laid sources slot name P dash holds = (
   read_before,
   (record { laid = laid; standard = empty }, sym (ap (input_of (record { laid = laid; standard = empty }) true slot name) dash)),
   λ t. sym (ap (input_of (world_of laid sources) true slot name) dash),
-  again holds,
+  holds,
 )
-dash_at false laid sources slot name P Q dash first again (content, there, holds) = (
+dash_at false laid sources slot name P dash (content, there, holds) = (
   standard_input content,
   (record { laid = laid; standard = content }, sym (ap (input_of (record { laid = laid; standard = content }) false slot name) dash)),
   λ t. ap standard_input (there t) ∙ sym (ap (input_of (world_of laid sources) false slot name) dash),
-  first content holds,
+  holds,
 )
 
-pub of_dash : {told : Bool} (was_read : Bool) {source : Option ℕ} (laid : ℕ → List ℕ → Option Content) (sources : List Source) (slot : ℕ) (name : List ℕ) (P : Option ℕ → Content → Type 0) (Q : Input → Type 0) → source ≡ standard_source was_read → is_dash name ≡ true
-    → ((content : Content) → P (Some 0) content → Q (standard_input content)) → (P None empty → Q read_before)
-    → OfSource told source sources (P source) → OfName told (world_of laid sources) was_read slot name Q
-of_dash {told} was_read laid sources slot name P Q is dash first again holds =
-    dash_at was_read laid sources slot name P Q dash first again (subst (λ from. OfSource told from sources (P from)) is holds)
-
-pub of_opened : {told : Bool} (was_read : Bool) {laid : ℕ → List ℕ → Option Content} {old new : List Source} {slot : ℕ} {name : List ℕ} (P : Content → Type 0) (Q : Input → Type 0) → is_dash name ≡ false → OpensFile told laid old new name slot
-    → ((content : Content) → P content → Q (file_input name (length old) (Some content)))
-    → OfSource told (Some slot) new P → OfName told (world_of laid old) was_read (length old) name Q
-of_opened was_read {laid} {old} {slot} {name} P Q differs opened_it as_file (content, there, holds) =
-    of_file (world_of laid old) was_read Q differs (λ t. ap (λ n. laid n name) (sym opened_it.number) ∙ opened_it.lies t
+-- the file was opened
+pub took_opened : {told_in told : Bool} {task : Task} {most : ℕ} {is_first failed was_read : Bool} {laid : ℕ → List ℕ → Option Content} {name : List ℕ} {old mid : List Source} {slot : ℕ} {so_far : Part} {error : Slot} {first : ℕ} {sources : List Source} {new : List Slot} {result : Result Progress Fault} → is_dash name ≡ false → OpensFile told_in laid old mid name slot
+    → OfSource told_in (Some slot) mid (λ content. TookInput told_in told task most (input_from name (Some slot) content) (of_content task is_first name (Some content)) is_first failed was_read so_far error first sources new result)
+    → OfName told_in (world_of laid old) was_read (length old) name (λ input. TookInput told_in told task most input (of_input task is_first input) is_first failed (was_read || is_dash name) so_far error first sources new result)
+took_opened {told_in} {told} {task} {most} {is_first} {failed} {was_read} {laid} {name} {old} {slot = slot} {so_far} {error} {first} {sources} {new} {result} differs opened_it (content, there, one) =
+    of_file (world_of laid old) was_read _ differs (λ t. ap (λ n. laid n name) (sym opened_it.number) ∙ opened_it.lies t
     ∙ ap Some (sym (there t ∙ ap (λ (source : Source). source.left) (ap (λ those. source_at those slot) opened_it.sources ∙ ap (source_at (old ++ source_of opened_it.content ∷ [])) opened_it.number ∙ last_source old))))
-    (as_file content holds)
+    (subst (λ read. TookInput told_in told task most (input_from name (Some (length old)) content) (of_content task is_first name (Some content)) is_first failed read so_far error first sources new result) (sym (ap (λ (b : Bool). was_read || b) differs ∙ or-false was_read))
+    (subst (λ n. TookInput told_in told task most (input_from name (Some n) content) (of_content task is_first name (Some content)) is_first failed was_read so_far error first sources new result) opened_it.number one))
 
--- the same step, seen from the name
-
-took_as : {told_in told : Bool} {task : Task} {most : ℕ} {outcome : Outcome} {header : List ℕ} {slot : Option ℕ} {content : Option Content} {progress other : Progress} {was_read is_read : Bool} {so_far : Part} {error : Slot} {first : ℕ} {sources : List Source} {new : List Slot} {result : Result Progress Fault}
-    → ((failed : Bool) → after_input progress was_read failed content ≡ after_input other is_read failed content)
-    → TookInput told_in told task most outcome header slot content progress was_read so_far error first sources new result → TookInput told_in told task most outcome header slot content other is_read so_far error first sources new result
-took_as {outcome} same (took next after reached is done says at swept) = took next after reached (is ∙ same outcome.failed) done says at swept
-took_as same (cut_off fault step reached is_step stops stop swept) = cut_off fault step reached is_step stops stop swept
-
-took_dash : {told_in told : Bool} {task : Task} {most : ℕ} {outcome : Outcome} {header : List ℕ} {slot : Option ℕ} {content : Option Content} {progress : Progress} (name : List ℕ) {so_far : Part} {error : Slot} {first : ℕ} {sources : List Source} {new : List Slot} {result : Result Progress Fault} → is_dash name ≡ true
-    → TookInput told_in told task most outcome header slot content (record progress { was_read = true }) true so_far error first sources new result → TookInput told_in told task most outcome header slot content progress (progress.was_read || is_dash name) so_far error first sources new result
-took_dash {content} {progress} name dash =
-    took_as
-    (λ failed. ap (λ (b : Bool). record { was_read = b; is_first = progress.is_first && is_missing content; failed = progress.failed || failed }) (sym (ap (λ (b : Bool). progress.was_read || b) dash ∙ or-true progress.was_read)))
-
-pub took_file : {told_in told : Bool} {task : Task} {most : ℕ} {outcome : Outcome} {header : List ℕ} {slot : ℕ} {content : Option Content} {progress : Progress} {laid : ℕ → List ℕ → Option Content} {name : List ℕ} {old mid : List Source} {so_far : Part} {error : Slot} {first : ℕ} {sources : List Source} {new : List Slot} {result : Result Progress Fault} → is_dash name ≡ false → OpensFile told_in laid old mid name slot
-    → TookInput told_in told task most outcome header (Some slot) content progress progress.was_read so_far error first sources new result → TookInput told_in told task most outcome header (Some (length old)) content progress (progress.was_read || is_dash name) so_far error first sources new result
-took_file {told_in} {told} {task} {most} {outcome} {header} {content} {progress} {so_far} {error} {first} {sources} {new} {result} differs opened_it one =
-    took_as
-    (λ failed. ap (λ (b : Bool). record { was_read = b; is_first = progress.is_first && is_missing content; failed = progress.failed || failed }) (sym (ap (λ (b : Bool). progress.was_read || b) differs ∙ or-false progress.was_read)))
-    (subst (λ n. TookInput told_in told task most outcome header (Some n) content progress progress.was_read so_far error first sources new result) opened_it.number one)
-
-took_missing : {told_in told : Bool} {task : Task} {most : ℕ} {progress : Progress} (name : List ℕ) (sources : List Source) {after : List Source} (slot : ℕ) {so_far : Part} {error : Slot} {old new : List Slot} → is_dash name ≡ false → after ≡ sources ++ missing ∷ [] → OutputsAt told (streams_with error) so_far old
+took_missing : {told_in told : Bool} {task : Task} {most : ℕ} {is_first failed was_read : Bool} (name : List ℕ) (sources : List Source) {after : List Source} (slot : ℕ) {so_far : Part} {error : Slot} {old new : List Slot} → is_dash name ≡ false → after ≡ sources ++ missing ∷ [] → OutputsAt told (streams_with error) so_far old
     → SaysOn told task.tool (message_of task.tool (Open slot) name) old new
-    → TookInput told_in told task most (of_input task progress.is_first (file_input name (length sources) None)) (header_text task.with_header progress.is_first name) (Some (length sources)) None progress (progress.was_read || is_dash name) so_far error (length old) after new (Ok (record progress { failed = true }))
-took_missing {told_in} {told} {task} {most} {progress} name sources slot {so_far} {new} differs are at says =
+    → TookInput told_in told task most (file_input name (length sources) None) (of_input task is_first (file_input name (length sources) None)) is_first failed (was_read || is_dash name) so_far error (length old) after new (Ok (record { was_read = was_read; is_first = is_first; failed = true }))
+took_missing {told_in} {told} {task} {most} {is_first} {was_read = was_read} name sources slot {so_far} {new = new} differs are at says =
     let said = said_at at says in
-    took (record progress { failed = true }) said.0 new (simp (differs, or-false, and-true, or-true)) (missing_done told_in task.work most sources are)
+    took (record { was_read = was_read; is_first = is_first; failed = true }) said.0 new (simp (differs, or-false, and-true, or-true)) (missing_done told_in task.work most sources are)
     (said.0, said.1, refl) (subst (λ part. OutputsAt told (streams_with said.0) part new) (sym nothing_after) said.2) refl
 
 -- standard input, for the operand `-`
-pub took_standard : {told_in told : Bool} {task : Task} {most : ℕ} {progress : Progress} {source : Option ℕ} (laid : ℕ → List ℕ → Option Content) (name : List ℕ) (old : List Source) {sources : List Source} {so_far : Part} {error : Slot} {first : ℕ} {new : List Slot} {result : Result Progress Fault} → source ≡ standard_source progress.was_read → is_dash name ≡ true
-    → OfSource told_in source old (λ content. TookInput told_in told task most (of_content task progress.is_first (codes "standard input") (Some content)) (header_text task.with_header progress.is_first (codes "standard input")) source (Some content) (record progress { was_read = true }) true so_far error first sources new result)
-    → OfName told_in (world_of laid old) progress.was_read (length old) name
-    (λ input. TookInput told_in told task most (of_input task progress.is_first input) (header_text task.with_header progress.is_first input.name) input.slot input.content progress (progress.was_read || is_dash name) so_far error first sources new result)
-took_standard {told_in} {told} {task} {most} {progress} laid name old {sources} {so_far} {error} {first} {new} {result} is dash =
-    of_dash progress.was_read laid old (length old) name
-    (λ from content. TookInput told_in told task most (of_content task progress.is_first (codes "standard input") (Some content)) (header_text task.with_header progress.is_first (codes "standard input")) from (Some content) (record progress { was_read = true }) true so_far error first sources new result)
-    _ is dash (λ content one. took_dash name dash one) (λ one. took_dash name dash one)
+pub took_standard : {told_in told : Bool} {task : Task} {most : ℕ} {is_first failed : Bool} (was_read : Bool) {source : Option ℕ} (laid : ℕ → List ℕ → Option Content) (name : List ℕ) (old : List Source) {sources : List Source} {so_far : Part} {error : Slot} {first : ℕ} {new : List Slot} {result : Result Progress Fault} → source ≡ standard_source was_read → is_dash name ≡ true
+    → OfSource told_in source old (λ content. TookInput told_in told task most (input_from (codes "standard input") source content) (of_content task is_first (codes "standard input") (Some content)) is_first failed true so_far error first sources new result)
+    → OfName told_in (world_of laid old) was_read (length old) name (λ input. TookInput told_in told task most input (of_input task is_first input) is_first failed (was_read || is_dash name) so_far error first sources new result)
+took_standard {told_in} {told} {task} {most} {is_first} {failed} was_read laid name old {sources} {so_far} {error} {first} {new} {result} is dash holds =
+    let P = λ (read : Bool) (input : Input). TookInput told_in told task most input (of_input task is_first input) is_first failed read so_far error first sources new result in
+    dash_at was_read laid old (length old) name (P (was_read || is_dash name)) dash
+    (subst (λ read. OfSource told_in (standard_source was_read) old (λ content. P read (input_from (codes "standard input") (standard_source was_read) content))) (sym (ap (λ (b : Bool). was_read || b) dash ∙ or-true was_read))
+    (subst (λ from. OfSource told_in from old (λ content. P true (input_from (codes "standard input") from content))) is holds))
 
 -- a name that could not be opened: it is passed over with a message
 
-pub of_missing : {told_in told : Bool} {task : Task} {most : ℕ} {progress : Progress} {laid : ℕ → List ℕ → Option Content} {name : List ℕ} {sources after : List Source} {fault : Fault} {so_far : Part} {error : Slot} {old new : List Slot} → is_dash name ≡ false → OpensNothing told_in laid sources after name fault → is_unopened fault ≡ true → OutputsAt told (streams_with error) so_far old
-    → SaysOn told task.tool (message_of task.tool fault name) old new → OfName told_in (world_of laid sources) progress.was_read (length sources) name
-    (λ input. TookInput told_in told task most (of_input task progress.is_first input) (header_text task.with_header progress.is_first input.name) input.slot input.content progress (progress.was_read || is_dash name) so_far error (length old) after new (Ok (record progress { failed = true })))
-of_missing {progress} {laid} {name} {sources} differs (from.broke slot number lies are) cannot at says =
-    of_file (world_of laid sources) progress.was_read _ differs (λ t. ap (λ n. laid n name) (sym number) ∙ lies t)
+pub of_missing : {told_in told : Bool} {task : Task} {most : ℕ} {is_first failed was_read : Bool} {laid : ℕ → List ℕ → Option Content} {name : List ℕ} {sources after : List Source} {fault : Fault} {so_far : Part} {error : Slot} {old new : List Slot} → is_dash name ≡ false → OpensNothing told_in laid sources after name fault → is_unopened fault ≡ true → OutputsAt told (streams_with error) so_far old
+    → SaysOn told task.tool (message_of task.tool fault name) old new → OfName told_in (world_of laid sources) was_read (length sources) name
+    (λ input. TookInput told_in told task most input (of_input task is_first input) is_first failed (was_read || is_dash name) so_far error (length old) after new (Ok (record { was_read = was_read; is_first = is_first; failed = true })))
+of_missing {was_read = was_read} {laid} {name} {sources} differs (from.broke slot number lies are) cannot at says =
+    of_file (world_of laid sources) was_read _ differs (λ t. ap (λ n. laid n name) (sym number) ∙ lies t)
     (took_missing name sources slot differs are at says)
 of_missing differs (from.no_room are) cannot at says = absurd (false≢true cannot)
 
 -- there was no room for it
-pub of_no_room : {told_in told : Bool} {task : Task} {most : ℕ} {progress : Progress} {laid : ℕ → List ℕ → Option Content} {name : List ℕ} {sources after : List Source} {fault : Fault} {so_far : Part} {error : Slot} {old : List Slot} → is_dash name ≡ false → OpensNothing told_in laid sources after name fault → is_unopened fault ≡ false → OutputsAt told (streams_with error) so_far old
-    → OfName told_in (world_of laid sources) progress.was_read (length sources) name
-    (λ input. TookInput told_in told task most (of_input task progress.is_first input) (header_text task.with_header progress.is_first input.name) input.slot input.content progress (progress.was_read || is_dash name) so_far error (length old) after old (Err fault))
-of_no_room differs (from.broke slot number lies are) other at = absurd (false≢true (sym other))
-of_no_room {told} {task} {progress} {laid} {name} {sources} {so_far} {error} {old} differs (from.no_room are) other at =
-    of_file (world_of laid sources) progress.was_read _ differs (λ t. refl)
+pub of_no_room : {told_in told : Bool} {task : Task} {most : ℕ} {is_first failed : Bool} (was_read : Bool) {laid : ℕ → List ℕ → Option Content} {name : List ℕ} {sources after : List Source} {fault : Fault} {so_far : Part} {error : Slot} {old : List Slot} → is_dash name ≡ false → OpensNothing told_in laid sources after name fault → is_unopened fault ≡ false → OutputsAt told (streams_with error) so_far old
+    → OfName told_in (world_of laid sources) was_read (length sources) name (λ input. TookInput told_in told task most input (of_input task is_first input) is_first failed (was_read || is_dash name) so_far error (length old) after old (Err fault))
+of_no_room was_read differs (from.broke slot number lies are) other at = absurd (false≢true (sym other))
+of_no_room {told = told} {task} was_read {laid} {name} {sources} {so_far} {error} {old} differs (from.no_room are) other at =
+    of_file (world_of laid sources) was_read _ differs (λ t. refl)
     (cut_off Memory _ old (unopened (laid (length sources) name) (length sources) refl (omega (arith, ap length are))) refl
     (stopped_here told (streams_with error) so_far so_far Memory old old at (part_begins_itself so_far) refl tt) (none_to_sweep task.work.clears old (omega arith)))
 
@@ -449,7 +424,7 @@ taken_alone {left} slots alone is = elim (alone is) [
 abbrev pub Takes : Bool → Bool → Task → ℕ → Progress → (ℕ → List ℕ → Option Content) → List Source → List Source → List ℕ → Part → Slot → List Slot → List Slot → Result Progress Fault → Type 0
 Takes told_in told task most progress laid sources new_sources name so_far error slots new result =
     OfName told_in (world_of laid sources) progress.was_read (length sources) name
-    (λ input. TookInput told_in told task most (of_input task progress.is_first input) (header_text task.with_header progress.is_first input.name) input.slot input.content progress (progress.was_read || is_dash name) so_far error (length slots) new_sources new result)
+    (λ input. TookInput told_in told task most input (of_input task progress.is_first input) progress.is_first progress.failed (progress.was_read || is_dash name) so_far error (length slots) new_sources new result)
 
 -- no read asked for more
 pub asks_on : {most : ℕ} {was_read : Bool} {name : List ℕ} {sources new_sources : List Source} → most ≡ largest_piece → TakesOne most was_read name sources new_sources → AsksAtMost largest_piece sources → AsksAtMost largest_piece new_sources
