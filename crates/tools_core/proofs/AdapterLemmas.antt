@@ -77,18 +77,6 @@ plan_is {cut} {elide} {delim} {names} made is = ap (λ (those : Naming). record 
 
 -- an engine that was opened, and left the outputs as they were
 
-stops_as : (style : Style) (operands : List Operand) {opening : Needs} (old new : List Slot) (fault : Fault) → opening.memory ≡ true → opening.files ≡ true → Breaks style old new fault → Stops (call_of (csplit_work style operands) opening [] nothing ((csplit_work style operands).settled [])) new fault
-stops_as style operands old new Memory may opens breaks = may
-stops_as style operands old new (Write slot) may opens breaks = (λ first. ap not (breaks.0 first), λ none. absurd (false≢true (sym none)), breaks.1.1)
-stops_as style operands old new (Open slot) may opens breaks = (refl, opens)
-stops_as style operands old new fault may opens breaks = absurd breaks
-
-unjudged_by : (style : Style) (old new : List Slot) (fault : Fault) → Breaks style old new fault → is_verdict fault ≡ false
-unjudged_by style old new Suffixes breaks = absurd breaks
-unjudged_by style old new (NoMatch operand repetition) breaks = absurd breaks
-unjudged_by style old new (Range operand repetition) breaks = absurd breaks
-unjudged_by style old new fault breaks = refl
-
 pub opened_of : {S : Type 0} (Holds : S → List ℕ → Type 0) (Owns : S → ℕ → List Slot → Type 0) (work : S → Work) (Ready : S → List Slot → Type 0) {begun asked : Work} (told : Bool) (old new : List Slot) (result : Result (GuardState S) Fault) → begun ≡ asked → IfOk result (λ e. HoldsIn Holds e [])
     → IfOk result (λ e. work e.stage ≡ begun) → IfOk result (λ e. e.fed < 2 ^ 63) → IfOk result (λ e. Ready e.stage new)
     → IfOk result (λ e. Owns e.stage (length old) new) → OnOk result (OutputsAt told old (begun.settled []) new)
@@ -115,12 +103,18 @@ pub split_stops : (plan : Plan) (old : List Slot) {new : List Slot} {fault : Fau
 split_stops plan old (inl is) = rw is (refl, refl, refl)
 split_stops plan old (inr (slot, is, rose)) = rw is (refl, (refl, refl), refl)
 
+csplit_halts : (style : Style) (operands : List Operand) (old new : List Slot) (fault : Fault) → Breaks style old new fault
+    → (is_verdict fault ≡ false) × Stops (call_of (csplit_work style operands) (record { memory = true; files = true }) [] nothing ((csplit_work style operands).settled [])) new fault
+csplit_halts style operands old new Memory breaks = (refl, refl)
+csplit_halts style operands old new (Write slot) breaks = (refl, (λ first. ap not (breaks.0 first), λ none. absurd (false≢true (sym none)), breaks.1.1))
+csplit_halts style operands old new (Open slot) breaks = (refl, (refl, refl))
+csplit_halts style operands old new fault breaks = absurd breaks
+
 pub csplit_stops : (style : Style) (operands : List Operand) (old new : List Slot) (fault : Fault) → Breaks style old new fault → HasNoFiles (length old) new
     → (is_verdict fault ≡ false)
     × Stops (call_of (csplit_work style operands) (record { memory = true; files = true }) [] nothing ((csplit_work style operands).settled [])) new fault
     × Swept (csplit_work style operands).clears (length old) new new
-csplit_stops style operands old new fault breaks none =
-    (unjudged_by style old new fault breaks, stops_as style operands old new fault refl refl breaks, swept_none (not style.keep) (length old) new none)
+csplit_stops style operands old new fault breaks none = let (unjudged, stops) = csplit_halts style operands old new fault breaks in (unjudged, stops, swept_none (not style.keep) (length old) new none)
 
 pub whatever : {E : Type 0} (P : E → Type 0) (result : Result E Fault) → ((e : E) → P e) → IfOk result P
 whatever P (Ok e) all = all e
@@ -130,18 +124,12 @@ pub no_memory_for : {E : Type 0} (told : Bool) (work : Work) (opening : Needs) (
 no_memory_for told work opening slots (Ok e) P may two err = tt
 no_memory_for told work opening slots (Err fault) P may two err = no_memory (may err.1) two err.0
 
--- what opening may need
+-- the work that is asked for, and what opening it may need
 
-pub head_opening : {asked : EndsAsked} {unit : Counted} {count : Count} {headers : Headers} {delim : ℕ} {names : List (List ℕ)} {minus : Bool} → record { unit = unit; count = count; headers = headers; delim = delim; names = names } ≡ asked → minus ≡ is_minus count.sign → minus ≡ true → (head_task asked).opening.memory ≡ true
-head_opening {count} is signed may = sym (ap (λ (those : EndsAsked). is_minus those.count.sign) is) ∙ sym signed ∙ may
+pub head_asked : {those asked : EndsAsked} {minus : Bool} → those ≡ asked → minus ≡ is_minus those.count.sign → (head_work those.delim those.unit minus those.count.amount ≡ (head_task asked).work) × (minus ≡ true → (head_task asked).opening.memory ≡ true)
+head_asked {those} is signed =
+    (ap (λ b. head_work those.delim those.unit b those.count.amount) signed ∙ ap (λ (asked : EndsAsked). (head_task asked).work) is, λ may. sym (ap (λ (asked : EndsAsked). is_minus asked.count.sign) is) ∙ sym signed ∙ may)
 
-pub tail_opening : {asked : EndsAsked} {unit : Counted} {count : Count} {headers : Headers} {delim : ℕ} {names : List (List ℕ)} {plus : Bool} → record { unit = unit; count = count; headers = headers; delim = delim; names = names } ≡ asked → plus ≡ is_plus count.sign → plus ≡ false → (tail_task asked).opening.memory ≡ true
-tail_opening {count} is signed may = ap not (sym (ap (λ (those : EndsAsked). is_plus those.count.sign) is) ∙ sym signed ∙ may)
-
--- the work that is asked for
-
-pub head_asked : {asked : EndsAsked} {unit : Counted} {count : Count} {headers : Headers} {delim : ℕ} {names : List (List ℕ)} {minus : Bool} → record { unit = unit; count = count; headers = headers; delim = delim; names = names } ≡ asked → minus ≡ is_minus count.sign → head_work delim unit minus count.amount ≡ (head_task asked).work
-head_asked {unit} {count} {delim} is signed = ap (λ b. head_work delim unit b count.amount) signed ∙ ap (λ (those : EndsAsked). (head_task those).work) is
-
-pub tail_asked : {asked : EndsAsked} {unit : Counted} {count : Count} {headers : Headers} {delim : ℕ} {names : List (List ℕ)} {plus : Bool} → record { unit = unit; count = count; headers = headers; delim = delim; names = names } ≡ asked → plus ≡ is_plus count.sign → tail_work delim unit plus count.amount ≡ (tail_task asked).work
-tail_asked {unit} {count} {delim} is signed = ap (λ b. tail_work delim unit b count.amount) signed ∙ ap (λ (those : EndsAsked). (tail_task those).work) is
+pub tail_asked : {those asked : EndsAsked} {plus : Bool} → those ≡ asked → plus ≡ is_plus those.count.sign → (tail_work those.delim those.unit plus those.count.amount ≡ (tail_task asked).work) × (plus ≡ false → (tail_task asked).opening.memory ≡ true)
+tail_asked {those} is signed =
+    (ap (λ b. tail_work those.delim those.unit b those.count.amount) signed ∙ ap (λ (asked : EndsAsked). (tail_task asked).work) is, λ may. ap not (sym (ap (λ (asked : EndsAsked). is_plus asked.count.sign) is) ∙ sym signed ∙ may))

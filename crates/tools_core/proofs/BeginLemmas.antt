@@ -1,6 +1,6 @@
 -- What a run leaves that a fault stopped is a beginning of what one leaves that none stopped.
 use Rattle.std.proofs.Common.{◌≡◌, ℕ, ◌≤◌, ◌<◌, zero, suc, Bool, true, false, not, ◌||◌, List, [], ◌∷◌, ◌++◌, length, map, Option, Some, inl, inr, ◌⊎◌, refl, sym, ◌∙◌, ap, subst, arith, append-nil, length-append}
-use Rattle.std.proofs.lemmas.Bool.{cases_eq, false≢true}
+use Rattle.std.proofs.lemmas.Bool.{cases_eq, false≢true, or_right}
 use Rattle.std.proofs.lemmas.Bool.Decides.{nat_tests}
 use Rattle.std.proofs.lemmas.List.{length-map}
 use Rattle.std.proofs.lemmas.List.FromFn.{length-map-range_with_len}
@@ -185,46 +185,23 @@ pub lawful_grows : {work : Work} {bytes : List ℕ} → IsLawful work → IsGrow
 lawful_grows law = record { settled = settled_whole law; closed = closed_whole law }
 
 -- where lines are dealt, and all files have names
-nameless : (names : Naming) {low high : ℕ} → low ≤ high → not (are_named names low) ≡ true → are_named names high ≡ true → ⊥
-nameless names {low} {high} few none all = by (are_named names low) refl where
-  by : (has : Bool) → are_named names low ≡ has → ⊥
-  by true is = absurd (false≢true (sym (ap not is) ∙ none))
-  by false is = false≢true (sym (are_named_more names low high is few) ∙ all)
 
 dealt_count : (delim : ℕ) (elide : Bool) (n : ℕ) (x : List ℕ) → length (map (share Closed) (dealt_files delim elide n x)) ≡ opened_by delim elide n x
 dealt_count delim elide n x = length-map (dealt_files delim elide n x) (share Closed) ∙ ap length (dealt_files_are delim elide n x) ∙ length-map-range_with_len (share_of delim n x) 0 (opened_by delim elide n x)
 
-dealt_closed : (delim n : ℕ) (elide : Bool) (names : Naming) {bytes : List ℕ} → are_named names (length (map (share Closed) (dealt_files delim elide n bytes))) ≡ true
-    → (x : List ℕ) → HasAll (split_work (round_plan delim n elide names)) (ending bytes) x → Begins (whole_by (round_plan delim n elide names) x) (whole_by (round_plan delim n elide names) bytes)
-dealt_closed delim n elide names {bytes} all x (to_end ends is) = subst (λ those. Begins (whole_by (round_plan delim n elide names) those) (whole_by (round_plan delim n elide names) bytes)) is (part_begins_itself _)
-dealt_closed delim n elide names {bytes} all x (enough rest is complete) =
-    let few : length (map (share Closed) (dealt_files delim elide n x)) ≤ length (map (share Closed) (dealt_files delim elide n bytes)) = (
-    let here = dealt_count delim elide n x in
-    let there = ap (λ those. length (map (share Closed) (dealt_files delim elide n those))) is ∙ dealt_count delim elide n (x ++ rest) in
-    let grows = opened_by-grows delim elide n x rest in omega (arith, here, there, grows)) in
-    absurd (nameless names few complete all)
-
-dealt_grows : (delim n : ℕ) (elide : Bool) (names : Naming) {bytes : List ℕ} → are_named names (length (map (share Closed) (dealt_files delim elide n bytes))) ≡ true → IsGrowing (split_work (round_plan delim n elide names)) bytes
-dealt_grows delim n elide names {bytes} all = record {
-  settled = settled_whole (round_law.lawful delim n elide names);
-  closed = dealt_closed delim n elide names all;
-}
-
--- files that lines are dealt to have names
-
-either_named : (auto : Bool) {has : Bool} → has ≡ true → (auto || has) ≡ true
-either_named true is = refl
-either_named false is = is
-
 named_up_to : (names : Naming) (count : ℕ) {n : ℕ} → count ≤ n → n ≤ name_count names.alphabet names.width → are_named names count ≡ true
 named_up_to names zero few all = refl
-named_up_to names (suc last) {n} few all = either_named names.auto (grind (arith, nat_tests))
+named_up_to names (suc last) {n} few all = or_right names.auto _ (grind (arith, nat_tests))
 
-dealt_named : (delim : ℕ) {n : ℕ} (elide : Bool) (names : Naming) (bytes : List ℕ) → n ≤ name_count names.alphabet names.width → are_named names (length (map (share Closed) (dealt_files delim elide n bytes))) ≡ true
-dealt_named delim {n} elide names bytes all = ap (are_named names) (dealt_count delim elide n bytes) ∙ named_up_to names (opened_by delim elide n bytes) (opened_by-most delim elide n bytes) all
+dealt_closed : (delim : ℕ) {n : ℕ} (elide : Bool) (names : Naming) {bytes : List ℕ} → n ≤ name_count names.alphabet names.width
+    → (x : List ℕ) → HasAll (split_work (round_plan delim n elide names)) (ending bytes) x → Begins (whole_by (round_plan delim n elide names) x) (whole_by (round_plan delim n elide names) bytes)
+dealt_closed delim {n} elide names {bytes} all x (to_end ends is) = subst (λ those. Begins (whole_by (round_plan delim n elide names) those) (whole_by (round_plan delim n elide names) bytes)) is (part_begins_itself _)
+dealt_closed delim {n} elide names all x (enough rest is complete) =
+    let named = ap (are_named names) (dealt_count delim elide n x) ∙ named_up_to names (opened_by delim elide n x) (opened_by-most delim elide n x) all in
+    absurd (false≢true (sym (ap not named) ∙ complete))
 
 pub split_grows : (delim : ℕ) (cut : Cut) (elide : Bool) (names : Naming) {bytes : List ℕ} → AreNamed cut names.alphabet names.width → IsGrowing (split_work (plan_by delim cut elide names)) bytes
 split_grows delim (Lines n) elide names {bytes} all = lawful_grows (part_law.lawful (limit.Lines n delim) names)
 split_grows delim (Bytes n) elide names {bytes} all = lawful_grows (part_law.lawful (limit.Bytes n) names)
 split_grows delim (LineBytes n) elide names {bytes} all = lawful_grows (part_law.lawful (limit.LineBytes n delim) names)
-split_grows delim (Round n) elide names {bytes} all = dealt_grows delim n elide names (dealt_named delim elide names bytes all)
+split_grows delim (Round n) elide names all = record { settled = settled_whole (round_law.lawful delim n elide names); closed = dealt_closed delim elide names all }

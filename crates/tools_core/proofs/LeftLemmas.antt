@@ -23,7 +23,7 @@ use Rattle.operand_core.specs.declared.operand.Operand.{Operand}
 use Rattle.run_core.specs.Input.{Input, inputs_at, standard_input}
 use Rattle.run_core.specs.RunEnds.{EndsAs, as_defined}
 use Rattle.run_core.specs.Task.{Outcome, Task, made_by, status_of}
-use Rattle.run_core.proofs.StopLemmas.{swept_error}
+use Rattle.run_core.proofs.StopLemmas.{beside_error, swept_error}
 use Rattle.tee_core.specs.Run as tee
 use Rattle.tee_core.specs.Run.{IsRead, are_sound, broke_before, messages_of, none_left, output_names, said_in, said_of_input}
 use Rattle.tee_core.proofs.EndLemmas.{nothing_before, nothing_in, sound_first, whole_files, whole_output}
@@ -49,10 +49,6 @@ told_again (file ∷ files) = ap (λ those. file ∷ those) (told_again files)
 pub slots_at : {part : Part} {error : Slot} {now : List Slot} → OutputsAt true (streams_with error) part now → now ≡ outputs_of part error
 slots_at {part} {error} at =
     at.slots ∙ ap (λ files. adds part.out standard_output ∷ error ∷ files) (sym (slots_again at.since) ∙ ap (map slot_of) (at.files ∙ told_again part.files))
-
-pub beside_error : (output error error_too : Slot) (files : List Slot) (place : ℕ) → (place ≡ 1 → ⊥) → slot_at (output ∷ error ∷ files) place ≡ slot_at (output ∷ error_too ∷ files) place
-beside_error output error error_too files (suc zero) differs = absurd (differs refl)
-beside_error output error error_too files place differs = refl
 
 -- What becomes of an output where files are removed, or stay
 

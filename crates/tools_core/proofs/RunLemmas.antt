@@ -103,18 +103,16 @@ can_run (name ∷ words) {settings} is = can_tool words (row_named tools name) i
 pub tool_runs : {told_in : Bool} (told : Bool) {world : World} (words : List (List ℕ)) {settings : Settings} (old sources : List Source) (new : List Slot) (status : ℕ) → settings_of words ≡ Ok settings
     → RunsOver told_in world (names_of settings) (λ found. DoesAsked told_in told settings found sources new status)
     → RunsOver told_in world (names_read words) (λ found. RunEnds told_in told words found old sources new status)
-tool_runs {told_in} told {world} words old sources new status is (found, finds, does) =
-    subst (λ (meant : Result Settings Fault). RunsOver told_in world (names_at meant) (λ found. RunEndsAt told_in told words found old sources new status meant)) (sym is) (found, finds, inl does)
+tool_runs told words old sources new status is (found, finds, does) = rw is (found, finds, inl does)
 
 pub for_settings : {told_in : Bool} (told : Bool) {world : World} {settings same : Settings} (sources : List Source) (new : List Slot) (status : ℕ) → settings ≡ same
     → RunsOver told_in world (names_of same) (λ found. DoesAsked told_in told same found sources new status)
     → RunsOver told_in world (names_of settings) (λ found. DoesAsked told_in told settings found sources new status)
-for_settings {told_in} told {world} sources new status is runs =
-    subst (λ those. RunsOver told_in world (names_of those) (λ found. DoesAsked told_in told those found sources new status)) (sym is) runs
+for_settings told sources new status is runs = rw is runs
 
 -- the same for an equal list of names
 pub runs_names : {told_in : Bool} {world : World} {names same : List (List ℕ)} (P : List Input → Type 0) → names ≡ same → RunsOver told_in world names P → RunsOver told_in world same P
-runs_names {told_in} {world} P is runs = subst (λ those. RunsOver told_in world those P) is runs
+runs_names P is runs = rw (← is) runs
 
 -- the names that a run reads are those of its settings
 pub ends_names : {asked : EndsAsked} {unit : Counted} {count : Count} {headers : Headers} {delim : ℕ} {items now : List (Bor (List ℕ))} → now ≡ items → record { unit = unit; count = count; headers = headers; delim = delim; names = map (λ (name : Bor (List ℕ)). name.now) items } ≡ asked
@@ -130,23 +128,18 @@ finds_standard {laid} sources {content} there = record {
   there = λ t. ap (λ (those : Content). standard_input those ∷ []) (there t);
 }
 
-pub tee_runs : {told_in told : Bool} {laid : ℕ → List ℕ → Option Content} {asked : TeeAsked} {mode : Mode} {items now : List (Bor (List ℕ))} (old : List Source) {sources : List Source} {new : List Slot} {status : ℕ} → now ≡ items
-    → record { mode = mode; names = map (λ (name : Bor (List ℕ)). name.now) items } ≡ asked
-    → OfContent told_in (source_at old 0).left (λ content. TeeCopies told_in told mode (map (λ (name : Bor (List ℕ)). name.now) now) content (source_at sources 0) new status × BreaksOnly told_in content (source_at sources 0))
-    → (told_in ≡ true → status ≡ 0 → new ≡ all_copied told mode (map (λ (name : Bor (List ℕ)). name.now) now) (source_at old 0).left.bytes)
-    → RunsOver told_in (world_of laid old) (codes "-" ∷ []) (λ found. TeeEndsAs told_in told asked found sources new status)
-tee_runs {told_in} {told} {mode} {now} old {sources} {new} {status} same is (content, there, (ends, breaks)) whole = (
+pub tee_runs : {told_in told : Bool} {laid : ℕ → List ℕ → Option Content} {asked : TeeAsked} {mode : Mode} {names : List (List ℕ)} (old : List Source) {sources : List Source} {new : List Slot} {status : ℕ} → mode ≡ asked.mode → names ≡ asked.names
+    → OfContent told_in (source_at old 0).left (λ content. TeeCopies told_in told mode names content (source_at sources 0) new status × BreaksOnly told_in content (source_at sources 0))
+    → (told_in ≡ true → status ≡ 0 → new ≡ all_copied told mode names (source_at old 0).left.bytes) → RunsOver told_in (world_of laid old) (codes "-" ∷ []) (λ found. TeeEndsAs told_in told asked found sources new status)
+tee_runs {told = told} {mode = mode} {names} old mode_is names_is (content, there, (ends, breaks)) whole = (
   standard_input content ∷ [],
   finds_standard old there,
   record {
     content = content;
     input = refl;
-    ends = subst (λ (those : TeeAsked). TeeCopies told_in told those.mode those.names content (source_at sources 0) new status) is
-        (subst (λ (those : List (Bor (List ℕ))). TeeCopies told_in told mode (map (λ (name : Bor (List ℕ)). name.now) those) content (source_at sources 0) new status) same ends);
+    ends = rw (mode_is, names_is) at ends;
     breaks = breaks;
-    whole = λ t well. subst (λ (those : TeeAsked). new ≡ all_copied told those.mode those.names content.bytes) is
-        (subst (λ (those : List (Bor (List ℕ))). new ≡ all_copied told mode (map (λ (name : Bor (List ℕ)). name.now) those) content.bytes) same
-        (whole t well ∙ ap (λ (those : Content). all_copied told mode (map (λ (name : Bor (List ℕ)). name.now) now) those.bytes) (sym (there t))));
+    whole = λ t well. rw (mode_is, names_is) at (whole t well ∙ ap (λ (those : Content). all_copied told mode names those.bytes) (sym (there t)));
   },
 )
 
@@ -203,8 +196,8 @@ module _ (told_in told : Bool) (words : List (List ℕ)) (laid : ℕ → List �
       let (found, finds, untouched) = none_touched fresh in (found, finds, inl (no_room refuses.error (says_as words is refuses) refuses.slots untouched (ap length fresh.only) refuses.failed))
 
   pub refused_or_memory : {fault : Fault} → IsRefused HasBadOperands (settings_of words) fault → RefusesFor told words fault new status → EndsUnread (settings_of words)
-  refused_or_memory (inr (inl is)) refuses = subst EndsUnread (sym is) ([], record { are = refl; there = λ t. refl }, (refl, refuses))
-  refused_or_memory {fault} (inr (inr (settings, is, bad))) refuses = subst EndsUnread (sym is) (operands_refused settings fault bad refuses)
+  refused_or_memory (inr (inl is)) refuses = rw is ([], record { are = refl; there = λ t. refl }, (refl, refuses))
+  refused_or_memory {fault} (inr (inr (settings, is, bad))) refuses = rw is (operands_refused settings fault bad refuses)
   refused_or_memory (inl is) refuses = unread_for (settings_of words) refl (subst (λ why. RefusesFor told words why new status) is refuses)
 
 -- `csplit` cuts at the operands that were read
@@ -222,10 +215,10 @@ asked_or_none words {settings} {fault} asks refuses = both (sym asks ∙ refuses
 -- how many inputs there can be, by the names
 
 pub counts_by : {count : ℕ} (words : List (List ℕ)) {settings : Settings} → settings_of words ≡ Ok settings → count ≤ count_after 1 (names_of settings) → count ≤ count_after 1 (names_read words)
-counts_by {count} words is few = subst (λ (meant : Result Settings Fault). count ≤ count_after 1 (names_at meant)) (sym is) few
+counts_by words is few = rw is few
 
 pub counts_for : {count : ℕ} {settings same : Settings} {names : List (List ℕ)} → settings ≡ same → names ≡ names_of same → count ≤ count_after 1 names → count ≤ count_after 1 (names_of settings)
-counts_for {count} is named few = subst (λ those. count ≤ count_after 1 (names_of those)) (sym is) (subst (λ those. count ≤ count_after 1 those) named few)
+counts_for is named few = rw (is, ← named) few
 
 -- Lemmas on how a run that follows ends, by its words.
 
@@ -233,14 +226,7 @@ counts_for {count} is named few = subst (λ those. count ≤ count_after 1 (name
 pub follows_as : {told_in told : Bool} (asked : EndsAsked) (followed : Followed) {by_name : Bool} {start : Start} {headers : Bool} {names : List (List ℕ)} {looks : ℕ} {shows : ℕ → Snapshot} {first : List Slot} {seen : List Snapshot} {watched : List Watched} {new : List Slot} {status : ℕ}
     → by_name ≡ is_name followed → start ≡ start_of asked → headers ≡ has_headers asked.headers asked.names → names ≡ asked.names → first ≡ streams
     → FollowEndsAs told_in told (ways_of 0 by_name start) headers names looks shows first seen watched new status → FollowsAs told_in told asked followed looks shows seen watched new status
-follows_as {told_in} {told} asked followed {by_name} {start} {headers} {names} {looks} {shows} {seen} {watched} {new} {status} name_is start_is headers_are names_are first_is ends =
-    subst (λ b. F b (start_of asked) (has_headers asked.headers asked.names) asked.names streams) name_is
-    (subst (λ (s : Start). F by_name s (has_headers asked.headers asked.names) asked.names streams) start_is
-    (subst (λ h. F by_name start h asked.names streams) headers_are
-    (subst (λ n. F by_name start headers n streams) names_are
-    (subst (λ f. F by_name start headers names f) first_is ends)))) where
-      F : Bool → Start → Bool → List (List ℕ) → List Slot → Type 0
-      F b s h n f = FollowEndsAs told_in told (ways_of 0 b s) h n looks shows f seen watched new status
+follows_as asked followed name_is start_is headers_are names_are first_is ends = rw (name_is, start_is, headers_are, names_are, first_is) at ends
 
 module _ (told_in told : Bool) (words : List (List ℕ)) (looks : ℕ) (shows : ℕ → Snapshot) (seen : List Snapshot) (watched : List Watched) (new : List Slot) (status : ℕ) (unseen : seen ≡ []) (unwatched : watched ≡ []) where
   -- words that weren't read for want of memory
@@ -265,8 +251,8 @@ module _ (told_in told : Bool) (words : List (List ℕ)) (looks : ℕ) (shows : 
   operands_unread asked fault bad refuses = absurd bad
 
   pub refused_words : {fault : Fault} → IsRefused HasBadOperands (settings_of words) fault → RefusesFor told words fault new status → FollowingEnds told_in told words looks shows seen watched new status
-  refused_words (inr (inl is)) refuses = subst (FollowingEndsAt told_in told words looks shows seen watched new status) (sym is) (unseen, unwatched, refuses)
-  refused_words {fault} (inr (inr (settings, is, bad))) refuses = subst (FollowingEndsAt told_in told words looks shows seen watched new status) (sym is) (operands_unread settings fault bad refuses)
+  refused_words (inr (inl is)) refuses = rw is (unseen, unwatched, refuses)
+  refused_words {fault} (inr (inr (settings, is, bad))) refuses = rw is (operands_unread settings fault bad refuses)
   refused_words (inl is) refuses = unread_files (settings_of words) refl (subst (λ why. RefusesFor told words why new status) is refuses)
 
 -- Which of both runs the words ask for.
@@ -275,15 +261,13 @@ module _ (told_in told : Bool) (words : List (List ℕ)) (looks : ℕ) (shows : 
 pub program_follows : (told_in told_watched told : Bool) (words : List (List ℕ)) {settings : Settings} (laid : ℕ → List ℕ → Option Content) (sources : List Source) (shows : ℕ → Snapshot) (seen : List Snapshot) (watched : List Watched) (new : List Slot) (status : ℕ) → settings_of words ≡ Ok settings → follows settings ≡ true
     → FollowingEndsAt told_watched told words (looks settings) shows seen watched new status (Ok settings) → ProgramEnds told_in told_watched told words laid sources sources shows seen watched new status
 program_follows told_in told_watched told words {settings} laid sources shows seen watched new status is asked ends =
-    subst (λ (which : Option ℕ). ProgramEndsAt told_in told_watched told words laid sources sources shows seen watched new status which) (sym (ap looks_at is ∙ ap (λ b. if b then Some (looks settings) else None) asked))
-    (refl, subst (λ (meant : Result Settings Fault). FollowingEndsAt told_watched told words (looks settings) shows seen watched new status meant) (sym is) ends)
+    rw (ap looks_at is ∙ ap (λ b. if b then Some (looks settings) else None) asked) (refl, rw is ends)
 
 -- their tool ran over its inputs
 pub program_runs : {told_in : Bool} (told_watched told : Bool) (words : List (List ℕ)) {settings : Settings} {laid : ℕ → List ℕ → Option Content} (sources sources_new : List Source) (shows : ℕ → Snapshot) {seen : List Snapshot} {watched : List Watched} (new : List Slot) (status : ℕ) → settings_of words ≡ Ok settings → follows settings ≡ false → seen ≡ [] → watched ≡ []
     → RunsOver told_in (world_of laid sources) (names_of settings) (λ found. DoesAsked told_in told settings found sources_new new status) → ProgramEnds told_in told_watched told words laid sources sources_new shows seen watched new status
-program_runs {told_in} told_watched told words {settings} {laid} sources sources_new shows {seen} {watched} new status is asked unseen unwatched does =
-    subst (λ (which : Option ℕ). ProgramEndsAt told_in told_watched told words laid sources sources_new shows seen watched new status which) (sym (ap looks_at is ∙ ap (λ b. if b then Some (looks settings) else None) asked))
-    (unseen, unwatched, tool_runs told words sources sources_new new status is does)
+program_runs told_watched told words {settings} sources sources_new shows new status is asked unseen unwatched does =
+    rw (ap looks_at is ∙ ap (λ b. if b then Some (looks settings) else None) asked) (unseen, unwatched, tool_runs told words sources sources_new new status is does)
 
 -- what words leave that are refused, whichever run they ask for
 pub program_refuses : (told_in told_watched : Bool) {told : Bool} (words : List (List ℕ)) (laid : ℕ → List ℕ → Option Content) {sources : List Source} (shows : ℕ → Snapshot) {seen : List Snapshot} {watched : List Watched} {fault : Fault} {new : List Slot} {status : ℕ} → IsFresh sources → seen ≡ [] → watched ≡ [] → IsRefused HasBadOperands (settings_of words) fault → RefusesFor told words fault new status
