@@ -171,22 +171,14 @@ pub fed_as : {S : Type 0} (Holds : S → List ℕ → Type 0) (Owns : S → ℕ 
     → ((before : List Slot) (opening : Needs) → Owns engine.stage (length before) mid → OutputsAt told before ((work engine.stage).settled []) mid → OfContent told_in (source_at sources slot).left (λ content. FedAs told before (work engine.stage) opening most content (LeavesOf told_in content (source_at left slot)) new result × BreaksOnly told_in content (source_at left slot)))
     → (told_in ≡ true → is_stop result ≡ false → Uses (work engine.stage) most slot (source_at sources slot).left (source_at left slot))
     → OfSource told_in source sources (λ content. FedAs told old asked opening most content (Leaves told_in content source left) new result × (is_stop result ≡ false → IsDone told_in asked most source (Some content) left))
-fed_as Holds Owns {work} Ready {asked} opening {told} {told_in} {old} {mid} {new} {engine} {slot} sources left {most} {result} is had within feeds uses =
-    subst (λ from. OfSource told_in from sources (λ content. FedAs told old asked opening most content (Leaves told_in content from left) new result × (is_stop result ≡ false → IsDone told_in asked most from (Some content) left))) (sym is)
-    (subst (λ (those : Work). OfContent told_in (source_at sources slot).left (λ content. FedAs told old those opening most content (LeavesOf told_in content (source_at left slot)) new result × (is_stop result ≡ false → IsDone told_in those most (Some slot) (Some content) left))) had.does
-    (left_of left (λ content. FedAs told old (work engine.stage) opening most content (LeavesOf told_in content (source_at left slot)) new result) within uses
-    (feeds old opening had.owns (subst (λ (those : Work). OutputsAt told old (those.settled []) mid) (sym had.does) had.outputs))))
+fed_as Holds Owns Ready opening {old = old} sources left is had within feeds uses =
+    rw (is, ← had.does) (left_of left _ within uses (feeds old opening had.owns (rw (← had.does) at had.outputs)))
 
 pub fed_none : {S : Type 0} (Holds : S → List ℕ → Type 0) (Owns : S → ℕ → List Slot → Type 0) {work : S → Work} (Ready : S → List Slot → Type 0) {asked : Work} (opening : Needs) {told : Bool} (told_in : Bool) {old mid new : List Slot} {engine : GuardState S} {source : Option ℕ} (sources left : List Source) (most : ℕ) {result : Result Fed Fault}
     → source ≡ None → Opens Holds Owns work Ready asked told old mid engine
     → ((before : List Slot) (opening : Needs) (room : ℕ) → Owns engine.stage (length before) mid → OutputsAt told before ((work engine.stage).settled []) mid → FedAs told before (work engine.stage) opening room empty (λ read. Unit {0}) new result)
     → OfSource told_in source sources (λ content. FedAs told old asked opening most content (Leaves told_in content source left) new result × (is_stop result ≡ false → IsDone told_in asked most source (Some content) left))
-fed_none Holds Owns Ready {asked} opening {told} told_in {old} {mid} {new} sources left most {result} is had feeds =
-    subst (λ from. OfSource told_in from sources (λ content. FedAs told old asked opening most content (Leaves told_in content from left) new result × (is_stop result ≡ false → IsDone told_in asked most from (Some content) left))) (sym is) (
-      subst (λ (those : Work). FedAs told old those opening most empty (λ read. Unit {0}) new result) had.does
-          (feeds old opening most had.owns (subst (λ (those : Work). OutputsAt told old (those.settled []) mid) (sym had.does) had.outputs)),
-      λ ends. tt,
-    )
+fed_none Holds Owns Ready opening told_in {old = old} sources left most is had feeds = rw (is, ← had.does) (feeds old opening most had.owns (rw (← had.does) at had.outputs), λ ends. tt)
 
 -- no input but that of the source was touched
 
@@ -196,8 +188,7 @@ keeps_all (Some slot) sources = record { count = refl; others = λ place differs
 
 -- a message by the names that a tool gives
 pub said_as : {told : Bool} {tool other : Tool} (fault : Fault) {name called : List ℕ} {old new : List Slot} → tool ≡ other → name ≡ called → SaysOn told tool (message_of tool fault name) old new → SaysOn told other (message_of other fault called) old new
-said_as {told} {other} fault {name} {old} {new} one two says =
-    subst (λ those. SaysOn told other (message_of other fault those) old new) two (subst (λ those. SaysOn told those (message_of those fault name) old new) one says)
+said_as fault one two says = rw (one, two) at says
 
 -- Lemmas on how a run ends.
 
@@ -234,7 +225,7 @@ ran_into (not_begun at_first untouched none) says =
 -- what was said by the name that a tool gives itself
 pub ran_into_as : {told_in told : Bool} {task : Task} {tool : Tool} {found : List Input} {sources : List Source} {mid new : List Slot} {fault : Fault} → tool ≡ task.tool → TookAll told_in told task found sources mid (Err fault) → SaysOn told tool (message_of tool fault (output_named mid fault)) mid new
     → EndsAs told_in told task found sources new 1
-ran_into_as {told} {mid} {new} {fault} is taken says = ran_into taken (subst (λ those. SaysOn told those (message_of those fault (output_named mid fault)) mid new) is says)
+ran_into_as is taken says = ran_into taken (rw is at says)
 
 -- Lemmas on taking the inputs for names, one after another.
 

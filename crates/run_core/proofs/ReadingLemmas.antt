@@ -75,15 +75,18 @@ count_more count (name ∷ names) = let rest : next_slot count name ≤ count_af
 
 -- what taking a name leaves
 
-pub takes_dash : {most : ℕ} (was_read : Bool) {name : List ℕ} {old new : List Source} → is_dash name ≡ true → KeepsOther (standard_source was_read) old new → (AsksAtMost most old → AsksAtMost most new) → TakesOne most was_read name old new
-takes_dash true {name} {old} dash same asked = record {
+takes_none : {most : ℕ} {was_read : Bool} {name : List ℕ} {old new : List Source} → new ≡ old → TakesOne most was_read name old new
+takes_none {most} {name} {old} same = record {
   grown = omega (arith, ap length same);
-  within = let here : next_slot (length old) name ≡ length old = ap (λ (b : Bool). if b then length old else length old + 1) dash in omega (arith, here, ap length same);
-  files = λ place some within. ap (λ those. source_at those place) same;
-  unasked = λ differs. absurd (false≢true (sym differs ∙ dash));
-  again = λ was. ap (λ those. source_at those 0) same;
-  asked = asked;
+  within = let more : length old ≤ next_slot (length old) name = count_more (length old) (name ∷ []) in omega (arith, ap length same, more);
+  files = λ place _ within. ap (λ those. source_at those place) same;
+  unasked = λ _. ap (λ those. source_at those 0) same;
+  again = λ _. ap (λ those. source_at those 0) same;
+  asked = subst (AsksAtMost most) (sym same);
 }
+
+pub takes_dash : {most : ℕ} (was_read : Bool) {name : List ℕ} {old new : List Source} → is_dash name ≡ true → KeepsOther (standard_source was_read) old new → (AsksAtMost most old → AsksAtMost most new) → TakesOne most was_read name old new
+takes_dash true dash same asked = takes_none same
 takes_dash false {name} {old} dash keeps asked = record {
   grown = omega (arith, keeps.count);
   within = let here : next_slot (length old) name ≡ length old = ap (λ (b : Bool). if b then length old else length old + 1) dash in omega (arith, here, keeps.count);
@@ -112,16 +115,6 @@ pub takes_file : {told : Bool} {laid : ℕ → List ℕ → Option Content} {mos
     → TakesOne most was_read name old new
 takes_file {mid} {new} differs some opens keeps asked =
     takes_more (source_of opens.content) differs some (omega arith) opens.sources (subst (λ n. KeepsOthers n mid new) opens.number keeps) asked
-
-takes_none : {most : ℕ} {was_read : Bool} {name : List ℕ} {old new : List Source} → new ≡ old → TakesOne most was_read name old new
-takes_none {most} {name} {old} same = record {
-  grown = omega (arith, ap length same);
-  within = let more : length old ≤ next_slot (length old) name = count_more (length old) (name ∷ []) in omega (arith, ap length same, more);
-  files = λ place _ within. ap (λ those. source_at those place) same;
-  unasked = λ _. ap (λ those. source_at those 0) same;
-  again = λ _. ap (λ those. source_at those 0) same;
-  asked = subst (AsksAtMost most) (sym same);
-}
 
 pub takes_missing : {told : Bool} {laid : ℕ → List ℕ → Option Content} {most : ℕ} {was_read : Bool} {name : List ℕ} {old new : List Source} {fault : Fault} → is_dash name ≡ false → 0 < length old → OpensNothing told laid old new name fault → TakesOne most was_read name old new
 takes_missing {old} {new} differs some (from.broke at number lies is) = takes_more missing differs some (omega arith) is (keeps_itself (length old) new) (λ asked. asked)

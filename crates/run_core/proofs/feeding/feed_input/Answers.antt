@@ -81,7 +81,7 @@ returns-then-n-eq0 g c =
           (λ told. let at_end = (c.in-Ok.ensures.bytes told).ended c.if-n-eq0.true (omega (arith, c.requires.room, so_far.room)) in let all = read_to_end _ _ _ _ (so_far.read told) at_end.0 at_end.1 in (all.1, all.0))
           (λ off. absurd (false≢true off))
           (λ content is bytes sound. ended _ _ _ g.met.S.Stage.lawful _ _ so_far.feeds own at (sound, going, bytes) (to_end sound bytes) (alike_itself)
-          (subst (λ (those : Work). IsNeeded those.is_complete (length c.args.buffer.now) so_far.fed) (sym so_far.feeds.same) so_far.needed)
+          (rw so_far.feeds.same so_far.needed)
           (sound_at (g.I.Inputs.sources c.read_part.new.inputs) c.args.slot (still_readable _ _ _ _ c.in-Ok.n c.in-Ok.ensures.rest so_far.readable), λ told. is told ∙ read_none_more _ _ _ _ _ _ c.in-Ok.n (so_far.read told) so_far.readable c.if-n-eq0.true c.in-Ok.ensures.rest)
           c.end.ensures);
       others = keeps_again _ _ _ _ so_far.others (keeps_others _ _ _ _ c.in-Ok.ensures.rest);
@@ -113,12 +113,12 @@ pieces-preserved g c =
       read = λ told. read_more _ _ _ _ _ _ _ _ _ (so_far.read told) so_far.readable (c.in-Ok.ensures.bytes told) c.in-Ok.ensures.rest;
       took = λ told. takes_more _ (so_far.took told) so_far.readable (c.in-Ok.ensures.bytes told) c.in-Ok.ensures.rest;
       last = λ told. needed_more so_far.fed c.read_part.new.buffer (ap (λ (work : Work). work.is_complete so_far.fed) (sym so_far.feeds.same) ∙ sym (c.done.ensures.complete so_far.fed so_far.feeds.holds) ∙ c.pieces-test.true) (omega (arith, last_given _ _ _ so_far.readable (c.in-Ok.ensures.bytes told) c.in-Ok.ensures.rest));
-      few = λ standard n spare. subst (λ (those : Work). n ≤ those.ahead) so_far.feeds.same
+      few = λ standard n spare. rw (← so_far.feeds.same)
           (c.wanted.ensures.few so_far.fed (take c.in-Ok.n c.read_part.new.buffer) c.feed.new.self.stage n so_far.feeds.holds.within
           (sym (c.done.ensures.complete so_far.fed so_far.feeds.holds) ∙ c.pieces-test.true)
           (omega (arith, piece_within c.read_part.new.buffer c.in-Ok.ensures.bound, c.piece_size-size.ensures.few standard))
           c.in-Ok-feed.ensures.same (c.in-Ok-feed.ensures.holds so_far.fed so_far.feeds.holds).within
-          (subst (λ (those : Work). IsSpare those (so_far.fed ++ take c.in-Ok.n c.read_part.new.buffer) n) (sym so_far.feeds.same) spare));
+          (rw so_far.feeds.same spare));
       room = c.read_part.ensures.room ∙ so_far.room;
       needed = needed_more so_far.fed c.read_part.new.buffer (ap (λ (work : Work). work.is_complete so_far.fed) (sym so_far.feeds.same) ∙ sym (c.done.ensures.complete so_far.fed so_far.feeds.holds) ∙ c.pieces-test.true) (omega (arith, c.in-Ok.ensures.bound, c.piece_size-size.ensures.within, c.pieces.invariant.room));
       asked = λ within. asked_again _ _ _ _ _ _ so_far.readable c.in-Ok.ensures.rest (omega (arith, c.piece_size-size.ensures.within, so_far.room)) (so_far.asked within);
@@ -153,7 +153,7 @@ returns-in-Err-feed g c =
           let judging = judging_of c.given_up.ensures.same ends in
           let settles : IsSettled (g.S.Stage.work c.pieces.engine.stage) (so_far.fed ++ take c.in-Ok.n c.read_part.new.buffer) c.in-Err-feed.fault
           = judges (g.S.Stage.work c.pieces.engine.stage).means _ (EndsWith g.S.Stage.Holds g.S.Stage.work c.pieces.engine.stage (take c.in-Ok.n c.read_part.new.buffer)) judging c.in-Err-feed.ensures.refused so_far.fed so_far.feeds.holds.within in
-          subst (λ (those : Work). Uses those (length c.args.buffer.now) c.args.slot (source_at (g.I.Inputs.sources c.args.inputs.now) c.args.slot).left (source_at (g.I.Inputs.sources c.read_part.new.inputs) c.args.slot)) so_far.feeds.same
+          rw (← so_far.feeds.same)
           (uses_judged
           (read_more _ _ _ _ _ _ _ _ _ (so_far.read told) so_far.readable gave c.in-Ok.ensures.rest).bytes
           (needed_more so_far.fed c.read_part.new.buffer going (omega (arith, c.in-Ok.ensures.bound, c.piece_size-size.ensures.within, so_far.room)))
@@ -171,7 +171,7 @@ give_back-requires-clause-input g c = c.pieces.invariant.readable
 pub give_back-requires-clause-within : goal.give_back-requires-clause-within
 give_back-requires-clause-within g c told =
     let so_far = c.pieces.invariant in
-    spare_within _ _ _ so_far.fed (g.met.S.Stage.lawful _) (subst (λ (those : Work). IsNeeded those.is_complete (source_at (g.I.Inputs.sources c.pieces.inputs) c.args.slot).last so_far.fed) (sym so_far.feeds.same) (so_far.last told)) (c.unused-unused.ensures so_far.fed so_far.feeds.holds)
+    spare_within _ _ _ so_far.fed (g.met.S.Stage.lawful _) (rw so_far.feeds.same (so_far.last told)) (c.unused-unused.ensures so_far.fed so_far.feeds.holds)
 
 pub end-requires-2-clause-owns : goal.end-requires-2-clause-owns
 end-requires-2-clause-owns g c = (c.requires.owns.0, c.pieces.invariant.feeds.owns c.requires.owns.0 c.requires.owns.1)
@@ -194,13 +194,13 @@ returns g c =
           (needed_within c.requires.room spare.needed) (sound, λ told. is told ∙ read_used spare (so_far.read told) (so_far.took told) so_far.readable back) c.end-2.ensures);
       reads = λ told. (
         spare.used,
-        subst (λ (those : Work). IsNeeded those.is_complete (length c.args.buffer.now) spare.used) so_far.feeds.same (needed_within c.requires.room spare.needed),
+        rw (← so_far.feeds.same) (needed_within c.requires.room spare.needed),
         read_used spare (so_far.read told) (so_far.took told) so_far.readable back,
       );
       used = λ told ends unread.
-          subst (λ (those : Work). Uses those (length c.args.buffer.now) c.args.slot (source_at (g.I.Inputs.sources c.args.inputs.now) c.args.slot).left (source_at (g.I.Inputs.sources c.give_back.new.self) c.args.slot)) so_far.feeds.same
+          rw (← so_far.feeds.same)
           (uses_part spare (read_used spare (so_far.read told) (so_far.took told) so_far.readable back) c.requires.room (complete_used _ so_far.fed _ spare done)
-          (λ standard. subst (λ (those : Work). c.unused-unused.result ≤ those.ahead) (sym so_far.feeds.same) (so_far.few standard _ (subst (λ (those : Work). IsSpare those so_far.fed c.unused-unused.result) so_far.feeds.same spare)))
+          (λ standard. rw so_far.feeds.same (so_far.few standard _ (rw so_far.feeds.same at spare)))
           (so_far.took told) unread so_far.readable back);
       others = keeps_again _ _ _ _ so_far.others (keeps_others _ _ _ _ back);
       asked = λ within. subst (λ asked. asked ≤ length c.args.buffer.now) (sym (ap (λ (source : Source). source.asked) (changed_source _ _ _ _ so_far.readable back))) (so_far.asked within);
