@@ -65,8 +65,8 @@ short_of_piece WasRead {x} piece rest {reached} {fault} lawful is within going r
 short_of_piece {told} {work} WasRead {x} piece rest {before} {fault} lawful is within going read (engine.judged judging first at cleared) why settles kept swept =
     let stays : IsComplete work (x ++ piece) rest = lawful.stays (x ++ piece) rest (settles judging).0 in
     judged fault judging (or_right _ _ (ap work.is_complete is ∙ stays.still)) (ap work.verdict is ∙ stays.verdict_stays ∙ (settles judging).1) first
-    (subst (λ part. OutputsAt told before part first) (sym stays.whole_stays ∙ ap work.whole (sym is)) at)
-    (subst (λ those. Swept work.clears (length before) first those) (sym (kept judging)) cleared)
+    (rw (sym stays.whole_stays ∙ ap work.whole (sym is)) at at)
+    (rw (kept judging) cleared)
 
 -- what is known of an input that the engine has got all of, by what became of it
 abbrev pub HasGot : Work → Content → List ℕ → Fed → Type 0
@@ -87,20 +87,20 @@ whole_at {work} {x} rest lawful done =
 
 fed_all : {told : Bool} {opening : Needs} {most : ℕ} {work : Work} {content : Content} (WasRead : List ℕ → Type 0) {x : List ℕ} {new before : List Slot} (fed : Fed) → IsLawful work → HasGot work content x fed → work.verdict x ≡ None → OutputsAt told before (work.whole x) new → FedAs told before work opening most content WasRead new (Ok fed)
 fed_all {told} {work} WasRead {new} {before} Whole lawful got well at =
-    whole got.0 (ap work.is_complete got.2 ∙ got.1) (ap work.verdict got.2 ∙ well) (subst (λ bytes. OutputsAt told before (work.whole bytes) new) (sym got.2) at)
+    whole got.0 (ap work.is_complete got.2 ∙ got.1) (ap work.verdict got.2 ∙ well) (rw got.2 at)
 fed_all {told} {work} WasRead {x} {new} {before} Enough lawful got well at =
     let stays : IsComplete work x got.1.0 = lawful.stays x got.1.0 got.0 in
     had_enough (ap work.is_complete got.1.1 ∙ stays.still) (ap work.verdict got.1.1 ∙ stays.verdict_stays ∙ well)
-    (subst (λ part. OutputsAt told before part new) (sym (ap work.whole got.1.1 ∙ whole_at got.1.0 lawful got.0)) at)
+    (rw (ap work.whole got.1.1 ∙ whole_at got.1.0 lawful got.0) at)
 fed_all WasRead Broken lawful got well at = absurd got
 
 judged_all : {told : Bool} {opening : Needs} {most : ℕ} {work : Work} {content : Content} (WasRead : List ℕ → Type 0) {x : List ℕ} {reached new before : List Slot} (fed : Fed) {fault : Fault} → is_verdict fault ≡ true → IsLawful work → HasGot work content x fed → Judges work x fault → OutputsAt told before (work.whole x) reached → Swept work.clears (length before) reached new → FedAs told before work opening most content WasRead new (Err fault)
 judged_all {told} {work} WasRead {reached} {before} Whole {fault} judging lawful got verdict at swept =
-    judged fault judging (or_left _ _ (ap not got.0)) (ap work.verdict got.2 ∙ verdict) reached (subst (λ bytes. OutputsAt told before (work.whole bytes) reached) (sym got.2) at) swept
+    judged fault judging (or_left _ _ (ap not got.0)) (ap work.verdict got.2 ∙ verdict) reached (rw got.2 at) swept
 judged_all {told} {work} WasRead {x} {reached} {before} Enough {fault} judging lawful got verdict at swept =
     let stays : IsComplete work x got.1.0 = lawful.stays x got.1.0 got.0 in
     judged fault judging (or_right _ _ (ap work.is_complete got.1.1 ∙ stays.still)) (ap work.verdict got.1.1 ∙ stays.verdict_stays ∙ verdict) reached
-    (subst (λ part. OutputsAt told before part reached) (sym (ap work.whole got.1.1 ∙ whole_at got.1.0 lawful got.0)) at) swept
+    (rw (ap work.whole got.1.1 ∙ whole_at got.1.0 lawful got.0) at) swept
 judged_all WasRead Broken judging lawful got verdict at swept = absurd got
 
 -- the engine makes of x what it makes of z
@@ -128,10 +128,10 @@ short_of_end : {told : Bool} {opening : Needs} {most : ℕ} {work : Work} {conte
     → (is_verdict fault ≡ true → new ≡ reached) → (is_verdict fault ≡ false → Swept work.clears (length before) reached new) → FedAs told before work opening most content WasRead new (Err fault)
 short_of_end {told} {work} WasRead {x} {z} {reached} {before} fed {fault} lawful got all alike needed read (engine.cut unjudged stop) why verdict kept swept =
     stopped fault unjudged _ (closes z all needed) read reached (why unjudged)
-    (subst (λ low. StoppedBetween told before low (work.whole z) fault reached) alike.settled (subst (λ high. StoppedBetween told before (work.settled x) high fault reached) alike.whole stop))
+    (rw alike.settled at (rw alike.whole at stop))
     (swept unjudged)
 short_of_end {work} WasRead {before} fed lawful got all alike needed read (engine.judged judging first at cleared) why verdict kept swept =
-    judged_all WasRead fed judging lawful got (verdict judging) at (subst (λ those. Swept work.clears (length before) first those) (sym (kept judging)) cleared)
+    judged_all WasRead fed judging lawful got (verdict judging) at (rw (kept judging) cleared)
 
 module _ {S : Type 0} (Holds : S → List ℕ → Type 0) (Owns : S → ℕ → List Slot → Type 0) (work : S → Work) where
   -- the loop has fed the engine x
@@ -154,7 +154,7 @@ module _ {S : Type 0} (Holds : S → List ℕ → Type 0) (Owns : S → ℕ → 
     same = same ∙ so_far.same;
     holds = takes x so_far.holds;
     owns = λ first own. keeps first (so_far.owns first own);
-    outputs = λ before own at. subst (λ (those : Work). OutputsAt told before (those.settled (x ++ piece)) new) (sym same) (puts before x (stands told so_far own at));
+    outputs = λ before own at. rw same (puts before x (stands told so_far own at));
     bound = bound;
   }
 
@@ -165,25 +165,22 @@ module _ {S : Type 0} (Holds : S → List ℕ → Type 0) (Owns : S → ℕ → 
       → work next.stage ≡ work now.stage → (is_verdict fault ≡ false → KeepsOwn Owns now.stage next.stage mid reached) → (is_verdict fault ≡ true → new ≡ reached) → (is_verdict fault ≡ false → Clears Owns work next.stage reached new)
       → FedAs told before (work start.stage) opening most content WasRead new (Err fault)
   stopped_feeding laws told {opening} {most} {lack} {now} next {content} WasRead {x} piece rest {mid} {reached} {new} {before} {fault} so_far own at is within going read cuts caused same owned kept cleared =
-      let why = subst (λ n. IsCaused (IsMet (work now.stage).means (work now.stage).means.feeding lack (EndsWith Holds work now.stage piece) mid reached) false n (length piece) mid reached fault) so_far.holds.count
-      (subst (λ over. IsCaused (IsMet (work now.stage).means (work now.stage).means.feeding lack (EndsWith Holds work now.stage piece) mid reached) over now.fed (length piece) mid reached fault) so_far.holds.live caused) in
-      subst (λ (those : Work). FedAs told before those opening most content WasRead new (Err fault)) so_far.same
-      (short_of_piece WasRead piece rest (laws now.stage) is within going read (cuts before x (stands told so_far own at))
+      let why = rw so_far.holds.count at (rw so_far.holds.live at caused) in
+      rw (← so_far.same) (short_of_piece WasRead piece rest (laws now.stage) is within going read (cuts before x (stands told so_far own at))
       (λ unjudged. stops (work now.stage) (x ++ piece) ((work now.stage).settled x) ((work now.stage).settled (x ++ piece)) lack (EndsWith Holds work now.stage piece) unjudged (λ long. let size : length (x ++ piece) ≡ length x + length piece = length-append x piece in omega (arith, long)) why)
       (λ judging. judges (work now.stage).means lack (EndsWith Holds work now.stage piece) judging caused x so_far.holds.within)
       kept
-      (λ unjudged. subst (λ (those : Work). Swept those.clears (length before) reached new) same (cleared unjudged (length before) (owned unjudged (length before) (so_far.owns (length before) own)))))
+      (λ unjudged. rw same at (cleared unjudged (length before) (owned unjudged (length before) (so_far.owns (length before) own)))))
 
   -- the loop ended with the input, or where nothing more can follow
   pub ended : (laws : (s : S) → IsLawful (work s)) (told : Bool) {opening : Needs} {most : ℕ} {start now : GuardState S} {content : Content} (WasRead : List ℕ → Type 0) {x z : List ℕ} {old mid new before : List Slot} {fed : Fed} {result : Result Fed Fault} → Feeds told start now x old mid → Owns start.stage (length before) old → OutputsAt told before ((work start.stage).settled []) old → HasGot (work now.stage) content x fed → HasAll (work now.stage) content z → MadeAlike (work now.stage) x z → IsNeeded (work now.stage).is_complete most z → WasRead z
       → EndsSo Holds Owns work told now fed mid new result → FedAs told before (work start.stage) opening most content WasRead new result
   ended laws told {opening} {most} {now} {content} WasRead {x} {new} {before} {fed} so_far own at got all alike needed read (finished finishes) =
       let done = finishes before x (stands told so_far own at) in
-      subst (λ (those : Work). FedAs told before those opening most content WasRead new (Ok fed)) so_far.same (fed_all WasRead fed (laws now.stage) got done.0 done.1)
+      rw (← so_far.same) (fed_all WasRead fed (laws now.stage) got done.0 done.1)
   ended laws told {opening} {most} {now} {content} WasRead {x} {z} {mid} {new} {before} {fed} so_far own at got all alike needed read (fell_short fault reached short caused kept cleared) =
-      let why = subst (λ over. IsCaused (IsMet (work now.stage).means (work now.stage).means.closing (Unit {0}) (EndsThere Holds work now.stage) mid reached) over now.fed 0 mid reached fault) so_far.holds.live caused in
-      subst (λ (those : Work). FedAs told before those opening most content WasRead new (Err fault)) so_far.same
-      (short_of_end WasRead fed (laws now.stage) got all alike needed read (short before x (stands told so_far own at))
+      let why = rw so_far.holds.live at caused in
+      rw (← so_far.same) (short_of_end WasRead fed (laws now.stage) got all alike needed read (short before x (stands told so_far own at))
       (λ unjudged. stops (work now.stage) z ((work now.stage).settled z) ((work now.stage).whole z) (Unit {0}) (EndsThere Holds work now.stage) unjudged (λ long. absurd (let bound : now.fed < 2 ^ 63 = so_far.bound in omega (arith, bound, long))) why)
       (λ judging. judges (work now.stage).means (Unit {0}) (EndsThere Holds work now.stage) judging caused x so_far.holds.within)
       kept (λ unjudged. cleared unjudged (length before) (so_far.owns (length before) own)))
@@ -192,9 +189,8 @@ module _ {S : Type 0} (Holds : S → List ℕ → Type 0) (Owns : S → ℕ → 
   pub broken_off : (told : Bool) {opening : Needs} {most : ℕ} {start now : GuardState S} {content : Content} (WasRead : List ℕ → Type 0) {x : List ℕ} {old slots new before : List Slot} → Feeds told start now x old slots → Owns start.stage (length before) old → OutputsAt told before ((work start.stage).settled []) old → content.bytes ≡ x → content.breaks_off ≡ true → (work now.stage).is_complete x ≡ false
       → Clears Owns work now.stage slots new → FedAs told before (work start.stage) opening most content WasRead new (Ok Broken)
   broken_off told {opening} {most} {now} {content} WasRead {slots} {new} {before} so_far own at all breaks going cleared =
-      subst (λ (those : Work). FedAs told before those opening most content WasRead new (Ok Broken)) so_far.same
-      (broke_off breaks (ap (work now.stage).is_complete all ∙ going) slots
-      (subst (λ bytes. OutputsAt told before ((work now.stage).settled bytes) slots) (sym all) (so_far.outputs before own at))
+      rw (← so_far.same) (broke_off breaks (ap (work now.stage).is_complete all ∙ going) slots
+      (rw all (so_far.outputs before own at))
       (cleared (length before) (so_far.owns (length before) own)))
 
   -- an input without bytes: the engine is closed at once
@@ -214,7 +210,7 @@ module _ {S : Type 0} (Holds : S → List ℕ → Type 0) (Owns : S → ℕ → 
       → work mid.stage ≡ work engine.stage → (is_verdict fault ≡ false → KeepsOwn Owns engine.stage mid.stage old reached) → (is_verdict fault ≡ true → new ≡ reached) → (is_verdict fault ≡ false → Clears Owns work mid.stage reached new)
       → EndsSo Holds Owns work told engine fed old new (Err fault)
   close_short told mid {reached} {new} {fault} short caused same owned kept cleared =
-      fell_short fault reached short caused kept (λ unjudged first own. subst (λ (those : Work). Swept those.clears first reached new) same (cleared unjudged first (owned unjudged first own)))
+      fell_short fault reached short caused kept (λ unjudged first own. rw same at (cleared unjudged first (owned unjudged first own)))
 
 -- what was read was needed
 
@@ -238,7 +234,7 @@ of_more false there x rest is_broken P all holds = (record { bytes = x; breaks_o
 
 -- the same of the fault that is handed on
 pub given_so : {told : Bool} {before new : List Slot} {work : Work} {opening : Needs} {most : ℕ} {content : Content} (WasRead : List ℕ → Type 0) {given fault : Fault} → given ≡ fault → FedAs told before work opening most content WasRead new (Err fault) → FedAs told before work opening most content WasRead new (Err given)
-given_so {told} {before} {new} {work} {opening} {most} {content} WasRead is fed = subst (λ those. FedAs told before work opening most content WasRead new (Err those)) (sym is) fed
+given_so {told} {before} {new} {work} {opening} {most} {content} WasRead is fed = rw is fed
 
 -- Lemmas on an engine that took in a front of its input without a read: the loop that feeds it goes on from there.
 
@@ -252,8 +248,8 @@ module _ {S : Type 0} (Holds : S → List ℕ → Type 0) (Ready : S → List Sl
     same = same;
     holds = record { live = live; count = fed ∙ loads.long; within = loads.holds };
     owns = λ first own. loads.owns first slots own;
-    outputs = λ before own at. subst (λ (those : Work). OutputsAt told_out before (those.settled loads.front) slots) (sym same) (subst (λ part. OutputsAt told_out before part slots) (sym loads.idle) at);
-    bound = subst (λ n. n < 2 ^ 63) (sym fed) bound;
+    outputs = λ before own at. rw same (rw loads.idle at);
+    bound = rw fed bound;
   }
 
   pub loaded_readable : IsTrue (is_readable old slot) → IsTrue (is_readable new slot)
@@ -272,7 +268,7 @@ module _ {S : Type 0} (Holds : S → List ℕ → Type 0) (Ready : S → List Sl
   loaded_needed = needed_front loads.going
 
   pub loaded_asked : {most : ℕ} → IsTrue (is_readable old slot) → (source_at old slot).asked ≤ most → (source_at new slot).asked ≤ most
-  loaded_asked {most} can few = subst (λ asked. asked ≤ most) (sym (ap (λ (source : Source). source.asked) (passed_at slot count old new can loads.passed))) few
+  loaded_asked {most} can few = rw (ap (λ (source : Source). source.asked) (passed_at slot count old new can loads.passed)) few
 
 -- Lemmas on what an engine uses of its input, and what is given back of it.
 
@@ -304,8 +300,7 @@ takes_more {x} {buffer} {slot} size {n} {start} {sources} {new} took can gave is
       far = λ unread.
           let none : length (source_at start slot).taken ≡ 0 = ap length unread.0 in
           let all = ap length next ∙ length-append (source_at start slot).taken (x ++ take n buffer) in
-          subst (λ far. far ≤ length (x ++ take n buffer)) (sym (ap (λ (source : Source). source.reached) after))
-          (omega (arith, took.far unread, length-append x (take n buffer), all, none));
+          rw (ap (λ (source : Source). source.reached) after) (omega (arith, took.far unread, length-append x (take n buffer), all, none));
     }
 
 -- a read gave as many as it says
@@ -318,7 +313,7 @@ pub takes_none : {x : List ℕ} {slot : ℕ} (size : ℕ) {start sources new : L
 takes_none {x} {slot} size {sources} {new} took can is =
     let after = changed_source slot (fails size) sources new can is in record {
       taken = ap (λ (source : Source). source.taken) after ∙ took.taken;
-      far = λ unread. subst (λ far. far ≤ length x) (sym (ap (λ (source : Source). source.reached) after)) (took.far unread);
+      far = λ unread. rw (ap (λ (source : Source). source.reached) after) (took.far unread);
     }
 
 module _ {E : Type 0} (Holds : E → List ℕ → Type 0) (Ready : E → List Slot → Type 0) (Owns : E → ℕ → List Slot → Type 0) (work : E → Work) (told : Bool) (slot count : ℕ) (before after : E) (old new : List Source) (loads : Loads Holds Ready Owns work told slot count before after old new) where

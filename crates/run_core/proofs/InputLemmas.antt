@@ -44,12 +44,12 @@ use Rattle.ports_core.specs.Source as from
 -- headers
 
 pub broken_header : {told : Bool} {text said : List ℕ} {old new : List Slot} {n : ℕ} → said ≡ text → BrokeAfter told old new 0 said n → HeaderFails told text old new (Write 0)
-broken_header {told} {old} {new} {n} is cut = broke n (subst (λ bytes. BrokeAfter told old new 0 bytes n) is cut)
+broken_header {told} {old} {new} {n} is cut = broke n (rw is at cut)
 
 -- the streams
 
 pub part_writable : {told : Bool} {error : Slot} {part : Part} {slots : List Slot} → OutputsAt told (streams_with error) part slots → IsTrue (is_writable slots 0)
-part_writable at = subst (λ those. is_writable those 0 ≡ true) (sym at.slots) refl
+part_writable at = rw at.slots refl
 
 pub part_two : {told : Bool} {error : Slot} {part : Part} {slots : List Slot} → OutputsAt told (streams_with error) part slots → 2 ≤ length slots
 part_two {told} {error} {part} {slots} at = omega (arith, outputs_count told (streams_with error) part slots at)
@@ -59,7 +59,7 @@ part_open opened at = ap (λ those. is_open (slot_at those 1).state) at.slots �
 
 -- the header was written
 pub headed : {told : Bool} {base : List Slot} {so_far : Part} (text : List ℕ) {old mid : List Slot} → OutputsAt told base so_far old → mid ≡ with_written 0 (told_of told text) old → OutputsAt told base (after_part so_far (only_out text)) mid
-headed {told} {base} {so_far} text {old} {mid} at wrote = subst (λ part. OutputsAt told base part mid) (out_on so_far text) (out_more told base so_far old mid text at wrote)
+headed {told} {base} {so_far} text {old} {mid} at wrote = rw (out_on so_far text) at (out_more told base so_far old mid text at wrote)
 
 pub headed_count : (told : Bool) (text : List ℕ) (old : List Slot) {mid : List Slot} → mid ≡ with_written 0 (told_of told text) old → length mid ≡ length old
 headed_count told text old wrote = ap length wrote ∙ length-changed_at 0 _ old
@@ -94,7 +94,7 @@ stopped_in_header {told} {task} is_first name {content} {so_far} {error} {old} {
     let count : length new ≡ length old = ap length after.slots ∙ length-changed_at 0 _ _ ∙ length-changed_at 0 _ old in
     cut_off (Write 0) _ new (heading content due unread)
     (λ _. refl, λ alone. refl, ap (λ those. (slot_at those 0).is_broken) after.slots ∙ broken_at 0 _ (writable-written old 0 0 (told_of told (take n text)) ∙ part_writable at))
-    (subst (λ high. StoppedBetween told (streams_with error) so_far high (Write 0) new) (out_on so_far text) (out_cut told (streams_with error) so_far old new text n at after))
+    (rw (out_on so_far text) at (out_cut told (streams_with error) so_far old new text n at after))
     (none_to_sweep task.work.clears new (omega (arith, count)))
 
 -- the engine's part of an input, after the header
@@ -105,13 +105,12 @@ module _ (told_in told : Bool) (task : Task) (most : ℕ) (is_first failed was_r
 
   part_after : (error_now : Slot) (part : Part) {reached : List Slot} → OutputsAt told (streams_with error_now) (after_part (after_part so_far (only_out (header_text task.with_header is_first name))) part) reached
       → OutputsAt told (streams_with error_now) (after_part so_far (after_part (only_out (header_text task.with_header is_first name)) part)) reached
-  part_after error_now part {reached} there = subst (λ those. OutputsAt told (streams_with error_now) those reached) (after_assoc so_far (only_out (header_text task.with_header is_first name)) part) there
+  part_after error_now part {reached} there = rw (after_assoc so_far (only_out (header_text task.with_header is_first name)) part) at there
 
   -- it went well
   went_well : (content : Content) (new : List Slot) → IsDone told_in task.work most source (Some content) sources → is_enough task.work content ≡ true → task.work.verdict content.bytes ≡ None → OutputsAt told mid (task.work.whole content.bytes) new → TookSo content new (Ok (record { was_read = was_read; is_first = false; failed = failed }))
   went_well content new done enough well there =
-      subst (λ outcome. TookInput told_in told task most (input_from name source content) outcome is_first failed was_read so_far error count sources new (Ok (record { was_read = was_read; is_first = false; failed = failed }))) (sym (made_well task is_first name content enough well))
-      (took (record { was_read = was_read; is_first = false; failed = failed }) error new (simp (and-false, or-false)) done refl (part_after error _ (at_after at there)) refl)
+      rw (made_well task is_first name content enough well) (took (record { was_read = was_read; is_first = false; failed = failed }) error new (simp (and-false, or-false)) done refl (part_after error _ (at_after at there)) refl)
 
   -- a message is due
   went_badly : (content : Content) (part : Part) (text : List ℕ) (reached old new : List Slot) → IsDone told_in task.work most source (Some content) sources
@@ -120,9 +119,8 @@ module _ (told_in told : Bool) (task : Task) (most : ℕ) (is_first failed was_r
   went_badly content part text reached old new done made there swept says =
       let top = adds (told_of told (after_part so_far (after_part (only_out (header_text task.with_header is_first name)) part)).out) standard_output in
       let all = part_after error part (at_after at there) in
-      let said = said_swept told task.tool text task.work.clears old new count streams_there (subst (λ slots. Swept task.work.clears count slots old) all.slots (subst (λ n. Swept task.work.clears n reached old) counted swept)) says in
-      subst (λ outcome. TookInput told_in told task most (input_from name source content) outcome is_first failed was_read so_far error count sources new (Ok (record { was_read = was_read; is_first = false; failed = true }))) (sym made)
-      (took (record { was_read = was_read; is_first = false; failed = true }) said.after (top ∷ said.after ∷ all.since)
+      let said = said_swept told task.tool text task.work.clears old new count streams_there (rw all.slots at (rw counted at swept)) says in
+      rw made (took (record { was_read = was_read; is_first = false; failed = true }) said.after (top ∷ said.after ∷ all.since)
       (simp (and-false, or-true)) done (said.after, said.says, refl) (record { standard = lit< tt; since = all.since; slots = refl; files = all.files }) said.swept)
 
   pub took_well : {content : Content} {new : List Slot} {fed : Fed} → IsDone told_in task.work most source (Some content) sources → (fed ≡ Whole) ⊎ (fed ≡ Enough) → FedAs told mid task.work task.opening most content (Leaves told_in content source sources) new (Ok fed) → TookSo content new (Ok (record { was_read = was_read; is_first = false; failed = failed }))
@@ -145,7 +143,7 @@ module _ (told_in told : Bool) (task : Task) (most : ℕ) (is_first failed was_r
   took_stopped unjudged (judged _ is enough judges reached there swept) = absurd (false≢true (sym unjudged ∙ is))
   took_stopped {content} {new} {fault} unjudged (stopped _ is call is_call read reached why stop swept) =
       cut_off fault (step_after (after_part so_far (only_out (header_text task.with_header is_first name))) call) reached (calling content call is_call read)
-      why (stop_after at stop) (subst (λ n. Swept task.work.clears n reached new) counted swept)
+      why (stop_after at stop) (rw counted at swept)
 
 -- standard error is open after an input was fed
 
@@ -216,8 +214,7 @@ ran_into {told} {task} {mid} {fault} (stopped_at _ before input after error step
     let said_so = stop_swept told task.tool text step task.work.clears (lit≤ tt)
     (ap is_open (all_said_state told task.tool (made_by task before).messages standard_error error said)) stop stops swept says in
     run_stopped fault before input after said_so.after step said_so.reached among done untouched is_step said_so.why said_so.stop said_so.swept
-    (subst (λ name. SaysAll told task.tool ((made_by task before).messages ++ message_of task.tool fault name ∷ []) standard_error said_so.after) (sym said_so.named)
-    (says_more told task.tool (made_by task before).messages text standard_error error said_so.after said said_so.says)) refl
+    (rw said_so.named (says_more told task.tool (made_by task before).messages text standard_error error said_so.after said said_so.says)) refl
 ran_into (not_begun at_first untouched none) says =
     let said = says standard_output standard_error [] at_first in
     run_unmade said.0 (said.0, said.1, refl) said.2 untouched none refl
@@ -273,8 +270,7 @@ pub took_opened : {told_in told : Bool} {task : Task} {most : ℕ} {is_first fai
 took_opened {told_in} {told} {task} {most} {is_first} {failed} {was_read} {laid} {name} {old} {slot = slot} {so_far} {error} {first} {sources} {new} {result} differs opened_it (content, there, one) =
     of_file (world_of laid old) was_read _ differs (λ t. ap (λ n. laid n name) (sym opened_it.number) ∙ opened_it.lies t
     ∙ ap Some (sym (there t ∙ ap (λ (source : Source). source.left) (ap (λ those. source_at those slot) opened_it.sources ∙ ap (source_at (old ++ source_of opened_it.content ∷ [])) opened_it.number ∙ last_source old))))
-    (subst (λ read. TookInput told_in told task most (input_from name (Some (length old)) content) (of_content task is_first name (Some content)) is_first failed read so_far error first sources new result) (sym (ap (λ (b : Bool). was_read || b) differs ∙ or-false was_read))
-    (subst (λ n. TookInput told_in told task most (input_from name (Some n) content) (of_content task is_first name (Some content)) is_first failed was_read so_far error first sources new result) opened_it.number one))
+    (rw (ap (λ (b : Bool). was_read || b) differs ∙ or-false was_read) (rw opened_it.number at one))
 
 took_missing : {told_in told : Bool} {task : Task} {most : ℕ} {is_first failed was_read : Bool} (name : List ℕ) (sources : List Source) {after : List Source} (slot : ℕ) {so_far : Part} {error : Slot} {old new : List Slot} → is_dash name ≡ false → after ≡ sources ++ missing ∷ [] → OutputsAt told (streams_with error) so_far old
     → SaysOn told task.tool (message_of task.tool (Open slot) name) old new
@@ -291,8 +287,7 @@ pub took_standard : {told_in told : Bool} {task : Task} {most : ℕ} {is_first f
 took_standard {told_in} {told} {task} {most} {is_first} {failed} was_read laid name old {sources} {so_far} {error} {first} {new} {result} is dash holds =
     let P = λ (read : Bool) (input : Input). TookInput told_in told task most input (of_input task is_first input) is_first failed read so_far error first sources new result in
     dash_at was_read laid old (length old) name (P (was_read || is_dash name)) dash
-    (subst (λ read. OfSource told_in (standard_source was_read) old (λ content. P read (input_from (codes "standard input") (standard_source was_read) content))) (sym (ap (λ (b : Bool). was_read || b) dash ∙ or-true was_read))
-    (subst (λ from. OfSource told_in from old (λ content. P true (input_from (codes "standard input") from content))) is holds))
+    (rw (ap (λ (b : Bool). was_read || b) dash ∙ or-true was_read) (rw is at holds))
 
 -- a name that could not be opened: it is passed over with a message
 
@@ -361,7 +356,7 @@ walk_begins {told} {names} {laid} {sources} {slots} fresh are alone =
       made = no_outcome;
       error = standard_error;
       reached = slots;
-      at = subst (λ those. OutputsAt told (streams_with standard_error) nothing those) (sym are) (nothing_out told (streams_with standard_error) (lit< tt));
+      at = rw are (nothing_out told (streams_with standard_error) (lit< tt));
       swept = refl;
       says = refl;
       failed = refl;
@@ -369,11 +364,11 @@ walk_begins {told} {names} {laid} {sources} {slots} fresh are alone =
       unswept = λ some. refl;
       first = refl;
       rest_made = λ rest. refl;
-      rest_are = λ rest are_rest. subst (λ n. AreFrom false n names rest) one are_rest;
+      rest_are = λ rest are_rest. rw one at are_rest;
       rest_there = λ t. ap (λ n. inputs_from (world_of laid sources) false n names) one;
       laid_same = refl;
       standard = λ _. at_first ∙ ap source_of (sym (ap (λ (source : Source). source.left) at_first));
-      some = subst (λ n. 0 < n) (sym one) (lit< tt);
+      some = rw one (lit< tt);
       known = tt;
       asked = fresh_asks largest_piece sources fresh;
       count = ap (λ n. count_after n names) one;
@@ -383,8 +378,8 @@ walk_begins {told} {names} {laid} {sources} {slots} fresh are alone =
 slots_at : {told_in told : Bool} {task : Task} {world : World} {names left : List (List ℕ)} {progress : Progress} {laid : ℕ → List ℕ → Option Content} {sources : List Source} {slots : List Slot} → 1 ≤ length left
     → (walked : Walked told_in told task world names left progress laid sources slots) → OutputsAt told (streams_with walked.error) walked.made.part slots
 slots_at {told} {slots} some walked =
-    let same : slots ≡ walked.reached = subst (λ sweeps. Swept sweeps 2 walked.reached slots) (walked.unswept some) walked.swept in
-    subst (λ those. OutputsAt told (streams_with walked.error) walked.made.part those) (sym same) walked.at
+    let same : slots ≡ walked.reached = rw (walked.unswept some) at walked.swept in
+    rw same walked.at
 
 walked_error : {told_in : Bool} (told : Bool) {task : Task} {world : World} {names left : List (List ℕ)} {progress : Progress} {laid : ℕ → List ℕ → Option Content} {sources : List Source} {slots : List Slot}
     → (walked : Walked told_in told task world names left progress laid sources slots) → is_open walked.error.state ≡ true
@@ -419,7 +414,7 @@ Takes told_in told task most progress laid sources new_sources name so_far error
 
 -- no read asked for more
 pub asks_on : {most : ℕ} {was_read : Bool} {name : List ℕ} {sources new_sources : List Source} → most ≡ largest_piece → TakesOne most was_read name sources new_sources → AsksAtMost largest_piece sources → AsksAtMost largest_piece new_sources
-asks_on {sources} {new_sources} at_most leaves = subst (λ n. AsksAtMost n sources → AsksAtMost n new_sources) at_most leaves.asked
+asks_on {sources} {new_sources} at_most leaves = rw at_most at leaves.asked
 
 -- one more name was taken
 pub walk_goes_on : {told_in told : Bool} {task : Task} {most : ℕ} {world : World} {names : List (List ℕ)} {name : List ℕ} {left : List (List ℕ)} {progress next : Progress} {laid new_laid : ℕ → List ℕ → Option Content} {sources new_sources : List Source} {slots new : List Slot}
@@ -428,7 +423,7 @@ pub walk_goes_on : {told_in told : Bool} {task : Task} {most : ℕ} {world : Wor
     → TakesOne most progress.was_read name sources new_sources → length new_sources ≡ next_slot (length sources) name → new_laid ≡ laid
     → Walked told_in told task world names left next new_laid new_sources new
 walk_goes_on {told_in} {told} {task} {world} {names} {name} {left} {progress} {next} {laid} {new_laid} {sources} {new_sources} {slots} {new} at_most walked takes leaves opened_it same =
-    goes_with (subst (λ n. Takes told_in told task n progress laid sources new_sources name walked.made.part walked.error slots new (Ok next)) at_most (takes walked.made.part walked.error (walked_error told walked) (slots_at (omega arith) walked))) where
+    goes_with (rw at_most at (takes walked.made.part walked.error (walked_error told walked) (slots_at (omega arith) walked))) where
       goes_with : Takes told_in told task largest_piece progress laid sources new_sources name walked.made.part walked.error slots new (Ok next) → Walked told_in told task world names left next new_laid new_sources new
       goes_with (input, is_for, there, took _ after reached is is_done says at swept) =
           let one = of_input task progress.is_first input in
@@ -442,7 +437,7 @@ walk_goes_on {told_in} {told} {task} {world} {names} {name} {left} {progress} {n
             error = after;
             reached = reached;
             at = at;
-            swept = subst (λ (sweeps : Bool). Swept sweeps 2 reached new) (sym sweeps_one) (swept_from one.sweeps reached new (λ sweeps. (only sweeps).1) swept);
+            swept = rw sweeps_one (swept_from one.sweeps reached new (λ sweeps. (only sweeps).1) swept);
             says = says_after told task.tool walked.made.messages one.messages standard_error walked.error after walked.says says;
             failed = ap (λ (p : Progress). p.failed) is ∙ ap (λ (b : Bool). b || one.failed) walked.failed;
             alone = λ clears. inl (taken_alone slots walked.alone clears).0;
@@ -451,8 +446,7 @@ walk_goes_on {told_in} {told} {task} {world} {names} {name} {left} {progress} {n
             rest_made = λ rest. ap (of_inputs task true) (append_assoc walked.done (input ∷ []) rest) ∙ walked.rest_made (input ∷ rest)
                 ∙ (simp (append_assoc, or_assoc))
                 ∙ ap (λ (b : Bool). joined (joined walked.made one) (of_inputs task b rest)) (sym (ap (λ (p : Progress). p.is_first) is));
-            rest_are = λ rest are_rest. subst (AreFrom false 1 names) (sym (append_assoc walked.done (input ∷ []) rest))
-                (walked.rest_are (input ∷ rest) (is_for, subst (λ (b : Bool). AreFrom b (next_slot (length sources) name) left rest) was (subst (λ n. AreFrom next.was_read n left rest) opened_it are_rest)));
+            rest_are = λ rest are_rest. rw (append_assoc walked.done (input ∷ []) rest) (walked.rest_are (input ∷ rest) (is_for, rw was at (rw opened_it at are_rest)));
             rest_there = λ t. append_assoc walked.done (input ∷ []) (inputs_from world next.was_read (length new_sources) left)
                 ∙ ap (λ (first : Input). walked.done ++ first ∷ inputs_from world next.was_read (length new_sources) left) (there t ∙ same_input progress.was_read (length sources) name (is_dash name) sources walked.laid_same walked.standard)
                 ∙ ap (λ n. walked.done ++ input_of world progress.was_read (length sources) name (is_dash name) ∷ inputs_from world next.was_read n left) opened_it
@@ -461,8 +455,7 @@ walk_goes_on {told_in} {told} {task} {world} {names} {name} {left} {progress} {n
             laid_same = same ∙ walked.laid_same;
             standard = λ unread. let both = or_parts progress.was_read (is_dash name) (sym was ∙ unread) in leaves.unasked both.1 ∙ walked.standard both.0;
             some = omega (arith, walked.some, leaves.grown);
-            known = subst (λ (b : Bool). StayDone told_in task.work largest_piece b (walked.done ++ input ∷ []) new_sources) (sym was)
-                (done_more told_in task.work largest_piece (progress.was_read || is_dash name) walked.done input new_sources
+            known = rw was (done_more told_in task.work largest_piece (progress.was_read || is_dash name) walked.done input new_sources
                 (still_done told_in task.work largest_piece walked.done (λ had. ap (λ (b : Bool). b || is_dash name) had) leaves walked.known)
                 (done_with told_in task.work largest_piece progress.was_read name new_sources is_for walked.some is_done));
             asked = asks_on at_most leaves walked.asked;
@@ -476,7 +469,7 @@ pub walk_stops : {told_in : Bool} (told : Bool) {task : Task} {most : ℕ} {worl
     → TakesOne most progress.was_read name sources new_sources
     → RunsOver told_in world names (λ found. TookAll told_in told task found new_sources new (Err fault))
 walk_stops {told_in} told {task} {world} {names} {name} {left} {progress} {laid} {sources} {new_sources} {slots} {new} fault at_most walked takes leaves =
-    stops_with (subst (λ n. Takes told_in told task n progress laid sources new_sources name walked.made.part walked.error slots new (Err fault)) at_most (takes walked.made.part walked.error (walked_error told walked) (slots_at (omega arith) walked))) where
+    stops_with (rw at_most at (takes walked.made.part walked.error (walked_error told walked) (slots_at (omega arith) walked))) where
       stops_with : Takes told_in told task largest_piece progress laid sources new_sources name walked.made.part walked.error slots new (Err fault) → RunsOver told_in world names (λ found. TookAll told_in told task found new_sources new (Err fault))
       stops_with (input, is_for, there, cut_off _ step reached is_step stops stop swept) =
           let rest = inputs_from world (progress.was_read || is_dash name) (next_slot (length sources) name) left in
@@ -492,9 +485,8 @@ walk_stops {told_in} told {task} {world} {names} {name} {left} {progress} {laid}
                 (still_done told_in task.work largest_piece walked.done (λ had. ap (λ (b : Bool). b || is_dash name) had) leaves walked.known))
                 (rest_untouched world (progress.was_read || is_dash name) (next_slot (length sources) name) left new_sources
                 (λ unread. let both = or_parts progress.was_read (is_dash name) unread in leaves.unasked both.1 ∙ walked.standard both.0) leaves.within)
-                (subst (λ (outcome : Outcome). RunStep told_in task largest_piece outcome.part (header_text task.with_header (are_missing walked.done) input.name) input.slot new_sources input.content step) (sym before)
-                (subst (λ (is_first : Bool). RunStep told_in task largest_piece walked.made.part (header_text task.with_header is_first input.name) input.slot new_sources input.content step) walked.first is_step))
-                stops (subst (λ (outcome : Outcome). SaysAll told task.tool outcome.messages standard_error walked.error) (sym before) walked.says) stop
+                (rw before (rw walked.first at is_step))
+                stops (rw before walked.says) stop
                 (swept_from task.work.clears reached new (λ clears. (taken_alone slots walked.alone clears).1) swept),
           )
 
@@ -513,14 +505,14 @@ walk_ends {told_in} {told} {task} {world} {progress} {sources} {slots} none walk
     let made : made_by task (walked.done ++ []) ≡ walked.made = walked.rest_made [] ∙ joined_nothing in (
       walked.done ++ [],
       record {
-        are = walked.rest_are [] (subst (λ those. AreFrom progress.was_read (length sources) those []) (sym none) refl);
+        are = walked.rest_are [] (rw none refl);
         there = λ t. ap (λ those. walked.done ++ inputs_from world progress.was_read (length sources) those) (sym none) ∙ walked.rest_there t;
       },
       all progress.failed walked.error walked.reached (walked.failed ∙ ap (λ (those : Outcome). those.failed) (sym made))
-          (subst (λ (those : Outcome). SaysAll told task.tool those.messages standard_error walked.error) (sym made) walked.says)
-          (subst (λ (those : Outcome). OutputsAt told (streams_with walked.error) those.part walked.reached) (sym made) walked.at)
-          (subst (λ (those : Outcome). Swept those.sweeps 2 walked.reached slots) (sym made) walked.swept)
-          (subst (λ those. AreDone told_in task.work largest_piece those sources) (sym (append-nil walked.done)) (all_done told_in task.work largest_piece progress.was_read walked.done sources walked.known)),
+          (rw made walked.says)
+          (rw made walked.at)
+          (rw made walked.swept)
+          (rw (append-nil walked.done) (all_done told_in task.work largest_piece progress.was_read walked.done sources walked.known)),
     )
 
 pub walk_counts : {told_in told : Bool} {task : Task} {world : World} {names left : List (List ℕ)} {progress : Progress} {laid : ℕ → List ℕ → Option Content} {sources : List Source} {slots : List Slot} → left ≡ []
@@ -530,7 +522,7 @@ walk_counts {left} {sources} none walked = let all_taken : count_after (length s
 -- the words that a loop has left are the first of them and the rest
 pub walked_at : {told_in : Bool} (told : Bool) {task : Task} {world : World} {names : List (List ℕ)} (none : Bor (List ℕ)) (left : List (Bor (List ℕ))) {progress : Progress} {laid : ℕ → List ℕ → Option Content} {sources : List Source} {slots : List Slot} → 1 ≤ length left
     → Walked told_in told task world names (map (λ word. word.now) left) progress laid sources slots → Walked told_in told task world names ((get_or left 0 none).now ∷ map (λ word. word.now) (take (length left - 1) (drop 1 left))) progress laid sources slots
-walked_at {told_in} told {task} {world} {names} none left {progress} {laid} {sources} {slots} some walked = subst (λ those. Walked told_in told task world names those progress laid sources slots) (front_and_rest none left some) walked
+walked_at {told_in} told {task} {world} {names} none left {progress} {laid} {sources} {slots} some walked = rw (front_and_rest none left some) at walked
 
 -- a run that touched no input
 pub none_touched : {told_in : Bool} {laid : ℕ → List ℕ → Option Content} {sources : List Source} {names : List (List ℕ)} → IsFresh sources → RunsOver told_in (world_of laid sources) names (λ found. AreUntouched found sources)

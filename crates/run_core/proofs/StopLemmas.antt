@@ -49,7 +49,7 @@ at_after {told} {base} {first} {part} {mid} one two = record {
 } where
   more : with_written 0 (told_of told part.out) mid ≡ with_written 0 (told_of told (first.out ++ part.out)) base ++ one.since
   more = ap (with_written 0 (told_of told part.out)) one.slots
-      ∙ changed_at-append 0 _ (with_written 0 (told_of told first.out) base) one.since (subst (λ n. 0 < n) (sym (length-changed_at 0 _ base)) one.standard)
+      ∙ changed_at-append 0 _ (with_written 0 (told_of told first.out) base) one.since (rw (length-changed_at 0 _ base) one.standard)
       ∙ ap (λ front. front ++ one.since) (with_written-append 0 (told_of told first.out) (told_of told part.out) base ∙ ap (λ bytes. with_written 0 bytes base) (sym (told_of-append told first.out part.out)))
 
 order_after : (first : List File) {low part high : List File} {place : ℕ} → InOrder low part high place → InOrder (first ++ low) (first ++ part) (first ++ high) (length first + place)
@@ -87,8 +87,7 @@ stop_after {told} {base} {first} {high} {fault} {mid} {now} at stop = record {
   reached = stop.reached;
   outputs = at_after at stop.outputs;
   marks = marks_by (IsNext stop.part high) (IsNext (after_part first stop.part) (after_part first high)) fault stop.reached now (next_after first) stop.marks;
-  from = subst (λ n. IsAt fault (length base) (length first.files + stop.place) n) (sym (length-append first.files stop.part.files))
-      (from_after fault (length base) stop.place (length stop.part.files) (length first.files) (outputs_count told base first mid at) stop.from);
+  from = rw (length-append first.files stop.part.files) (from_after fault (length base) stop.place (length stop.part.files) (length first.files) (outputs_count told base first mid at) stop.from);
 }
 
 -- where there is no file, none is to be removed
@@ -98,7 +97,7 @@ none_to_sweep clears {first} slots past = swept_none clears first slots (λ plac
 
 -- the same from another place, where it matters
 pub swept_from : (clears : Bool) {first other : ℕ} (old new : List Slot) → (clears ≡ true → first ≡ other) → Swept clears first old new → Swept clears other old new
-swept_from true old new same swept = subst (λ n. SweptFrom n old new) (same refl) swept
+swept_from true old new same swept = rw (same refl) at swept
 swept_from false old new same swept = swept
 
 -- Lemmas on outputs that a fault stopped, and on the message that tells it: standard error is the slot after the first, and what
@@ -129,7 +128,7 @@ marked_error IsName fault output error since opened marks = shape_of opened mark
 pub stop_error : {told : Bool} {output error : Slot} {low high : Part} {fault : Fault} {now : List Slot} → is_open error.state ≡ true → StoppedBetween told (output ∷ error ∷ []) low high fault now → HasError now
 stop_error {told} {output} {error} {high} {fault} {now} opened stop =
     marked_error (IsNext stop.part high) fault (adds (told_of told stop.part.out) output) error stop.outputs.since opened
-    (subst (λ slots. Marks (IsNext stop.part high) fault slots now) stop.outputs.slots stop.marks)
+    (rw stop.outputs.slots at stop.marks)
 
 -- a message changes standard error, and no other output
 
@@ -159,7 +158,7 @@ module _ (told : Bool) (tool : Tool) (text : List ℕ) where
       → (after : Slot) × Says told tool text error after × StoppedBetween told (output ∷ after ∷ []) low high fault new
   stop_said {output} {high = high} {fault} {mid} {new} stop says =
       let first = adds (told_of told stop.part.out) output in
-      let marked = told_marked (IsNext stop.part high) fault stop.place _ first stop.outputs.since new stop.from (subst (λ slots. Marks (IsNext stop.part high) fault slots mid) stop.outputs.slots stop.marks) says in (
+      let marked = told_marked (IsNext stop.part high) fault stop.place _ first stop.outputs.since new stop.from (rw stop.outputs.slots at stop.marks) says in (
         marked.0,
         marked.1,
         record {
@@ -236,7 +235,7 @@ module _ (told : Bool) (tool : Tool) (text : List ℕ) where
       let said = says output error left.0 left.1 in record {
         after = said.0;
         says = said.1;
-        swept = subst (λ slots. SweptFrom first (output ∷ said.0 ∷ since) slots) (sym said.2) (swept_streams past (subst (λ slots. SweptFrom first (output ∷ error ∷ since) slots) left.1 swept));
+        swept = rw said.2 (swept_streams past (rw left.1 at swept));
         named = said_named left.1 said.1 said.2;
       }
 
@@ -245,7 +244,7 @@ module _ (told : Bool) (tool : Tool) (text : List ℕ) where
   said_too {output} {error} {after} {since} are said top other rest is =
       let same : output ∷ error ∷ since ≡ top ∷ other ∷ rest = sym are ∙ is in
       let was : error ≡ other = cc in
-      (after, subst (λ from. Says told tool text from after) was said, cc)
+      (after, rw was at said, cc)
 
   -- what a fault left, once its files were removed and its message was said
   pub record ToldStop (step : Step) (output error : Slot) (low high : Part) (fault : Fault) (clears : Bool) (first : ℕ) (mid new : List Slot) : Type 0 where
@@ -261,7 +260,7 @@ module _ (told : Bool) (tool : Tool) (text : List ℕ) where
       → Stops step reached fault → Swept clears first reached mid → SaysOn told tool text mid new → ToldStop step output error low high fault clears first mid new
   stop_swept step clears {fault = fault} {mid = mid} {new} {first} past opened stop why swept says =
       let has = stop_error opened stop in
-      let said = said_swept clears mid new first past (subst (λ slots. Swept clears first slots mid) has.are swept) says in
+      let said = said_swept clears mid new first past (rw has.are at swept) says in
       let too = said_too has.are said.says in
       let told_so = stop_said told tool text stop too in record {
         after = told_so.0;

@@ -94,8 +94,7 @@ returns-then-n-eq0 g c =
           uses_all (read_none_more _ _ _ _ _ _ c.in-Ok.n (so_far.read told) so_far.readable c.if-n-eq0.true c.in-Ok.ensures.rest)
           (ap (λ (source : Source). source.left.bytes) after ∙ ap (drop c.in-Ok.n) none ∙ ap (λ k. drop k []) c.if-n-eq0.true)
           so_far.needed (ap (λ (work : Work). work.is_complete so_far.fed) (sym so_far.feeds.same) ∙ going)
-          (subst (λ x. (source_at (g.I.Inputs.sources c.read_part.new.inputs) c.args.slot).reached ≤ length x) (ap (λ more. so_far.fed ++ more) nothing ∙ append-nil so_far.fed)
-          ((takes_more _ (so_far.took told) so_far.readable gave c.in-Ok.ensures.rest).far unread));
+          (rw (ap (λ more. so_far.fed ++ more) nothing ∙ append-nil so_far.fed) at ((takes_more _ (so_far.took told) so_far.readable gave c.in-Ok.ensures.rest).far unread));
       asked = λ within. asked_again _ _ _ _ _ _ so_far.readable c.in-Ok.ensures.rest (omega (arith, c.piece_size-size.ensures.within, so_far.room)) (so_far.asked within);
       broke = ends_sound _ _ _ _ _ (inl refl) c.end.ensures;
       laid = c.read_part.ensures.kept ∙ so_far.laid;
@@ -203,6 +202,6 @@ returns g c =
           (λ standard. rw so_far.feeds.same (so_far.few standard _ (rw so_far.feeds.same at spare)))
           (so_far.took told) unread so_far.readable back);
       others = keeps_again _ _ _ _ so_far.others (keeps_others _ _ _ _ back);
-      asked = λ within. subst (λ asked. asked ≤ length c.args.buffer.now) (sym (ap (λ (source : Source). source.asked) (changed_source _ _ _ _ so_far.readable back))) (so_far.asked within);
+      asked = λ within. rw (ap (λ (source : Source). source.asked) (changed_source _ _ _ _ so_far.readable back)) (so_far.asked within);
       laid = c.give_back.ensures.kept ∙ so_far.laid;
     }
