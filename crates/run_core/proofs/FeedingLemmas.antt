@@ -253,7 +253,7 @@ module _ {S : Type 0} (Holds : S → List ℕ → Type 0) (Ready : S → List Sl
   }
 
   pub loaded_readable : IsTrue (is_readable old slot) → IsTrue (is_readable new slot)
-  loaded_readable can = ap (λ (source : Source). source.is_open && not source.is_broken) (passed_at slot count old new can loads.passed) ∙ can
+  loaded_readable can = rw (passed_at slot count old new can loads.passed, can)
 
   pub loaded_others : KeepsOthers slot old new
   loaded_others = keeps_others slot (skips count) old new loads.passed
@@ -261,7 +261,7 @@ module _ {S : Type 0} (Holds : S → List ℕ → Type 0) (Ready : S → List Sl
   pub loaded_read : told ≡ true → IsTrue (is_readable old slot) → HasRead (source_at old slot).left loads.front slot new
   loaded_read tells can = record {
     bytes = loads.there tells;
-    breaks_off = ap (λ (source : Source). source.left.breaks_off) (passed_at slot count old new can loads.passed);
+    breaks_off = rw (passed_at slot count old new can loads.passed);
   }
 
   pub loaded_needed : {most : ℕ} → IsNeeded (work start.stage).is_complete most loads.front
@@ -277,8 +277,7 @@ pub gave_part : {left : Content} {size n : ℕ} {old part : List ℕ} → 0 < si
 gave_part {size} {n} {old} {part} some within long few gave = record {
   within = gave.within;
   front = take-append-le n part (drop size old) (omega (arith, long, few)) ∙ gave.front;
-  rest = drop-append-le n part (drop size old) (omega (arith, long, few)) ∙ ap (λ those. those ++ drop size old) gave.rest
-      ∙ sym (drop-append-le n (take size old) (drop size old) (omega (arith, few, within, length-take size old))) ∙ ap (drop n) (take-append-drop size old);
+  rest = cc (drop-append-le n part (drop size old) (omega (arith, long, few)), gave.rest, drop-append-le n (take size old) (drop size old) (omega (arith, few, within, length-take size old)), take-append-drop size old);
   ended = λ none room. gave.ended none (omega (arith, some, within, length-take size old));
 }
 
@@ -288,9 +287,7 @@ pub record HasTaken (x : List ℕ) (slot : ℕ) (start sources : List Source) : 
   pub far : IsUnread (source_at start slot) → (source_at sources slot).reached ≤ length x
 
 taken_next : {x buffer old_buffer : List ℕ} {slot : ℕ} (size : ℕ) {n : ℕ} {start sources new : List Source} → HasTaken x slot start sources → IsTrue (is_readable sources slot) → Gave (source_at sources slot).left old_buffer buffer n → new ≡ changed_at slot (gives size n) sources → with_next n (source_at sources slot) ≡ (source_at start slot).taken ++ (x ++ take n buffer)
-taken_next {x} {slot} size {n} {start} {sources} took can gave is =
-    ap (λ those. those ++ take n (source_at sources slot).left.bytes) took.taken ∙ append_assoc (source_at start slot).taken x (take n (source_at sources slot).left.bytes)
-    ∙ ap (λ those. (source_at start slot).taken ++ (x ++ those)) (sym gave.front)
+taken_next {x} {slot} size {n} {start} {sources} took can gave is = rw (took.taken, append_assoc (source_at start slot).taken x (take n (source_at sources slot).left.bytes), gave.front)
 
 pub takes_more : {x buffer old_buffer : List ℕ} {slot : ℕ} (size : ℕ) {n : ℕ} {start sources new : List Source} → HasTaken x slot start sources → IsTrue (is_readable sources slot) → Gave (source_at sources slot).left old_buffer buffer n → new ≡ changed_at slot (gives size n) sources → HasTaken (x ++ take n buffer) slot start new
 takes_more {x} {buffer} {slot} size {n} {start} {sources} {new} took can gave is =
@@ -305,8 +302,7 @@ takes_more {x} {buffer} {slot} size {n} {start} {sources} {new} took can gave is
 
 -- a read gave as many as it says
 pub last_given : {old_buffer buffer : List ℕ} (slot size : ℕ) {n : ℕ} (sources : List Source) {new : List Source} → IsTrue (is_readable sources slot) → Gave (source_at sources slot).left old_buffer buffer n → new ≡ changed_at slot (gives size n) sources → (source_at new slot).last ≡ n
-last_given slot size {n} sources {new} can gave is =
-    ap (λ (source : Source). source.last) (changed_source slot (gives size n) sources new can is) ∙ length-take-le n (source_at sources slot).left.bytes gave.within
+last_given slot size {n} sources {new} can gave is = rw (changed_source slot (gives size n) sources new can is, length-take-le n (source_at sources slot).left.bytes gave.within)
 
 -- a read that failed took nothing
 pub takes_none : {x : List ℕ} {slot : ℕ} (size : ℕ) {start sources new : List Source} → HasTaken x slot start sources → IsTrue (is_readable sources slot) → new ≡ changed_at slot (fails size) sources → HasTaken x slot start new
@@ -320,8 +316,7 @@ module _ {E : Type 0} (Holds : E → List ℕ → Type 0) (Ready : E → List Sl
   pub loaded_taken : told ≡ true → IsTrue (is_readable old slot) → HasTaken loads.front slot old new
   loaded_taken tells can =
       let passed = passed_at slot count old new can loads.passed in record {
-        taken = ap (λ (source : Source). source.taken) passed
-            ∙ ap (λ those. (source_at old slot).taken ++ those) (ap (take count) (loads.there tells) ∙ ap (λ k. take k (loads.front ++ (source_at new slot).left.bytes)) loads.long ∙ take_at loads.front (source_at new slot).left.bytes (length loads.front) refl);
+        taken = rw (passed, loads.there tells, loads.long, take_at loads.front (source_at new slot).left.bytes (length loads.front) refl);
         far = λ unread. omega (arith, ap (λ (source : Source). source.reached) passed, unread.1);
       }
 
@@ -341,14 +336,10 @@ back_at {taken} start used {rest} {n} is long =
     ap (λ k. drop k taken) at ∙ ap (drop (length (start ++ used))) all ∙ drop_at (start ++ used) rest (length (start ++ used)) refl
 
 pub left_after : {work : Work} {x : List ℕ} {slot n : ℕ} {start sources new : List Source} (spare : IsSpare work x n) → HasTaken x slot start sources → IsTrue (is_readable sources slot) → new ≡ changed_at slot (gets_back n) sources → (source_at new slot).left.bytes ≡ spare.rest ++ (source_at sources slot).left.bytes
-left_after {slot} {n} {start} {sources} {new} spare took can is =
-    ap (λ (source : Source). source.left.bytes) (changed_source slot (gets_back n) sources new can is)
-    ∙ ap (λ those. those ++ (source_at sources slot).left.bytes) (back_at (source_at start slot).taken spare.used (took.taken ∙ ap (λ those. (source_at start slot).taken ++ those) spare.joined) spare.long)
+left_after {slot} {n} {start} {sources} {new} spare took can is = rw (changed_source slot (gets_back n) sources new can is, back_at (source_at start slot).taken spare.used (took.taken ∙ ap (λ those. (source_at start slot).taken ++ those) spare.joined) spare.long)
 
 pub read_used : {work : Work} {content : Content} {x : List ℕ} {slot n : ℕ} {start sources new : List Source} (spare : IsSpare work x n) → HasRead content x slot sources → HasTaken x slot start sources → IsTrue (is_readable sources slot) → new ≡ changed_at slot (gets_back n) sources → content.bytes ≡ spare.used ++ (source_at new slot).left.bytes
-read_used {slot} {sources} spare read took can is =
-    read.bytes ∙ ap (λ those. those ++ (source_at sources slot).left.bytes) spare.joined ∙ append_assoc spare.used spare.rest (source_at sources slot).left.bytes
-    ∙ ap (λ those. spare.used ++ those) (sym (left_after spare took can is))
+read_used {slot} {sources} spare read took can is = rw (read.bytes, spare.joined, append_assoc spare.used spare.rest (source_at sources slot).left.bytes, left_after spare took can is)
 
 -- one byte at the most is a piece
 pub needed_within : {is_complete : List ℕ → Bool} {most : ℕ} {x : List ℕ} → 0 < most → IsNeeded is_complete 1 x → IsNeeded is_complete most x

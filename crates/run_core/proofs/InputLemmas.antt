@@ -55,7 +55,7 @@ pub part_two : {told : Bool} {error : Slot} {part : Part} {slots : List Slot} �
 part_two {told} {error} {part} {slots} at = omega (arith, outputs_count told (streams_with error) part slots at)
 
 pub part_open : {told : Bool} {error : Slot} {part : Part} {slots : List Slot} → is_open error.state ≡ true → OutputsAt told (streams_with error) part slots → is_open (slot_at slots 1).state ≡ true
-part_open opened at = ap (λ those. is_open (slot_at those 1).state) at.slots ∙ opened
+part_open opened at = rw (at.slots, opened)
 
 -- the header was written
 pub headed : {told : Bool} {base : List Slot} {so_far : Part} (text : List ℕ) {old mid : List Slot} → OutputsAt told base so_far old → mid ≡ with_written 0 (told_of told text) old → OutputsAt told base (after_part so_far (only_out text)) mid
@@ -148,7 +148,7 @@ module _ (told_in told : Bool) (task : Task) (most : ℕ) (is_first failed was_r
 -- standard error is open after an input was fed
 
 pub swept_open : (clears : Bool) (reached new : List Slot) {first : ℕ} → 2 ≤ first → is_open (slot_at reached 1).state ≡ true → Swept clears first reached new → is_open (slot_at new 1).state ≡ true
-swept_open clears reached new {first} past opened swept = ap (λ (slot : Slot). is_open slot.state) (swept_error clears reached new past swept) ∙ opened
+swept_open clears reached new {first} past opened swept = rw (swept_error clears reached new past swept, opened)
 
 pub fed_open : {told : Bool} {work : Work} {opening : Needs} {most : ℕ} {error : Slot} {part : Part} {mid new : List Slot} {content : Content} (WasRead : List ℕ → Type 0) {fed : Fed} → fed ≡ Broken → is_open error.state ≡ true → OutputsAt told (streams_with error) part mid → FedAs told mid work opening most content WasRead new (Ok fed) → is_open (slot_at new 1).state ≡ true
 fed_open {work} {new} WasRead is opened at (broke_off breaks going reached there swept) =
@@ -230,7 +230,7 @@ ran_into_as is taken says = ran_into taken (rw is at says)
 
 pub front_and_rest : (none : Bor (List ℕ)) (left : List (Bor (List ℕ))) → 1 ≤ length left → map (λ word. word.now) left ≡ (get_or left 0 none).now ∷ map (λ word. word.now) (take (length left - 1) (drop 1 left))
 front_and_rest none [] some = absurd (omega arith)
-front_and_rest none (word ∷ words) some = ap (λ (rest : List (Bor (List ℕ))). word.now ∷ map (λ word. word.now) rest) (sym (take_rest (word ∷ words) 1))
+front_and_rest none (word ∷ words) some = rw (take_rest (word ∷ words) 1)
 
 pub none_left : (left : List (Bor (List ℕ))) → length left < 1 → map (λ word. word.now) left ≡ []
 none_left [] none = refl
@@ -391,14 +391,14 @@ walk_streams {told} some walked = record { part = walked.made.part; error = walk
 
 pub walk_readable : {told_in told : Bool} {task : Task} {world : World} {names left : List (List ℕ)} {progress : Progress} {laid : ℕ → List ℕ → Option Content} {sources : List Source} {slots : List Slot}
     → Walked told_in told task world names left progress laid sources slots → progress.was_read ≡ false → IsTrue (is_readable sources 0)
-walk_readable walked unread = ap (λ (source : Source). source.is_open && not source.is_broken) (walked.standard unread)
+walk_readable walked unread = rw (walked.standard unread)
 
 -- while standard input was not read, what it holds is known
 same_input : {world : World} (was_read : Bool) (slot : ℕ) (name : List ℕ) (d : Bool) {laid : ℕ → List ℕ → Option Content} (sources : List Source) → laid ≡ world.laid → (was_read ≡ false → source_at sources 0 ≡ source_of world.standard)
     → input_of (world_of laid sources) was_read slot name d ≡ input_of world was_read slot name d
-same_input was_read slot name false sources same standard = ap (λ (those : ℕ → List ℕ → Option Content). file_input name slot (those slot name)) same
+same_input was_read slot name false sources same standard = rw same
 same_input true slot name true sources same standard = refl
-same_input false slot name true sources same standard = ap (λ (source : Source). standard_input source.left) (standard refl)
+same_input false slot name true sources same standard = rw (standard refl)
 
 -- the only name was taken
 taken_alone : {clears : Bool} {name : List ℕ} {left : List (List ℕ)} (slots : List Slot) → (clears ≡ true → ((name ∷ left) ≡ []) ⊎ ((length (name ∷ left) ≤ 1) × (length slots ≡ 2))) → clears ≡ true → (left ≡ []) × (length slots ≡ 2)
@@ -439,10 +439,10 @@ walk_goes_on {told_in} {told} {task} {world} {names} {name} {left} {progress} {n
             at = at;
             swept = rw sweeps_one (swept_from one.sweeps reached new (λ sweeps. (only sweeps).1) swept);
             says = says_after told task.tool walked.made.messages one.messages standard_error walked.error after walked.says says;
-            failed = ap (λ (p : Progress). p.failed) is ∙ ap (λ (b : Bool). b || one.failed) walked.failed;
+            failed = rw (is, walked.failed);
             alone = λ clears. inl (taken_alone slots walked.alone clears).0;
             unswept = λ some. sweeps_one ∙ false_from_ne_true one.sweeps (λ sweeps. omega (arith, some, ap length (only sweeps).0));
-            first = ap (λ (p : Progress). p.is_first) is ∙ ap (λ (b : Bool). b && is_missing input.content) walked.first ∙ sym (and_push are_missing (λ (one : Input). is_missing one.content) refl (λ one inputs. refl) walked.done input);
+            first = rw (is, walked.first, and_push are_missing (λ (one : Input). is_missing one.content) refl (λ one inputs. refl) walked.done input);
             rest_made = λ rest. ap (of_inputs task true) (append_assoc walked.done (input ∷ []) rest) ∙ walked.rest_made (input ∷ rest)
                 ∙ (simp (append_assoc, or_assoc))
                 ∙ ap (λ (b : Bool). joined (joined walked.made one) (of_inputs task b rest)) (sym (ap (λ (p : Progress). p.is_first) is));
@@ -459,7 +459,7 @@ walk_goes_on {told_in} {told} {task} {world} {names} {name} {left} {progress} {n
                 (still_done told_in task.work largest_piece walked.done (λ had. ap (λ (b : Bool). b || is_dash name) had) leaves walked.known)
                 (done_with told_in task.work largest_piece progress.was_read name new_sources is_for walked.some is_done));
             asked = asks_on at_most leaves walked.asked;
-            count = sym (ap (λ n. count_after n left) (sym opened_it)) ∙ walked.count;
+            count = rw (opened_it, walked.count);
           }
 
 -- a fault stopped the run at a name

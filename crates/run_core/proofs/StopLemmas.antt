@@ -36,16 +36,15 @@ nothing_after = simp append-nil
 
 -- bytes on standard output, after a part
 pub out_on : (first : Part) (bytes : List ℕ) → record first { out = first.out ++ bytes } ≡ after_part first (only_out bytes)
-out_on first bytes = ap (λ (files : List File). record { out = first.out ++ bytes; files = files }) (sym (append-nil first.files))
+out_on first bytes = rw (append-nil first.files)
 
 -- outputs that are at one part, and from there on at another, are at both
 pub at_after : {told : Bool} {base : List Slot} {first part : Part} {mid now : List Slot} → OutputsAt told base first mid → OutputsAt told mid part now → OutputsAt told base (after_part first part) now
 at_after {told} {base} {first} {part} {mid} one two = record {
   standard = one.standard;
   since = one.since ++ two.since;
-  slots = two.slots ∙ ap (λ front. front ++ two.since) more ∙ append_assoc (with_written 0 (told_of told (first.out ++ part.out)) base) one.since two.since;
-  files = map-append file_of one.since two.since ∙ ap (λ files. files ++ map file_of two.since) one.files
-      ∙ ap (λ files. map (told_file told) first.files ++ files) two.files ∙ sym (map-append (told_file told) first.files part.files);
+  slots = rw (two.slots, more, append_assoc (with_written 0 (told_of told (first.out ++ part.out)) base) one.since two.since);
+  files = rw (map-append file_of one.since two.since, one.files, two.files, map-append (told_file told) first.files part.files);
 } where
   more : with_written 0 (told_of told part.out) mid ≡ with_written 0 (told_of told (first.out ++ part.out)) base ++ one.since
   more = ap (with_written 0 (told_of told part.out)) one.slots
@@ -55,9 +54,8 @@ at_after {told} {base} {first} {part} {mid} one two = record {
 order_after : (first : List File) {low part high : List File} {place : ℕ} → InOrder low part high place → InOrder (first ++ low) (first ++ part) (first ++ high) (length first + place)
 order_after first {low} {part} {high} {place} order =
     let past : suc (length first + place) ≡ length first + suc place = omega arith in record {
-      done = take-append-add first part place ∙ ap (λ files. first ++ files) order.done ∙ sym (take-append-add first high place);
-      untouched = ap (λ n. drop n (first ++ part)) past ∙ drop-append-add first part (suc place) ∙ order.untouched
-          ∙ sym (ap (λ n. drop n (first ++ low)) past ∙ drop-append-add first low (suc place));
+      done = rw (take-append-add first part place, order.done, take-append-add first high place);
+      untouched = cc (past, drop-append-add first part (suc place), order.untouched, drop-append-add first low (suc place));
     }
 
 next_after : (first : Part) {part high : Part} (name : List ℕ) → IsNext part high name → IsNext (after_part first part) (after_part first high) name
@@ -65,8 +63,8 @@ next_after first {part} name next = record {
   front = first.files ++ next.front;
   file = next.file;
   rest = next.rest;
-  files = ap (λ files. first.files ++ files) next.files ∙ sym (append_assoc first.files next.front (next.file ∷ next.rest));
-  place = length-append first.files next.front ∙ ap (λ n. length first.files + n) next.place ∙ sym (length-append first.files part.files);
+  files = rw (next.files, append_assoc first.files next.front (next.file ∷ next.rest));
+  place = rw (length-append first.files next.front, next.place, length-append first.files part.files);
   name_is = next.name_is;
 }
 
@@ -113,7 +111,7 @@ pub record HasError (slots : List Slot) : Type 0 where
   pub opened : is_open error.state ≡ true
 
 pub error_open : {slots : List Slot} → HasError slots → is_open (slot_at slots 1).state ≡ true
-error_open has = ap (λ those. is_open (slot_at those 1).state) has.are ∙ has.opened
+error_open has = rw (has.are, has.opened)
 
 shape_of : {output error : Slot} {since slots : List Slot} → is_open error.state ≡ true → slots ≡ output ∷ error ∷ since → HasError slots
 shape_of {output} {error} {since} opened are = record { output = output; error = error; since = since; are = are; opened = opened }
@@ -224,8 +222,7 @@ module _ (told : Bool) (tool : Tool) (text : List ℕ) where
     pub named : (fault : Fault) → output_named new fault ≡ output_named mid fault
 
   said_named : {output error : Slot} {since mid new : List Slot} {after : Slot} → mid ≡ output ∷ error ∷ since → Says told tool text error after → new ≡ output ∷ after ∷ since → (fault : Fault) → output_named new fault ≡ output_named mid fault
-  said_named {output} {error} {since} {after = after} was says is fault =
-      ap (λ slots. output_named slots fault) is ∙ named_same fault output error after since (printed_named says.printed) ∙ sym (ap (λ slots. output_named slots fault) was)
+  said_named {output} {error} {since} {after = after} was says is fault = rw (is, named_same fault output error after since (printed_named says.printed), was)
 
   pub said_swept : (clears : Bool) {output error : Slot} {since : List Slot} (mid new : List Slot) (first : ℕ) → 2 ≤ first → Swept clears first (output ∷ error ∷ since) mid → SaysOn told tool text mid new → SaidSwept clears first output error since mid new
   said_swept false {output} {error} {since} mid new first past same says =
