@@ -13,7 +13,7 @@ use Rattle.ports_core.specs.declared.fault.Fault.{Fault}
 use Rattle.ports_core.specs.declared.fault.Fault.TheVariants.{Memory, Write, Open, Suffixes, NoMatch, Range}
 use Rattle.run_core.specs.declared.feeding.Fed.{Fed}
 use Rattle.run_core.specs.declared.feeding.Fed.TheVariants.{Whole, Enough, Broken}
-use Rattle.ports_core.specs.Inputs.{empty, KeepsOthers}
+use Rattle.ports_core.specs.Inputs.{empty, KeepsOthers, OfContent}
 use Rattle.run_core.specs.Feeding.{Stops, HasAll, to_end, enough, call_of, feeds, closes, FedAs, whole, had_enough, broke_off, judged, stopped, IsUnread, Uses}
 use Rattle.run_core.specs.inner.Feeding.{EndsSo, finished, fell_short}
 use Rattle.ports_core.proofs.LoadLemmas.{passed_at}
@@ -65,8 +65,8 @@ short_of_piece WasRead {x} piece rest {reached} {fault} lawful is within going r
 short_of_piece {told} {work} WasRead {x} piece rest {before} {fault} lawful is within going read (engine.judged judging first at cleared) why settles kept swept =
     let stays : IsComplete work (x ++ piece) rest = lawful.stays (x ++ piece) rest (settles judging).0 in
     judged fault judging (or_right _ _ (ap work.is_complete is ∙ stays.still)) (ap work.verdict is ∙ stays.verdict_stays ∙ (settles judging).1) first
-    (subst (λ part. OutputsAt told before part first) (sym stays.whole_stays ∙ ap work.whole (sym is)) at)
-    (subst (λ those. Swept work.clears (length before) first those) (sym (kept judging)) cleared)
+    (rw (sym stays.whole_stays ∙ ap work.whole (sym is)) at at)
+    (rw (kept judging) cleared)
 
 -- what is known of an input that the engine has got all of, by what became of it
 abbrev pub HasGot : Work → Content → List ℕ → Fed → Type 0
@@ -87,20 +87,20 @@ whole_at {work} {x} rest lawful done =
 
 fed_all : {told : Bool} {opening : Needs} {most : ℕ} {work : Work} {content : Content} (WasRead : List ℕ → Type 0) {x : List ℕ} {new before : List Slot} (fed : Fed) → IsLawful work → HasGot work content x fed → work.verdict x ≡ None → OutputsAt told before (work.whole x) new → FedAs told before work opening most content WasRead new (Ok fed)
 fed_all {told} {work} WasRead {new} {before} Whole lawful got well at =
-    whole got.0 (ap work.is_complete got.2 ∙ got.1) (ap work.verdict got.2 ∙ well) (subst (λ bytes. OutputsAt told before (work.whole bytes) new) (sym got.2) at)
+    whole got.0 (ap work.is_complete got.2 ∙ got.1) (ap work.verdict got.2 ∙ well) (rw got.2 at)
 fed_all {told} {work} WasRead {x} {new} {before} Enough lawful got well at =
     let stays : IsComplete work x got.1.0 = lawful.stays x got.1.0 got.0 in
     had_enough (ap work.is_complete got.1.1 ∙ stays.still) (ap work.verdict got.1.1 ∙ stays.verdict_stays ∙ well)
-    (subst (λ part. OutputsAt told before part new) (sym (ap work.whole got.1.1 ∙ whole_at got.1.0 lawful got.0)) at)
+    (rw (ap work.whole got.1.1 ∙ whole_at got.1.0 lawful got.0) at)
 fed_all WasRead Broken lawful got well at = absurd got
 
 judged_all : {told : Bool} {opening : Needs} {most : ℕ} {work : Work} {content : Content} (WasRead : List ℕ → Type 0) {x : List ℕ} {reached new before : List Slot} (fed : Fed) {fault : Fault} → is_verdict fault ≡ true → IsLawful work → HasGot work content x fed → Judges work x fault → OutputsAt told before (work.whole x) reached → Swept work.clears (length before) reached new → FedAs told before work opening most content WasRead new (Err fault)
 judged_all {told} {work} WasRead {reached} {before} Whole {fault} judging lawful got verdict at swept =
-    judged fault judging (or_left _ _ (ap not got.0)) (ap work.verdict got.2 ∙ verdict) reached (subst (λ bytes. OutputsAt told before (work.whole bytes) reached) (sym got.2) at) swept
+    judged fault judging (or_left _ _ (ap not got.0)) (ap work.verdict got.2 ∙ verdict) reached (rw got.2 at) swept
 judged_all {told} {work} WasRead {x} {reached} {before} Enough {fault} judging lawful got verdict at swept =
     let stays : IsComplete work x got.1.0 = lawful.stays x got.1.0 got.0 in
     judged fault judging (or_right _ _ (ap work.is_complete got.1.1 ∙ stays.still)) (ap work.verdict got.1.1 ∙ stays.verdict_stays ∙ verdict) reached
-    (subst (λ part. OutputsAt told before part reached) (sym (ap work.whole got.1.1 ∙ whole_at got.1.0 lawful got.0)) at) swept
+    (rw (ap work.whole got.1.1 ∙ whole_at got.1.0 lawful got.0) at) swept
 judged_all WasRead Broken judging lawful got verdict at swept = absurd got
 
 -- the engine makes of x what it makes of z
@@ -128,10 +128,10 @@ short_of_end : {told : Bool} {opening : Needs} {most : ℕ} {work : Work} {conte
     → (is_verdict fault ≡ true → new ≡ reached) → (is_verdict fault ≡ false → Swept work.clears (length before) reached new) → FedAs told before work opening most content WasRead new (Err fault)
 short_of_end {told} {work} WasRead {x} {z} {reached} {before} fed {fault} lawful got all alike needed read (engine.cut unjudged stop) why verdict kept swept =
     stopped fault unjudged _ (closes z all needed) read reached (why unjudged)
-    (subst (λ low. StoppedBetween told before low (work.whole z) fault reached) alike.settled (subst (λ high. StoppedBetween told before (work.settled x) high fault reached) alike.whole stop))
+    (rw alike.settled at (rw alike.whole at stop))
     (swept unjudged)
 short_of_end {work} WasRead {before} fed lawful got all alike needed read (engine.judged judging first at cleared) why verdict kept swept =
-    judged_all WasRead fed judging lawful got (verdict judging) at (subst (λ those. Swept work.clears (length before) first those) (sym (kept judging)) cleared)
+    judged_all WasRead fed judging lawful got (verdict judging) at (rw (kept judging) cleared)
 
 module _ {S : Type 0} (Holds : S → List ℕ → Type 0) (Owns : S → ℕ → List Slot → Type 0) (work : S → Work) where
   -- the loop has fed the engine x
@@ -154,7 +154,7 @@ module _ {S : Type 0} (Holds : S → List ℕ → Type 0) (Owns : S → ℕ → 
     same = same ∙ so_far.same;
     holds = takes x so_far.holds;
     owns = λ first own. keeps first (so_far.owns first own);
-    outputs = λ before own at. subst (λ (those : Work). OutputsAt told before (those.settled (x ++ piece)) new) (sym same) (puts before x (stands told so_far own at));
+    outputs = λ before own at. rw same (puts before x (stands told so_far own at));
     bound = bound;
   }
 
@@ -165,25 +165,22 @@ module _ {S : Type 0} (Holds : S → List ℕ → Type 0) (Owns : S → ℕ → 
       → work next.stage ≡ work now.stage → (is_verdict fault ≡ false → KeepsOwn Owns now.stage next.stage mid reached) → (is_verdict fault ≡ true → new ≡ reached) → (is_verdict fault ≡ false → Clears Owns work next.stage reached new)
       → FedAs told before (work start.stage) opening most content WasRead new (Err fault)
   stopped_feeding laws told {opening} {most} {lack} {now} next {content} WasRead {x} piece rest {mid} {reached} {new} {before} {fault} so_far own at is within going read cuts caused same owned kept cleared =
-      let why = subst (λ n. IsCaused (IsMet (work now.stage).means (work now.stage).means.feeding lack (EndsWith Holds work now.stage piece) mid reached) false n (length piece) mid reached fault) so_far.holds.count
-      (subst (λ over. IsCaused (IsMet (work now.stage).means (work now.stage).means.feeding lack (EndsWith Holds work now.stage piece) mid reached) over now.fed (length piece) mid reached fault) so_far.holds.live caused) in
-      subst (λ (those : Work). FedAs told before those opening most content WasRead new (Err fault)) so_far.same
-      (short_of_piece WasRead piece rest (laws now.stage) is within going read (cuts before x (stands told so_far own at))
+      let why = rw so_far.holds.count at (rw so_far.holds.live at caused) in
+      rw (← so_far.same) (short_of_piece WasRead piece rest (laws now.stage) is within going read (cuts before x (stands told so_far own at))
       (λ unjudged. stops (work now.stage) (x ++ piece) ((work now.stage).settled x) ((work now.stage).settled (x ++ piece)) lack (EndsWith Holds work now.stage piece) unjudged (λ long. let size : length (x ++ piece) ≡ length x + length piece = length-append x piece in omega (arith, long)) why)
       (λ judging. judges (work now.stage).means lack (EndsWith Holds work now.stage piece) judging caused x so_far.holds.within)
       kept
-      (λ unjudged. subst (λ (those : Work). Swept those.clears (length before) reached new) same (cleared unjudged (length before) (owned unjudged (length before) (so_far.owns (length before) own)))))
+      (λ unjudged. rw same at (cleared unjudged (length before) (owned unjudged (length before) (so_far.owns (length before) own)))))
 
   -- the loop ended with the input, or where nothing more can follow
   pub ended : (laws : (s : S) → IsLawful (work s)) (told : Bool) {opening : Needs} {most : ℕ} {start now : GuardState S} {content : Content} (WasRead : List ℕ → Type 0) {x z : List ℕ} {old mid new before : List Slot} {fed : Fed} {result : Result Fed Fault} → Feeds told start now x old mid → Owns start.stage (length before) old → OutputsAt told before ((work start.stage).settled []) old → HasGot (work now.stage) content x fed → HasAll (work now.stage) content z → MadeAlike (work now.stage) x z → IsNeeded (work now.stage).is_complete most z → WasRead z
       → EndsSo Holds Owns work told now fed mid new result → FedAs told before (work start.stage) opening most content WasRead new result
   ended laws told {opening} {most} {now} {content} WasRead {x} {new} {before} {fed} so_far own at got all alike needed read (finished finishes) =
       let done = finishes before x (stands told so_far own at) in
-      subst (λ (those : Work). FedAs told before those opening most content WasRead new (Ok fed)) so_far.same (fed_all WasRead fed (laws now.stage) got done.0 done.1)
+      rw (← so_far.same) (fed_all WasRead fed (laws now.stage) got done.0 done.1)
   ended laws told {opening} {most} {now} {content} WasRead {x} {z} {mid} {new} {before} {fed} so_far own at got all alike needed read (fell_short fault reached short caused kept cleared) =
-      let why = subst (λ over. IsCaused (IsMet (work now.stage).means (work now.stage).means.closing (Unit {0}) (EndsThere Holds work now.stage) mid reached) over now.fed 0 mid reached fault) so_far.holds.live caused in
-      subst (λ (those : Work). FedAs told before those opening most content WasRead new (Err fault)) so_far.same
-      (short_of_end WasRead fed (laws now.stage) got all alike needed read (short before x (stands told so_far own at))
+      let why = rw so_far.holds.live at caused in
+      rw (← so_far.same) (short_of_end WasRead fed (laws now.stage) got all alike needed read (short before x (stands told so_far own at))
       (λ unjudged. stops (work now.stage) z ((work now.stage).settled z) ((work now.stage).whole z) (Unit {0}) (EndsThere Holds work now.stage) unjudged (λ long. absurd (let bound : now.fed < 2 ^ 63 = so_far.bound in omega (arith, bound, long))) why)
       (λ judging. judges (work now.stage).means (Unit {0}) (EndsThere Holds work now.stage) judging caused x so_far.holds.within)
       kept (λ unjudged. cleared unjudged (length before) (so_far.owns (length before) own)))
@@ -192,9 +189,8 @@ module _ {S : Type 0} (Holds : S → List ℕ → Type 0) (Owns : S → ℕ → 
   pub broken_off : (told : Bool) {opening : Needs} {most : ℕ} {start now : GuardState S} {content : Content} (WasRead : List ℕ → Type 0) {x : List ℕ} {old slots new before : List Slot} → Feeds told start now x old slots → Owns start.stage (length before) old → OutputsAt told before ((work start.stage).settled []) old → content.bytes ≡ x → content.breaks_off ≡ true → (work now.stage).is_complete x ≡ false
       → Clears Owns work now.stage slots new → FedAs told before (work start.stage) opening most content WasRead new (Ok Broken)
   broken_off told {opening} {most} {now} {content} WasRead {slots} {new} {before} so_far own at all breaks going cleared =
-      subst (λ (those : Work). FedAs told before those opening most content WasRead new (Ok Broken)) so_far.same
-      (broke_off breaks (ap (work now.stage).is_complete all ∙ going) slots
-      (subst (λ bytes. OutputsAt told before ((work now.stage).settled bytes) slots) (sym all) (so_far.outputs before own at))
+      rw (← so_far.same) (broke_off breaks (ap (work now.stage).is_complete all ∙ going) slots
+      (rw all (so_far.outputs before own at))
       (cleared (length before) (so_far.owns (length before) own)))
 
   -- an input without bytes: the engine is closed at once
@@ -214,7 +210,7 @@ module _ {S : Type 0} (Holds : S → List ℕ → Type 0) (Owns : S → ℕ → 
       → work mid.stage ≡ work engine.stage → (is_verdict fault ≡ false → KeepsOwn Owns engine.stage mid.stage old reached) → (is_verdict fault ≡ true → new ≡ reached) → (is_verdict fault ≡ false → Clears Owns work mid.stage reached new)
       → EndsSo Holds Owns work told engine fed old new (Err fault)
   close_short told mid {reached} {new} {fault} short caused same owned kept cleared =
-      fell_short fault reached short caused kept (λ unjudged first own. subst (λ (those : Work). Swept those.clears first reached new) same (cleared unjudged first (owned unjudged first own)))
+      fell_short fault reached short caused kept (λ unjudged first own. rw same at (cleared unjudged first (owned unjudged first own)))
 
 -- what was read was needed
 
@@ -224,9 +220,21 @@ piece_within {n} buffer within = omega (arith, length-take n buffer)
 pub needed_more : {is_complete : List ℕ → Bool} {most n : ℕ} (x buffer : List ℕ) → is_complete x ≡ false → n ≤ most → IsNeeded is_complete most (x ++ take n buffer)
 needed_more {n} x buffer going within = inr (x, take n buffer, refl, piece_within buffer within, going)
 
+-- the input that is there, where it tells its bytes, and else one that has what was read of it
+
+pub of_read : (told : Bool) (there : Content) (bytes : List ℕ) (breaks_off is_broken : Bool) (P : Content → Type 0) → (told ≡ true → (there.bytes ≡ bytes) × (there.breaks_off ≡ breaks_off)) → (breaks_off ≡ true → is_broken ≡ true)
+    → ((content : Content) → (told ≡ true → content.bytes ≡ there.bytes) → content.bytes ≡ bytes → content.breaks_off ≡ breaks_off → P content) → OfContent told there (λ content. P content × (told ≡ false → content.breaks_off ≡ true → is_broken ≡ true))
+of_read true there bytes breaks_off is_broken P all broke holds = (there, λ t. refl, (holds there (λ t. refl) (all refl).0 (all refl).1, λ untold. absurd (false≢true (sym untold))))
+of_read false there bytes breaks_off is_broken P all broke holds = (record { bytes = bytes; breaks_off = breaks_off }, λ t. absurd (false≢true t), (holds _ (λ t. absurd (false≢true t)) refl refl, λ untold. broke))
+
+pub of_more : (told : Bool) (there : Content) (x rest : List ℕ) (is_broken : Bool) (P : Content → Type 0) → (told ≡ true → there.bytes ≡ x ++ rest)
+    → ((content : Content) → (told ≡ true → content.bytes ≡ there.bytes) → (rest : List ℕ) → content.bytes ≡ x ++ rest → P content) → OfContent told there (λ content. P content × (told ≡ false → content.breaks_off ≡ true → is_broken ≡ true))
+of_more true there x rest is_broken P all holds = (there, λ t. refl, (holds there (λ t. refl) rest (all refl), λ untold. absurd (false≢true (sym untold))))
+of_more false there x rest is_broken P all holds = (record { bytes = x; breaks_off = false }, λ t. absurd (false≢true t), (holds _ (λ t. absurd (false≢true t)) [] (sym (append-nil x)), λ untold breaks. absurd (false≢true breaks)))
+
 -- the same of the fault that is handed on
 pub given_so : {told : Bool} {before new : List Slot} {work : Work} {opening : Needs} {most : ℕ} {content : Content} (WasRead : List ℕ → Type 0) {given fault : Fault} → given ≡ fault → FedAs told before work opening most content WasRead new (Err fault) → FedAs told before work opening most content WasRead new (Err given)
-given_so {told} {before} {new} {work} {opening} {most} {content} WasRead is fed = subst (λ those. FedAs told before work opening most content WasRead new (Err those)) (sym is) fed
+given_so {told} {before} {new} {work} {opening} {most} {content} WasRead is fed = rw is fed
 
 -- Lemmas on an engine that took in a front of its input without a read: the loop that feeds it goes on from there.
 
@@ -240,12 +248,12 @@ module _ {S : Type 0} (Holds : S → List ℕ → Type 0) (Ready : S → List Sl
     same = same;
     holds = record { live = live; count = fed ∙ loads.long; within = loads.holds };
     owns = λ first own. loads.owns first slots own;
-    outputs = λ before own at. subst (λ (those : Work). OutputsAt told_out before (those.settled loads.front) slots) (sym same) (subst (λ part. OutputsAt told_out before part slots) (sym loads.idle) at);
-    bound = subst (λ n. n < 2 ^ 63) (sym fed) bound;
+    outputs = λ before own at. rw same (rw loads.idle at);
+    bound = rw fed bound;
   }
 
   pub loaded_readable : IsTrue (is_readable old slot) → IsTrue (is_readable new slot)
-  loaded_readable can = ap (λ (source : Source). source.is_open && not source.is_broken) (passed_at slot count old new can loads.passed) ∙ can
+  loaded_readable can = rw (passed_at slot count old new can loads.passed, can)
 
   pub loaded_others : KeepsOthers slot old new
   loaded_others = keeps_others slot (skips count) old new loads.passed
@@ -253,14 +261,14 @@ module _ {S : Type 0} (Holds : S → List ℕ → Type 0) (Ready : S → List Sl
   pub loaded_read : told ≡ true → IsTrue (is_readable old slot) → HasRead (source_at old slot).left loads.front slot new
   loaded_read tells can = record {
     bytes = loads.there tells;
-    breaks_off = ap (λ (source : Source). source.left.breaks_off) (passed_at slot count old new can loads.passed);
+    breaks_off = rw (passed_at slot count old new can loads.passed);
   }
 
   pub loaded_needed : {most : ℕ} → IsNeeded (work start.stage).is_complete most loads.front
   loaded_needed = needed_front loads.going
 
   pub loaded_asked : {most : ℕ} → IsTrue (is_readable old slot) → (source_at old slot).asked ≤ most → (source_at new slot).asked ≤ most
-  loaded_asked {most} can few = subst (λ asked. asked ≤ most) (sym (ap (λ (source : Source). source.asked) (passed_at slot count old new can loads.passed))) few
+  loaded_asked {most} can few = rw (ap (λ (source : Source). source.asked) (passed_at slot count old new can loads.passed)) few
 
 -- Lemmas on what an engine uses of its input, and what is given back of it.
 
@@ -269,8 +277,7 @@ pub gave_part : {left : Content} {size n : ℕ} {old part : List ℕ} → 0 < si
 gave_part {size} {n} {old} {part} some within long few gave = record {
   within = gave.within;
   front = take-append-le n part (drop size old) (omega (arith, long, few)) ∙ gave.front;
-  rest = drop-append-le n part (drop size old) (omega (arith, long, few)) ∙ ap (λ those. those ++ drop size old) gave.rest
-      ∙ sym (drop-append-le n (take size old) (drop size old) (omega (arith, few, within, length-take size old))) ∙ ap (drop n) (take-append-drop size old);
+  rest = cc (drop-append-le n part (drop size old) (omega (arith, long, few)), gave.rest, drop-append-le n (take size old) (drop size old) (omega (arith, few, within, length-take size old)), take-append-drop size old);
   ended = λ none room. gave.ended none (omega (arith, some, within, length-take size old));
 }
 
@@ -280,9 +287,7 @@ pub record HasTaken (x : List ℕ) (slot : ℕ) (start sources : List Source) : 
   pub far : IsUnread (source_at start slot) → (source_at sources slot).reached ≤ length x
 
 taken_next : {x buffer old_buffer : List ℕ} {slot : ℕ} (size : ℕ) {n : ℕ} {start sources new : List Source} → HasTaken x slot start sources → IsTrue (is_readable sources slot) → Gave (source_at sources slot).left old_buffer buffer n → new ≡ changed_at slot (gives size n) sources → with_next n (source_at sources slot) ≡ (source_at start slot).taken ++ (x ++ take n buffer)
-taken_next {x} {slot} size {n} {start} {sources} took can gave is =
-    ap (λ those. those ++ take n (source_at sources slot).left.bytes) took.taken ∙ append_assoc (source_at start slot).taken x (take n (source_at sources slot).left.bytes)
-    ∙ ap (λ those. (source_at start slot).taken ++ (x ++ those)) (sym gave.front)
+taken_next {x} {slot} size {n} {start} {sources} took can gave is = rw (took.taken, append_assoc (source_at start slot).taken x (take n (source_at sources slot).left.bytes), gave.front)
 
 pub takes_more : {x buffer old_buffer : List ℕ} {slot : ℕ} (size : ℕ) {n : ℕ} {start sources new : List Source} → HasTaken x slot start sources → IsTrue (is_readable sources slot) → Gave (source_at sources slot).left old_buffer buffer n → new ≡ changed_at slot (gives size n) sources → HasTaken (x ++ take n buffer) slot start new
 takes_more {x} {buffer} {slot} size {n} {start} {sources} {new} took can gave is =
@@ -292,29 +297,26 @@ takes_more {x} {buffer} {slot} size {n} {start} {sources} {new} took can gave is
       far = λ unread.
           let none : length (source_at start slot).taken ≡ 0 = ap length unread.0 in
           let all = ap length next ∙ length-append (source_at start slot).taken (x ++ take n buffer) in
-          subst (λ far. far ≤ length (x ++ take n buffer)) (sym (ap (λ (source : Source). source.reached) after))
-          (omega (arith, took.far unread, length-append x (take n buffer), all, none));
+          rw (ap (λ (source : Source). source.reached) after) (omega (arith, took.far unread, length-append x (take n buffer), all, none));
     }
 
 -- a read gave as many as it says
 pub last_given : {old_buffer buffer : List ℕ} (slot size : ℕ) {n : ℕ} (sources : List Source) {new : List Source} → IsTrue (is_readable sources slot) → Gave (source_at sources slot).left old_buffer buffer n → new ≡ changed_at slot (gives size n) sources → (source_at new slot).last ≡ n
-last_given slot size {n} sources {new} can gave is =
-    ap (λ (source : Source). source.last) (changed_source slot (gives size n) sources new can is) ∙ length-take-le n (source_at sources slot).left.bytes gave.within
+last_given slot size {n} sources {new} can gave is = rw (changed_source slot (gives size n) sources new can is, length-take-le n (source_at sources slot).left.bytes gave.within)
 
 -- a read that failed took nothing
 pub takes_none : {x : List ℕ} {slot : ℕ} (size : ℕ) {start sources new : List Source} → HasTaken x slot start sources → IsTrue (is_readable sources slot) → new ≡ changed_at slot (fails size) sources → HasTaken x slot start new
 takes_none {x} {slot} size {sources} {new} took can is =
     let after = changed_source slot (fails size) sources new can is in record {
       taken = ap (λ (source : Source). source.taken) after ∙ took.taken;
-      far = λ unread. subst (λ far. far ≤ length x) (sym (ap (λ (source : Source). source.reached) after)) (took.far unread);
+      far = λ unread. rw (ap (λ (source : Source). source.reached) after) (took.far unread);
     }
 
 module _ {E : Type 0} (Holds : E → List ℕ → Type 0) (Ready : E → List Slot → Type 0) (Owns : E → ℕ → List Slot → Type 0) (work : E → Work) (told : Bool) (slot count : ℕ) (before after : E) (old new : List Source) (loads : Loads Holds Ready Owns work told slot count before after old new) where
   pub loaded_taken : told ≡ true → IsTrue (is_readable old slot) → HasTaken loads.front slot old new
   loaded_taken tells can =
       let passed = passed_at slot count old new can loads.passed in record {
-        taken = ap (λ (source : Source). source.taken) passed
-            ∙ ap (λ those. (source_at old slot).taken ++ those) (ap (take count) (loads.there tells) ∙ ap (λ k. take k (loads.front ++ (source_at new slot).left.bytes)) loads.long ∙ take_at loads.front (source_at new slot).left.bytes (length loads.front) refl);
+        taken = rw (passed, loads.there tells, loads.long, take_at loads.front (source_at new slot).left.bytes (length loads.front) refl);
         far = λ unread. omega (arith, ap (λ (source : Source). source.reached) passed, unread.1);
       }
 
@@ -334,14 +336,10 @@ back_at {taken} start used {rest} {n} is long =
     ap (λ k. drop k taken) at ∙ ap (drop (length (start ++ used))) all ∙ drop_at (start ++ used) rest (length (start ++ used)) refl
 
 pub left_after : {work : Work} {x : List ℕ} {slot n : ℕ} {start sources new : List Source} (spare : IsSpare work x n) → HasTaken x slot start sources → IsTrue (is_readable sources slot) → new ≡ changed_at slot (gets_back n) sources → (source_at new slot).left.bytes ≡ spare.rest ++ (source_at sources slot).left.bytes
-left_after {slot} {n} {start} {sources} {new} spare took can is =
-    ap (λ (source : Source). source.left.bytes) (changed_source slot (gets_back n) sources new can is)
-    ∙ ap (λ those. those ++ (source_at sources slot).left.bytes) (back_at (source_at start slot).taken spare.used (took.taken ∙ ap (λ those. (source_at start slot).taken ++ those) spare.joined) spare.long)
+left_after {slot} {n} {start} {sources} {new} spare took can is = rw (changed_source slot (gets_back n) sources new can is, back_at (source_at start slot).taken spare.used (took.taken ∙ ap (λ those. (source_at start slot).taken ++ those) spare.joined) spare.long)
 
 pub read_used : {work : Work} {content : Content} {x : List ℕ} {slot n : ℕ} {start sources new : List Source} (spare : IsSpare work x n) → HasRead content x slot sources → HasTaken x slot start sources → IsTrue (is_readable sources slot) → new ≡ changed_at slot (gets_back n) sources → content.bytes ≡ spare.used ++ (source_at new slot).left.bytes
-read_used {slot} {sources} spare read took can is =
-    read.bytes ∙ ap (λ those. those ++ (source_at sources slot).left.bytes) spare.joined ∙ append_assoc spare.used spare.rest (source_at sources slot).left.bytes
-    ∙ ap (λ those. spare.used ++ those) (sym (left_after spare took can is))
+read_used {slot} {sources} spare read took can is = rw (read.bytes, spare.joined, append_assoc spare.used spare.rest (source_at sources slot).left.bytes, left_after spare took can is)
 
 -- one byte at the most is a piece
 pub needed_within : {is_complete : List ℕ → Bool} {most : ℕ} {x : List ℕ} → 0 < most → IsNeeded is_complete 1 x → IsNeeded is_complete most x

@@ -2,7 +2,7 @@
 use Rattle.std.proofs.Common.{◌⊎◌, arith, inl, inr, ◌≡◌, ℕ, ◌<◌, ◌≤◌, Bool, true, false, not, ◌||◌, IsTrue, List, [], ◌∷◌, length, take, Option, Some, None, Result, Ok, Err, refl, sym, ◌∙◌, ap, subst, if◌then◌else◌, ◌++◌, lit≤, codes, ◌-◌, ◌&&◌, drop, map, get_or, Bor, append_assoc, lit<}
 use Rattle.std.proofs.lemmas.Bool.{false≢true, or_left, or_right, and_parts, false_from_ne_true, or_parts}
 use Rattle.std.proofs.Math.Bool.{and-false, and-true, or-false, or-true, or_assoc}
-use Rattle.ports_core.specs.Slot.{Slot, is_open, slot_at, is_writable, told_of, with_written, streams}
+use Rattle.ports_core.specs.Slot.{Slot, adds, is_open, slot_at, is_writable, told_of, with_written, streams}
 use Rattle.ports_core.specs.Write.{BrokeAfter}
 use Rattle.ports_core.specs.Source.{Content, Source, source_at, source_of, missing, is_readable, IsFresh, Opens as OpensFile, OpensNothing}
 use Rattle.ports_core.specs.Part.{Part, only_out, OutputsAt, StoppedBetween, nothing}
@@ -26,11 +26,11 @@ use Rattle.ports_core.specs.Inputs.{BreaksOnly, OfContent, empty, AsksAtMost, la
 use Rattle.run_core.specs.Reading.{IsDone, Leaves, AreDone, AreUntouched, count_after}
 use Rattle.run_core.specs.RunEnds.{unheaded, heading, calling, step_after, EndsAs, as_defined, stopped as run_stopped, no_room as run_unmade, RunsOver, RunStep, unopened}
 use Rattle.ports_core.specs.Streams.{streams_with, standard_output, standard_error}
-use Rattle.run_core.specs.inner.RunSteps.{HeaderFails, no_room, broke, TookInput, took, cut_off, OfSource, KeepsOther, TookAll, all, stopped_at, not_begun, HasStreams, after_input, OfName, is_unopened, standard_source}
+use Rattle.run_core.specs.inner.RunSteps.{HeaderFails, no_room, broke, TookInput, took, cut_off, input_from, OfSource, KeepsOther, TookAll, all, stopped_at, not_begun, HasStreams, OfName, is_unopened, standard_source}
 use Rattle.run_core.specs.RunSteps.{Opens, OpensShort, world_of}
 use Rattle.run_core.specs.Task.{Task, Outcome, after_part, header_text, of_content, made_by, no_outcome, joined, of_input, of_inputs, is_missing, are_missing, ends_badly}
 use Rattle.run_core.proofs.ReadingLemmas.{left_of, StayDone, all_done, count_more, done_more, done_with, last_source, missing_done, rest_untouched, still_done}
-use Rattle.run_core.proofs.StopLemmas.{after_assoc, out_on, at_after, stop_after, none_to_sweep, nothing_after, swept_from, said_swept, swept_error, error_open, stop_error, stop_swept, message_some, said_at}
+use Rattle.run_core.proofs.StopLemmas.{after_assoc, out_on, at_after, stop_after, none_to_sweep, nothing_after, swept_from, said_swept, swept_error, error_open, stop_error, stop_swept, said_at}
 use Rattle.ports_core.proofs.MessageLemmas.{says_more, all_said_state, says_after}
 use Rattle.run_core.specs.Input.{Input, World, has_dash, AreFrom, is_dash, input_of, inputs_from, inputs_at, file_input, standard_input, read_before, next_slot}
 use Rattle.std.proofs.lemmas.List.{append-nil, nil_from_length, take_rest}
@@ -44,22 +44,22 @@ use Rattle.ports_core.specs.Source as from
 -- headers
 
 pub broken_header : {told : Bool} {text said : List ℕ} {old new : List Slot} {n : ℕ} → said ≡ text → BrokeAfter told old new 0 said n → HeaderFails told text old new (Write 0)
-broken_header {told} {old} {new} {n} is cut = broke n (subst (λ bytes. BrokeAfter told old new 0 bytes n) is cut)
+broken_header {told} {old} {new} {n} is cut = broke n (rw is at cut)
 
 -- the streams
 
 pub part_writable : {told : Bool} {error : Slot} {part : Part} {slots : List Slot} → OutputsAt told (streams_with error) part slots → IsTrue (is_writable slots 0)
-part_writable at = subst (λ those. is_writable those 0 ≡ true) (sym at.slots) refl
+part_writable at = rw at.slots refl
 
 pub part_two : {told : Bool} {error : Slot} {part : Part} {slots : List Slot} → OutputsAt told (streams_with error) part slots → 2 ≤ length slots
 part_two {told} {error} {part} {slots} at = omega (arith, outputs_count told (streams_with error) part slots at)
 
 pub part_open : {told : Bool} {error : Slot} {part : Part} {slots : List Slot} → is_open error.state ≡ true → OutputsAt told (streams_with error) part slots → is_open (slot_at slots 1).state ≡ true
-part_open opened at = ap (λ those. is_open (slot_at those 1).state) at.slots ∙ opened
+part_open opened at = rw (at.slots, opened)
 
 -- the header was written
 pub headed : {told : Bool} {base : List Slot} {so_far : Part} (text : List ℕ) {old mid : List Slot} → OutputsAt told base so_far old → mid ≡ with_written 0 (told_of told text) old → OutputsAt told base (after_part so_far (only_out text)) mid
-headed {told} {base} {so_far} text {old} {mid} at wrote = subst (λ part. OutputsAt told base part mid) (out_on so_far text) (out_more told base so_far old mid text at wrote)
+headed {told} {base} {so_far} text {old} {mid} at wrote = rw (out_on so_far text) at (out_more told base so_far old mid text at wrote)
 
 pub headed_count : (told : Bool) (text : List ℕ) (old : List Slot) {mid : List Slot} → mid ≡ with_written 0 (told_of told text) old → length mid ≡ length old
 headed_count told text old wrote = ap length wrote ∙ length-changed_at 0 _ old
@@ -82,9 +82,9 @@ made_well task is_first name content enough well = simp (enough, well, and-false
 
 -- the header could not be written
 
-pub stopped_in_header : {told_in told : Bool} {task : Task} {most : ℕ} (is_first : Bool) (name : List ℕ) {source : Option ℕ} {content : Content} {outcome : Outcome} {progress : Progress} {was_read : Bool} {so_far : Part} {error : Slot} {sources : List Source} {old new : List Slot} {fault : Fault} → task.with_header ≡ true → Leaves told_in content source sources []
+pub stopped_in_header : {told_in told : Bool} {task : Task} {most : ℕ} (is_first : Bool) (name : List ℕ) {source : Option ℕ} {content : Content} {outcome : Outcome} {failed was_read : Bool} {so_far : Part} {error : Slot} {sources : List Source} {old new : List Slot} {fault : Fault} → task.with_header ≡ true → Leaves told_in content source sources []
     → OutputsAt told (streams_with error) so_far old → HeaderFails told (header_text task.with_header is_first name) old new fault
-    → TookInput told_in told task most outcome (header_text task.with_header is_first name) source (Some content) progress was_read so_far error (length old) sources new (Err fault)
+    → TookInput told_in told task most (input_from name source content) outcome is_first failed was_read so_far error (length old) sources new (Err fault)
 stopped_in_header {told} {task} is_first name {content} {so_far} {error} {old} {new} due unread at (no_room is) =
     cut_off Memory _ new (unheaded content due unread) refl
     (stopped_here told (streams_with error) so_far so_far Memory old new at (part_begins_itself so_far) is tt)
@@ -94,47 +94,47 @@ stopped_in_header {told} {task} is_first name {content} {so_far} {error} {old} {
     let count : length new ≡ length old = ap length after.slots ∙ length-changed_at 0 _ _ ∙ length-changed_at 0 _ old in
     cut_off (Write 0) _ new (heading content due unread)
     (λ _. refl, λ alone. refl, ap (λ those. (slot_at those 0).is_broken) after.slots ∙ broken_at 0 _ (writable-written old 0 0 (told_of told (take n text)) ∙ part_writable at))
-    (subst (λ high. StoppedBetween told (streams_with error) so_far high (Write 0) new) (out_on so_far text) (out_cut told (streams_with error) so_far old new text n at after))
+    (rw (out_on so_far text) at (out_cut told (streams_with error) so_far old new text n at after))
     (none_to_sweep task.work.clears new (omega (arith, count)))
 
 -- the engine's part of an input, after the header
-module _ (told_in told : Bool) (task : Task) (most : ℕ) (is_first : Bool) (name : List ℕ) (progress : Progress) (so_far : Part) (error : Slot) (count : ℕ) (source : Option ℕ) (sources : List Source) (mid : List Slot) (counted : length mid ≡ count) (streams_there : 2 ≤ count)
+module _ (told_in told : Bool) (task : Task) (most : ℕ) (is_first failed was_read : Bool) (name : List ℕ) (so_far : Part) (error : Slot) (count : ℕ) (source : Option ℕ) (sources : List Source) (mid : List Slot) (counted : length mid ≡ count) (streams_there : 2 ≤ count)
     (at : OutputsAt told (streams_with error) (after_part so_far (only_out (header_text task.with_header is_first name))) mid) where
   abbrev pub TookSo : Content → List Slot → Result Progress Fault → Type 0
-  TookSo content new result = TookInput told_in told task most (of_content task is_first name (Some content)) (header_text task.with_header is_first name) source (Some content) progress progress.was_read so_far error count sources new result
+  TookSo content new result = TookInput told_in told task most (input_from name source content) (of_content task is_first name (Some content)) is_first failed was_read so_far error count sources new result
 
   part_after : (error_now : Slot) (part : Part) {reached : List Slot} → OutputsAt told (streams_with error_now) (after_part (after_part so_far (only_out (header_text task.with_header is_first name))) part) reached
       → OutputsAt told (streams_with error_now) (after_part so_far (after_part (only_out (header_text task.with_header is_first name)) part)) reached
-  part_after error_now part {reached} there = subst (λ those. OutputsAt told (streams_with error_now) those reached) (after_assoc so_far (only_out (header_text task.with_header is_first name)) part) there
+  part_after error_now part {reached} there = rw (after_assoc so_far (only_out (header_text task.with_header is_first name)) part) at there
 
   -- it went well
-  went_well : (content : Content) (new : List Slot) → IsDone told_in task.work most source (Some content) sources → is_enough task.work content ≡ true → task.work.verdict content.bytes ≡ None → OutputsAt told mid (task.work.whole content.bytes) new → TookSo content new (Ok (record progress { is_first = false }))
+  went_well : (content : Content) (new : List Slot) → IsDone told_in task.work most source (Some content) sources → is_enough task.work content ≡ true → task.work.verdict content.bytes ≡ None → OutputsAt told mid (task.work.whole content.bytes) new → TookSo content new (Ok (record { was_read = was_read; is_first = false; failed = failed }))
   went_well content new done enough well there =
-      subst (λ outcome. TookInput told_in told task most outcome (header_text task.with_header is_first name) source (Some content) progress progress.was_read so_far error count sources new (Ok (record progress { is_first = false }))) (sym (made_well task is_first name content enough well))
-      (took (record progress { is_first = false }) error new (simp (and-false, or-false)) done refl (part_after error _ (at_after at there)) refl)
+      rw (made_well task is_first name content enough well) (took (record { was_read = was_read; is_first = false; failed = failed }) error new (simp (and-false, or-false)) done refl (part_after error _ (at_after at there)) refl)
 
   -- a message is due
   went_badly : (content : Content) (part : Part) (text : List ℕ) (reached old new : List Slot) → IsDone told_in task.work most source (Some content) sources
       → of_content task is_first name (Some content) ≡ record { part = after_part (only_out (header_text task.with_header is_first name)) part; messages = text ∷ []; failed = true; sweeps = task.work.clears }
-      → OutputsAt told mid part reached → Swept task.work.clears (length mid) reached old → SaysOn told task.tool text old new → TookSo content new (Ok (record progress { is_first = false; failed = true }))
+      → OutputsAt told mid part reached → Swept task.work.clears (length mid) reached old → SaysOn told task.tool text old new → TookSo content new (Ok (record { was_read = was_read; is_first = false; failed = true }))
   went_badly content part text reached old new done made there swept says =
-      let said = said_swept told task.tool text task.work.clears old new count streams_there (at_after at there) (subst (λ n. Swept task.work.clears n reached old) counted swept) says in
-      subst (λ outcome. TookInput told_in told task most outcome (header_text task.with_header is_first name) source (Some content) progress progress.was_read so_far error count sources new (Ok (record progress { is_first = false; failed = true }))) (sym made)
-      (took (record progress { is_first = false; failed = true }) said.0 said.2.0
-      (simp (and-false, or-true)) done (said.0, said.1, refl) (part_after said.0 part said.2.1) said.2.2)
+      let top = adds (told_of told (after_part so_far (after_part (only_out (header_text task.with_header is_first name)) part)).out) standard_output in
+      let all = part_after error part (at_after at there) in
+      let said = said_swept told task.tool text task.work.clears old new count streams_there (rw all.slots at (rw counted at swept)) says in
+      rw made (took (record { was_read = was_read; is_first = false; failed = true }) said.after (top ∷ said.after ∷ all.since)
+      (simp (and-false, or-true)) done (said.after, said.says, refl) (record { standard = lit< tt; since = all.since; slots = refl; files = all.files }) said.swept)
 
-  pub took_well : {content : Content} {new : List Slot} {fed : Fed} → IsDone told_in task.work most source (Some content) sources → (fed ≡ Whole) ⊎ (fed ≡ Enough) → FedAs told mid task.work task.opening most content (Leaves told_in content source sources) new (Ok fed) → TookSo content new (Ok (record progress { is_first = false }))
+  pub took_well : {content : Content} {new : List Slot} {fed : Fed} → IsDone told_in task.work most source (Some content) sources → (fed ≡ Whole) ⊎ (fed ≡ Enough) → FedAs told mid task.work task.opening most content (Leaves told_in content source sources) new (Ok fed) → TookSo content new (Ok (record { was_read = was_read; is_first = false; failed = failed }))
   took_well {content} {new} done good (whole sound going well there) = went_well content new done (or_left _ _ (ap not sound)) well there
   took_well {content} {new} done good (had_enough complete well there) = went_well content new done (or_right _ _ complete) well there
   took_well done good (broke_off breaks going reached there swept) = absurd (elim good [ inl is ↦ cc | inr is ↦ cc ])
 
-  pub took_broken : {content : Content} {old new : List Slot} {fed : Fed} → IsDone told_in task.work most source (Some content) sources → fed ≡ Broken → FedAs told mid task.work task.opening most content (Leaves told_in content source sources) old (Ok fed) → SaysOn told task.tool (message_of task.tool (Read 0) name) old new → TookSo content new (Ok (record progress { is_first = false; failed = true }))
+  pub took_broken : {content : Content} {old new : List Slot} {fed : Fed} → IsDone told_in task.work most source (Some content) sources → fed ≡ Broken → FedAs told mid task.work task.opening most content (Leaves told_in content source sources) old (Ok fed) → SaysOn told task.tool (message_of task.tool (Read 0) name) old new → TookSo content new (Ok (record { was_read = was_read; is_first = false; failed = true }))
   took_broken {content} {old} {new} done is (broke_off breaks going reached there swept) says =
       went_badly content (task.work.settled content.bytes) (message_of task.tool (Read 0) name) reached old new done
       (let short : is_enough task.work content ≡ false = ap (λ (b : Bool). not b || task.work.is_complete content.bytes) breaks ∙ going in simp (short, and-true)) there swept says
   took_broken done is ends says = absurd (cc)
 
-  pub took_verdict : {content : Content} {old new : List Slot} {fault : Fault} → IsDone told_in task.work most source (Some content) sources → is_verdict fault ≡ true → FedAs told mid task.work task.opening most content (Leaves told_in content source sources) old (Err fault) → SaysOn told task.tool (message_of task.tool fault (task.subject fault)) old new → TookSo content new (Ok (record progress { is_first = false; failed = true }))
+  pub took_verdict : {content : Content} {old new : List Slot} {fault : Fault} → IsDone told_in task.work most source (Some content) sources → is_verdict fault ≡ true → FedAs told mid task.work task.opening most content (Leaves told_in content source sources) old (Err fault) → SaysOn told task.tool (message_of task.tool fault (task.subject fault)) old new → TookSo content new (Ok (record { was_read = was_read; is_first = false; failed = true }))
   took_verdict {content} {old} {new} {fault} done judging (judged _ is enough judges reached there swept) says =
       went_badly content (task.work.whole content.bytes) (message_of task.tool fault (task.subject fault)) reached old new done (simp (enough, judges, and-true)) there swept says
   took_verdict done judging (stopped _ unjudged call is_call read reached why stop swept) says = absurd (false≢true (sym unjudged ∙ judging))
@@ -143,12 +143,12 @@ module _ (told_in told : Bool) (task : Task) (most : ℕ) (is_first : Bool) (nam
   took_stopped unjudged (judged _ is enough judges reached there swept) = absurd (false≢true (sym unjudged ∙ is))
   took_stopped {content} {new} {fault} unjudged (stopped _ is call is_call read reached why stop swept) =
       cut_off fault (step_after (after_part so_far (only_out (header_text task.with_header is_first name))) call) reached (calling content call is_call read)
-      why (stop_after at stop) (subst (λ n. Swept task.work.clears n reached new) counted swept)
+      why (stop_after at stop) (rw counted at swept)
 
 -- standard error is open after an input was fed
 
 pub swept_open : (clears : Bool) (reached new : List Slot) {first : ℕ} → 2 ≤ first → is_open (slot_at reached 1).state ≡ true → Swept clears first reached new → is_open (slot_at new 1).state ≡ true
-swept_open clears reached new {first} past opened swept = ap (λ (slot : Slot). is_open slot.state) (swept_error clears reached new past swept) ∙ opened
+swept_open clears reached new {first} past opened swept = rw (swept_error clears reached new past swept, opened)
 
 pub fed_open : {told : Bool} {work : Work} {opening : Needs} {most : ℕ} {error : Slot} {part : Part} {mid new : List Slot} {content : Content} (WasRead : List ℕ → Type 0) {fed : Fed} → fed ≡ Broken → is_open error.state ≡ true → OutputsAt told (streams_with error) part mid → FedAs told mid work opening most content WasRead new (Ok fed) → is_open (slot_at new 1).state ≡ true
 fed_open {work} {new} WasRead is opened at (broke_off breaks going reached there swept) =
@@ -169,22 +169,14 @@ pub fed_as : {S : Type 0} (Holds : S → List ℕ → Type 0) (Owns : S → ℕ 
     → ((before : List Slot) (opening : Needs) → Owns engine.stage (length before) mid → OutputsAt told before ((work engine.stage).settled []) mid → OfContent told_in (source_at sources slot).left (λ content. FedAs told before (work engine.stage) opening most content (LeavesOf told_in content (source_at left slot)) new result × BreaksOnly told_in content (source_at left slot)))
     → (told_in ≡ true → is_stop result ≡ false → Uses (work engine.stage) most slot (source_at sources slot).left (source_at left slot))
     → OfSource told_in source sources (λ content. FedAs told old asked opening most content (Leaves told_in content source left) new result × (is_stop result ≡ false → IsDone told_in asked most source (Some content) left))
-fed_as Holds Owns {work} Ready {asked} opening {told} {told_in} {old} {mid} {new} {engine} {slot} sources left {most} {result} is had within feeds uses =
-    subst (λ from. OfSource told_in from sources (λ content. FedAs told old asked opening most content (Leaves told_in content from left) new result × (is_stop result ≡ false → IsDone told_in asked most from (Some content) left))) (sym is)
-    (subst (λ (those : Work). OfContent told_in (source_at sources slot).left (λ content. FedAs told old those opening most content (LeavesOf told_in content (source_at left slot)) new result × (is_stop result ≡ false → IsDone told_in those most (Some slot) (Some content) left))) had.does
-    (left_of left (λ content. FedAs told old (work engine.stage) opening most content (LeavesOf told_in content (source_at left slot)) new result) within uses
-    (feeds old opening had.owns (subst (λ (those : Work). OutputsAt told old (those.settled []) mid) (sym had.does) had.outputs))))
+fed_as Holds Owns Ready opening {old = old} sources left is had within feeds uses =
+    rw (is, ← had.does) (left_of left _ within uses (feeds old opening had.owns (rw (← had.does) at had.outputs)))
 
 pub fed_none : {S : Type 0} (Holds : S → List ℕ → Type 0) (Owns : S → ℕ → List Slot → Type 0) {work : S → Work} (Ready : S → List Slot → Type 0) {asked : Work} (opening : Needs) {told : Bool} (told_in : Bool) {old mid new : List Slot} {engine : GuardState S} {source : Option ℕ} (sources left : List Source) (most : ℕ) {result : Result Fed Fault}
     → source ≡ None → Opens Holds Owns work Ready asked told old mid engine
     → ((before : List Slot) (opening : Needs) (room : ℕ) → Owns engine.stage (length before) mid → OutputsAt told before ((work engine.stage).settled []) mid → FedAs told before (work engine.stage) opening room empty (λ read. Unit {0}) new result)
     → OfSource told_in source sources (λ content. FedAs told old asked opening most content (Leaves told_in content source left) new result × (is_stop result ≡ false → IsDone told_in asked most source (Some content) left))
-fed_none Holds Owns Ready {asked} opening {told} told_in {old} {mid} {new} sources left most {result} is had feeds =
-    subst (λ from. OfSource told_in from sources (λ content. FedAs told old asked opening most content (Leaves told_in content from left) new result × (is_stop result ≡ false → IsDone told_in asked most from (Some content) left))) (sym is) (
-      subst (λ (those : Work). FedAs told old those opening most empty (λ read. Unit {0}) new result) had.does
-          (feeds old opening most had.owns (subst (λ (those : Work). OutputsAt told old (those.settled []) mid) (sym had.does) had.outputs)),
-      λ ends. tt,
-    )
+fed_none Holds Owns Ready opening told_in {old = old} sources left most is had feeds = rw (is, ← had.does) (feeds old opening most had.owns (rw (← had.does) at had.outputs), λ ends. tt)
 
 -- no input but that of the source was touched
 
@@ -194,8 +186,7 @@ keeps_all (Some slot) sources = record { count = refl; others = λ place differs
 
 -- a message by the names that a tool gives
 pub said_as : {told : Bool} {tool other : Tool} (fault : Fault) {name called : List ℕ} {old new : List Slot} → tool ≡ other → name ≡ called → SaysOn told tool (message_of tool fault name) old new → SaysOn told other (message_of other fault called) old new
-said_as {told} {other} fault {name} {old} {new} one two says =
-    subst (λ those. SaysOn told other (message_of other fault those) old new) two (subst (λ those. SaysOn told those (message_of those fault name) old new) one says)
+said_as fault one two says = rw (one, two) at says
 
 -- Lemmas on how a run ends.
 
@@ -220,11 +211,10 @@ pub ran_into : {told_in told : Bool} {task : Task} {found : List Input} {sources
     → EndsAs told_in told task found sources new 1
 ran_into {told} {task} {mid} {fault} (stopped_at _ before input after error step reached among done untouched is_step stops said stop swept) says =
     let text = message_of task.tool fault (output_named mid fault) in
-    let said_so = stop_swept step task.work.clears (message_some task.tool fault (output_named mid fault)) (lit≤ tt)
+    let said_so = stop_swept told task.tool text step task.work.clears (lit≤ tt)
     (ap is_open (all_said_state told task.tool (made_by task before).messages standard_error error said)) stop stops swept says in
     run_stopped fault before input after said_so.after step said_so.reached among done untouched is_step said_so.why said_so.stop said_so.swept
-    (subst (λ name. SaysAll told task.tool ((made_by task before).messages ++ message_of task.tool fault name ∷ []) standard_error said_so.after) (sym said_so.named)
-    (says_more told task.tool (made_by task before).messages text standard_error error said_so.after said said_so.says)) refl
+    (rw said_so.named (says_more told task.tool (made_by task before).messages text standard_error error said_so.after said said_so.says)) refl
 ran_into (not_begun at_first untouched none) says =
     let said = says standard_output standard_error [] at_first in
     run_unmade said.0 (said.0, said.1, refl) said.2 untouched none refl
@@ -232,7 +222,7 @@ ran_into (not_begun at_first untouched none) says =
 -- what was said by the name that a tool gives itself
 pub ran_into_as : {told_in told : Bool} {task : Task} {tool : Tool} {found : List Input} {sources : List Source} {mid new : List Slot} {fault : Fault} → tool ≡ task.tool → TookAll told_in told task found sources mid (Err fault) → SaysOn told tool (message_of tool fault (output_named mid fault)) mid new
     → EndsAs told_in told task found sources new 1
-ran_into_as {told} {mid} {new} {fault} is taken says = ran_into taken (subst (λ those. SaysOn told those (message_of those fault (output_named mid fault)) mid new) is says)
+ran_into_as is taken says = ran_into taken (rw is at says)
 
 -- Lemmas on taking the inputs for names, one after another.
 
@@ -240,7 +230,7 @@ ran_into_as {told} {mid} {new} {fault} is taken says = ran_into taken (subst (λ
 
 pub front_and_rest : (none : Bor (List ℕ)) (left : List (Bor (List ℕ))) → 1 ≤ length left → map (λ word. word.now) left ≡ (get_or left 0 none).now ∷ map (λ word. word.now) (take (length left - 1) (drop 1 left))
 front_and_rest none [] some = absurd (omega arith)
-front_and_rest none (word ∷ words) some = ap (λ (rest : List (Bor (List ℕ))). word.now ∷ map (λ word. word.now) rest) (sym (take_rest (word ∷ words) 1))
+front_and_rest none (word ∷ words) some = rw (take_rest (word ∷ words) 1)
 
 pub none_left : (left : List (Bor (List ℕ))) → length left < 1 → map (λ word. word.now) left ≡ []
 none_left [] none = refl
@@ -258,92 +248,63 @@ of_file world was_read {slot} {name} {content} P differs lies holds = (
   holds,
 )
 
-dash_at : {told : Bool} (was_read : Bool) (laid : ℕ → List ℕ → Option Content) (sources : List Source) (slot : ℕ) (name : List ℕ) (P : Option ℕ → Content → Type 0) (Q : Input → Type 0) → is_dash name ≡ true
-    → ((content : Content) → P (Some 0) content → Q (standard_input content)) → (P None empty → Q read_before)
-    → OfSource told (standard_source was_read) sources (P (standard_source was_read)) → OfName told (world_of laid sources) was_read slot name Q
-dash_at true laid sources slot name P Q dash first again holds = (
+dash_at : {told : Bool} (was_read : Bool) (laid : ℕ → List ℕ → Option Content) (sources : List Source) (slot : ℕ) (name : List ℕ) (P : Input → Type 0) → is_dash name ≡ true
+    → OfSource told (standard_source was_read) sources (λ content. P (input_from (codes "standard input") (standard_source was_read) content)) → OfName told (world_of laid sources) was_read slot name P
+dash_at true laid sources slot name P dash holds = (
   read_before,
   (record { laid = laid; standard = empty }, sym (ap (input_of (record { laid = laid; standard = empty }) true slot name) dash)),
   λ t. sym (ap (input_of (world_of laid sources) true slot name) dash),
-  again holds,
+  holds,
 )
-dash_at false laid sources slot name P Q dash first again (content, there, holds) = (
+dash_at false laid sources slot name P dash (content, there, holds) = (
   standard_input content,
   (record { laid = laid; standard = content }, sym (ap (input_of (record { laid = laid; standard = content }) false slot name) dash)),
   λ t. ap standard_input (there t) ∙ sym (ap (input_of (world_of laid sources) false slot name) dash),
-  first content holds,
+  holds,
 )
 
-pub of_dash : {told : Bool} (was_read : Bool) {source : Option ℕ} (laid : ℕ → List ℕ → Option Content) (sources : List Source) (slot : ℕ) (name : List ℕ) (P : Option ℕ → Content → Type 0) (Q : Input → Type 0) → source ≡ standard_source was_read → is_dash name ≡ true
-    → ((content : Content) → P (Some 0) content → Q (standard_input content)) → (P None empty → Q read_before)
-    → OfSource told source sources (P source) → OfName told (world_of laid sources) was_read slot name Q
-of_dash {told} was_read laid sources slot name P Q is dash first again holds =
-    dash_at was_read laid sources slot name P Q dash first again (subst (λ from. OfSource told from sources (P from)) is holds)
-
-pub of_opened : {told : Bool} (was_read : Bool) {laid : ℕ → List ℕ → Option Content} {old new : List Source} {slot : ℕ} {name : List ℕ} (P : Content → Type 0) (Q : Input → Type 0) → is_dash name ≡ false → OpensFile told laid old new name slot
-    → ((content : Content) → P content → Q (file_input name (length old) (Some content)))
-    → OfSource told (Some slot) new P → OfName told (world_of laid old) was_read (length old) name Q
-of_opened was_read {laid} {old} {slot} {name} P Q differs opened_it as_file (content, there, holds) =
-    of_file (world_of laid old) was_read Q differs (λ t. ap (λ n. laid n name) (sym opened_it.number) ∙ opened_it.lies t
+-- the file was opened
+pub took_opened : {told_in told : Bool} {task : Task} {most : ℕ} {is_first failed was_read : Bool} {laid : ℕ → List ℕ → Option Content} {name : List ℕ} {old mid : List Source} {slot : ℕ} {so_far : Part} {error : Slot} {first : ℕ} {sources : List Source} {new : List Slot} {result : Result Progress Fault} → is_dash name ≡ false → OpensFile told_in laid old mid name slot
+    → OfSource told_in (Some slot) mid (λ content. TookInput told_in told task most (input_from name (Some slot) content) (of_content task is_first name (Some content)) is_first failed was_read so_far error first sources new result)
+    → OfName told_in (world_of laid old) was_read (length old) name (λ input. TookInput told_in told task most input (of_input task is_first input) is_first failed (was_read || is_dash name) so_far error first sources new result)
+took_opened {told_in} {told} {task} {most} {is_first} {failed} {was_read} {laid} {name} {old} {slot = slot} {so_far} {error} {first} {sources} {new} {result} differs opened_it (content, there, one) =
+    of_file (world_of laid old) was_read _ differs (λ t. ap (λ n. laid n name) (sym opened_it.number) ∙ opened_it.lies t
     ∙ ap Some (sym (there t ∙ ap (λ (source : Source). source.left) (ap (λ those. source_at those slot) opened_it.sources ∙ ap (source_at (old ++ source_of opened_it.content ∷ [])) opened_it.number ∙ last_source old))))
-    (as_file content holds)
+    (rw (ap (λ (b : Bool). was_read || b) differs ∙ or-false was_read) (rw opened_it.number at one))
 
--- the same step, seen from the name
-
-took_as : {told_in told : Bool} {task : Task} {most : ℕ} {outcome : Outcome} {header : List ℕ} {slot : Option ℕ} {content : Option Content} {progress other : Progress} {was_read is_read : Bool} {so_far : Part} {error : Slot} {first : ℕ} {sources : List Source} {new : List Slot} {result : Result Progress Fault}
-    → ((failed : Bool) → after_input progress was_read failed content ≡ after_input other is_read failed content)
-    → TookInput told_in told task most outcome header slot content progress was_read so_far error first sources new result → TookInput told_in told task most outcome header slot content other is_read so_far error first sources new result
-took_as {outcome} same (took next after reached is done says at swept) = took next after reached (is ∙ same outcome.failed) done says at swept
-took_as same (cut_off fault step reached is_step stops stop swept) = cut_off fault step reached is_step stops stop swept
-
-took_dash : {told_in told : Bool} {task : Task} {most : ℕ} {outcome : Outcome} {header : List ℕ} {slot : Option ℕ} {content : Option Content} {progress : Progress} (name : List ℕ) {so_far : Part} {error : Slot} {first : ℕ} {sources : List Source} {new : List Slot} {result : Result Progress Fault} → is_dash name ≡ true
-    → TookInput told_in told task most outcome header slot content (record progress { was_read = true }) true so_far error first sources new result → TookInput told_in told task most outcome header slot content progress (progress.was_read || is_dash name) so_far error first sources new result
-took_dash {content} {progress} name dash =
-    took_as
-    (λ failed. ap (λ (b : Bool). record { was_read = b; is_first = progress.is_first && is_missing content; failed = progress.failed || failed }) (sym (ap (λ (b : Bool). progress.was_read || b) dash ∙ or-true progress.was_read)))
-
-pub took_file : {told_in told : Bool} {task : Task} {most : ℕ} {outcome : Outcome} {header : List ℕ} {slot : ℕ} {content : Option Content} {progress : Progress} {laid : ℕ → List ℕ → Option Content} {name : List ℕ} {old mid : List Source} {so_far : Part} {error : Slot} {first : ℕ} {sources : List Source} {new : List Slot} {result : Result Progress Fault} → is_dash name ≡ false → OpensFile told_in laid old mid name slot
-    → TookInput told_in told task most outcome header (Some slot) content progress progress.was_read so_far error first sources new result → TookInput told_in told task most outcome header (Some (length old)) content progress (progress.was_read || is_dash name) so_far error first sources new result
-took_file {told_in} {told} {task} {most} {outcome} {header} {content} {progress} {so_far} {error} {first} {sources} {new} {result} differs opened_it one =
-    took_as
-    (λ failed. ap (λ (b : Bool). record { was_read = b; is_first = progress.is_first && is_missing content; failed = progress.failed || failed }) (sym (ap (λ (b : Bool). progress.was_read || b) differs ∙ or-false progress.was_read)))
-    (subst (λ n. TookInput told_in told task most outcome header (Some n) content progress progress.was_read so_far error first sources new result) opened_it.number one)
-
-took_missing : {told_in told : Bool} {task : Task} {most : ℕ} {progress : Progress} (name : List ℕ) (sources : List Source) {after : List Source} (slot : ℕ) {so_far : Part} {error : Slot} {old new : List Slot} → is_dash name ≡ false → after ≡ sources ++ missing ∷ [] → OutputsAt told (streams_with error) so_far old
+took_missing : {told_in told : Bool} {task : Task} {most : ℕ} {is_first failed was_read : Bool} (name : List ℕ) (sources : List Source) {after : List Source} (slot : ℕ) {so_far : Part} {error : Slot} {old new : List Slot} → is_dash name ≡ false → after ≡ sources ++ missing ∷ [] → OutputsAt told (streams_with error) so_far old
     → SaysOn told task.tool (message_of task.tool (Open slot) name) old new
-    → TookInput told_in told task most (of_input task progress.is_first (file_input name (length sources) None)) (header_text task.with_header progress.is_first name) (Some (length sources)) None progress (progress.was_read || is_dash name) so_far error (length old) after new (Ok (record progress { failed = true }))
-took_missing {told_in} {told} {task} {most} {progress} name sources slot {so_far} {new} differs are at says =
+    → TookInput told_in told task most (file_input name (length sources) None) (of_input task is_first (file_input name (length sources) None)) is_first failed (was_read || is_dash name) so_far error (length old) after new (Ok (record { was_read = was_read; is_first = is_first; failed = true }))
+took_missing {told_in} {told} {task} {most} {is_first} {was_read = was_read} name sources slot {so_far} {new = new} differs are at says =
     let said = said_at at says in
-    took (record progress { failed = true }) said.0 new (simp (differs, or-false, and-true, or-true)) (missing_done told_in task.work most sources are)
+    took (record { was_read = was_read; is_first = is_first; failed = true }) said.0 new (simp (differs, or-false, and-true, or-true)) (missing_done told_in task.work most sources are)
     (said.0, said.1, refl) (subst (λ part. OutputsAt told (streams_with said.0) part new) (sym nothing_after) said.2) refl
 
 -- standard input, for the operand `-`
-pub took_standard : {told_in told : Bool} {task : Task} {most : ℕ} {progress : Progress} {source : Option ℕ} (laid : ℕ → List ℕ → Option Content) (name : List ℕ) (old : List Source) {sources : List Source} {so_far : Part} {error : Slot} {first : ℕ} {new : List Slot} {result : Result Progress Fault} → source ≡ standard_source progress.was_read → is_dash name ≡ true
-    → OfSource told_in source old (λ content. TookInput told_in told task most (of_content task progress.is_first (codes "standard input") (Some content)) (header_text task.with_header progress.is_first (codes "standard input")) source (Some content) (record progress { was_read = true }) true so_far error first sources new result)
-    → OfName told_in (world_of laid old) progress.was_read (length old) name
-    (λ input. TookInput told_in told task most (of_input task progress.is_first input) (header_text task.with_header progress.is_first input.name) input.slot input.content progress (progress.was_read || is_dash name) so_far error first sources new result)
-took_standard {told_in} {told} {task} {most} {progress} laid name old {sources} {so_far} {error} {first} {new} {result} is dash =
-    of_dash progress.was_read laid old (length old) name
-    (λ from content. TookInput told_in told task most (of_content task progress.is_first (codes "standard input") (Some content)) (header_text task.with_header progress.is_first (codes "standard input")) from (Some content) (record progress { was_read = true }) true so_far error first sources new result)
-    _ is dash (λ content one. took_dash name dash one) (λ one. took_dash name dash one)
+pub took_standard : {told_in told : Bool} {task : Task} {most : ℕ} {is_first failed : Bool} (was_read : Bool) {source : Option ℕ} (laid : ℕ → List ℕ → Option Content) (name : List ℕ) (old : List Source) {sources : List Source} {so_far : Part} {error : Slot} {first : ℕ} {new : List Slot} {result : Result Progress Fault} → source ≡ standard_source was_read → is_dash name ≡ true
+    → OfSource told_in source old (λ content. TookInput told_in told task most (input_from (codes "standard input") source content) (of_content task is_first (codes "standard input") (Some content)) is_first failed true so_far error first sources new result)
+    → OfName told_in (world_of laid old) was_read (length old) name (λ input. TookInput told_in told task most input (of_input task is_first input) is_first failed (was_read || is_dash name) so_far error first sources new result)
+took_standard {told_in} {told} {task} {most} {is_first} {failed} was_read laid name old {sources} {so_far} {error} {first} {new} {result} is dash holds =
+    let P = λ (read : Bool) (input : Input). TookInput told_in told task most input (of_input task is_first input) is_first failed read so_far error first sources new result in
+    dash_at was_read laid old (length old) name (P (was_read || is_dash name)) dash
+    (rw (ap (λ (b : Bool). was_read || b) dash ∙ or-true was_read) (rw is at holds))
 
 -- a name that could not be opened: it is passed over with a message
 
-pub of_missing : {told_in told : Bool} {task : Task} {most : ℕ} {progress : Progress} {laid : ℕ → List ℕ → Option Content} {name : List ℕ} {sources after : List Source} {fault : Fault} {so_far : Part} {error : Slot} {old new : List Slot} → is_dash name ≡ false → OpensNothing told_in laid sources after name fault → is_unopened fault ≡ true → OutputsAt told (streams_with error) so_far old
-    → SaysOn told task.tool (message_of task.tool fault name) old new → OfName told_in (world_of laid sources) progress.was_read (length sources) name
-    (λ input. TookInput told_in told task most (of_input task progress.is_first input) (header_text task.with_header progress.is_first input.name) input.slot input.content progress (progress.was_read || is_dash name) so_far error (length old) after new (Ok (record progress { failed = true })))
-of_missing {progress} {laid} {name} {sources} differs (from.broke slot number lies are) cannot at says =
-    of_file (world_of laid sources) progress.was_read _ differs (λ t. ap (λ n. laid n name) (sym number) ∙ lies t)
+pub of_missing : {told_in told : Bool} {task : Task} {most : ℕ} {is_first failed was_read : Bool} {laid : ℕ → List ℕ → Option Content} {name : List ℕ} {sources after : List Source} {fault : Fault} {so_far : Part} {error : Slot} {old new : List Slot} → is_dash name ≡ false → OpensNothing told_in laid sources after name fault → is_unopened fault ≡ true → OutputsAt told (streams_with error) so_far old
+    → SaysOn told task.tool (message_of task.tool fault name) old new → OfName told_in (world_of laid sources) was_read (length sources) name
+    (λ input. TookInput told_in told task most input (of_input task is_first input) is_first failed (was_read || is_dash name) so_far error (length old) after new (Ok (record { was_read = was_read; is_first = is_first; failed = true })))
+of_missing {was_read = was_read} {laid} {name} {sources} differs (from.broke slot number lies are) cannot at says =
+    of_file (world_of laid sources) was_read _ differs (λ t. ap (λ n. laid n name) (sym number) ∙ lies t)
     (took_missing name sources slot differs are at says)
 of_missing differs (from.no_room are) cannot at says = absurd (false≢true cannot)
 
 -- there was no room for it
-pub of_no_room : {told_in told : Bool} {task : Task} {most : ℕ} {progress : Progress} {laid : ℕ → List ℕ → Option Content} {name : List ℕ} {sources after : List Source} {fault : Fault} {so_far : Part} {error : Slot} {old : List Slot} → is_dash name ≡ false → OpensNothing told_in laid sources after name fault → is_unopened fault ≡ false → OutputsAt told (streams_with error) so_far old
-    → OfName told_in (world_of laid sources) progress.was_read (length sources) name
-    (λ input. TookInput told_in told task most (of_input task progress.is_first input) (header_text task.with_header progress.is_first input.name) input.slot input.content progress (progress.was_read || is_dash name) so_far error (length old) after old (Err fault))
-of_no_room differs (from.broke slot number lies are) other at = absurd (false≢true (sym other))
-of_no_room {told} {task} {progress} {laid} {name} {sources} {so_far} {error} {old} differs (from.no_room are) other at =
-    of_file (world_of laid sources) progress.was_read _ differs (λ t. refl)
+pub of_no_room : {told_in told : Bool} {task : Task} {most : ℕ} {is_first failed : Bool} (was_read : Bool) {laid : ℕ → List ℕ → Option Content} {name : List ℕ} {sources after : List Source} {fault : Fault} {so_far : Part} {error : Slot} {old : List Slot} → is_dash name ≡ false → OpensNothing told_in laid sources after name fault → is_unopened fault ≡ false → OutputsAt told (streams_with error) so_far old
+    → OfName told_in (world_of laid sources) was_read (length sources) name (λ input. TookInput told_in told task most input (of_input task is_first input) is_first failed (was_read || is_dash name) so_far error (length old) after old (Err fault))
+of_no_room was_read differs (from.broke slot number lies are) other at = absurd (false≢true (sym other))
+of_no_room {told = told} {task} was_read {laid} {name} {sources} {so_far} {error} {old} differs (from.no_room are) other at =
+    of_file (world_of laid sources) was_read _ differs (λ t. refl)
     (cut_off Memory _ old (unopened (laid (length sources) name) (length sources) refl (omega (arith, ap length are))) refl
     (stopped_here told (streams_with error) so_far so_far Memory old old at (part_begins_itself so_far) refl tt) (none_to_sweep task.work.clears old (omega arith)))
 
@@ -395,7 +356,7 @@ walk_begins {told} {names} {laid} {sources} {slots} fresh are alone =
       made = no_outcome;
       error = standard_error;
       reached = slots;
-      at = subst (λ those. OutputsAt told (streams_with standard_error) nothing those) (sym are) (nothing_out told (streams_with standard_error) (lit< tt));
+      at = rw are (nothing_out told (streams_with standard_error) (lit< tt));
       swept = refl;
       says = refl;
       failed = refl;
@@ -403,11 +364,11 @@ walk_begins {told} {names} {laid} {sources} {slots} fresh are alone =
       unswept = λ some. refl;
       first = refl;
       rest_made = λ rest. refl;
-      rest_are = λ rest are_rest. subst (λ n. AreFrom false n names rest) one are_rest;
+      rest_are = λ rest are_rest. rw one at are_rest;
       rest_there = λ t. ap (λ n. inputs_from (world_of laid sources) false n names) one;
       laid_same = refl;
       standard = λ _. at_first ∙ ap source_of (sym (ap (λ (source : Source). source.left) at_first));
-      some = subst (λ n. 0 < n) (sym one) (lit< tt);
+      some = rw one (lit< tt);
       known = tt;
       asked = fresh_asks largest_piece sources fresh;
       count = ap (λ n. count_after n names) one;
@@ -417,8 +378,8 @@ walk_begins {told} {names} {laid} {sources} {slots} fresh are alone =
 slots_at : {told_in told : Bool} {task : Task} {world : World} {names left : List (List ℕ)} {progress : Progress} {laid : ℕ → List ℕ → Option Content} {sources : List Source} {slots : List Slot} → 1 ≤ length left
     → (walked : Walked told_in told task world names left progress laid sources slots) → OutputsAt told (streams_with walked.error) walked.made.part slots
 slots_at {told} {slots} some walked =
-    let same : slots ≡ walked.reached = subst (λ sweeps. Swept sweeps 2 walked.reached slots) (walked.unswept some) walked.swept in
-    subst (λ those. OutputsAt told (streams_with walked.error) walked.made.part those) (sym same) walked.at
+    let same : slots ≡ walked.reached = rw (walked.unswept some) at walked.swept in
+    rw same walked.at
 
 walked_error : {told_in : Bool} (told : Bool) {task : Task} {world : World} {names left : List (List ℕ)} {progress : Progress} {laid : ℕ → List ℕ → Option Content} {sources : List Source} {slots : List Slot}
     → (walked : Walked told_in told task world names left progress laid sources slots) → is_open walked.error.state ≡ true
@@ -430,14 +391,14 @@ walk_streams {told} some walked = record { part = walked.made.part; error = walk
 
 pub walk_readable : {told_in told : Bool} {task : Task} {world : World} {names left : List (List ℕ)} {progress : Progress} {laid : ℕ → List ℕ → Option Content} {sources : List Source} {slots : List Slot}
     → Walked told_in told task world names left progress laid sources slots → progress.was_read ≡ false → IsTrue (is_readable sources 0)
-walk_readable walked unread = ap (λ (source : Source). source.is_open && not source.is_broken) (walked.standard unread)
+walk_readable walked unread = rw (walked.standard unread)
 
 -- while standard input was not read, what it holds is known
 same_input : {world : World} (was_read : Bool) (slot : ℕ) (name : List ℕ) (d : Bool) {laid : ℕ → List ℕ → Option Content} (sources : List Source) → laid ≡ world.laid → (was_read ≡ false → source_at sources 0 ≡ source_of world.standard)
     → input_of (world_of laid sources) was_read slot name d ≡ input_of world was_read slot name d
-same_input was_read slot name false sources same standard = ap (λ (those : ℕ → List ℕ → Option Content). file_input name slot (those slot name)) same
+same_input was_read slot name false sources same standard = rw same
 same_input true slot name true sources same standard = refl
-same_input false slot name true sources same standard = ap (λ (source : Source). standard_input source.left) (standard refl)
+same_input false slot name true sources same standard = rw (standard refl)
 
 -- the only name was taken
 taken_alone : {clears : Bool} {name : List ℕ} {left : List (List ℕ)} (slots : List Slot) → (clears ≡ true → ((name ∷ left) ≡ []) ⊎ ((length (name ∷ left) ≤ 1) × (length slots ≡ 2))) → clears ≡ true → (left ≡ []) × (length slots ≡ 2)
@@ -449,11 +410,11 @@ taken_alone {left} slots alone is = elim (alone is) [
 abbrev pub Takes : Bool → Bool → Task → ℕ → Progress → (ℕ → List ℕ → Option Content) → List Source → List Source → List ℕ → Part → Slot → List Slot → List Slot → Result Progress Fault → Type 0
 Takes told_in told task most progress laid sources new_sources name so_far error slots new result =
     OfName told_in (world_of laid sources) progress.was_read (length sources) name
-    (λ input. TookInput told_in told task most (of_input task progress.is_first input) (header_text task.with_header progress.is_first input.name) input.slot input.content progress (progress.was_read || is_dash name) so_far error (length slots) new_sources new result)
+    (λ input. TookInput told_in told task most input (of_input task progress.is_first input) progress.is_first progress.failed (progress.was_read || is_dash name) so_far error (length slots) new_sources new result)
 
 -- no read asked for more
 pub asks_on : {most : ℕ} {was_read : Bool} {name : List ℕ} {sources new_sources : List Source} → most ≡ largest_piece → TakesOne most was_read name sources new_sources → AsksAtMost largest_piece sources → AsksAtMost largest_piece new_sources
-asks_on {sources} {new_sources} at_most leaves = subst (λ n. AsksAtMost n sources → AsksAtMost n new_sources) at_most leaves.asked
+asks_on {sources} {new_sources} at_most leaves = rw at_most at leaves.asked
 
 -- one more name was taken
 pub walk_goes_on : {told_in told : Bool} {task : Task} {most : ℕ} {world : World} {names : List (List ℕ)} {name : List ℕ} {left : List (List ℕ)} {progress next : Progress} {laid new_laid : ℕ → List ℕ → Option Content} {sources new_sources : List Source} {slots new : List Slot}
@@ -462,7 +423,7 @@ pub walk_goes_on : {told_in told : Bool} {task : Task} {most : ℕ} {world : Wor
     → TakesOne most progress.was_read name sources new_sources → length new_sources ≡ next_slot (length sources) name → new_laid ≡ laid
     → Walked told_in told task world names left next new_laid new_sources new
 walk_goes_on {told_in} {told} {task} {world} {names} {name} {left} {progress} {next} {laid} {new_laid} {sources} {new_sources} {slots} {new} at_most walked takes leaves opened_it same =
-    goes_with (subst (λ n. Takes told_in told task n progress laid sources new_sources name walked.made.part walked.error slots new (Ok next)) at_most (takes walked.made.part walked.error (walked_error told walked) (slots_at (omega arith) walked))) where
+    goes_with (rw at_most at (takes walked.made.part walked.error (walked_error told walked) (slots_at (omega arith) walked))) where
       goes_with : Takes told_in told task largest_piece progress laid sources new_sources name walked.made.part walked.error slots new (Ok next) → Walked told_in told task world names left next new_laid new_sources new
       goes_with (input, is_for, there, took _ after reached is is_done says at swept) =
           let one = of_input task progress.is_first input in
@@ -476,17 +437,16 @@ walk_goes_on {told_in} {told} {task} {world} {names} {name} {left} {progress} {n
             error = after;
             reached = reached;
             at = at;
-            swept = subst (λ (sweeps : Bool). Swept sweeps 2 reached new) (sym sweeps_one) (swept_from one.sweeps reached new (λ sweeps. (only sweeps).1) swept);
+            swept = rw sweeps_one (swept_from one.sweeps reached new (λ sweeps. (only sweeps).1) swept);
             says = says_after told task.tool walked.made.messages one.messages standard_error walked.error after walked.says says;
-            failed = ap (λ (p : Progress). p.failed) is ∙ ap (λ (b : Bool). b || one.failed) walked.failed;
+            failed = rw (is, walked.failed);
             alone = λ clears. inl (taken_alone slots walked.alone clears).0;
             unswept = λ some. sweeps_one ∙ false_from_ne_true one.sweeps (λ sweeps. omega (arith, some, ap length (only sweeps).0));
-            first = ap (λ (p : Progress). p.is_first) is ∙ ap (λ (b : Bool). b && is_missing input.content) walked.first ∙ sym (and_push are_missing (λ (one : Input). is_missing one.content) refl (λ one inputs. refl) walked.done input);
+            first = rw (is, walked.first, and_push are_missing (λ (one : Input). is_missing one.content) refl (λ one inputs. refl) walked.done input);
             rest_made = λ rest. ap (of_inputs task true) (append_assoc walked.done (input ∷ []) rest) ∙ walked.rest_made (input ∷ rest)
                 ∙ (simp (append_assoc, or_assoc))
                 ∙ ap (λ (b : Bool). joined (joined walked.made one) (of_inputs task b rest)) (sym (ap (λ (p : Progress). p.is_first) is));
-            rest_are = λ rest are_rest. subst (AreFrom false 1 names) (sym (append_assoc walked.done (input ∷ []) rest))
-                (walked.rest_are (input ∷ rest) (is_for, subst (λ (b : Bool). AreFrom b (next_slot (length sources) name) left rest) was (subst (λ n. AreFrom next.was_read n left rest) opened_it are_rest)));
+            rest_are = λ rest are_rest. rw (append_assoc walked.done (input ∷ []) rest) (walked.rest_are (input ∷ rest) (is_for, rw was at (rw opened_it at are_rest)));
             rest_there = λ t. append_assoc walked.done (input ∷ []) (inputs_from world next.was_read (length new_sources) left)
                 ∙ ap (λ (first : Input). walked.done ++ first ∷ inputs_from world next.was_read (length new_sources) left) (there t ∙ same_input progress.was_read (length sources) name (is_dash name) sources walked.laid_same walked.standard)
                 ∙ ap (λ n. walked.done ++ input_of world progress.was_read (length sources) name (is_dash name) ∷ inputs_from world next.was_read n left) opened_it
@@ -495,12 +455,11 @@ walk_goes_on {told_in} {told} {task} {world} {names} {name} {left} {progress} {n
             laid_same = same ∙ walked.laid_same;
             standard = λ unread. let both = or_parts progress.was_read (is_dash name) (sym was ∙ unread) in leaves.unasked both.1 ∙ walked.standard both.0;
             some = omega (arith, walked.some, leaves.grown);
-            known = subst (λ (b : Bool). StayDone told_in task.work largest_piece b (walked.done ++ input ∷ []) new_sources) (sym was)
-                (done_more told_in task.work largest_piece (progress.was_read || is_dash name) walked.done input new_sources
+            known = rw was (done_more told_in task.work largest_piece (progress.was_read || is_dash name) walked.done input new_sources
                 (still_done told_in task.work largest_piece walked.done (λ had. ap (λ (b : Bool). b || is_dash name) had) leaves walked.known)
                 (done_with told_in task.work largest_piece progress.was_read name new_sources is_for walked.some is_done));
             asked = asks_on at_most leaves walked.asked;
-            count = sym (ap (λ n. count_after n left) (sym opened_it)) ∙ walked.count;
+            count = rw (opened_it, walked.count);
           }
 
 -- a fault stopped the run at a name
@@ -510,7 +469,7 @@ pub walk_stops : {told_in : Bool} (told : Bool) {task : Task} {most : ℕ} {worl
     → TakesOne most progress.was_read name sources new_sources
     → RunsOver told_in world names (λ found. TookAll told_in told task found new_sources new (Err fault))
 walk_stops {told_in} told {task} {world} {names} {name} {left} {progress} {laid} {sources} {new_sources} {slots} {new} fault at_most walked takes leaves =
-    stops_with (subst (λ n. Takes told_in told task n progress laid sources new_sources name walked.made.part walked.error slots new (Err fault)) at_most (takes walked.made.part walked.error (walked_error told walked) (slots_at (omega arith) walked))) where
+    stops_with (rw at_most at (takes walked.made.part walked.error (walked_error told walked) (slots_at (omega arith) walked))) where
       stops_with : Takes told_in told task largest_piece progress laid sources new_sources name walked.made.part walked.error slots new (Err fault) → RunsOver told_in world names (λ found. TookAll told_in told task found new_sources new (Err fault))
       stops_with (input, is_for, there, cut_off _ step reached is_step stops stop swept) =
           let rest = inputs_from world (progress.was_read || is_dash name) (next_slot (length sources) name) left in
@@ -526,9 +485,8 @@ walk_stops {told_in} told {task} {world} {names} {name} {left} {progress} {laid}
                 (still_done told_in task.work largest_piece walked.done (λ had. ap (λ (b : Bool). b || is_dash name) had) leaves walked.known))
                 (rest_untouched world (progress.was_read || is_dash name) (next_slot (length sources) name) left new_sources
                 (λ unread. let both = or_parts progress.was_read (is_dash name) unread in leaves.unasked both.1 ∙ walked.standard both.0) leaves.within)
-                (subst (λ (outcome : Outcome). RunStep told_in task largest_piece outcome.part (header_text task.with_header (are_missing walked.done) input.name) input.slot new_sources input.content step) (sym before)
-                (subst (λ (is_first : Bool). RunStep told_in task largest_piece walked.made.part (header_text task.with_header is_first input.name) input.slot new_sources input.content step) walked.first is_step))
-                stops (subst (λ (outcome : Outcome). SaysAll told task.tool outcome.messages standard_error walked.error) (sym before) walked.says) stop
+                (rw before (rw walked.first at is_step))
+                stops (rw before walked.says) stop
                 (swept_from task.work.clears reached new (λ clears. (taken_alone slots walked.alone clears).1) swept),
           )
 
@@ -547,14 +505,14 @@ walk_ends {told_in} {told} {task} {world} {progress} {sources} {slots} none walk
     let made : made_by task (walked.done ++ []) ≡ walked.made = walked.rest_made [] ∙ joined_nothing in (
       walked.done ++ [],
       record {
-        are = walked.rest_are [] (subst (λ those. AreFrom progress.was_read (length sources) those []) (sym none) refl);
+        are = walked.rest_are [] (rw none refl);
         there = λ t. ap (λ those. walked.done ++ inputs_from world progress.was_read (length sources) those) (sym none) ∙ walked.rest_there t;
       },
       all progress.failed walked.error walked.reached (walked.failed ∙ ap (λ (those : Outcome). those.failed) (sym made))
-          (subst (λ (those : Outcome). SaysAll told task.tool those.messages standard_error walked.error) (sym made) walked.says)
-          (subst (λ (those : Outcome). OutputsAt told (streams_with walked.error) those.part walked.reached) (sym made) walked.at)
-          (subst (λ (those : Outcome). Swept those.sweeps 2 walked.reached slots) (sym made) walked.swept)
-          (subst (λ those. AreDone told_in task.work largest_piece those sources) (sym (append-nil walked.done)) (all_done told_in task.work largest_piece progress.was_read walked.done sources walked.known)),
+          (rw made walked.says)
+          (rw made walked.at)
+          (rw made walked.swept)
+          (rw (append-nil walked.done) (all_done told_in task.work largest_piece progress.was_read walked.done sources walked.known)),
     )
 
 pub walk_counts : {told_in told : Bool} {task : Task} {world : World} {names left : List (List ℕ)} {progress : Progress} {laid : ℕ → List ℕ → Option Content} {sources : List Source} {slots : List Slot} → left ≡ []
@@ -564,7 +522,7 @@ walk_counts {left} {sources} none walked = let all_taken : count_after (length s
 -- the words that a loop has left are the first of them and the rest
 pub walked_at : {told_in : Bool} (told : Bool) {task : Task} {world : World} {names : List (List ℕ)} (none : Bor (List ℕ)) (left : List (Bor (List ℕ))) {progress : Progress} {laid : ℕ → List ℕ → Option Content} {sources : List Source} {slots : List Slot} → 1 ≤ length left
     → Walked told_in told task world names (map (λ word. word.now) left) progress laid sources slots → Walked told_in told task world names ((get_or left 0 none).now ∷ map (λ word. word.now) (take (length left - 1) (drop 1 left))) progress laid sources slots
-walked_at {told_in} told {task} {world} {names} none left {progress} {laid} {sources} {slots} some walked = subst (λ those. Walked told_in told task world names those progress laid sources slots) (front_and_rest none left some) walked
+walked_at {told_in} told {task} {world} {names} none left {progress} {laid} {sources} {slots} some walked = rw (front_and_rest none left some) at walked
 
 -- a run that touched no input
 pub none_touched : {told_in : Bool} {laid : ℕ → List ℕ → Option Content} {sources : List Source} {names : List (List ℕ)} → IsFresh sources → RunsOver told_in (world_of laid sources) names (λ found. AreUntouched found sources)

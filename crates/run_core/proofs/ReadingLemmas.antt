@@ -36,8 +36,8 @@ asks_more (first ∷ sources) source little asked (suc place) = asks_more source
 
 pub asks_there : {most slot : ℕ} {old new : List Source} → KeepsOthers slot old new → ((source_at old slot).asked ≤ most → (source_at new slot).asked ≤ most) → AsksAtMost most old → AsksAtMost most new
 asks_there {most} {slot} {new} keeps there asked place =
-    dite (ℕ_discrete place slot) (λ is. subst (λ n. (source_at new n).asked ≤ most) (sym is) (there (asked slot)))
-    (λ differs. subst (λ (source : Source). source.asked ≤ most) (sym (keeps.others place differs)) (asked place))
+    dite (ℕ_discrete place slot) (λ is. rw is (there (asked slot)))
+    (λ differs. rw (keeps.others place differs) (asked place))
 
 -- what is left of the input of a source
 
@@ -51,14 +51,14 @@ unread_source false (Some slot) sources Q can holds = (empty, λ t. absurd (fals
 -- an input that could be read is still there
 pub still_within : {source : Option ℕ} {slot : ℕ} {old new : List Source} → source ≡ Some slot → IfSome source (λ slot. IsTrue (is_readable old slot)) → KeepsOthers slot old new → slot < length new
 still_within {slot} {old} is can keeps =
-    let within : slot < length old = readable_within old slot (subst (λ from. IfSome from (λ slot. IsTrue (is_readable old slot))) is can) in
+    let within : slot < length old = readable_within old slot (rw is at can) in
     omega (arith, within, keeps.count)
 
 -- an input that was fed to an engine, unless a fault stopped it
 pub left_of : {told : Bool} {work : Work} {most slot : ℕ} {there : Content} (sources : List Source) (P : Content → Type 0) {stops : Bool} → slot < length sources → (told ≡ true → stops ≡ false → Uses work most slot there (source_at sources slot))
     → OfContent told there (λ content. P content × BreaksOnly told content (source_at sources slot)) → OfContent told there (λ content. P content × (stops ≡ false → IsDone told work most (Some slot) (Some content) sources))
 left_of {work} {most} {slot} sources P within uses (content, is, holds) =
-    (content, is, (holds.0, λ ends. (within, (λ t. subst (λ (those : Content). Uses work most slot those (source_at sources slot)) (sym (is t)) (uses t ends), holds.1))))
+    (content, is, (holds.0, λ ends. (within, (λ t. rw (is t) (uses t ends), holds.1))))
 
 -- nothing was taken of an input that was just opened
 pub nothing_taken : (sources : List Source) (slot : ℕ) {content : Content} → source_at sources slot ≡ source_of content → IsUnread (source_at sources slot)
@@ -75,15 +75,18 @@ count_more count (name ∷ names) = let rest : next_slot count name ≤ count_af
 
 -- what taking a name leaves
 
-pub takes_dash : {most : ℕ} (was_read : Bool) {name : List ℕ} {old new : List Source} → is_dash name ≡ true → KeepsOther (standard_source was_read) old new → (AsksAtMost most old → AsksAtMost most new) → TakesOne most was_read name old new
-takes_dash true {name} {old} dash same asked = record {
+takes_none : {most : ℕ} {was_read : Bool} {name : List ℕ} {old new : List Source} → new ≡ old → TakesOne most was_read name old new
+takes_none {most} {name} {old} same = record {
   grown = omega (arith, ap length same);
-  within = let here : next_slot (length old) name ≡ length old = ap (λ (b : Bool). if b then length old else length old + 1) dash in omega (arith, here, ap length same);
-  files = λ place some within. ap (λ those. source_at those place) same;
-  unasked = λ differs. absurd (false≢true (sym differs ∙ dash));
-  again = λ was. ap (λ those. source_at those 0) same;
-  asked = asked;
+  within = let more : length old ≤ next_slot (length old) name = count_more (length old) (name ∷ []) in omega (arith, ap length same, more);
+  files = λ place _ within. ap (λ those. source_at those place) same;
+  unasked = λ _. ap (λ those. source_at those 0) same;
+  again = λ _. ap (λ those. source_at those 0) same;
+  asked = subst (AsksAtMost most) (sym same);
 }
+
+pub takes_dash : {most : ℕ} (was_read : Bool) {name : List ℕ} {old new : List Source} → is_dash name ≡ true → KeepsOther (standard_source was_read) old new → (AsksAtMost most old → AsksAtMost most new) → TakesOne most was_read name old new
+takes_dash true dash same asked = takes_none same
 takes_dash false {name} {old} dash keeps asked = record {
   grown = omega (arith, keeps.count);
   within = let here : next_slot (length old) name ≡ length old = ap (λ (b : Bool). if b then length old else length old + 1) dash in omega (arith, here, keeps.count);
@@ -105,23 +108,13 @@ takes_more {most} {name} {old} {new} source differs some little is keeps asked =
       files = λ place _ within. front place within;
       unasked = λ _. front 0 some;
       again = λ _. front 0 some;
-      asked = λ before. asked (subst (AsksAtMost most) (sym is) (asks_more old source little before));
+      asked = λ before. asked (rw is (asks_more old source little before));
     }
 
 pub takes_file : {told : Bool} {laid : ℕ → List ℕ → Option Content} {most : ℕ} {was_read : Bool} {name : List ℕ} {old mid new : List Source} {slot : ℕ} → is_dash name ≡ false → 0 < length old → Opens told laid old mid name slot → KeepsOthers slot mid new → (AsksAtMost most mid → AsksAtMost most new)
     → TakesOne most was_read name old new
 takes_file {mid} {new} differs some opens keeps asked =
-    takes_more (source_of opens.content) differs some (omega arith) opens.sources (subst (λ n. KeepsOthers n mid new) opens.number keeps) asked
-
-takes_none : {most : ℕ} {was_read : Bool} {name : List ℕ} {old new : List Source} → new ≡ old → TakesOne most was_read name old new
-takes_none {most} {name} {old} same = record {
-  grown = omega (arith, ap length same);
-  within = let more : length old ≤ next_slot (length old) name = count_more (length old) (name ∷ []) in omega (arith, ap length same, more);
-  files = λ place _ within. ap (λ those. source_at those place) same;
-  unasked = λ _. ap (λ those. source_at those 0) same;
-  again = λ _. ap (λ those. source_at those 0) same;
-  asked = subst (AsksAtMost most) (sym same);
-}
+    takes_more (source_of opens.content) differs some (omega arith) opens.sources (rw opens.number at keeps) asked
 
 pub takes_missing : {told : Bool} {laid : ℕ → List ℕ → Option Content} {most : ℕ} {was_read : Bool} {name : List ℕ} {old new : List Source} {fault : Fault} → is_dash name ≡ false → 0 < length old → OpensNothing told laid old new name fault → TakesOne most was_read name old new
 takes_missing {old} {new} differs some (from.broke at number lies is) = takes_more missing differs some (omega arith) is (keeps_itself (length old) new) (λ asked. asked)
@@ -151,11 +144,11 @@ still_done_at told work most {was_read} (Some zero) content {old} {new} reads ta
     let is_read : was_read ≡ true = done.0 refl in
     let grown : length old ≤ length new = takes.grown in
     let within : 0 < length old = done.1.0 in
-    (λ _. reads is_read, (omega (arith, grown, within), subst (IsLeft told work most 0 content) (sym (takes.again is_read)) done.1.1))
+    (λ _. reads is_read, (omega (arith, grown, within), rw (takes.again is_read) done.1.1))
 still_done_at told work most (Some (suc slot)) content {old} {new} reads takes done =
     let grown : length old ≤ length new = takes.grown in
     let within : suc slot < length old = done.1.0 in
-    (λ is. absurd (omega (arith, is)), (omega (arith, grown, within), subst (IsLeft told work most (suc slot) content) (sym (takes.files (suc slot) (omega arith) within)) done.1.1))
+    (λ is. absurd (omega (arith, is)), (omega (arith, grown, within), rw (takes.files (suc slot) (omega arith) within) done.1.1))
 
 pub still_done : (told : Bool) (work : Work) (most : ℕ) {room : ℕ} {was_read now_read : Bool} {name : List ℕ} (inputs : List Input) {old new : List Source} → (was_read ≡ true → now_read ≡ true) → TakesOne room was_read name old new
     → StayDone told work most was_read inputs old → StayDone told work most now_read inputs new
@@ -186,8 +179,7 @@ done_for told work most world was_read name false sources some done = (λ is. ab
 pub done_with : (told : Bool) (work : Work) (most : ℕ) (was_read : Bool) {count : ℕ} (name : List ℕ) {input : Input} (sources : List Source) → IsFor was_read count name input → 0 < count
     → IsDone told work most input.slot input.content sources → StaysDone told work most (was_read || is_dash name) input.slot input.content sources
 done_with told work most was_read {count} name sources (world, is) some done =
-    subst (λ (those : Input). StaysDone told work most (was_read || is_dash name) those.slot those.content sources) (sym is)
-    (done_for told work most world was_read name (is_dash name) sources some (subst (λ (those : Input). IsDone told work most those.slot those.content sources) is done))
+    rw is (done_for told work most world was_read name (is_dash name) sources some (rw is at done))
 
 -- the inputs after the place where a run was stopped were not touched
 

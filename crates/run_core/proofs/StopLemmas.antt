@@ -1,5 +1,5 @@
 -- Lemmas on what is written after what was written before, on outputs that a fault stopped, and on the message that tells it.
-use Rattle.std.proofs.Common.{◌≡◌, ℕ, ◌+◌, ◌<◌, ◌≤◌, suc, Bool, true, false, List, [], ◌∷◌, ◌++◌, length, map, drop, inl, inr, refl, sym, ◌∙◌, ap, subst, arith, append_assoc, length-append, zero, codes, lit<}
+use Rattle.std.proofs.Common.{◌≡◌, ℕ, ◌+◌, ◌<◌, ◌≤◌, suc, Bool, true, false, List, [], ◌∷◌, ◌++◌, length, map, drop, inl, inr, refl, sym, ◌∙◌, ap, subst, arith, append_assoc, length-append, zero, lit<}
 use Rattle.std.proofs.lemmas.List.{map-append, append-nil}
 use Rattle.std.proofs.Math.Seq.{take-append-add, drop-append-add}
 use Rattle.ports_core.specs.Slot.{Slot, with_written, told_of, is_open, slot_at, adds, breaks, unopened, with_broken}
@@ -10,10 +10,8 @@ use Rattle.ports_core.specs.declared.fault.Fault.TheVariants.{Write, Open}
 use Rattle.ports_core.proofs.PartLemmas.{begins_itself, marks_by, outputs_count}
 use Rattle.ports_core.proofs.SlotSteps.{none_past, swept_none}
 use Rattle.ports_core.proofs.SlotLemmas.{length-changed_at, changed_at-append}
-use Rattle.ports_core.proofs.WriteLemmas.{told_of-append, with_written-append, told_of-nil}
+use Rattle.ports_core.proofs.WriteLemmas.{told_of-append, with_written-append}
 use Rattle.run_core.specs.Task.{after_part}
-use Rattle.std.proofs.lemmas.Bool.{false≢true}
-use Rattle.ports_core.specs.Text.{message_of}
 use Rattle.ports_core.specs.declared.tool.Tool.{Tool}
 use Rattle.run_core.specs.Feeding.{Step, Stops}
 use Rattle.ports_core.specs.Message.{Prints, whole, cut, passed, Says, SaysOn, output_named}
@@ -38,28 +36,26 @@ nothing_after = simp append-nil
 
 -- bytes on standard output, after a part
 pub out_on : (first : Part) (bytes : List ℕ) → record first { out = first.out ++ bytes } ≡ after_part first (only_out bytes)
-out_on first bytes = ap (λ (files : List File). record { out = first.out ++ bytes; files = files }) (sym (append-nil first.files))
+out_on first bytes = rw (append-nil first.files)
 
 -- outputs that are at one part, and from there on at another, are at both
 pub at_after : {told : Bool} {base : List Slot} {first part : Part} {mid now : List Slot} → OutputsAt told base first mid → OutputsAt told mid part now → OutputsAt told base (after_part first part) now
 at_after {told} {base} {first} {part} {mid} one two = record {
   standard = one.standard;
   since = one.since ++ two.since;
-  slots = two.slots ∙ ap (λ front. front ++ two.since) more ∙ append_assoc (with_written 0 (told_of told (first.out ++ part.out)) base) one.since two.since;
-  files = map-append file_of one.since two.since ∙ ap (λ files. files ++ map file_of two.since) one.files
-      ∙ ap (λ files. map (told_file told) first.files ++ files) two.files ∙ sym (map-append (told_file told) first.files part.files);
+  slots = rw (two.slots, more, append_assoc (with_written 0 (told_of told (first.out ++ part.out)) base) one.since two.since);
+  files = rw (map-append file_of one.since two.since, one.files, two.files, map-append (told_file told) first.files part.files);
 } where
   more : with_written 0 (told_of told part.out) mid ≡ with_written 0 (told_of told (first.out ++ part.out)) base ++ one.since
   more = ap (with_written 0 (told_of told part.out)) one.slots
-      ∙ changed_at-append 0 _ (with_written 0 (told_of told first.out) base) one.since (subst (λ n. 0 < n) (sym (length-changed_at 0 _ base)) one.standard)
+      ∙ changed_at-append 0 _ (with_written 0 (told_of told first.out) base) one.since (rw (length-changed_at 0 _ base) one.standard)
       ∙ ap (λ front. front ++ one.since) (with_written-append 0 (told_of told first.out) (told_of told part.out) base ∙ ap (λ bytes. with_written 0 bytes base) (sym (told_of-append told first.out part.out)))
 
 order_after : (first : List File) {low part high : List File} {place : ℕ} → InOrder low part high place → InOrder (first ++ low) (first ++ part) (first ++ high) (length first + place)
 order_after first {low} {part} {high} {place} order =
     let past : suc (length first + place) ≡ length first + suc place = omega arith in record {
-      done = take-append-add first part place ∙ ap (λ files. first ++ files) order.done ∙ sym (take-append-add first high place);
-      untouched = ap (λ n. drop n (first ++ part)) past ∙ drop-append-add first part (suc place) ∙ order.untouched
-          ∙ sym (ap (λ n. drop n (first ++ low)) past ∙ drop-append-add first low (suc place));
+      done = rw (take-append-add first part place, order.done, take-append-add first high place);
+      untouched = cc (past, drop-append-add first part (suc place), order.untouched, drop-append-add first low (suc place));
     }
 
 next_after : (first : Part) {part high : Part} (name : List ℕ) → IsNext part high name → IsNext (after_part first part) (after_part first high) name
@@ -67,8 +63,8 @@ next_after first {part} name next = record {
   front = first.files ++ next.front;
   file = next.file;
   rest = next.rest;
-  files = ap (λ files. first.files ++ files) next.files ∙ sym (append_assoc first.files next.front (next.file ∷ next.rest));
-  place = length-append first.files next.front ∙ ap (λ n. length first.files + n) next.place ∙ sym (length-append first.files part.files);
+  files = rw (next.files, append_assoc first.files next.front (next.file ∷ next.rest));
+  place = rw (length-append first.files next.front, next.place, length-append first.files part.files);
   name_is = next.name_is;
 }
 
@@ -89,8 +85,7 @@ stop_after {told} {base} {first} {high} {fault} {mid} {now} at stop = record {
   reached = stop.reached;
   outputs = at_after at stop.outputs;
   marks = marks_by (IsNext stop.part high) (IsNext (after_part first stop.part) (after_part first high)) fault stop.reached now (next_after first) stop.marks;
-  from = subst (λ n. IsAt fault (length base) (length first.files + stop.place) n) (sym (length-append first.files stop.part.files))
-      (from_after fault (length base) stop.place (length stop.part.files) (length first.files) (outputs_count told base first mid at) stop.from);
+  from = rw (length-append first.files stop.part.files) (from_after fault (length base) stop.place (length stop.part.files) (length first.files) (outputs_count told base first mid at) stop.from);
 }
 
 -- where there is no file, none is to be removed
@@ -100,19 +95,11 @@ none_to_sweep clears {first} slots past = swept_none clears first slots (λ plac
 
 -- the same from another place, where it matters
 pub swept_from : (clears : Bool) {first other : ℕ} (old new : List Slot) → (clears ≡ true → first ≡ other) → Swept clears first old new → Swept clears other old new
-swept_from true old new same swept = subst (λ n. SweptFrom n old new) (same refl) swept
+swept_from true old new same swept = rw (same refl) at swept
 swept_from false old new same swept = swept
 
 -- Lemmas on outputs that a fault stopped, and on the message that tells it: standard error is the slot after the first, and what
 -- was opened comes after both.
-
--- a line that tells a fault isn't empty: it ends with a newline
-
-end_some : (front rest : List ℕ) → 0 < length rest → 0 < length (front ++ rest)
-end_some front rest some = omega (arith, length-append front rest, some)
-
-pub message_some : (tool : Tool) (fault : Fault) (name : List ℕ) → 0 < length (message_of tool fault name)
-message_some tool fault name = end_some _ (codes "\n") (lit< tt)
 
 -- both streams are there, and standard error is open
 
@@ -124,7 +111,7 @@ pub record HasError (slots : List Slot) : Type 0 where
   pub opened : is_open error.state ≡ true
 
 pub error_open : {slots : List Slot} → HasError slots → is_open (slot_at slots 1).state ≡ true
-error_open has = ap (λ those. is_open (slot_at those 1).state) has.are ∙ has.opened
+error_open has = rw (has.are, has.opened)
 
 shape_of : {output error : Slot} {since slots : List Slot} → is_open error.state ≡ true → slots ≡ output ∷ error ∷ since → HasError slots
 shape_of {output} {error} {since} opened are = record { output = output; error = error; since = since; are = are; opened = opened }
@@ -139,7 +126,7 @@ marked_error IsName fault output error since opened marks = shape_of opened mark
 pub stop_error : {told : Bool} {output error : Slot} {low high : Part} {fault : Fault} {now : List Slot} → is_open error.state ≡ true → StoppedBetween told (output ∷ error ∷ []) low high fault now → HasError now
 stop_error {told} {output} {error} {high} {fault} {now} opened stop =
     marked_error (IsNext stop.part high) fault (adds (told_of told stop.part.out) output) error stop.outputs.since opened
-    (subst (λ slots. Marks (IsNext stop.part high) fault slots now) stop.outputs.slots stop.marks)
+    (rw stop.outputs.slots at stop.marks)
 
 -- a message changes standard error, and no other output
 
@@ -154,51 +141,22 @@ printed_named (whole sound is) = ap (λ slot. slot.name) is
 printed_named (cut sound n within is) = ap (λ slot. slot.name) is
 printed_named (passed broken is) = ap (λ slot. slot.name) is
 
--- an output that broke before the text says nothing of it
-printed_broken : {told : Bool} {text : List ℕ} (error : Slot) {new : Slot} → Prints told text (breaks error) new → new ≡ breaks error
-printed_broken error (whole sound is) = absurd (false≢true (sym sound))
-printed_broken error (cut sound n within is) = absurd (false≢true (sym sound))
-printed_broken error (passed broken is) = is
+module _ (told : Bool) (tool : Tool) (text : List ℕ) where
+  -- what a fault left, with its message after it; standard error is none of the outputs that it can mark
+  told_marked : (IsName : List ℕ → Type 0) (fault : Fault) (place count : ℕ) (output : Slot) {error : Slot} (since : List Slot) {mid : List Slot} (new : List Slot) → IsAt fault 2 place count → Marks IsName fault (output ∷ error ∷ since) mid → SaysOn told tool text mid new
+      → (after : Slot) × Says told tool text error after × Marks IsName fault (output ∷ after ∷ since) new
+  told_marked IsName (Write zero) place count output {error} since new from marks says = let said = says (breaks output) error since marks.1 in (said.0, said.1, (marks.0, said.2))
+  told_marked IsName (Write (suc zero)) place count output since new from marks says = absurd (elim from [ inl is ↦ omega (arith, is) | inr is ↦ omega (arith, is) ])
+  told_marked IsName (Write (suc (suc slot))) place count output {error} since new from marks says = let said = says output error (with_broken slot since) marks.1 in (said.0, said.1, (marks.0, said.2))
+  told_marked IsName (Open slot) place count output {error} since new from marks says =
+      let said = says output error (since ++ unopened marks.1.1 ∷ []) marks.1.4 in (said.0, said.1, (marks.0, (marks.1.0, marks.1.1, marks.1.2, marks.1.3, said.2)))
+  told_marked IsName fault place count output {error} since new from marks says = says output error since marks
 
--- it may as well have broken at the text's first byte
-prints_nothing : {told : Bool} {text : List ℕ} {error : Slot} (broken : Bool) → error.is_broken ≡ broken → 0 < length text → Prints told text error (breaks error)
-prints_nothing {error} true is some = passed is (ap (λ (b : Bool). record error { is_broken = b }) (sym is))
-prints_nothing {told} {error} false is some =
-    cut is 0 some (ap (λ bytes. record error { written = bytes; is_broken = true }) (sym (ap (λ bytes. error.written ++ bytes) (told_of-nil told) ∙ append-nil error.written)))
-
-module _ (told : Bool) (tool : Tool) (text : List ℕ) (some : 0 < length text) where
-  -- what a fault left, with its message after it
-  abbrev pub ToldMark : (List ℕ → Type 0) → Fault → Slot → Slot → List Slot → List Slot → List Slot → Type 0
-  ToldMark IsName fault output error since mid new =
-      (after : Slot) × Says told tool text error after × Marks IsName fault (output ∷ after ∷ since) new × (output_named new fault ≡ output_named mid fault)
-
-  told_marked : (IsName : List ℕ → Type 0) (fault : Fault) (output : Slot) {error : Slot} (since : List Slot) {mid : List Slot} (new : List Slot) → Marks IsName fault (output ∷ error ∷ since) mid → SaysOn told tool text mid new → ToldMark IsName fault output error since mid new
-  told_marked IsName (Write zero) output {error} since new marks says =
-      let said = says (breaks output) error since marks.1 in
-      (said.0, said.1, (marks.0, said.2), ap (λ slots. (slot_at slots 0).name) said.2 ∙ sym (ap (λ slots. (slot_at slots 0).name) marks.1))
-  told_marked IsName (Write (suc zero)) output {error} since new marks says =
-      let said = says output (breaks error) since marks.1 in
-      let same : said.0 ≡ breaks error = printed_broken error said.1.printed in
-      let now : new ≡ output ∷ breaks error ∷ since = said.2 ∙ ap (λ slot. output ∷ slot ∷ since) same in
-      (breaks error, record { said = text; is = inl refl; printed = prints_nothing error.is_broken refl some }, (marks.0, now), ap (λ slots. (slot_at slots 1).name) now ∙ sym (ap (λ slots. (slot_at slots 1).name) marks.1))
-  told_marked IsName (Write (suc (suc place))) output {error} since new marks says =
-      let said = says output error (with_broken place since) marks.1 in
-      (said.0, said.1, (marks.0, said.2), ap (λ slots. (slot_at slots (suc (suc place))).name) said.2 ∙ sym (ap (λ slots. (slot_at slots (suc (suc place))).name) marks.1))
-  told_marked IsName (Open slot) output {error} since new marks says =
-      let said = says output error (since ++ unopened marks.1.1 ∷ []) marks.1.4 in (
-        said.0,
-        said.1,
-        (marks.0, (marks.1.0, marks.1.1, marks.1.2, marks.1.3, said.2)),
-        ap (λ slots. (slot_at slots slot).name) said.2 ∙ ap (λ n. (slot_at (output ∷ said.0 ∷ (since ++ unopened marks.1.1 ∷ [])) n).name) marks.0
-            ∙ sym (ap (λ slots. (slot_at slots slot).name) marks.1.4 ∙ ap (λ n. (slot_at (output ∷ error ∷ (since ++ unopened marks.1.1 ∷ [])) n).name) marks.0),
-      )
-  told_marked IsName fault output {error} since new marks says = let said = says output error since marks in (said.0, said.1, said.2, refl)
-
-  pub stop_said : {output error : Slot} {low high : Part} {fault : Fault} {mid new : List Slot} → StoppedBetween told (output ∷ error ∷ []) low high fault mid → SaysOn told tool text mid new
-      → (after : Slot) × Says told tool text error after × StoppedBetween told (output ∷ after ∷ []) low high fault new × (output_named new fault ≡ output_named mid fault)
-  stop_said {output} {high} {fault} {mid} {new} stop says =
+  stop_said : {output error : Slot} {low high : Part} {fault : Fault} {mid new : List Slot} → StoppedBetween told (output ∷ error ∷ []) low high fault mid → SaysOn told tool text mid new
+      → (after : Slot) × Says told tool text error after × StoppedBetween told (output ∷ after ∷ []) low high fault new
+  stop_said {output} {high = high} {fault} {mid} {new} stop says =
       let first = adds (told_of told stop.part.out) output in
-      let marked = told_marked (IsNext stop.part high) fault first stop.outputs.since new (subst (λ slots. Marks (IsNext stop.part high) fault slots mid) stop.outputs.slots stop.marks) says in (
+      let marked = told_marked (IsNext stop.part high) fault stop.place _ first stop.outputs.since new stop.from (rw stop.outputs.slots at stop.marks) says in (
         marked.0,
         marked.1,
         record {
@@ -212,31 +170,20 @@ module _ (told : Bool) (tool : Tool) (text : List ℕ) (some : 0 < length text) 
           outputs = record { standard = lit< tt; since = stop.outputs.since; slots = refl; files = stop.outputs.files };
           marks = marked.2;
         },
-        marked.3,
       )
 
--- an output that is broken stays so, whatever is said
-
-printed_broken_still : {told : Bool} {text : List ℕ} {old new : Slot} → Prints told text old new → old.is_broken ≡ true → new.is_broken ≡ true
-printed_broken_still (whole sound is) broken = absurd (false≢true (sym sound ∙ broken))
-printed_broken_still (cut sound n within is) broken = absurd (false≢true (sym sound ∙ broken))
-printed_broken_still (passed was is) broken = ap (λ (slot : Slot). slot.is_broken) is ∙ broken
-
-still_broken : {told : Bool} {tool : Tool} {text : List ℕ} {mid new : List Slot} (slot : ℕ) → HasError mid → SaysOn told tool text mid new → (slot_at mid slot).is_broken ≡ true → (slot_at new slot).is_broken ≡ true
-still_broken zero has says broken =
-    let said = says has.output has.error has.since has.are in
-    ap (λ slots. (slot_at slots 0).is_broken) said.2 ∙ sym (ap (λ slots. (slot_at slots 0).is_broken) has.are) ∙ broken
-still_broken (suc zero) has says broken =
-    let said = says has.output has.error has.since has.are in
-    ap (λ slots. (slot_at slots 1).is_broken) said.2 ∙ printed_broken_still said.1.printed (sym (ap (λ slots. (slot_at slots 1).is_broken) has.are) ∙ broken)
-still_broken (suc (suc place)) has says broken =
-    let said = says has.output has.error has.since has.are in
-    ap (λ slots. (slot_at slots (suc (suc place))).is_broken) said.2 ∙ sym (ap (λ slots. (slot_at slots (suc (suc place))).is_broken) has.are) ∙ broken
+pub beside_error : (output error error_too : Slot) (files : List Slot) (place : ℕ) → (place ≡ 1 → ⊥) → slot_at (output ∷ error ∷ files) place ≡ slot_at (output ∷ error_too ∷ files) place
+beside_error output error error_too files (suc zero) differs = absurd (differs refl)
+beside_error output error error_too files place differs = refl
 
 -- what stopped a step did so after the message too
-pub stops_still : {told : Bool} {tool : Tool} {text : List ℕ} (step : Step) {mid new : List Slot} (fault : Fault) → HasError mid → SaysOn told tool text mid new → Stops step mid fault → Stops step new fault
-stops_still step {new} (Write slot) has says stops = (stops.0, stops.1, still_broken slot has says stops.2)
-stops_still step fault has says stops = stops
+stops_still : {told : Bool} {tool : Tool} {text : List ℕ} (step : Step) {mid new : List Slot} (fault : Fault) (place count : ℕ) → IsAt fault 2 place count → HasError mid → SaysOn told tool text mid new → Stops step mid fault → Stops step new fault
+stops_still step {mid} {new} (Write slot) place count from has says stops =
+    let said = says has.output has.error has.since has.are in
+    let same : slot_at new slot ≡ slot_at mid slot = ap (λ slots. slot_at slots slot) said.2
+    ∙ beside_error has.output said.0 has.error has.since slot (λ one. elim from [ inl is ↦ omega (arith, is, one) | inr is ↦ omega (arith, is, one) ]) ∙ sym (ap (λ slots. slot_at slots slot) has.are) in
+    (stops.0, stops.1, ap (λ (output : Slot). output.is_broken) same ∙ stops.2)
+stops_still step fault place count from has says stops = stops
 
 -- what is said after files were removed
 
@@ -261,76 +208,63 @@ streams_left {since} (one ∷ []) past swept = absurd (let few : 1 ≡ suc (suc 
 streams_left {output} (one ∷ two ∷ now) past swept =
     (now, ap (λ slot. slot ∷ two ∷ now) (swept.before 0 (omega (arith, past))) ∙ ap (λ slot. output ∷ slot ∷ now) (swept.before 1 (omega (arith, past))))
 
+named_same : (fault : Fault) (output error after : Slot) (since : List Slot) → after.name ≡ error.name → output_named (output ∷ after ∷ since) fault ≡ output_named (output ∷ error ∷ since) fault
+named_same (Write (suc zero)) output error after since is = is
+named_same (Open (suc zero)) output error after since is = is
+named_same fault output error after since is = refl
+
 module _ (told : Bool) (tool : Tool) (text : List ℕ) where
-  -- a message after the files were removed changes standard error alone
-  pub said_swept : (clears : Bool) {output error : Slot} {part : Part} {reached : List Slot} (mid new : List Slot) (first : ℕ) → 2 ≤ first → OutputsAt told (output ∷ error ∷ []) part reached → Swept clears first reached mid → SaysOn told tool text mid new
-      → (after : Slot) × Says told tool text error after × ((now : List Slot) × OutputsAt told (output ∷ after ∷ []) part now × Swept clears first now new)
-  said_swept false {output} {error} {part} mid new first past at same says =
-      let said = said_at (subst (OutputsAt told (output ∷ error ∷ []) part) (sym same) at) says in
-      (said.0, said.1, (new, said.2, refl))
-  said_swept true {output} {error} {part} mid new first past at swept says =
-      let top = adds (told_of told part.out) output in
-      let first_swept = subst (λ slots. SweptFrom first slots mid) at.slots swept in
-      let left = streams_left mid past first_swept in
-      let said = says top error left.0 left.1 in (
-        said.0,
-        said.1,
-        (
-          top ∷ said.0 ∷ at.since,
-          record { standard = lit< tt; since = at.since; slots = refl; files = at.files },
-          subst (λ slots. SweptFrom first (top ∷ said.0 ∷ at.since) slots) (sym said.2)
-              (swept_streams past (subst (λ slots. SweptFrom first (top ∷ error ∷ at.since) slots) left.1 first_swept)),
-        ),
-      )
+  -- a message after the files were removed changes standard error alone, and no name
+  pub record SaidSwept (clears : Bool) (first : ℕ) (output error : Slot) (since mid new : List Slot) : Type 0 where
+    pub after : Slot
+    pub says : Says told tool text error after
+    pub swept : Swept clears first (output ∷ after ∷ since) new
+    pub named : (fault : Fault) → output_named new fault ≡ output_named mid fault
+
+  said_named : {output error : Slot} {since mid new : List Slot} {after : Slot} → mid ≡ output ∷ error ∷ since → Says told tool text error after → new ≡ output ∷ after ∷ since → (fault : Fault) → output_named new fault ≡ output_named mid fault
+  said_named {output} {error} {since} {after = after} was says is fault = rw (is, named_same fault output error after since (printed_named says.printed), was)
+
+  pub said_swept : (clears : Bool) {output error : Slot} {since : List Slot} (mid new : List Slot) (first : ℕ) → 2 ≤ first → Swept clears first (output ∷ error ∷ since) mid → SaysOn told tool text mid new → SaidSwept clears first output error since mid new
+  said_swept false {output} {error} {since} mid new first past same says =
+      let said = says output error since same in record { after = said.0; says = said.1; swept = said.2; named = said_named same said.1 said.2 }
+  said_swept true {output} {error} {since} mid new first past swept says =
+      let left = streams_left mid past swept in
+      let said = says output error left.0 left.1 in record {
+        after = said.0;
+        says = said.1;
+        swept = rw said.2 (swept_streams past (rw left.1 at swept));
+        named = said_named left.1 said.1 said.2;
+      }
 
   -- the same text said of outputs with the same streams
   said_too : {output error after : Slot} {since reached : List Slot} → reached ≡ output ∷ error ∷ since → Says told tool text error after → SaysOn told tool text reached (output ∷ after ∷ since)
   said_too {output} {error} {after} {since} are said top other rest is =
       let same : output ∷ error ∷ since ≡ top ∷ other ∷ rest = sym are ∙ is in
       let was : error ≡ other = cc in
-      (after, subst (λ from. Says told tool text from after) was said, cc)
+      (after, rw was at said, cc)
 
-named_same : (fault : Fault) (output error after : Slot) (since : List Slot) → after.name ≡ error.name → output_named (output ∷ after ∷ since) fault ≡ output_named (output ∷ error ∷ since) fault
-named_same (Write (suc zero)) output error after since is = is
-named_same (Open (suc zero)) output error after since is = is
-named_same fault output error after since is = refl
+  -- what a fault left, once its files were removed and its message was said
+  pub record ToldStop (step : Step) (output error : Slot) (low high : Part) (fault : Fault) (clears : Bool) (first : ℕ) (mid new : List Slot) : Type 0 where
+    pub after : Slot
+    pub says : Says told tool text error after
+    pub reached : List Slot
+    pub stop : StoppedBetween told (output ∷ after ∷ []) low high fault reached
+    pub why : Stops step reached fault
+    pub swept : Swept clears first reached new
+    pub named : output_named new fault ≡ output_named mid fault
 
--- what a fault left, once its files were removed and its message was said
-pub record ToldStop (told : Bool) (tool : Tool) (text : List ℕ) (step : Step) (output error : Slot) (low high : Part) (fault : Fault) (clears : Bool) (first : ℕ) (mid new : List Slot) : Type 0 where
-  pub after : Slot
-  pub says : Says told tool text error after
-  pub reached : List Slot
-  pub stop : StoppedBetween told (output ∷ after ∷ []) low high fault reached
-  pub why : Stops step reached fault
-  pub swept : Swept clears first reached new
-  pub named : output_named new fault ≡ output_named mid fault
-
-pub stop_swept : {told : Bool} {tool : Tool} {text : List ℕ} (step : Step) (clears : Bool) {output error : Slot} {low high : Part} {fault : Fault} {reached mid new : List Slot} {first : ℕ} → 0 < length text → 2 ≤ first → is_open error.state ≡ true
-    → StoppedBetween told (output ∷ error ∷ []) low high fault reached → Stops step reached fault → Swept clears first reached mid → SaysOn told tool text mid new → ToldStop told tool text step output error low high fault clears first mid new
-stop_swept {told} {tool} {text} step false {output} {error} {low} {high} {fault} {reached} {new} some past opened stop why same says =
-    let here = subst (λ slots. StoppedBetween told (output ∷ error ∷ []) low high fault slots) (sym same) stop in
-    let said_so = stop_said told tool text some here says in record {
-      after = said_so.0;
-      says = said_so.1;
-      reached = new;
-      stop = said_so.2;
-      why = stops_still step fault (stop_error opened here) says (subst (λ slots. Stops step slots fault) (sym same) why);
-      swept = refl;
-      named = said_so.3;
-    }
-stop_swept {told} {tool} {text} step true {fault} {reached} {mid} {first} some past opened stop why swept says =
-    let has = stop_error opened stop in
-    let first_swept = subst (λ slots. SweptFrom first slots mid) has.are swept in
-    let left = streams_left mid past first_swept in
-    let said = says has.output has.error left.0 left.1 in
-    let now = has.output ∷ said.0 ∷ has.since in
-    let too = said_too told tool text has.are said.1 in
-    let said_so = stop_said told tool text some stop too in record {
-      after = said_so.0;
-      says = said_so.1;
-      reached = now;
-      stop = said_so.2;
-      why = stops_still step fault has too why;
-      swept = subst (λ slots. SweptFrom first now slots) (sym said.2) (swept_streams past (subst (λ slots. SweptFrom first (has.output ∷ has.error ∷ has.since) slots) left.1 first_swept));
-      named = ap (λ slots. output_named slots fault) said.2 ∙ named_same fault has.output has.error said.0 left.0 (printed_named said.1.printed) ∙ sym (ap (λ slots. output_named slots fault) left.1);
-    }
+  pub stop_swept : (step : Step) (clears : Bool) {output error : Slot} {low high : Part} {fault : Fault} {reached mid new : List Slot} {first : ℕ} → 2 ≤ first → is_open error.state ≡ true → StoppedBetween told (output ∷ error ∷ []) low high fault reached
+      → Stops step reached fault → Swept clears first reached mid → SaysOn told tool text mid new → ToldStop step output error low high fault clears first mid new
+  stop_swept step clears {fault = fault} {mid = mid} {new} {first} past opened stop why swept says =
+      let has = stop_error opened stop in
+      let said = said_swept clears mid new first past (rw has.are at swept) says in
+      let too = said_too has.are said.says in
+      let told_so = stop_said told tool text stop too in record {
+        after = told_so.0;
+        says = told_so.1;
+        reached = has.output ∷ said.after ∷ has.since;
+        stop = told_so.2;
+        why = stops_still step fault stop.place _ stop.from has too why;
+        swept = said.swept;
+        named = said.named fault;
+      }

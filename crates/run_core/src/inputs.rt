@@ -12,7 +12,7 @@ ghost use Rattle.ports_core.specs.Inputs.{AsksAtMost, largest_piece};
 ghost use Rattle.run_core.specs.inner.Reading.{TakesOne};
 ghost use Rattle.run_core.specs.RunEnds.{EndsAs, RunsOver};
 ghost use Rattle.ports_core.specs.Streams.{streams_with};
-ghost use Rattle.run_core.specs.inner.RunSteps.{HasStreams, HeaderFails, KeepsOther, OfName, OfSource, TookAll, TookInput, is_unopened, standard_source};
+ghost use Rattle.run_core.specs.inner.RunSteps.{HasStreams, HeaderFails, KeepsOther, OfName, OfSource, TookAll, TookInput, input_from, is_unopened, standard_source};
 ghost use Rattle.run_core.specs.RunSteps.{world_of};
 ghost use Rattle.run_core.specs.Task.{Task, header_text, of_content, of_input};
 
@@ -132,7 +132,7 @@ fn take_name<A: Adapter, I: Inputs, O: Outs>(
     requires outputs { HasStreams O.told (O.slots outs.old) }
     ensures took { (so_far : Part) (error : Slot) → is_open error.state ≡ true → OutputsAt O.told (streams_with error) so_far (O.slots outs.old)
         → OfName I.told (world_of (I.laid inputs.old) (I.sources inputs.old)) progress.was_read (length (I.sources inputs.old)) name.now
-        (λ input. TookInput I.told O.told (A.task job.now.adapter.now) (length buffer.old) (of_input (A.task job.now.adapter.now) progress.is_first input) (header_text (A.task job.now.adapter.now).with_header progress.is_first input.name) input.slot input.content progress (progress.was_read || is_dash name.now) so_far error (length (O.slots outs.old)) (I.sources inputs.new) (O.slots outs.new) result) }
+        (λ input. TookInput I.told O.told (A.task job.now.adapter.now) (length buffer.old) input (of_input (A.task job.now.adapter.now) progress.is_first input) progress.is_first progress.failed (progress.was_read || is_dash name.now) so_far error (length (O.slots outs.old)) (I.sources inputs.new) (O.slots outs.new) result) }
     ensures takes { TakesOne (length buffer.old) progress.was_read name.now (I.sources inputs.old) (I.sources inputs.new) }
     ensures opens { OnOk result (length (I.sources inputs.new) ≡ next_slot (length (I.sources inputs.old)) name.now) }
     ensures laid { I.laid inputs.new ≡ I.laid inputs.old }
@@ -210,7 +210,7 @@ fn take_input<A: Adapter, I: Inputs, O: Outs>(
     requires outputs { HasStreams O.told (O.slots outs.old) }
     ensures took { (so_far : Part) (error : Slot) → is_open error.state ≡ true → OutputsAt O.told (streams_with error) so_far (O.slots outs.old)
         → OfSource I.told source (I.sources inputs.old)
-        (λ content. TookInput I.told O.told (A.task job.now.adapter.now) (length buffer.old) (of_content (A.task job.now.adapter.now) progress.is_first name.now (Some content)) (header_text (A.task job.now.adapter.now).with_header progress.is_first name.now) source (Some content) progress progress.was_read so_far error (length (O.slots outs.old)) (I.sources inputs.new) (O.slots outs.new) result) }
+        (λ content. TookInput I.told O.told (A.task job.now.adapter.now) (length buffer.old) (input_from name.now source content) (of_content (A.task job.now.adapter.now) progress.is_first name.now (Some content)) progress.is_first progress.failed progress.was_read so_far error (length (O.slots outs.old)) (I.sources inputs.new) (O.slots outs.new) result) }
     ensures asked { AsksAtMost (length buffer.old) (I.sources inputs.old) → AsksAtMost (length buffer.old) (I.sources inputs.new) }
     ensures others { KeepsOther source (I.sources inputs.old) (I.sources inputs.new) }
     ensures laid { I.laid inputs.new ≡ I.laid inputs.old }

@@ -53,14 +53,14 @@ pub some_there : (slots : List Slot) → 2 ≤ length slots → 0 < length slots
 some_there slots two = omega (arith, two)
 
 pub head_begins : (delim : ℕ) {told : Bool} (unit : Counted) (but_last : Bool) (n : ℕ) {slots : List Slot} → 2 ≤ length slots → OutputsAt told slots ((head_work delim unit but_last n).settled []) slots
-head_begins delim {told} unit but_last n {slots} two = subst (λ bytes. OutputsAt told slots (only_out bytes) slots) (sym (head_of-nil delim unit but_last n)) (nothing_out told slots (some_there slots two))
+head_begins delim {told} unit but_last n {slots} two = rw (head_of-nil delim unit but_last n) (nothing_out told slots (some_there slots two))
 
 pub tail_starts : (delim : ℕ) {told : Bool} (unit : Counted) (from_nth : Bool) (n : ℕ) {slots : List Slot} → 2 ≤ length slots → OutputsAt told slots ((tail_work delim unit from_nth n).settled []) slots
-tail_starts delim {told} unit from_nth n {slots} two = subst (λ part. OutputsAt told slots part slots) (sym (tail_begins delim from_nth unit n)) (nothing_out told slots (some_there slots two))
+tail_starts delim {told} unit from_nth n {slots} two = rw (tail_begins delim from_nth unit n) (nothing_out told slots (some_there slots two))
 
 -- an engine for which there was no memory
 pub no_memory : {told : Bool} {work : Work} {opening : Needs} {slots : List Slot} {fault : Fault} → opening.memory ≡ true → 2 ≤ length slots → fault ≡ Memory → OpensShort work opening told slots slots fault
-no_memory {told} {work} {opening} {slots} may two is = subst (OpensShort work opening told slots slots) (sym is) (record {
+no_memory {told} {work} {opening} {slots} may two is = rw is (record {
   unjudged = refl;
   reached = slots;
   why = may;
@@ -77,24 +77,11 @@ plan_is {cut} {elide} {delim} {names} made is = ap (λ (those : Naming). record 
 
 -- an engine that was opened, and left the outputs as they were
 
-stops_as : (style : Style) (operands : List Operand) {opening : Needs} (old new : List Slot) (fault : Fault) → opening.memory ≡ true → opening.files ≡ true → Breaks style old new fault → Stops (call_of (csplit_work style operands) opening [] nothing ((csplit_work style operands).settled [])) new fault
-stops_as style operands old new Memory may opens breaks = may
-stops_as style operands old new (Write slot) may opens breaks = (λ first. ap not (breaks.0 first), λ none. absurd (false≢true (sym none)), breaks.1.1)
-stops_as style operands old new (Open slot) may opens breaks = (refl, opens)
-stops_as style operands old new fault may opens breaks = absurd breaks
-
-unjudged_by : (style : Style) (old new : List Slot) (fault : Fault) → Breaks style old new fault → is_verdict fault ≡ false
-unjudged_by style old new Suffixes breaks = absurd breaks
-unjudged_by style old new (NoMatch operand repetition) breaks = absurd breaks
-unjudged_by style old new (Range operand repetition) breaks = absurd breaks
-unjudged_by style old new fault breaks = refl
-
 pub opened_of : {S : Type 0} (Holds : S → List ℕ → Type 0) (Owns : S → ℕ → List Slot → Type 0) (work : S → Work) (Ready : S → List Slot → Type 0) {begun asked : Work} (told : Bool) (old new : List Slot) (result : Result (GuardState S) Fault) → begun ≡ asked → IfOk result (λ e. HoldsIn Holds e [])
     → IfOk result (λ e. work e.stage ≡ begun) → IfOk result (λ e. e.fed < 2 ^ 63) → IfOk result (λ e. Ready e.stage new)
     → IfOk result (λ e. Owns e.stage (length old) new) → OnOk result (OutputsAt told old (begun.settled []) new)
     → IfOk result (Opens Holds Owns work Ready asked told old new)
-opened_of Holds Owns work Ready told old new (Ok e) is fresh does bound ready owns at = subst (λ those. Opens Holds Owns work Ready those told old new e) is
-    (record { fresh = fresh; does = does; bound = bound; ready = ready; owns = owns; outputs = at })
+opened_of Holds Owns work Ready told old new (Ok e) is fresh does bound ready owns at = rw is at (record { fresh = fresh; does = does; bound = bound; ready = ready; owns = owns; outputs = at })
 opened_of Holds Owns work Ready told old new (Err fault) is fresh does bound ready owns at = tt
 
 -- one that could not be opened
@@ -104,7 +91,7 @@ pub opened_short : {E : Type 0} (told : Bool) {begun asked : Work} {opening : Ne
     → IfErr result (λ fault. (before : List Slot) → OutputsAt told before nothing old → StoppedBetween told before nothing (begun.settled []) fault new)
     → IfErr result Why → IfErr result Left → IfErr result (OpensShort asked opening told old new)
 opened_short told old new (Ok e) Why Left is two stops cut why left = tt
-opened_short told {opening} old new (Err fault) Why Left is two stops cut why left = subst (λ those. OpensShort those opening told old new fault) is (
+opened_short told {opening} old new (Err fault) Why Left is two stops cut why left = rw is at (
     let (unjudged, halts, swept) = stops fault why left in
     record { unjudged = unjudged; reached = new; why = halts; stop = cut old (nothing_out told old (some_there old two)); swept = swept })
 
@@ -115,12 +102,18 @@ pub split_stops : (plan : Plan) (old : List Slot) {new : List Slot} {fault : Fau
 split_stops plan old (inl is) = rw is (refl, refl, refl)
 split_stops plan old (inr (slot, is, rose)) = rw is (refl, (refl, refl), refl)
 
+csplit_halts : (style : Style) (operands : List Operand) (old new : List Slot) (fault : Fault) → Breaks style old new fault
+    → (is_verdict fault ≡ false) × Stops (call_of (csplit_work style operands) (record { memory = true; files = true }) [] nothing ((csplit_work style operands).settled [])) new fault
+csplit_halts style operands old new Memory breaks = (refl, refl)
+csplit_halts style operands old new (Write slot) breaks = (refl, (λ first. ap not (breaks.0 first), λ none. absurd (false≢true (sym none)), breaks.1.1))
+csplit_halts style operands old new (Open slot) breaks = (refl, (refl, refl))
+csplit_halts style operands old new fault breaks = absurd breaks
+
 pub csplit_stops : (style : Style) (operands : List Operand) (old new : List Slot) (fault : Fault) → Breaks style old new fault → HasNoFiles (length old) new
     → (is_verdict fault ≡ false)
     × Stops (call_of (csplit_work style operands) (record { memory = true; files = true }) [] nothing ((csplit_work style operands).settled [])) new fault
     × Swept (csplit_work style operands).clears (length old) new new
-csplit_stops style operands old new fault breaks none =
-    (unjudged_by style old new fault breaks, stops_as style operands old new fault refl refl breaks, swept_none (not style.keep) (length old) new none)
+csplit_stops style operands old new fault breaks none = let (unjudged, stops) = csplit_halts style operands old new fault breaks in (unjudged, stops, swept_none (not style.keep) (length old) new none)
 
 pub whatever : {E : Type 0} (P : E → Type 0) (result : Result E Fault) → ((e : E) → P e) → IfOk result P
 whatever P (Ok e) all = all e
@@ -130,18 +123,12 @@ pub no_memory_for : {E : Type 0} (told : Bool) (work : Work) (opening : Needs) (
 no_memory_for told work opening slots (Ok e) P may two err = tt
 no_memory_for told work opening slots (Err fault) P may two err = no_memory (may err.1) two err.0
 
--- what opening may need
+-- the work that is asked for, and what opening it may need
 
-pub head_opening : {asked : EndsAsked} {unit : Counted} {count : Count} {headers : Headers} {delim : ℕ} {names : List (List ℕ)} {minus : Bool} → record { unit = unit; count = count; headers = headers; delim = delim; names = names } ≡ asked → minus ≡ is_minus count.sign → minus ≡ true → (head_task asked).opening.memory ≡ true
-head_opening {count} is signed may = sym (ap (λ (those : EndsAsked). is_minus those.count.sign) is) ∙ sym signed ∙ may
+pub head_asked : {those asked : EndsAsked} {minus : Bool} → those ≡ asked → minus ≡ is_minus those.count.sign → (head_work those.delim those.unit minus those.count.amount ≡ (head_task asked).work) × (minus ≡ true → (head_task asked).opening.memory ≡ true)
+head_asked {those} is signed =
+    (ap (λ b. head_work those.delim those.unit b those.count.amount) signed ∙ ap (λ (asked : EndsAsked). (head_task asked).work) is, λ may. sym (ap (λ (asked : EndsAsked). is_minus asked.count.sign) is) ∙ sym signed ∙ may)
 
-pub tail_opening : {asked : EndsAsked} {unit : Counted} {count : Count} {headers : Headers} {delim : ℕ} {names : List (List ℕ)} {plus : Bool} → record { unit = unit; count = count; headers = headers; delim = delim; names = names } ≡ asked → plus ≡ is_plus count.sign → plus ≡ false → (tail_task asked).opening.memory ≡ true
-tail_opening {count} is signed may = ap not (sym (ap (λ (those : EndsAsked). is_plus those.count.sign) is) ∙ sym signed ∙ may)
-
--- the work that is asked for
-
-pub head_asked : {asked : EndsAsked} {unit : Counted} {count : Count} {headers : Headers} {delim : ℕ} {names : List (List ℕ)} {minus : Bool} → record { unit = unit; count = count; headers = headers; delim = delim; names = names } ≡ asked → minus ≡ is_minus count.sign → head_work delim unit minus count.amount ≡ (head_task asked).work
-head_asked {unit} {count} {delim} is signed = ap (λ b. head_work delim unit b count.amount) signed ∙ ap (λ (those : EndsAsked). (head_task those).work) is
-
-pub tail_asked : {asked : EndsAsked} {unit : Counted} {count : Count} {headers : Headers} {delim : ℕ} {names : List (List ℕ)} {plus : Bool} → record { unit = unit; count = count; headers = headers; delim = delim; names = names } ≡ asked → plus ≡ is_plus count.sign → tail_work delim unit plus count.amount ≡ (tail_task asked).work
-tail_asked {unit} {count} {delim} is signed = ap (λ b. tail_work delim unit b count.amount) signed ∙ ap (λ (those : EndsAsked). (tail_task those).work) is
+pub tail_asked : {those asked : EndsAsked} {plus : Bool} → those ≡ asked → plus ≡ is_plus those.count.sign → (tail_work those.delim those.unit plus those.count.amount ≡ (tail_task asked).work) × (plus ≡ false → (tail_task asked).opening.memory ≡ true)
+tail_asked {those} is signed =
+    (ap (λ b. tail_work those.delim those.unit b those.count.amount) signed ∙ ap (λ (asked : EndsAsked). (tail_task asked).work) is, λ may. ap not (sym (ap (λ (asked : EndsAsked). is_plus asked.count.sign) is) ∙ sym signed ∙ may))

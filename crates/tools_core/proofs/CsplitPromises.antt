@@ -1,5 +1,5 @@
 -- What `csplit` leaves of its input.
-use Rattle.std.proofs.Common.{◌≡◌, ℕ, ◌+◌, suc, take, drop, Bool, true, false, cond, eqb, nat_lt, List, [], ◌∷◌, Option, Some, None, refl, ◌∙◌, ◌-◌, ◌<◌, ◌≤◌, not, ◌&&◌, ◌++◌, length, length-drop, map, inl, inr, ◌⊎◌, sym, ap, subst, arith}
+use Rattle.std.proofs.Common.{◌≡◌, ℕ, ◌+◌, suc, take, drop, Bool, true, false, eqb, nat_lt, List, [], ◌∷◌, Option, Some, None, refl, ◌∙◌, ◌-◌, ◌<◌, ◌≤◌, not, ◌&&◌, ◌++◌, length, length-drop, map, sym, ap, subst, arith}
 use Rattle.operand_core.specs.declared.operand.Offset.{Offset}
 use Rattle.operand_core.specs.declared.operand.Operand.{Operand}
 use Rattle.operand_core.specs.declared.operand.Target.{Target}
@@ -7,12 +7,12 @@ use Rattle.operand_core.specs.declared.operand.Target.TheVariants.{Number, Searc
 use Rattle.operand_core.specs.declared.operand.Times.{Times}
 use Rattle.operand_core.specs.declared.operand.Times.TheVariants.{Count}
 use Rattle.operand_core.specs.Reading.{Aim, line, match, Spelled, Aimed, aims, fails, Words, AreRead, Asks, IsTarget, aim_of, failed, least_after, no_more, times_by, with_operand, words_from, words_of}
-use Rattle.operand_core.specs.Word.{Spelling, number, search, wrong, spelling, closed_at, closing, offset_of, repeated, numbered, number_of, searched, braced, before_brace}
+use Rattle.operand_core.specs.Word.{Spelling, number, search, spelling, closed_at, closing, offset_of, repeated, numbered, number_of, searched, braced, before_brace}
 use Rattle.csplit_core.specs.Operand.{is_kept, Line, has_more}
 use Rattle.tools_core.specs.Promises.{SkipNothing, skips, Run, Does, HasInput, AreNumbered, AreSections, IsSound, contents_of, files_of, in_turn, last_section, left_out, text_at}
-use Rattle.std.specs.List.{All}
+use Rattle.std.proofs.lemmas.Bool.{cond_both, false≢true}
 use Rattle.std.proofs.lemmas.List.{length-map, map-append, drop-drop, take-append-drop, take_all}
-use Rattle.std.proofs.lemmas.List.Elements.{All-nil}
+use Rattle.std.proofs.lemmas.List.Elements.{All-append, All-cons, All-map, All-nil}
 use Rattle.seg_core.specs.Line.{joined, lines_of}
 use Rattle.seg_core.proofs.FirstLines.{joined-append}
 use Rattle.seg_core.proofs.LinesOf.{joined-lines_of}
@@ -20,7 +20,6 @@ use Rattle.ports_core.specs.Name.{numbered_name}
 use Rattle.ports_core.specs.Part.{File}
 use Rattle.ports_core.specs.Slot.{Slot}
 use Rattle.ports_core.specs.declared.slot.Mode.TheVariants.{Fresh}
-use Rattle.ports_core.specs.declared.slot.State.TheVariants.{Open, Closed}
 use Rattle.operand_core.specs.Style.{Style}
 use Rattle.csplit_core.specs.Csplit.{verdict_of}
 use Rattle.csplit_core.specs.Input.{all_lines, marked, newline}
@@ -33,11 +32,11 @@ use Rattle.csplit_core.specs.laws.SectionLaws.{are_within}
 use Rattle.csplit_core.proofs.WholeLemmas.{ends_after_all, none_lost_at_end}
 use Rattle.words_core.specs.CsplitAsked.{CsplitAsked}
 use Rattle.words_core.specs.declared.settings.Settings.TheVariants.{Csplit}
-use Rattle.tools_core.specs.Outcome.{CsplitEndsAs}
+use Rattle.tools_core.specs.Tasks.{csplit_task}
 use Rattle.tools_core.proofs.NumberLemmas.{numbered_in_order}
-use Rattle.tools_core.proofs.PromiseLemmas.{DidOne, did_one, one_done, slot_of}
-use Rattle.tools_core.proofs.SplitPromises.{AreNamed, bytes_written, named_step, sound_step}
-use Rattle.operand_core.specs.declared.operand_fault.OperandFaultKind.TheVariants as kind
+use Rattle.tools_core.proofs.OutcomeLemmas.{numbered_each, slot_of}
+use Rattle.tools_core.proofs.PromiseLemmas.{did_one, one_made}
+use Rattle.tools_core.proofs.SplitPromises.{AreNamed, bytes_written, named_step}
 
 -- Where no word of `csplit`'s operands skips a section, each operand keeps its section.
 
@@ -57,25 +56,16 @@ repeated_keeps : (times : Option Times) → KeepsSpelling (repeated times)
 repeated_keeps None = tt
 repeated_keeps (Some times) = tt
 
-line_keeps : (n : ℕ) (is_zero : Bool) → KeepsSpelling (cond is_zero (wrong kind.LineZero) (number n))
-line_keeps n true = tt
-line_keeps n false = tt
-
 numbered_keeps : (n : Option ℕ) → KeepsSpelling (numbered n)
 numbered_keeps None = tt
-numbered_keeps (Some n) = line_keeps n (eqb n 0)
-
-by_first : (is_slash is_percent is_brace : Bool) (slash percent brace other : Spelling) → (is_slash ≡ true → KeepsSpelling slash) → is_percent ≡ false → KeepsSpelling brace → KeepsSpelling other
-    → KeepsSpelling (cond is_slash slash (cond is_percent percent (cond is_brace brace other)))
-by_first true is_percent is_brace slash percent brace other first differs second third = first refl
-by_first false true is_brace slash percent brace other first differs second third = absurd (cc)
-by_first false false true slash percent brace other first differs second third = second
-by_first false false false slash percent brace other first differs second third = third
+numbered_keeps (Some n) = cond_both (eqb n 0) _ _ KeepsSpelling (λ is. tt) (λ some. tt)
 
 word_keeps : (word : List ℕ) → skips word ≡ false → KeepsSpelling (spelling word)
 word_keeps [] differs = tt
 word_keeps (byte ∷ text) differs =
-    by_first (eqb byte 47) (eqb byte 37) (eqb byte 123) _ _ _ _ (closed_keeps byte text (closing byte false text)) differs (repeated_keeps (braced (before_brace text))) (numbered_keeps (number_of (byte ∷ text)))
+    cond_both (eqb byte 47) _ _ KeepsSpelling (closed_keeps byte text (closing byte false text)) (λ other.
+    cond_both (eqb byte 37) _ _ KeepsSpelling (λ is. absurd (false≢true (sym differs ∙ is))) (λ kept.
+    cond_both (eqb byte 123) _ _ KeepsSpelling (λ is. repeated_keeps (braced (before_brace text))) (λ none. numbered_keeps (number_of (byte ∷ text)))))
 
 -- what operands aim at
 
@@ -87,12 +77,8 @@ abbrev KeepsAimed : Aimed → Type 0
 KeepsAimed (aims aim) = KeepsAim aim
 KeepsAimed (fails what) = Unit {0}
 
-in_order_keeps : (n : ℕ) (is_less : Bool) → KeepsAimed (cond is_less (fails kind.LineOrder) (aims (line n)))
-in_order_keeps n true = tt
-in_order_keeps n false = tt
-
 aimed_keeps : (least : ℕ) (spelled : Spelling) → KeepsSpelling spelled → KeepsAimed (aim_of least spelled)
-aimed_keeps least (number n) keeps = in_order_keeps n (nat_lt n least)
+aimed_keeps least (number n) keeps = cond_both (nat_lt n least) _ _ KeepsAimed (λ is. tt) (λ is. tt)
 aimed_keeps least (search delimiter text offset) keeps = keeps
 aimed_keeps least spelled keeps = tt
 
@@ -157,11 +143,11 @@ record Kept (lines : List Line) (steps : List Step) (ending : Ending) : Type 0 w
 
 runs_keep : {suppress : Bool} {lines : List Line} {state : State} {steps : List Step} {last : State} {ending : Ending} → Runs suppress lines state steps last ending → KeepTargets state.operands → Kept lines steps ending
 runs_keep (is_used_up state none) keep = record { sections = tt; final = refl }
-runs_keep (misses state operand operands is none) keep = record { sections = tt; final = (subst KeepTargets is keep).0 }
-runs_keep (is_above state operand operands matched cut is at far) keep = record { sections = tt; final = (subst KeepTargets is keep).0 }
-runs_keep (is_below state operand operands matched cut is at within low) keep = record { sections = tt; final = (subst KeepTargets is keep).0 }
+runs_keep (misses state operand operands is none) keep = record { sections = tt; final = (rw is at keep).0 }
+runs_keep (is_above state operand operands matched cut is at far) keep = record { sections = tt; final = (rw is at keep).0 }
+runs_keep (is_below state operand operands matched cut is at within low) keep = record { sections = tt; final = (rw is at keep).0 }
 runs_keep (cuts state operand operands matched cut steps last ending is at from within rest) keep =
-    let these = subst KeepTargets is keep in
+    let these = rw is at keep in
     let past = runs_keep rest (kept_after (has_more operand.times state.repetition) operand operands these) in
     record { sections = (these.0, past.sections); final = past.final }
 
@@ -183,22 +169,19 @@ abbrev written_in : List File → List ℕ
 written_in files = joined (map (λ (file : Slot). file.written) (map slot_of files))
 
 -- a section that makes no file is empty
-made_or_empty : (elide kept : Bool) (bytes : List ℕ) → kept ≡ true → ((kept && not (elide && is_empty bytes)) ≡ true) ⊎ (((kept && not (elide && is_empty bytes)) ≡ false) × (bytes ≡ []))
-made_or_empty elide false bytes is = absurd (cc)
-made_or_empty false true bytes is = inl refl
-made_or_empty true true [] is = inr (refl, refl)
-made_or_empty true true (byte ∷ bytes) is = inl refl
+left_empty : (elide kept : Bool) (bytes : List ℕ) → kept ≡ true → (kept && not (elide && is_empty bytes)) ≡ false → bytes ≡ []
+left_empty elide kept [] is none = refl
+left_empty elide false (byte ∷ bytes) is none = absurd (false≢true is)
+left_empty true true (byte ∷ bytes) is none = absurd (false≢true (sym none))
+left_empty false true (byte ∷ bytes) is none = absurd (false≢true (sym none))
 
 files_joined : (style : Style) (place : ℕ) (sections : List Section) → AllKept sections → written_in (files_by style place (map contents_in sections)) ≡ bytes_of (lines_in sections)
 files_joined style place [] kept = refl
-files_joined style place (section ∷ sections) kept = elim (made_or_empty style.elide section.is_kept (bytes_of section.lines) kept.0) [
-  | inl made ↦
-      ap (λ has. written_in (cond has (file_at style place (contents_in section) ∷ files_by style (place + 1) (map contents_in sections)) (files_by style place (map contents_in sections)))) made
-      ∙ ap (λ rest. bytes_of section.lines ++ rest) (files_joined style (place + 1) sections kept.1) ∙ sym (bytes_then section.lines (lines_in sections))
-  | inr empty ↦
-      ap (λ has. written_in (cond has (file_at style place (contents_in section) ∷ files_by style (place + 1) (map contents_in sections)) (files_by style place (map contents_in sections)))) empty.0
-      ∙ files_joined style place sections kept.1 ∙ sym (bytes_then section.lines (lines_in sections) ∙ ap (λ front. front ++ bytes_of (lines_in sections)) empty.1)
-]
+files_joined style place (section ∷ sections) kept =
+    let both = bytes_then section.lines (lines_in sections) in
+    cond_both (makes_file style (contents_in section)) _ _ (λ files. written_in files ≡ bytes_of (lines_in (section ∷ sections)))
+    (λ made. ap (λ rest. bytes_of section.lines ++ rest) (files_joined style (place + 1) sections kept.1) ∙ sym both)
+    (λ none. files_joined style place sections kept.1 ∙ sym (both ∙ ap (λ front. front ++ bytes_of (lines_in sections)) (left_empty style.elide section.is_kept (bytes_of section.lines) kept.0 none)))
 
 -- Their names
 
@@ -207,23 +190,6 @@ numbered_from style start [] k within = absurd (omega (arith, within))
 numbered_from style start (contents ∷ all) k within =
     named_step (numbered_name style.prefix style.digits) start (file_at style start contents) (files_by style (start + 1) all) (files_by style start all)
     (makes_file style contents) refl (numbered_from style (start + 1) all) (numbered_from style start all) k within
-
--- They were closed.
-
-abbrev AllClosed : List Section → Type 0
-AllClosed [] = Unit {0}
-AllClosed (section ∷ sections) = (section.is_closed ≡ true) × AllClosed sections
-
-closed_steps : (lines : List Line) (steps : List Step) (last : Section) → last.is_closed ≡ true → AllClosed (map (section_of lines) steps ++ last ∷ [])
-closed_steps lines [] last is = (is, tt)
-closed_steps lines (step ∷ steps) last is = (refl, closed_steps lines steps last is)
-
-all_sound : (style : Style) (place : ℕ) (sections : List Section) → AllClosed sections → All (IsSound Fresh) (map slot_of (files_by style place (map contents_in sections)))
-all_sound style place [] closed = All-nil (IsSound Fresh)
-all_sound style place (section ∷ sections) closed =
-    sound_step (file_at style place (contents_in section)) (files_by style (place + 1) (map contents_in sections)) (files_by style place (map contents_in sections))
-    (makes_file style (contents_in section)) (refl, ap (λ closed. cond closed Closed Open) closed.0, refl) (all_sound style (place + 1) sections closed.1)
-    (all_sound style place sections closed.1)
 
 -- What a run leaves
 
@@ -238,31 +204,29 @@ pub record IsCsplit (run : Run) (asked : CsplitAsked) (input : List ℕ) : Type 
   pub well : is_final (plan asked.style.suppress operands (all_lines input)).ending ≡ false
   pub files : files_of run ≡ map slot_of (files_by asked.style 0 (map contents_in (whole_sections (all_lines input) (plan asked.style.suppress operands (all_lines input)))))
 
-was_cut : {run : Run} {asked : CsplitAsked} {input : List ℕ} (one : DidOne run (Csplit asked) input) → CsplitEndsAs true true asked (one.input ∷ []) run.inputs run.outputs 0 → IsCsplit run asked input
-was_cut one does =
-    let made = one_done one.content does.ends in record {
-      operands = does.operands;
-      asks = does.asks;
-      well = ends_well _ made.unjudged;
-      files = ap (drop 2) made.slots;
-    }
-
 is_csplit : {run : Run} {asked : CsplitAsked} {input : List ℕ} → Does run (Csplit asked) → HasInput run input → IsCsplit run asked input
-is_csplit does has = let one = did_one does has in was_cut one one.does
+is_csplit {asked = asked} does has =
+    let one = did_one does has in
+    let (operands, asks, is) = one.makes in
+    let made = one_made one (csplit_task asked operands) is in
+    record { operands = operands; asks = asks; well = ends_well _ made.unjudged; files = ap (drop 2) made.slots }
 
 pub are_numbered : (run : Run) (asked : CsplitAsked) (input : List ℕ) → Does run (Csplit asked) → HasInput run input → AreNumbered asked.style.prefix asked.style.digits (files_of run)
 are_numbered run asked input does has =
     let split = is_csplit does has in
     let lines = all_lines input in
     let sections = whole_sections lines (plan asked.style.suppress split.operands lines) in
+    let steps = (plan asked.style.suppress split.operands lines).steps in
+    let IsClosed = λ (section : Section). (place : ℕ) → IsSound Fresh (slot_of (file_at asked.style place (contents_in section))) in
     let files = map slot_of (files_by asked.style 0 (map contents_in sections)) in
     let size : length (map (λ (file : Slot). file.name) files) ≡ length files = length-map files (λ (file : Slot). file.name) in
     let named : (place : ℕ) → place < length files → text_at (map (λ (file : Slot). file.name) files) place ≡ numbered_name asked.style.prefix asked.style.digits place =
     λ place within. numbered_from asked.style 0 (map contents_in sections) place within ∙ ap (numbered_name asked.style.prefix asked.style.digits) (omega arith) in
-    subst (AreNumbered asked.style.prefix asked.style.digits) (sym split.files) (record {
+    rw split.files (record {
       named = named;
       in_order = λ few least. numbered_in_order asked.style.prefix asked.style.digits (map (λ (file : Slot). file.name) files) (λ place within. named place (omega (arith, size, within))) (omega (arith, size, few)) (omega (arith, size, least));
-      sound = all_sound asked.style 0 sections (closed_steps lines (plan asked.style.suppress split.operands lines).steps _ refl);
+      sound = All-map (IsSound Fresh) slot_of _ (numbered_each (λ (file : File). IsSound Fresh (slot_of file)) asked.style 0 (map contents_in sections)
+          (All-map (λ contents. (place : ℕ) → IsSound Fresh (slot_of (file_at asked.style place contents))) contents_in sections (All-append IsClosed (map (section_of lines) steps) _ (All-map IsClosed (section_of lines) steps (λ k step within place. (refl, refl, refl))) (All-cons IsClosed _ [] (λ place. (refl, refl, refl)) (All-nil IsClosed)))));
     })
 
 pub none_is_lost : (run : Run) (asked : CsplitAsked) (input : List ℕ) → Does run (Csplit asked) → HasInput run input → asked.style.suppress ≡ false → SkipNothing asked.operands → joined (contents_of run) ≡ input
@@ -273,7 +237,7 @@ none_is_lost run asked input does has whole none =
     ap (λ files. joined (map (λ (file : Slot). file.written) files)) split.files
     ∙ files_joined asked.style 0 (whole_sections lines (plan asked.style.suppress split.operands lines)) (sections_kept asked.style.suppress split.operands lines keep)
     ∙ ap (λ suppress. bytes_of (lines_in (whole_sections lines (plan suppress split.operands lines)))) whole
-    ∙ ap bytes_of (none_lost_at_end split.operands lines (subst (λ suppress. is_final (plan suppress split.operands lines).ending ≡ false) whole split.well))
+    ∙ ap bytes_of (none_lost_at_end split.operands lines (rw whole at split.well))
     ∙ ap joined (all_bytes (lines_of newline input)) ∙ joined-lines_of newline input
 
 -- Each line in its turn

@@ -1,6 +1,6 @@
 -- What `head`, `tail` and `tee` leave of one input.
-use Rattle.std.proofs.Common.{◌≡◌, ℕ, ◌+◌, ◌-◌, Bool, true, List, ◌++◌, None, refl, sym, ◌∙◌, ap, arith, [], ◌∷◌, map, drop, Option, Some, subst}
-use Rattle.ports_core.specs.Slot.{slot_at, Slot, adds, closes, opened}
+use Rattle.std.proofs.Common.{◌≡◌, ℕ, ◌+◌, ◌-◌, Bool, true, List, ◌++◌, refl, sym, ◌∙◌, ap, arith, [], ◌∷◌, map, drop, Option, Some, subst}
+use Rattle.ports_core.specs.Slot.{slot_at, Slot}
 use Rattle.seg_core.specs.declared.count.Sign.{Sign}
 use Rattle.seg_core.specs.declared.count.Sign.TheVariants.{Plain, Minus, Plus}
 use Rattle.seg_core.specs.declared.unit.Unit.{Unit as Counted}
@@ -10,11 +10,14 @@ use Rattle.ends_core.specs.laws.EndsLaws.{first_then_after, ends_together}
 use Rattle.run_core.specs.Task.{header_text}
 use Rattle.words_core.specs.declared.settings.Settings.TheVariants.{Tee}
 use Rattle.words_core.specs.EndsAsked.{EndsAsked}
-use Rattle.tools_core.specs.Tasks.{is_minus, is_plus}
-use Rattle.tools_core.specs.Promises.{Run, HasInput, IsHead, IsTail, IsBare, CountAlike, output_of, Does, AreCopies, IsSound, files_of}
-use Rattle.tools_core.proofs.PromiseLemmas.{did_one, one_done}
-use Rattle.std.specs.List.{All}
-use Rattle.std.proofs.lemmas.List.Elements.{All-nil, All-cons}
+use Rattle.tools_core.specs.Tasks.{head_task, is_minus, is_plus, tail_task}
+use Rattle.tools_core.specs.Promises.{Run, HasInput, IsHead, IsTail, IsBare, CountAlike, counted, output_of, Does, AreCopies, IsSound, files_of}
+use Rattle.tools_core.proofs.BeginLemmas.{ending}
+use Rattle.tools_core.proofs.LeftLemmas.{copies_are, copy, tee_made}
+use Rattle.tools_core.proofs.OutcomeLemmas.{slots_of}
+use Rattle.tools_core.proofs.PromiseLemmas.{did_one, one_made}
+use Rattle.run_core.specs.Task.{Outcome}
+use Rattle.std.proofs.lemmas.List.Elements.{All-map}
 use Rattle.ports_core.specs.Source.{Content}
 use Rattle.ports_core.specs.declared.slot.Mode.{Mode}
 use Rattle.run_core.specs.Input.{Input}
@@ -25,14 +28,12 @@ use Rattle.words_core.specs.TeeAsked.{TeeAsked}
 head_output : {run : Run} (options : EndsAsked) {sign : Sign} {n : ℕ} {input : List ℕ} → IsBare options → IsHead run options sign n → HasInput run input → output_of run ≡ head_of options.delim options.unit (is_minus sign) n input
 head_output options {sign} {n} {input} bare does has =
     let one = did_one does has in
-    let made = one_done one.content one.does in
-    ap (λ slots. (slot_at slots 0).written) made.slots ∙ ap (λ with_header. header_text with_header true one.input.name ++ head_of options.delim options.unit (is_minus sign) n input) bare
+    ap (λ slots. (slot_at slots 0).written) (one_made one (head_task (counted options sign n)) one.makes).slots ∙ ap (λ with_header. header_text with_header true one.input.name ++ head_of options.delim options.unit (is_minus sign) n input) bare
 
 tail_output : {run : Run} (options : EndsAsked) {sign : Sign} {n : ℕ} {input : List ℕ} → IsBare options → IsTail run options sign n → HasInput run input → output_of run ≡ tail_of options.delim options.unit (is_plus sign) n input
 tail_output options {sign} {n} {input} bare (looks, does) has =
     let one = did_one does has in
-    let made = one_done one.content one.does in
-    ap (λ slots. (slot_at slots 0).written) made.slots ∙ ap (λ with_header. header_text with_header true one.input.name ++ tail_of options.delim options.unit (is_plus sign) n input) bare
+    ap (λ slots. (slot_at slots 0).written) (one_made one (tail_task (counted options sign n)) one.makes).slots ∙ ap (λ with_header. header_text with_header true one.input.name ++ tail_of options.delim options.unit (is_plus sign) n input) bare
 
 -- whatever byte lines end with, bytes are counted alike
 tail_counted : {delim other : ℕ} (unit : Counted) (from_nth : Bool) (n : ℕ) (input : List ℕ) → (unit ≡ Lines → delim ≡ other) → tail_of delim unit from_nth n input ≡ tail_of other unit from_nth n input
@@ -60,42 +61,26 @@ last_meet head tail first rest n input alike one other has has_too =
 
 -- What `tee` leaves of its input.
 
--- the bytes of the first input
-abbrev bytes_in : Option Content → List ℕ
-bytes_in None = []
-bytes_in (Some content) = content.bytes
-
-abbrev pub bytes_at : List Input → List ℕ
-bytes_at [] = []
-bytes_at (input ∷ inputs) = bytes_in input.content
-
--- a file with these bytes, which was closed
-abbrev copy : Mode → List ℕ → List ℕ → Slot
-copy mode bytes name = closes (adds bytes (opened name mode))
+abbrev first_content : Content → List Input → Option Content
+first_content default [] = Some default
+first_content default (input ∷ inputs) = input.content
 
 copies_named : (mode : Mode) (bytes : List ℕ) (names : List (List ℕ)) → map (λ (file : Slot). file.name) (map (copy mode bytes) names) ≡ names
 copies_named mode bytes [] = refl
 copies_named mode bytes (name ∷ names) = ap (λ those. name ∷ those) (copies_named mode bytes names)
-
-abbrev IsCopy : Mode → List ℕ → Slot → Type 0
-IsCopy mode bytes file = IsSound mode file × (file.written ≡ bytes)
-
-copies_each : {mode : Mode} {bytes : List ℕ} (names : List (List ℕ)) → All (IsCopy mode bytes) (map (copy mode bytes) names)
-copies_each {mode} {bytes} [] = All-nil (IsCopy mode bytes)
-copies_each {mode} {bytes} (name ∷ names) = All-cons (IsCopy mode bytes) (copy mode bytes name) (map (copy mode bytes) names) ((refl, refl, refl), refl) (copies_each names)
 
 pub record IsCopied (tee : Run) (asked : TeeAsked) (input : List ℕ) : Type 0 where
   pub output : output_of tee ≡ input
   pub files : AreCopies asked.mode asked.names input (files_of tee)
 
 pub is_copied : {tee : Run} {asked : TeeAsked} {input : List ℕ} → Does tee (Tee asked) → HasInput tee input → IsCopied tee asked input
-is_copied {asked} {input} does has =
+is_copied {asked = asked} {input} does has =
     let one = did_one does has in
-    let ends = one.does in
-    let same : ends.content.bytes ≡ input = sym (ap bytes_at ends.input) ∙ ap bytes_in one.content in
-    let whole = ends.whole refl refl in
+    let (content, only, is) = one.makes in
+    let same : Some content ≡ Some (ending input) = ap (first_content content) (sym only) ∙ one.content in
+    let there : content ≡ ending input = cc in
+    let whole = one.slots ∙ ap (λ (made : Outcome). slots_of made.part) is ∙ ap (λ those. slots_of (tee_made asked those).part) there in
     record {
-      output = ap (λ slots. (slot_at slots 0).written) whole ∙ same;
-      files = subst (AreCopies asked.mode asked.names input) (sym (ap (drop 2) whole ∙ ap (λ bytes. map (copy asked.mode bytes) asked.names) same))
-          (record { named = copies_named asked.mode input asked.names; each = copies_each asked.names });
+      output = ap (λ slots. (slot_at slots 0).written) whole;
+      files = rw (ap (drop 2) whole ∙ copies_are asked.mode input asked.names) (record { named = copies_named asked.mode input asked.names; each = All-map (λ (file : Slot). IsSound asked.mode file × (file.written ≡ input)) (copy asked.mode input) asked.names (λ k name within. ((refl, refl, refl), refl)) });
     }

@@ -1,8 +1,6 @@
 -- What `tail` writes of one file that only grows, where it follows it and meets no fault.
-use Rattle.std.proofs.Common.{◌≡◌, ℕ, ◌+◌, ◌<◌, ◌≤◌, zero, suc, Bool, true, false, List, [], ◌∷◌, ◌++◌, length, drop, Option, Some, None, refl, sym, ◌∙◌, ap, subst, arith, append_assoc, length-append, ◌&&◌, cond, is_some, not, ◌||◌, inl, inr}
+use Rattle.std.proofs.Common.{◌≡◌, ℕ, ◌+◌, ◌<◌, ◌≤◌, zero, suc, Bool, true, false, List, [], ◌∷◌, ◌++◌, length, drop, Option, Some, None, refl, sym, ◌∙◌, ap, subst, arith, append_assoc, append-nil, ◌&&◌, cond, is_some, not, ◌||◌, inl, inr}
 use Rattle.std.proofs.Math.Seq.{drop-append_seam as drop_front}
-use Rattle.ports_core.specs.Part.{IsBeginning}
-use Rattle.ports_core.proofs.PartLemmas.{begins_itself, begins_trans}
 use Rattle.watch_core.specs.Snapshot.{Snapshot}
 use Rattle.follow_core.specs.Ending.{seen_first, FollowEndsAs, looked, no_room, stopped}
 use Rattle.follow_core.specs.Gain.{gains_later}
@@ -11,7 +9,7 @@ use Rattle.follow_core.specs.Version.{Entry, entries_led, entries_later, entries
 use Rattle.follow_core.proofs.AgreeLemmas.{grown, led_same}
 use Rattle.follow_core.proofs.RunLemmas.{text_is_gains}
 use Rattle.tools_core.specs.Promises.{OnlyGrows, FollowRun, Follows, IsBare}
-use Rattle.std.proofs.lemmas.Bool.{or_parts, cases_lt, false≢true}
+use Rattle.std.proofs.lemmas.Bool.{cond_both, or_parts, cases_lt, false≢true}
 use Rattle.follow_core.specs.Followed.{any_failed, text_from}
 use Rattle.follow_core.specs.Look.{Fate, Look, Ways, entries_in, failed_by, failed_in, fate_at, is_dropped, is_first, sound, snapshots, ways_of}
 use Rattle.follow_core.specs.Notice.{is_missing}
@@ -27,7 +25,7 @@ use Rattle.words_core.specs.EndsAsked.{EndsAsked}
 use Rattle.words_core.specs.declared.value.Followed.{Followed}
 use Rattle.tools_core.specs.Following.{FollowingEndsAt, is_name, start_of}
 use Rattle.tools_core.specs.Tasks.{has_headers, is_plus}
-use Rattle.tools_core.proofs.PromiseLemmas.{not_one, unfailed}
+use Rattle.tools_core.proofs.LeftLemmas.{unfailed}
 
 -- The text of a name whose file only grows: its start part at the first look, and then all that came.
 
@@ -73,35 +71,26 @@ versions_kept shows start (suc zero) within grows = (tt, tt)
 versions_kept shows {name} {file} {count} start (suc (suc n)) within grows = ((λ goes. grows.1 start (omega (arith, within))), versions_kept shows (suc start) (suc n) (omega (arith, within)) grows)
 
 pub kept_in : (by_name : Bool) {name : List ℕ} (shows : ℕ → Snapshot) {file count : ℕ} → OnlyGrows count shows name file → AreKept (entries_of by_name name (seen_first shows count))
-kept_in by_name {name} shows {file} {count} grows = subst AreKept (sym (ap (entries_of by_name name) (seen_are shows count) ∙ entries_are by_name shows count (omega arith) grows)) (versions_kept shows 0 count (omega arith) grows)
-
--- what came later
-begins_later : (shows : ℕ → Snapshot) {name : List ℕ} {file count : ℕ} (start n : ℕ) → start + n < count → OnlyGrows count shows name file → IsBeginning ((shows start).holds file) ((shows (start + n)).holds file)
-begins_later shows {file} start zero within grows = subst (λ k. IsBeginning ((shows start).holds file) ((shows k).holds file)) (let e : start ≡ start + 0 = omega arith in e) (begins_itself _)
-begins_later shows {name} {file} {count} start (suc n) within grows =
-    subst (λ k. IsBeginning ((shows start).holds file) ((shows k).holds file)) (let e : suc start + n ≡ start + suc n = omega arith in e)
-    (begins_trans _ ((shows (suc start)).holds file) _ (grows.1 start (omega (arith, within))) (begins_later shows (suc start) n (omega (arith, within)) grows))
+kept_in by_name {name} shows {file} {count} grows = rw (ap (entries_of by_name name) (seen_are shows count) ∙ entries_are by_name shows count (omega arith) grows) (versions_kept shows 0 count (omega arith) grows)
 
 -- what they gain is what came
-gains_are : (shows : ℕ → Snapshot) {name : List ℕ} {file count : ℕ} (start n : ℕ) {came : List ℕ} → start + n < count → OnlyGrows count shows name file → (shows (start + n)).holds file ≡ (shows start).holds file ++ came
-    → gains_later (version_in (shows start) file) (versions shows file (suc start) n) ≡ came
-gains_are shows {file} start zero {came} within grows is = nothing_more ((shows start).holds file) came (ap (λ k. (shows k).holds file) (let e : start ≡ start + 0 = omega arith in e) ∙ is) where
-  none : (bytes : List ℕ) → length bytes ≡ 0 → ◌≡◌ {A = List ℕ} [] bytes
-  none [] few = refl
-  none (byte ∷ bytes) few = absurd (omega (arith, few))
-
-  nothing_more : (front more : List ℕ) → front ≡ front ++ more → ◌≡◌ {A = List ℕ} [] more
-  nothing_more front more same = none more (let size = ap length same in let sum = length-append front more in omega (arith, size, sum))
-gains_are shows {name} {file} {count} start (suc n) {came} within grows is =
+holds_later : (shows : ℕ → Snapshot) {name : List ℕ} {file count : ℕ} (start n : ℕ) → start + n < count → OnlyGrows count shows name file
+    → (shows (start + n)).holds file ≡ (shows start).holds file ++ gains_later (version_in (shows start) file) (versions shows file (suc start) n)
+holds_later shows {file = file} start zero within grows = ap (λ k. (shows k).holds file) (let e : start + 0 ≡ start = omega arith in e) ∙ sym (append-nil ((shows start).holds file))
+holds_later shows {file = file} start (suc n) within grows =
     let (piece, next) = grows.1 start (omega (arith, within)) in
-    let below : suc start + n < count = omega (arith, within) in
-    let (rest, later) = begins_later shows (suc start) n below grows in
-    let there : (shows (start + suc n)).holds file ≡ (shows (suc start + n)).holds file = ap (λ k. (shows k).holds file) (let e : start + suc n ≡ suc start + n = omega arith in e) in
-    let both : (shows start).holds file ++ came ≡ (shows start).holds file ++ (piece ++ rest) =
-    sym is ∙ there ∙ later ∙ ap (λ front. front ++ rest) next ∙ append_assoc ((shows start).holds file) piece rest in
-    ap (λ gained. gained ++ gains_later (version_in (shows (suc start)) file) (versions shows file (suc (suc start)) n)) (grown file ((shows start).holds file) next)
-    ∙ ap (λ more. piece ++ more) (gains_are shows (suc start) n below grows later)
-    ∙ sym (sym (drop_front ((shows start).holds file) came) ∙ ap (drop (length ((shows start).holds file))) both ∙ drop_front ((shows start).holds file) (piece ++ rest))
+    let front = (shows start).holds file in
+    let later = gains_later (version_in (shows (suc start)) file) (versions shows file (suc (suc start)) n) in
+    ap (λ k. (shows k).holds file) (let e : start + suc n ≡ suc start + n = omega arith in e) ∙ holds_later shows (suc start) n (omega (arith, within)) grows
+    ∙ ap (λ those. those ++ later) next ∙ append_assoc front piece later ∙ ap (λ gained. front ++ (gained ++ later)) (sym (grown file front next))
+
+gains_are : (shows : ℕ → Snapshot) {name : List ℕ} {file count n : ℕ} {came : List ℕ} → n < count → OnlyGrows count shows name file → (shows n).holds file ≡ (shows 0).holds file ++ came
+    → gains_later (version_in (shows 0) file) (versions shows file 1 n) ≡ came
+gains_are shows {file = file} {n = n} {came} within grows is =
+    let front = (shows 0).holds file in
+    let gained = gains_later (version_in (shows 0) file) (versions shows file 1 n) in
+    let both : front ++ gained ≡ front ++ came = sym (holds_later shows 0 n (omega (arith, within)) grows) ∙ ap (λ k. (shows k).holds file) (let e : 0 + n ≡ n = omega arith in e) ∙ is in
+    sym (drop_front front gained) ∙ ap (drop (length front)) both ∙ drop_front front came
 
 -- the text of such a name
 pub growing_text : (by_name : Bool) {name : List ℕ} (shows : ℕ → Snapshot) {file count n : ℕ} (start : List ℕ → List ℕ) (came : List ℕ) → n < count → OnlyGrows count shows name file → (shows n).holds file ≡ (shows 0).holds file ++ came
@@ -109,7 +98,7 @@ pub growing_text : (by_name : Bool) {name : List ℕ} (shows : ℕ → Snapshot)
 growing_text by_name {name} shows {file} {count} {n} start came within grows is =
     ap (name_text start) (ap (entries_of by_name name) (seen_are shows (suc n)) ∙ entries_are by_name shows (suc n) (omega (arith, within)) grows)
     ∙ text_is_gains start (versions shows file 0 (suc n)) (versions_kept shows 0 (suc n) (omega (arith, within)) grows)
-    ∙ ap (λ more. start ((shows 0).holds file) ++ more) (gains_are shows 0 n (omega (arith, within)) grows (ap (λ k. (shows k).holds file) (let e : 0 + n ≡ n = omega arith in e) ∙ is))
+    ∙ ap (λ more. start ((shows 0).holds file) ++ more) (gains_are shows within grows is)
 
 -- its file is open after each look
 pub stays_open : (by_name : Bool) {name : List ℕ} (shows : ℕ → Snapshot) {file count : ℕ} (n : ℕ) → n < count → OnlyGrows count shows name file → open_after by_name name (looks_from shows 0 (suc n)) ≡ Some file
@@ -123,23 +112,12 @@ stays_open by_name {name} shows {file} {count} n within grows = by by_name 1 n (
 
 -- A name for which no call failed got all that the look gives.
 
-record IsFine (ways : Ways) (name : List ℕ) (before : List Look) (look : Look) (fate : Fate) (bytes : List ℕ) : Type 0 where
-  pub came : fate ≡ sound
-  pub all : bytes ≡ gain ways name before look
-
-fine_there : (ways : Ways) (name : List ℕ) (before : List Look) (look : Look) (missing : Bool) (other : Share) → other.bytes ≡ gain ways name before look → (cond missing (missing_share name) other).has_failed ≡ false
-    → (cond missing (missing_share name) other).bytes ≡ gain ways name before look
-fine_there ways name before look true other same well = absurd (cc)
-fine_there ways name before look false other same well = same
-
-fine_by : (ways : Ways) (name : List ℕ) (before : List Look) (look : Look) (fate : Fate) → (share_by ways name before look fate).has_failed ≡ false → IsFine ways name before look fate (share_by ways name before look fate).bytes
-fine_by ways name before look sound well = record { came = refl; all = fine_there ways name before look (is_first before && is_missing (entries_in ways name (before ++ look ∷ []))) _ refl well }
-fine_by ways name before look fate well = absurd (cc)
-
-fine_share : (ways : Ways) (name : List ℕ) (before : List Look) (look : Look) (dropped : Bool) → dropped ≡ false → (cond dropped (no_share name) (share_by ways name before look (fate_at ways.first look))).has_failed ≡ false
-    → IsFine ways name before look (fate_at ways.first look) (cond dropped (no_share name) (share_by ways name before look (fate_at ways.first look))).bytes
-fine_share ways name before look true kept well = absurd (cc)
-fine_share ways name before look false kept well = fine_by ways name before look (fate_at ways.first look) well
+fine_share : (ways : Ways) (name : List ℕ) (before : List Look) (look : Look) (dropped : Bool) (fate : Fate) → dropped ≡ false → (cond dropped (no_share name) (share_by ways name before look fate)).has_failed ≡ false
+    → (fate ≡ sound) × ((cond dropped (no_share name) (share_by ways name before look fate)).bytes ≡ gain ways name before look)
+fine_share ways name before look true fate kept well = absurd (cc)
+fine_share ways name before look false sound kept well =
+    (refl, cond_both (is_first before && is_missing (entries_in ways name (before ++ look ∷ []))) (missing_share name) _ (λ (share : Share). share.has_failed ≡ false → share.bytes ≡ gain ways name before look) (λ is failed. absurd (cc)) (λ is fine. refl) well)
+fine_share ways name before look false fate kept well = absurd (cc)
 
 -- so further looks wrote all that they give, and the name is still followed
 record WroteAll (ways : Ways) (name : List ℕ) (before looks : List Look) (text : List ℕ) : Type 0 where
@@ -152,10 +130,10 @@ wrote_all ways name before [] last kept well = record { is = refl; kept = refl }
 wrote_all ways name before (look ∷ looks) last kept well =
     let here = before ++ look ∷ [] in
     let both = or_parts (share_of ways before look ways.first name).has_failed (any_failed (shares_from ways (name ∷ []) here looks)) well in
-    let fine = fine_share ways name before look (is_dropped ways.first before) kept both.0 in
-    let rest = wrote_all ways name here looks last (ap is_some (failed_sound ways.first before look fine.came) ∙ kept) both.1 in record {
-      is = ap (λ bytes. bytes ++ text_from false last (shares_from ways (name ∷ []) here looks)) fine.all ∙ ap (λ more. gain ways name before look ++ more) rest.is;
-      kept = ap (λ fate. is_some (failed_by ways.first fate (failed_in ways.first looks))) fine.came ∙ rest.kept;
+    let fine = fine_share ways name before look (is_dropped ways.first before) (fate_at ways.first look) kept both.0 in
+    let rest = wrote_all ways name here looks last (ap is_some (failed_sound ways.first before look fine.0) ∙ kept) both.1 in record {
+      is = ap (λ bytes. bytes ++ text_from false last (shares_from ways (name ∷ []) here looks)) fine.1 ∙ ap (λ more. gain ways name before look ++ more) rest.is;
+      kept = ap (λ fate. is_some (failed_by ways.first fate (failed_in ways.first looks))) fine.0 ∙ rest.kept;
     }
 
 -- all of the looks
@@ -203,7 +181,7 @@ wrote_text ways name shows count seen watched new keeps_bytes (looked looks shar
     let well : any_failed (shares_of ways (name ∷ []) looks) ≡ false = ap any_failed (sym shares_are) ∙ unfailed (any_failed shares) leaves.status_is in
     let count_is : length looks ≡ length seen = sym (ap length seen_is ∙ length-map looks (λ (look : Look). look.snapshot)) in
     let all_kept = keeps_bytes (seen_is ∙ made.saw ∙ ap (seen_first shows) count_is) in
-    let text = is_text ways name looks well (subst (λ those. AreKept (entries_of ways.by_name name those)) seen_is all_kept) in
+    let text = is_text ways name looks well (rw seen_is at all_kept) in
     let (error, tells, slots) = leaves.wrote standard_output standard_error [] refl in record {
       looks = looks;
       count_is = count_is;
@@ -214,17 +192,17 @@ wrote_text ways name shows count seen watched new keeps_bytes (looked looks shar
       full = full;
       is = ap (λ those. (slot_at those 0).written) slots ∙ ap (text_from false None) shares_are ∙ text.is ∙ ap (λ those. name_text ways.start (entries_of ways.by_name name those)) (sym seen_is);
     }
-wrote_text ways name shows count seen watched new keeps_bytes (stopped mid why stop says failed) = absurd (not_one failed)
-wrote_text ways name shows count seen watched new keeps_bytes (no_room unseen unwatched says failed) = absurd (not_one failed)
+wrote_text ways name shows count seen watched new keeps_bytes (stopped mid why stop says failed) = absurd (omega (arith, failed))
+wrote_text ways name shows count seen watched new keeps_bytes (no_room unseen unwatched says failed) = absurd (omega (arith, failed))
 
 follows_text : {run : FollowRun} {options : EndsAsked} {followed : Followed} {name : List ℕ} → Follows run options followed → IsBare options → options.names ≡ name ∷ [] → (run.seen ≡ seen_first run.shows (length run.seen) → AreKept (entries_of (is_name followed) name run.seen))
     → WroteText (ways_of 0 (is_name followed) (start_of options)) name run.shows run.count run.seen run.outputs
 follows_text {run} {options} {followed} {name} follows bare named keeps_bytes =
     let ways = ways_of 0 (is_name followed) (start_of options) in
-    let ends = subst (FollowingEndsAt true true run.words run.count run.shows run.seen run.watched run.outputs run.status) follows.read follows.ends in
-    let one = subst (λ names. FollowEndsAs true true ways (has_headers options.headers options.names) names run.count run.shows streams run.seen run.watched run.outputs run.status) named ends in
-    let headless = subst (λ headers. FollowEndsAs true true ways headers (name ∷ []) run.count run.shows streams run.seen run.watched run.outputs run.status) bare one in
-    wrote_text ways name run.shows run.count run.seen run.watched run.outputs keeps_bytes (subst (FollowEndsAs true true ways false (name ∷ []) run.count run.shows streams run.seen run.watched run.outputs) follows.well headless)
+    let ends = rw follows.read at follows.ends in
+    let one = rw named at ends in
+    let headless = rw bare at one in
+    wrote_text ways name run.shows run.count run.seen run.watched run.outputs keeps_bytes (rw follows.well at headless)
 
 pub tells_text : (run : FollowRun) (options : EndsAsked) (followed : Followed) (name : List ℕ) → Follows run options followed → IsBare options → options.names ≡ name ∷ [] → AreKept (entries_of (is_name followed) name run.seen)
     → (slot_at run.outputs 0).written ≡ name_text (tail_of options.delim options.unit (is_plus options.count.sign) options.count.amount) (entries_of (is_name followed) name run.seen)
@@ -235,8 +213,8 @@ pub tells_all : (run : FollowRun) (options : EndsAsked) (followed : Followed) (n
     → (slot_at run.outputs 0).written ≡ tail_of options.delim options.unit (is_plus options.count.sign) options.count.amount ((run.shows 0).holds file) ++ came
 tells_all run options followed name came file n follows bare named count grows is =
     let ways = ways_of 0 (is_name followed) (start_of options) in
-    let wrote = follows_text follows bare named (λ saw. subst (λ those. AreKept (entries_of (is_name followed) name those)) (sym saw) (kept_in (is_name followed) run.shows grows)) in
-    let grew = subst (λ k. OnlyGrows k run.shows name file) (sym wrote.count_is) grows in
+    let wrote = follows_text follows bare named (λ saw. rw saw (kept_in (is_name followed) run.shows grows)) in
+    let grew = rw wrote.count_is grows in
     let made : length wrote.looks ≡ run.count = all_made ways run.shows wrote.looks grew wrote.saw wrote.kept wrote.few wrote.full in
     let all : length wrote.looks ≡ suc n = made ∙ count ∙ (let e : n + 1 ≡ suc n = omega arith in e) in
     wrote.is

@@ -1,13 +1,11 @@
 -- Numbered names are in the order of their numbers, while none has more digits than it is filled to.
-use Rattle.std.proofs.Common.{◌≡◌, ℕ, ◌+◌, ◌-◌, ◌/◌, ◌%◌, ◌^◌, ◌<◌, ◌≤◌, zero, suc, List, [], ◌∷◌, ◌++◌, length, map, replicate, inl, inr, refl, sym, ◌∙◌, ap, subst, arith, append_assoc, decimal, Less}
+use Rattle.std.proofs.Common.{◌≡◌, ℕ, ◌+◌, ◌-◌, ◌/◌, ◌%◌, ◌^◌, ◌<◌, ◌≤◌, zero, suc, List, [], ◌∷◌, ◌++◌, length, replicate, inl, inr, refl, sym, ◌∙◌, ap, subst, arith, append_assoc, length-append, decimal, Less}
 use Rattle.std.specs.Ordering.{nat_cmp}
 use Rattle.std.specs.Cmp.Lexicographic.{slice_cmp}
-use Rattle.std.specs.Int.Digits.{digits_of}
 use Rattle.std.proofs.Math.Nat.{mod-lt, pow-suc, pow-zero}
 use Rattle.std.proofs.lemmas.Bool.{cases_lt}
-use Rattle.std.proofs.lemmas.Fmt.{decimal-digits_of, decimal_digit}
-use Rattle.std.proofs.lemmas.Int.Digits.{digits_of_step, length-digits_of_step}
-use Rattle.std.proofs.lemmas.List.{append-nil, length-map, map-append}
+use Rattle.std.proofs.lemmas.Fmt.{decimal_by_steps}
+use Rattle.std.proofs.lemmas.List.{append-nil}
 use Rattle.std.proofs.lemmas.Nat.{div-add-mod'}
 use Rattle.ports_core.specs.Name.{numbered_name, zero_filled}
 use Rattle.ports_core.proofs.OrderLemmas.{IsBelow, first_less, same_front}
@@ -38,8 +36,7 @@ digits_in_order (suc width) {low} {high} less small =
       | inr reached ↦
           let same : high / 10 ≡ low / 10 = omega (arith, reached, one, two, less, first, second) in
           let last : 48 + low % 10 < 48 + high % 10 = omega (arith, same, one, two, less) in
-          subst (λ front. IsBelow (digits_in width (low / 10) ++ (48 + low % 10) ∷ []) (front ++ (48 + high % 10) ∷ [])) (sym (ap (digits_in width) same))
-          (same_front (digits_in width (low / 10)) ((48 + low % 10) ∷ []) ((48 + high % 10) ∷ []) (first_less (48 + low % 10) (48 + high % 10) [] [] last))
+          rw (ap (digits_in width) same) (same_front (digits_in width (low / 10)) ((48 + low % 10) ∷ []) ((48 + high % 10) ∷ []) (first_less (48 + low % 10) (48 + high % 10) [] [] last))
     ]
 
 one_more : {byte : ℕ} (count : ℕ) → byte ∷ replicate count byte ≡ replicate count byte ++ byte ∷ []
@@ -50,55 +47,28 @@ zeros : (width : ℕ) → replicate width 48 ≡ digits_in width 0
 zeros zero = refl
 zeros (suc width) = one_more width ∙ ap (λ front. front ++ 48 ∷ []) (zeros width)
 
-abbrev filled : ℕ → ℕ → List ℕ
-filled width n = replicate (width - length (digits_of 10 n)) 48 ++ map (λ d. 48 + d) (digits_of 10 n)
+-- a number in decimal, filled with zeros, is its last digits
 
-filled_zero : (width : ℕ) → filled width 0 ≡ digits_in width 0
-filled_zero width =
-    let all : width - 0 ≡ width = omega arith in
-    ap (λ k. replicate k 48 ++ []) all ∙ append-nil (replicate width 48) ∙ zeros width
+abbrev Fills : ℕ → List ℕ → Type 0
+Fills n text = (width : ℕ) → n < 10 ^ suc width → zero_filled (suc width) text ≡ digits_in (suc width) n
 
-filled_step : (digits : List ℕ) {all : List ℕ} (last : ℕ) {count more : ℕ} → all ≡ digits ++ last ∷ [] → more ≡ count → replicate more 48 ++ map (λ d. 48 + d) all ≡ (replicate count 48 ++ map (λ d. 48 + d) digits) ++ (48 + last) ∷ []
-filled_step digits {all} last {count} is same =
-    ap (λ k. replicate k 48 ++ map (λ d. 48 + d) all) same ∙ ap (λ those. replicate count 48 ++ map (λ d. 48 + d) those) is
-    ∙ ap (λ those. replicate count 48 ++ those) (map-append (λ d. 48 + d) digits (last ∷ []))
-    ∙ sym (append_assoc (replicate count 48) (map (λ d. 48 + d) digits) ((48 + last) ∷ []))
-
-filled_digits : (width : ℕ) {n : ℕ} → n < 10 ^ width → filled width n ≡ digits_in width n
-filled_digits zero {n} small =
-    let one : 10 ^ 0 ≡ 1 = pow-zero 10 in
-    let none : 0 ≡ n = omega (arith, one, small) in
-    subst (λ k. filled 0 k ≡ digits_in 0 k) none refl
-filled_digits (suc width) {n} small = elim (cases_lt 0 n) [
-  | inl some ↦
-      let step : digits_of 10 n ≡ digits_of 10 (n / 10) ++ (n % 10 ∷ []) = digits_of_step 10 n (omega arith) some in
-      let longer : length (digits_of 10 n) ≡ length (digits_of 10 (n / 10)) + 1 = length-digits_of_step 10 n (omega arith) some in
-      let size : suc width - length (digits_of 10 n) ≡ width - length (digits_of 10 (n / 10)) = omega (arith, longer) in
-      filled_step (digits_of 10 (n / 10)) (n % 10) step size
-      ∙ ap (λ front. front ++ (48 + n % 10) ∷ []) (filled_digits width (tenth width small))
-  | inr few ↦
-      let none : 0 ≡ n = omega (arith, few) in
-      subst (λ k. filled (suc width) k ≡ digits_in (suc width) k) none (filled_zero (suc width))
-]
-
-zero_text : decimal 0 ≡ 48 ∷ []
-zero_text = decimal_digit 0 (omega arith)
-
-zero_digits : (width : ℕ) → zero_filled (suc width) (48 ∷ []) ≡ digits_in (suc width) 0
-zero_digits width =
+fills_one : (n : ℕ) → n < 10 → Fills n ((48 + n) ∷ [])
+fills_one n digit width small =
     let fewer : suc width - 1 ≡ width = omega arith in
-    ap (λ k. replicate k 48 ++ 48 ∷ []) fewer ∙ sym (one_more width) ∙ zeros (suc width)
+    let none : 0 ≡ n / 10 = omega (arith, digit) in
+    let same : n ≡ n % 10 = omega (arith, digit) in
+    ap (λ k. replicate k 48 ++ (48 + n) ∷ []) fewer ∙ ap (λ front. front ++ (48 + n) ∷ []) (zeros width ∙ ap (digits_in width) none)
+    ∙ ap (λ last. digits_in width (n / 10) ++ (48 + last) ∷ []) same
+
+fills_more : (n : ℕ) (digits : List ℕ) → 10 ≤ n → Fills (n / 10) digits → Fills n (digits ++ (48 + n % 10) ∷ [])
+fills_more n digits ten fills zero small = absurd (omega (arith, ten, small))
+fills_more n digits ten fills (suc width) small =
+    let size : suc (suc width) - length (digits ++ (48 + n % 10) ∷ []) ≡ suc width - length digits = omega (arith, length-append digits ((48 + n % 10) ∷ [])) in
+    ap (λ k. replicate k 48 ++ (digits ++ (48 + n % 10) ∷ [])) size ∙ sym (append_assoc (replicate (suc width - length digits) 48) digits ((48 + n % 10) ∷ []))
+    ∙ ap (λ front. front ++ (48 + n % 10) ∷ []) (fills width (tenth (suc width) small))
 
 number_digits : (width : ℕ) {n : ℕ} → n < 10 ^ suc width → n < 2 ^ 64 → zero_filled (suc width) (decimal n) ≡ digits_in (suc width) n
-number_digits width {n} small least = elim (cases_lt 0 n) [
-  | inl some ↦
-      ap (zero_filled (suc width)) (decimal-digits_of n some least)
-      ∙ ap (λ k. replicate (suc width - k) 48 ++ map (λ d. 48 + d) (digits_of 10 n)) (length-map (digits_of 10 n) (λ d. 48 + d))
-      ∙ filled_digits (suc width) small
-  | inr few ↦
-      let none : 0 ≡ n = omega (arith, few) in
-      subst (λ k. zero_filled (suc width) (decimal k) ≡ digits_in (suc width) k) none (ap (zero_filled (suc width)) zero_text ∙ zero_digits width)
-]
+number_digits width {n} small least = decimal_by_steps Fills fills_one fills_more n least width small
 
 names_below : (prefix : List ℕ) (digits : ℕ) {low high : ℕ} → low < high → high < 10 ^ digits → high < 2 ^ 64 → slice_cmp nat_cmp (numbered_name prefix digits low) (numbered_name prefix digits high) ≡ Less
 names_below prefix zero less small least = let one : 10 ^ 0 ≡ 1 = pow-zero 10 in absurd (omega (arith, one, small, less))
@@ -113,9 +83,13 @@ by_places : (names : List (List ℕ)) → ((k : ℕ) → k + 1 < length names �
 by_places (name ∷ next ∷ names) each = (each 0 (omega arith), by_places (next ∷ names) (λ k within. each (suc k) (omega (arith, within))))
 by_places names each = tt
 
+-- texts that are named by their places
+pub order_by : (name : ℕ → List ℕ) (names : List (List ℕ)) → ((place : ℕ) → place < length names → text_at names place ≡ name place)
+    → ((k : ℕ) → suc k < length names → slice_cmp nat_cmp (name k) (name (suc k)) ≡ Less) → AreInOrder names
+order_by name names named less = by_places names (λ k within.
+    ap (λ one. slice_cmp nat_cmp one (text_at names (suc k))) (named k (omega (arith, within))) ∙ ap (slice_cmp nat_cmp (name k)) (named (suc k) (omega (arith, within))) ∙ less k (omega (arith, within)))
+
 pub numbered_in_order : (prefix : List ℕ) (digits : ℕ) (names : List (List ℕ)) → ((place : ℕ) → place < length names → text_at names place ≡ numbered_name prefix digits place)
     → length names ≤ 10 ^ digits → length names ≤ 2 ^ 64 → AreInOrder names
-numbered_in_order prefix digits names named few least = by_places names (λ k within.
-    ap (λ name. slice_cmp nat_cmp name (text_at names (suc k))) (named k (omega (arith, within)))
-    ∙ ap (slice_cmp nat_cmp (numbered_name prefix digits k)) (named (suc k) (omega (arith, within)))
-    ∙ names_below prefix digits (omega arith) (omega (arith, within, few)) (omega (arith, within, least)))
+numbered_in_order prefix digits names named few least =
+    order_by (numbered_name prefix digits) names named (λ k next. names_below prefix digits (omega arith) (omega (arith, next, few)) (omega (arith, next, least)))

@@ -19,16 +19,15 @@ use Rattle.std.proofs.lemmas.Bool.{false≢true}
 use Rattle.ports_core.specs.Slot.{Slot, changed_at, slot_at, streams}
 use Rattle.ports_core.specs.Source.{Content, Source, source_at, IsFresh}
 use Rattle.ports_core.specs.Text.{message_of}
-use Rattle.ports_core.specs.Message.{Says, SaysOn}
+use Rattle.ports_core.specs.Message.{Says, SaysAll}
 use Rattle.ports_core.specs.declared.fault.Fault.TheVariants.{Memory, Usage}
 use Rattle.ports_core.specs.declared.slot.Mode.{Mode}
 use Rattle.ports_core.specs.Inputs.{BreaksOnly, KeepsOthers, OfContent, empty}
 use Rattle.run_core.specs.Input.{Input, World, Finds, standard_input}
 use Rattle.run_core.specs.Reading.{count_after}
 use Rattle.run_core.specs.RunEnds.{EndsAs, no_room, RunsOver}
-use Rattle.ports_core.specs.Streams.{standard_error, streams_with}
+use Rattle.ports_core.specs.Streams.{standard_error}
 use Rattle.run_core.specs.RunSteps.{world_of}
-use Rattle.run_core.specs.Task.{Task}
 use Rattle.run_core.proofs.InputLemmas.{none_touched}
 use Rattle.seg_core.specs.declared.count.Count.{Count}
 use Rattle.seg_core.specs.declared.unit.Unit.{Unit as Counted}
@@ -104,18 +103,16 @@ can_run (name ∷ words) {settings} is = can_tool words (row_named tools name) i
 pub tool_runs : {told_in : Bool} (told : Bool) {world : World} (words : List (List ℕ)) {settings : Settings} (old sources : List Source) (new : List Slot) (status : ℕ) → settings_of words ≡ Ok settings
     → RunsOver told_in world (names_of settings) (λ found. DoesAsked told_in told settings found sources new status)
     → RunsOver told_in world (names_read words) (λ found. RunEnds told_in told words found old sources new status)
-tool_runs {told_in} told {world} words old sources new status is (found, finds, does) =
-    subst (λ (meant : Result Settings Fault). RunsOver told_in world (names_at meant) (λ found. RunEndsAt told_in told words found old sources new status meant)) (sym is) (found, finds, inl does)
+tool_runs told words old sources new status is (found, finds, does) = rw is (found, finds, inl does)
 
 pub for_settings : {told_in : Bool} (told : Bool) {world : World} {settings same : Settings} (sources : List Source) (new : List Slot) (status : ℕ) → settings ≡ same
     → RunsOver told_in world (names_of same) (λ found. DoesAsked told_in told same found sources new status)
     → RunsOver told_in world (names_of settings) (λ found. DoesAsked told_in told settings found sources new status)
-for_settings {told_in} told {world} sources new status is runs =
-    subst (λ those. RunsOver told_in world (names_of those) (λ found. DoesAsked told_in told those found sources new status)) (sym is) runs
+for_settings told sources new status is runs = rw is runs
 
 -- the same for an equal list of names
 pub runs_names : {told_in : Bool} {world : World} {names same : List (List ℕ)} (P : List Input → Type 0) → names ≡ same → RunsOver told_in world names P → RunsOver told_in world same P
-runs_names {told_in} {world} P is runs = subst (λ those. RunsOver told_in world those P) is runs
+runs_names P is runs = rw (← is) runs
 
 -- the names that a run reads are those of its settings
 pub ends_names : {asked : EndsAsked} {unit : Counted} {count : Count} {headers : Headers} {delim : ℕ} {items now : List (Bor (List ℕ))} → now ≡ items → record { unit = unit; count = count; headers = headers; delim = delim; names = map (λ (name : Bor (List ℕ)). name.now) items } ≡ asked
@@ -131,23 +128,18 @@ finds_standard {laid} sources {content} there = record {
   there = λ t. ap (λ (those : Content). standard_input those ∷ []) (there t);
 }
 
-pub tee_runs : {told_in told : Bool} {laid : ℕ → List ℕ → Option Content} {asked : TeeAsked} {mode : Mode} {items now : List (Bor (List ℕ))} (old : List Source) {sources : List Source} {new : List Slot} {status : ℕ} → now ≡ items
-    → record { mode = mode; names = map (λ (name : Bor (List ℕ)). name.now) items } ≡ asked
-    → OfContent told_in (source_at old 0).left (λ content. TeeCopies told_in told mode (map (λ (name : Bor (List ℕ)). name.now) now) content (source_at sources 0) new status × BreaksOnly told_in content (source_at sources 0))
-    → (told_in ≡ true → status ≡ 0 → new ≡ all_copied told mode (map (λ (name : Bor (List ℕ)). name.now) now) (source_at old 0).left.bytes)
-    → RunsOver told_in (world_of laid old) (codes "-" ∷ []) (λ found. TeeEndsAs told_in told asked found sources new status)
-tee_runs {told_in} {told} {mode} {now} old {sources} {new} {status} same is (content, there, (ends, breaks)) whole = (
+pub tee_runs : {told_in told : Bool} {laid : ℕ → List ℕ → Option Content} {asked : TeeAsked} {mode : Mode} {names : List (List ℕ)} (old : List Source) {sources : List Source} {new : List Slot} {status : ℕ} → mode ≡ asked.mode → names ≡ asked.names
+    → OfContent told_in (source_at old 0).left (λ content. TeeCopies told_in told mode names content (source_at sources 0) new status × BreaksOnly told_in content (source_at sources 0))
+    → (told_in ≡ true → status ≡ 0 → new ≡ all_copied told mode names (source_at old 0).left.bytes) → RunsOver told_in (world_of laid old) (codes "-" ∷ []) (λ found. TeeEndsAs told_in told asked found sources new status)
+tee_runs {told = told} {mode = mode} {names} old mode_is names_is (content, there, (ends, breaks)) whole = (
   standard_input content ∷ [],
   finds_standard old there,
   record {
     content = content;
     input = refl;
-    ends = subst (λ (those : TeeAsked). TeeCopies told_in told those.mode those.names content (source_at sources 0) new status) is
-        (subst (λ (those : List (Bor (List ℕ))). TeeCopies told_in told mode (map (λ (name : Bor (List ℕ)). name.now) those) content (source_at sources 0) new status) same ends);
+    ends = rw (mode_is, names_is) at ends;
     breaks = breaks;
-    whole = λ t well. subst (λ (those : TeeAsked). new ≡ all_copied told those.mode those.names content.bytes) is
-        (subst (λ (those : List (Bor (List ℕ))). new ≡ all_copied told mode (map (λ (name : Bor (List ℕ)). name.now) those) content.bytes) same
-        (whole t well ∙ ap (λ (those : Content). all_copied told mode (map (λ (name : Bor (List ℕ)). name.now) now) those.bytes) (sym (there t))));
+    whole = λ t well. rw (mode_is, names_is) at (whole t well ∙ ap (λ (those : Content). all_copied told mode names those.bytes) (sym (there t)));
   },
 )
 
@@ -163,33 +155,9 @@ unread_source true {sources} fresh =
     let is = ap (λ those. source_at those 0) fresh.only in ((source_at sources 0).left, λ t. refl, ((fresh.standard, is, λ t. sym (ap (λ (source : Source). source.left) is)), λ untold. absurd (false≢true (sym untold))))
 unread_source false fresh = (empty, λ t. absurd (false≢true t), ((fresh.standard, ap (λ those. source_at those 0) fresh.only, λ t. absurd (false≢true t)), λ untold breaks. absurd (false≢true breaks)))
 
-unread_task : {told_in told : Bool} {laid : ℕ → List ℕ → Option Content} {sources : List Source} {task : Task} {names : List (List ℕ)} {new : List Slot} {error : Slot} → IsFresh sources
-    → Says told task.tool (message_of task.tool Memory []) standard_error error → new ≡ streams_with error
-    → RunsOver told_in (world_of laid sources) names (λ found. EndsAs told_in told task found sources new 1)
-unread_task {told_in} {laid} {sources} {names} {error} fresh says slots =
-    let untouched = none_touched {told_in = told_in} {laid = laid} {names = names} fresh in (untouched.0, untouched.1, no_room error (error, says, refl) slots untouched.2 (ap length fresh.only) refl)
-
-unread_tee : {told_in told : Bool} {laid : ℕ → List ℕ → Option Content} {sources : List Source} {asked : TeeAsked} {new : List Slot} {error : Slot} → IsFresh sources
-    → Says told tool.Tee (message_of tool.Tee Memory []) standard_error error → new ≡ streams_with error
-    → RunsOver told_in (world_of laid sources) (codes "-" ∷ []) (λ found. TeeEndsAs told_in told asked found sources new 1)
-unread_tee {told_in} {sources} {error} fresh says slots =
-    let (content, there, (unread, breaks)) = unread_source told_in fresh in (
-      standard_input content ∷ [],
-      finds_standard sources there,
-      record { content = content; input = refl; ends = copies.no_room error (error, says, refl) unread slots refl; breaks = breaks; whole = λ t well. absurd (cc) },
-    )
-
 -- want of memory is one of the faults of operands
 pub lacks_memory : (asked : CsplitAsked) → HasBadOperand asked Memory
 lacks_memory asked = (record { kind = kind.Memory; index = 0 }, no_memory 0, refl)
-
-unread_settings : {told_in told : Bool} {laid : ℕ → List ℕ → Option Content} {sources : List Source} (words : List (List ℕ)) (settings : Settings) {new : List Slot} {error : Slot} → IsFresh sources → RefusesFor told words Memory new 1
-    → Says told (tool_of settings) (message_of (tool_of settings) Memory []) standard_error error → new ≡ streams_with error
-    → RunsOver told_in (world_of laid sources) (names_of settings) (λ found. RunEndsAt told_in told words found sources sources new 1 (Ok settings))
-unread_settings {told_in} {laid} {sources} words (Csplit asked) fresh refuses says slots =
-    let untouched = none_touched {told_in = told_in} {laid = laid} {names = asked.input ∷ []} fresh in (untouched.0, untouched.1, inr (refl, (Memory, lacks_memory asked, refuses)))
-unread_settings words (Tee asked) fresh refuses says slots = let (found, finds, does) = unread_tee fresh says slots in (found, finds, inl does)
-unread_settings words asked fresh refuses says slots = let (found, finds, does) = unread_task fresh says slots in (found, finds, inl does)
 
 -- words that are refused, or weren't read for want of memory
 
@@ -201,46 +169,43 @@ refused_memory words fault refuses = record {
   failed = refuses.failed;
 }
 
-unread_for : {told_in told : Bool} {laid : ℕ → List ℕ → Option Content} {sources : List Source} (words : List (List ℕ)) (meant : Result Settings Fault) {new : List Slot} {error : Slot} → IsFresh sources → settings_of words ≡ meant
-    → Says told (speaker words) (message_of (speaker words) Memory []) standard_error error → new ≡ streams_with error
-    → RunsOver told_in (world_of laid sources) (names_at meant) (λ found. RunEndsAt told_in told words found sources sources new 1 meant)
-unread_for {told} words (Ok settings) {new} {error} fresh is says slots =
-    unread_settings words settings fresh (record { error = error; says = says; slots = slots; failed = refl })
-    (subst (λ (which : Tool). Says told which (message_of which Memory []) standard_error error) (runs_as_named words is) says) slots
-unread_for words (Err fault) {new} {error} fresh is says slots = (
-  [],
-  record { are = refl; there = λ t. refl },
-  (refl, refused_memory words fault (record { error = error; says = says; slots = slots; failed = refl })),
-)
+-- what is said of the words is said by the tool that they ask for
+says_as : {told : Bool} (words : List (List ℕ)) {settings : Settings} {new : List Slot} {status : ℕ} → settings_of words ≡ Ok settings → (refuses : RefusesFor told words Memory new status)
+    → SaysAll told (tool_of settings) (message_of (tool_of settings) Memory [] ∷ []) standard_error refuses.error
+says_as {told} words is refuses = rw (runs_as_named words is) at (refuses.error, refuses.says, refl)
 
--- the words ask for something whose operands can't be read
-operands_refused : {told_in told : Bool} {laid : ℕ → List ℕ → Option Content} {sources : List Source} (words : List (List ℕ)) (settings : Settings) (fault : Fault) {new : List Slot} {status : ℕ} → IsFresh sources → HasBadOperands settings fault
-    → RefusesFor told words fault new status → RunsOver told_in (world_of laid sources) (names_of settings) (λ found. RunEndsAt told_in told words found sources sources new status (Ok settings))
-operands_refused {told_in} {laid} {sources} words settings fault fresh bad refuses =
-    let untouched = none_touched {told_in = told_in} {laid = laid} {names = names_of settings} fresh in (untouched.0, untouched.1, inr (refl, (fault, bad, refuses)))
+module _ (told_in told : Bool) (words : List (List ℕ)) (laid : ℕ → List ℕ → Option Content) (sources : List Source) (new : List Slot) (status : ℕ) (fresh : IsFresh sources) where
+  -- no input was touched by a run of words that mean this
+  abbrev pub EndsUnread : Result Settings Fault → Type 0
+  EndsUnread meant = RunsOver told_in (world_of laid sources) (names_at meant) (λ found. RunEndsAt told_in told words found sources sources new status meant)
 
-pub refused_or_memory : {told_in told : Bool} {laid : ℕ → List ℕ → Option Content} {sources : List Source} (words : List (List ℕ)) {fault : Fault} {new : List Slot} {status : ℕ} → IsFresh sources → IsRefused HasBadOperands (settings_of words) fault
-    → RefusesFor told words fault new status → RunsOver told_in (world_of laid sources) (names_read words) (λ found. RunEnds told_in told words found sources sources new status)
-refused_or_memory {told_in} {told} {laid} {sources} words {new} {status} fresh (inr (inl is)) refuses =
-    subst (λ (meant : Result Settings Fault). RunsOver told_in (world_of laid sources) (names_at meant) (λ found. RunEndsAt told_in told words found sources sources new status meant)) (sym is) (
-      [],
-      record { are = refl; there = λ t. refl },
-      (refl, refuses),
-    )
-refused_or_memory {told_in} {told} {laid} {sources} words {fault} {new} {status} fresh (inr (inr (settings, is, bad))) refuses =
-    subst (λ (meant : Result Settings Fault). RunsOver told_in (world_of laid sources) (names_at meant) (λ found. RunEndsAt told_in told words found sources sources new status meant)) (sym is)
-    (operands_refused words settings fault fresh bad refuses)
-refused_or_memory {told_in} {told} {laid} {sources} words {new} {status} fresh (inl is) refuses =
-    let said : RefusesFor told words Memory new status = subst (λ why. RefusesFor told words why new status) is refuses in
-    subst (λ those. RunsOver told_in (world_of laid sources) (names_read words) (λ found. RunEnds told_in told words found sources sources new those)) (sym said.failed)
-    (unread_for words (settings_of words) fresh refl said.says said.slots)
+  -- the words ask for something whose operands can't be read
+  operands_refused : (settings : Settings) (fault : Fault) → HasBadOperands settings fault → RefusesFor told words fault new status → EndsUnread (Ok settings)
+  operands_refused settings fault bad refuses = let (found, finds, untouched) = none_touched fresh in (found, finds, inr (refl, (fault, bad, refuses)))
+
+  unread_for : (meant : Result Settings Fault) → settings_of words ≡ meant → RefusesFor told words Memory new status → EndsUnread meant
+  unread_for (Err fault) is refuses = ([], record { are = refl; there = λ t. refl }, (refl, refused_memory words fault refuses))
+  unread_for (Ok (Csplit asked)) is refuses = operands_refused (Csplit asked) Memory (lacks_memory asked) refuses
+  unread_for (Ok (Tee asked)) is refuses =
+      let (content, there, (unread, breaks)) = unread_source told_in fresh in (
+        standard_input content ∷ [],
+        finds_standard sources there,
+        inl (record { content = content; input = refl; ends = copies.no_room refuses.error (says_as words is refuses) unread refuses.slots refuses.failed; breaks = breaks; whole = λ t well. absurd (omega (arith, well, refuses.failed)) }),
+      )
+  unread_for (Ok settings) is refuses =
+      let (found, finds, untouched) = none_touched fresh in (found, finds, inl (no_room refuses.error (says_as words is refuses) refuses.slots untouched (ap length fresh.only) refuses.failed))
+
+  pub refused_or_memory : {fault : Fault} → IsRefused HasBadOperands (settings_of words) fault → RefusesFor told words fault new status → EndsUnread (settings_of words)
+  refused_or_memory (inr (inl is)) refuses = rw is ([], record { are = refl; there = λ t. refl }, (refl, refuses))
+  refused_or_memory {fault} (inr (inr (settings, is, bad))) refuses = rw is (operands_refused settings fault bad refuses)
+  refused_or_memory (inl is) refuses = unread_for (settings_of words) refl (rw is at refuses)
 
 -- `csplit` cuts at the operands that were read
 pub csplit_runs : {told_in told : Bool} {world : World} {asked : CsplitAsked} {input : List ℕ} {operands : List Operand} {sources : List Source} {new : List Slot} {status : ℕ} → input ≡ asked.input → Asks asked.operands operands
     → RunsOver told_in world (input ∷ []) (λ found. EndsAs told_in told (csplit_task asked operands) found sources new status)
     → RunsOver told_in world (asked.input ∷ []) (λ found. CsplitEndsAs told_in told asked found sources new status)
 csplit_runs {told_in} {world} {operands} is asks (found, finds, ends) =
-    (found, subst (λ name. Finds told_in world (name ∷ []) found) is finds, record { operands = operands; asks = asks; ends = ends })
+    (found, rw is at finds, record { operands = operands; asks = asks; ends = ends })
 
 pub asked_or_none : (words : List (List ℕ)) {settings : Settings} {fault : Fault} → settings_of words ≡ Ok settings → settings_of words ≡ Err fault → ⊥
 asked_or_none words {settings} {fault} asks refuses = both (sym asks ∙ refuses) where
@@ -250,10 +215,10 @@ asked_or_none words {settings} {fault} asks refuses = both (sym asks ∙ refuses
 -- how many inputs there can be, by the names
 
 pub counts_by : {count : ℕ} (words : List (List ℕ)) {settings : Settings} → settings_of words ≡ Ok settings → count ≤ count_after 1 (names_of settings) → count ≤ count_after 1 (names_read words)
-counts_by {count} words is few = subst (λ (meant : Result Settings Fault). count ≤ count_after 1 (names_at meant)) (sym is) few
+counts_by words is few = rw is few
 
 pub counts_for : {count : ℕ} {settings same : Settings} {names : List (List ℕ)} → settings ≡ same → names ≡ names_of same → count ≤ count_after 1 names → count ≤ count_after 1 (names_of settings)
-counts_for {count} is named few = subst (λ those. count ≤ count_after 1 (names_of those)) (sym is) (subst (λ those. count ≤ count_after 1 those) named few)
+counts_for is named few = rw (is, ← named) few
 
 -- Lemmas on how a run that follows ends, by its words.
 
@@ -261,46 +226,33 @@ counts_for {count} is named few = subst (λ those. count ≤ count_after 1 (name
 pub follows_as : {told_in told : Bool} (asked : EndsAsked) (followed : Followed) {by_name : Bool} {start : Start} {headers : Bool} {names : List (List ℕ)} {looks : ℕ} {shows : ℕ → Snapshot} {first : List Slot} {seen : List Snapshot} {watched : List Watched} {new : List Slot} {status : ℕ}
     → by_name ≡ is_name followed → start ≡ start_of asked → headers ≡ has_headers asked.headers asked.names → names ≡ asked.names → first ≡ streams
     → FollowEndsAs told_in told (ways_of 0 by_name start) headers names looks shows first seen watched new status → FollowsAs told_in told asked followed looks shows seen watched new status
-follows_as {told_in} {told} asked followed {by_name} {start} {headers} {names} {looks} {shows} {seen} {watched} {new} {status} name_is start_is headers_are names_are first_is ends =
-    subst (λ b. F b (start_of asked) (has_headers asked.headers asked.names) asked.names streams) name_is
-    (subst (λ (s : Start). F by_name s (has_headers asked.headers asked.names) asked.names streams) start_is
-    (subst (λ h. F by_name start h asked.names streams) headers_are
-    (subst (λ n. F by_name start headers n streams) names_are
-    (subst (λ f. F by_name start headers names f) first_is ends)))) where
-      F : Bool → Start → Bool → List (List ℕ) → List Slot → Type 0
-      F b s h n f = FollowEndsAs told_in told (ways_of 0 b s) h n looks shows f seen watched new status
+follows_as asked followed name_is start_is headers_are names_are first_is ends = rw (name_is, start_is, headers_are, names_are, first_is) at ends
 
--- words that weren't read for want of memory, where they ask for this
+module _ (told_in told : Bool) (words : List (List ℕ)) (looks : ℕ) (shows : ℕ → Snapshot) (seen : List Snapshot) (watched : List Watched) (new : List Slot) (status : ℕ) (unseen : seen ≡ []) (unwatched : watched ≡ []) where
+  -- words that weren't read for want of memory
 
-says_at : {told : Bool} (words : List (List ℕ)) {new : List Slot} {status : ℕ} → speaker words ≡ tool.Tail → RefusesFor told words Memory new status → SaysOn told tool.Tail (message_of tool.Tail Memory []) streams new
-says_at {told} words speaks refuses output error since are = (
-  refuses.error,
-  subst (λ slot. Says told tool.Tail (message_of tool.Tail Memory []) slot refuses.error) (ap (λ slots. slot_at slots 1) are)
-      (subst (λ (which : Tool). Says told which (message_of which Memory []) standard_error refuses.error) speaks refuses.says),
-  refuses.slots ∙ ap (changed_at 1 (λ _. refuses.error)) are,
-)
+  unread_tail : (asked : EndsAsked) (followed : Option Followed) → speaker words ≡ tool.Tail → RefusesFor told words Memory new status → FollowsTail told_in told words asked followed looks shows seen watched new status
+  unread_tail asked None speaks refuses = (unseen, unwatched, refused_memory words (Usage BadFollow 0) refuses)
+  unread_tail asked (Some followed) speaks refuses = no_room_yet unseen unwatched (λ output error since are. (
+    refuses.error,
+    rw (ap (λ slots. slot_at slots 1) are) at (subst (λ (which : Tool). Says told which (message_of which Memory []) standard_error refuses.error) speaks refuses.says),
+    refuses.slots ∙ ap (changed_at 1 (λ _. refuses.error)) are,
+  )) refuses.failed
 
-unread : (told_in told : Bool) (words : List (List ℕ)) (asked : EndsAsked) (followed : Option Followed) (looks : ℕ) (shows : ℕ → Snapshot) (seen : List Snapshot) (watched : List Watched) (new : List Slot) (status : ℕ) → speaker words ≡ tool.Tail → seen ≡ [] → watched ≡ [] → RefusesFor told words Memory new status → FollowsTail told_in told words asked followed looks shows seen watched new status
-unread told_in told words asked (Some followed) looks shows seen watched new status speaks unseen unwatched refuses = no_room_yet unseen unwatched (says_at words speaks refuses) refuses.failed
-unread told_in told words asked None looks shows seen watched new status speaks unseen unwatched refuses = (unseen, unwatched, refused_memory words (Usage BadFollow 0) refuses)
+  unread_files : (meant : Result Settings Fault) → settings_of words ≡ meant → RefusesFor told words Memory new status → FollowingEndsAt told_in told words looks shows seen watched new status meant
+  unread_files (Ok (Tail asked)) is refuses = unread_tail asked.ends asked.followed (runs_as_named words is) refuses
+  unread_files (Ok (Csplit asked)) is refuses = inr (unseen, unwatched, (Memory, lacks_memory asked, refuses))
+  unread_files (Ok asked) is refuses = inl (tt, (unseen, unwatched, refused_memory words (Usage BadFollow 0) refuses))
+  unread_files (Err fault) is refuses = (unseen, unwatched, refused_memory words fault refuses)
 
-unread_files : (told_in : Bool) {told : Bool} (words : List (List ℕ)) (meant : Result Settings Fault) (looks : ℕ) (shows : ℕ → Snapshot) {seen : List Snapshot} {watched : List Watched} {new : List Slot} {status : ℕ} → settings_of words ≡ meant → seen ≡ [] → watched ≡ [] → RefusesFor told words Memory new status → FollowingEndsAt told_in told words looks shows seen watched new status meant
-unread_files told_in {told} words (Ok (Tail asked)) looks shows {seen} {watched} {new} {status} is unseen unwatched refuses = unread told_in told words asked.ends asked.followed looks shows seen watched new status (runs_as_named words is) unseen unwatched refuses
-unread_files told_in words (Ok (Csplit asked)) looks shows is unseen unwatched refuses = inr (unseen, unwatched, (Memory, lacks_memory asked, refuses))
-unread_files told_in {told} words (Ok asked) looks shows {new} {status} is unseen unwatched refuses = inl (tt, (unseen, unwatched, refused_memory words (Usage BadFollow 0) refuses))
-unread_files told_in {told} words (Err fault) looks shows {new} {status} is unseen unwatched refuses = (unseen, unwatched, refused_memory words fault refuses)
+  operands_unread : (settings : Settings) (fault : Fault) → HasBadOperands settings fault → RefusesFor told words fault new status → FollowingEndsAt told_in told words looks shows seen watched new status (Ok settings)
+  operands_unread (Csplit asked) fault bad refuses = inr (unseen, unwatched, (fault, bad, refuses))
+  operands_unread asked fault bad refuses = absurd bad
 
--- operands that can't be read
-operands_unread : (told_in : Bool) {told : Bool} (words : List (List ℕ)) (settings : Settings) (fault : Fault) (looks : ℕ) (shows : ℕ → Snapshot) {seen : List Snapshot} {watched : List Watched} {new : List Slot} {status : ℕ} → HasBadOperands settings fault → seen ≡ [] → watched ≡ [] → RefusesFor told words fault new status → FollowingEndsAt told_in told words looks shows seen watched new status (Ok settings)
-operands_unread told_in words (Csplit asked) fault looks shows bad unseen unwatched refuses = inr (unseen, unwatched, (fault, bad, refuses))
-operands_unread told_in words asked fault looks shows bad unseen unwatched refuses = absurd bad
-
-pub refused_words : (told_in : Bool) {told : Bool} (words : List (List ℕ)) {fault : Fault} (looks : ℕ) (shows : ℕ → Snapshot) {seen : List Snapshot} {watched : List Watched} {new : List Slot} {status : ℕ} → IsRefused HasBadOperands (settings_of words) fault → seen ≡ [] → watched ≡ [] → RefusesFor told words fault new status → FollowingEnds told_in told words looks shows seen watched new status
-refused_words told_in {told} words looks shows {seen} {watched} {new} {status} (inr (inl is)) unseen unwatched refuses = subst (λ (meant : Result Settings Fault). FollowingEndsAt told_in told words looks shows seen watched new status meant) (sym is) (unseen, unwatched, refuses)
-refused_words told_in {told} words {fault} looks shows {seen} {watched} {new} {status} (inr (inr (settings, is, bad))) unseen unwatched refuses =
-    subst (λ (meant : Result Settings Fault). FollowingEndsAt told_in told words looks shows seen watched new status meant) (sym is) (operands_unread told_in words settings fault looks shows bad unseen unwatched refuses)
-refused_words told_in {told} words looks shows {seen} {watched} {new} {status} (inl is) unseen unwatched refuses =
-    unread_files told_in words (settings_of words) looks shows refl unseen unwatched (subst (λ why. RefusesFor told words why new status) is refuses)
+  pub refused_words : {fault : Fault} → IsRefused HasBadOperands (settings_of words) fault → RefusesFor told words fault new status → FollowingEnds told_in told words looks shows seen watched new status
+  refused_words (inr (inl is)) refuses = rw is (unseen, unwatched, refuses)
+  refused_words {fault} (inr (inr (settings, is, bad))) refuses = rw is (operands_unread settings fault bad refuses)
+  refused_words (inl is) refuses = unread_files (settings_of words) refl (rw is at refuses)
 
 -- Which of both runs the words ask for.
 
@@ -308,20 +260,18 @@ refused_words told_in {told} words looks shows {seen} {watched} {new} {status} (
 pub program_follows : (told_in told_watched told : Bool) (words : List (List ℕ)) {settings : Settings} (laid : ℕ → List ℕ → Option Content) (sources : List Source) (shows : ℕ → Snapshot) (seen : List Snapshot) (watched : List Watched) (new : List Slot) (status : ℕ) → settings_of words ≡ Ok settings → follows settings ≡ true
     → FollowingEndsAt told_watched told words (looks settings) shows seen watched new status (Ok settings) → ProgramEnds told_in told_watched told words laid sources sources shows seen watched new status
 program_follows told_in told_watched told words {settings} laid sources shows seen watched new status is asked ends =
-    subst (λ (which : Option ℕ). ProgramEndsAt told_in told_watched told words laid sources sources shows seen watched new status which) (sym (ap looks_at is ∙ ap (λ b. if b then Some (looks settings) else None) asked))
-    (refl, subst (λ (meant : Result Settings Fault). FollowingEndsAt told_watched told words (looks settings) shows seen watched new status meant) (sym is) ends)
+    rw (ap looks_at is ∙ ap (λ b. if b then Some (looks settings) else None) asked) (refl, rw is ends)
 
 -- their tool ran over its inputs
 pub program_runs : {told_in : Bool} (told_watched told : Bool) (words : List (List ℕ)) {settings : Settings} {laid : ℕ → List ℕ → Option Content} (sources sources_new : List Source) (shows : ℕ → Snapshot) {seen : List Snapshot} {watched : List Watched} (new : List Slot) (status : ℕ) → settings_of words ≡ Ok settings → follows settings ≡ false → seen ≡ [] → watched ≡ []
     → RunsOver told_in (world_of laid sources) (names_of settings) (λ found. DoesAsked told_in told settings found sources_new new status) → ProgramEnds told_in told_watched told words laid sources sources_new shows seen watched new status
-program_runs {told_in} told_watched told words {settings} {laid} sources sources_new shows {seen} {watched} new status is asked unseen unwatched does =
-    subst (λ (which : Option ℕ). ProgramEndsAt told_in told_watched told words laid sources sources_new shows seen watched new status which) (sym (ap looks_at is ∙ ap (λ b. if b then Some (looks settings) else None) asked))
-    (unseen, unwatched, tool_runs told words sources sources_new new status is does)
+program_runs told_watched told words {settings} sources sources_new shows new status is asked unseen unwatched does =
+    rw (ap looks_at is ∙ ap (λ b. if b then Some (looks settings) else None) asked) (unseen, unwatched, tool_runs told words sources sources_new new status is does)
 
 -- what words leave that are refused, whichever run they ask for
 pub program_refuses : (told_in told_watched : Bool) {told : Bool} (words : List (List ℕ)) (laid : ℕ → List ℕ → Option Content) {sources : List Source} (shows : ℕ → Snapshot) {seen : List Snapshot} {watched : List Watched} {fault : Fault} {new : List Slot} {status : ℕ} → IsFresh sources → seen ≡ [] → watched ≡ [] → IsRefused HasBadOperands (settings_of words) fault → RefusesFor told words fault new status
     → ProgramEnds told_in told_watched told words laid sources sources shows seen watched new status
 program_refuses told_in told_watched {told} words laid {sources} shows {seen} {watched} {fault} {new} {status} fresh unseen unwatched refused refuses = by (looks_at (settings_of words)) where
   by : (asked : Option ℕ) → ProgramEndsAt told_in told_watched told words laid sources sources shows seen watched new status asked
-  by (Some looks) = (refl, refused_words told_watched words looks shows refused unseen unwatched refuses)
-  by None = (unseen, unwatched, refused_or_memory words fresh refused refuses)
+  by (Some looks) = (refl, refused_words told_watched told words looks shows seen watched new status unseen unwatched refused refuses)
+  by None = (unseen, unwatched, refused_or_memory told_in told words laid sources new status fresh refused refuses)

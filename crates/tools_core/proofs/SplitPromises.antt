@@ -1,22 +1,18 @@
 -- What `split` leaves of its input.
 use Rattle.std.proofs.Common.{◌≡◌, ℕ, ◌+◌, ◌-◌, ◌*◌, ◌/◌, ◌%◌, ◌<◌, ◌≤◌, zero, suc, min, Bool, true, false, not, cond, List, [], ◌∷◌, ◌++◌, append_assoc, length-append, length, map, take, drop, filter, get_or, Some, None, inl, inr, refl, sym, ◌∙◌, ap, subst, arith}
 use Rattle.std.specs.List.{All}
-use Rattle.std.specs.Ordering.{nat_cmp}
-use Rattle.std.specs.Cmp.Lexicographic.{slice_cmp}
-use Rattle.std.specs.declared.cmp.Ordering.TheVariants.{Less}
 use Rattle.std.proofs.Math.Nat.{mul-le-mul_right, suc-mul}
 use Rattle.std.proofs.lemmas.Bool.{cases_lt}
 use Rattle.std.proofs.lemmas.List.{length-map, length-take, length-take-le, length-drop, get_or-take, get_or_past, take-append-drop}
 use Rattle.std.proofs.lemmas.List.FromFn.{get_or-map-range_with_len, length-map-range_with_len}
 use Rattle.std.proofs.lemmas.Nat.{div-add-mod', mod_below}
-use Rattle.std.proofs.lemmas.List.Elements.{All-nil, All-cons}
+use Rattle.std.proofs.lemmas.List.Elements.{All-nil, All-cons, All-map}
 use Rattle.seg_core.specs.Line.{joined, lines_of, line_count, delimiters, ends_with, first_lines, after_lines}
 use Rattle.seg_core.proofs.Delimiters.{delimiters-le-length}
 use Rattle.seg_core.proofs.LinesOf.{joined-lines_of}
 use Rattle.seg_core.proofs.FirstLines.{delimiters-first_lines, first_lines-append, first_lines-cons, first_lines-full, first_lines-more, first_lines-short, lines_of-first_lines, lines_of-after_lines}
 use Rattle.seg_core.proofs.LineCounts.{line_count-open, line_count_near}
 use Rattle.seg_core.specs.declared.cut.Cut.{Cut}
-use Rattle.seg_core.specs.declared.cut.Cut.TheVariants.{Lines, Bytes, LineBytes, Round}
 use Rattle.ports_core.specs.Name.{Naming}
 use Rattle.ports_core.specs.Part.{File}
 use Rattle.ports_core.specs.Slot.{Slot}
@@ -34,28 +30,21 @@ use Rattle.split_core.specs.laws.CutLaws.{whole_of_lines, whole_of_none}
 use Rattle.split_core.specs.laws.DealLaws.{share_none}
 use Rattle.split_core.proofs.CutLaws.{first_then_after}
 use Rattle.split_core.proofs.AgreedLemmas.{bytes_named, each_named, named_bytes}
+use Rattle.split_core.proofs.MoveLemmas.{named_before}
 use Rattle.split_core.proofs.PlaceLemmas.{line_at, all_dealt, first_files}
 use Rattle.split_core.proofs.SectionLemmas.{joined_parts, part_lines, part_bytes, lines_count, bytes_count, line_bytes_are_parts, line_bytes_within}
 use Rattle.words_core.specs.declared.settings.Settings.TheVariants.{Split}
 use Rattle.words_core.specs.SplitAsked.{SplitAsked}
 use Rattle.words_core.specs.SplitWords.{CanSplit, IsInLimits}
-use Rattle.tools_core.specs.Tasks.{naming_of}
-use Rattle.tools_core.specs.Promises.{Run, Does, HasInput, AreInOrder, AreListed, ArePieces, AreLinePieces, AreUncut, AreDealt, EndsLine, IsFilled, IsSound, contents_of, files_of, text_at}
+use Rattle.tools_core.specs.Tasks.{naming_of, split_task}
+use Rattle.tools_core.specs.Promises.{Run, Does, HasInput, AreListed, ArePieces, AreLinePieces, AreUncut, AreDealt, EndsLine, IsFilled, IsSound, contents_of, files_of, text_at}
 use Rattle.tools_core.proofs.RunLemmas.{can_run}
-use Rattle.tools_core.proofs.PromiseLemmas.{did_one, one_done, slot_of}
+use Rattle.tools_core.proofs.NumberLemmas.{order_by}
+use Rattle.tools_core.proofs.OutcomeLemmas.{named_each, pieces_of, shares_are, slot_of}
+use Rattle.tools_core.proofs.PromiseLemmas.{did_one, one_made}
 use Rattle.split_core.proofs.ShareLaws.{bytes_of_shares}
 
 -- The pieces, and their files
-
-abbrev pub pieces_of : ℕ → Cut → Bool → List ℕ → List (List ℕ)
-pieces_of delim (Lines n) elide x = parts (limit.Lines n delim) x
-pieces_of delim (Bytes n) elide x = parts (limit.Bytes n) x
-pieces_of delim (LineBytes n) elide x = parts (limit.LineBytes n delim) x
-pieces_of delim (Round n) elide x = dealt_files delim elide n x
-
-shares_are : (delim : ℕ) (cut : Cut) (elide : Bool) (x : List ℕ) → whole_shares delim cut elide x ≡ map (share Closed) (pieces_of delim cut elide x)
-shares_are delim (Lines n) elide x = refl
-shares_are delim cut elide x = refl
 
 -- a name for each
 pub not_short : (has : Bool) → cond (not has) (Some Suffixes) None ≡ None → has ≡ true
@@ -75,24 +64,6 @@ all_named names {pieces} are =
 
 -- Their names
 
-name_step : (names : Naming) (place : ℕ) (one two : Share) (rest : List File) (has next : Bool) → (next ≡ true → slice_cmp nat_cmp (name_of names place) (name_of names (place + 1)) ≡ Less)
-    → AreInOrder (map (λ (file : Slot). file.name) (map slot_of (cond next (file_at names (place + 1) two ∷ rest) [])))
-    → AreInOrder (map (λ (file : Slot). file.name) (map slot_of (cond has (file_at names place one ∷ cond next (file_at names (place + 1) two ∷ rest) []) [])))
-name_step names place one two rest true true less ordered = (less refl, ordered)
-name_step names place one two rest has next less ordered = tt
-
-name_last : (names : Naming) (place : ℕ) (one : Share) (has : Bool) → AreInOrder (map (λ (file : Slot). file.name) (map slot_of (cond has (file_at names place one ∷ []) [])))
-name_last names place one true = tt
-name_last names place one false = tt
-
-names_in_order : (names : Naming) (place : ℕ) (shares : List Share) → 0 < names.width → AreInOrder (map (λ (file : Slot). file.name) (map slot_of (named names place shares)))
-names_in_order names place [] wide = tt
-names_in_order names place (one ∷ []) wide = name_last names place one (is_named names place)
-names_in_order names place (one ∷ two ∷ shares) wide =
-    name_step names place one two (named names (place + 1 + 1) shares) (is_named names place) (is_named names (place + 1))
-    (λ has. in_order names.prefix names.alphabet names.width names.auto names.ending place (place + 1) wide (omega arith) has)
-    (names_in_order names (place + 1) (two ∷ shares) wide)
-
 -- the files have these names from this place on
 abbrev pub AreNamed : (ℕ → List ℕ) → ℕ → List File → Type 0
 AreNamed name start files = (k : ℕ) → k < length (map slot_of files) → text_at (map (λ (file : Slot). file.name) (map slot_of files)) k ≡ name (start + k)
@@ -108,15 +79,9 @@ have_names names start [] k within = absurd (omega (arith, within))
 have_names names start (share ∷ shares) k within = named_step (name_of names) start (file_at names start share) (named names (start + 1) shares) []
     (is_named names start) refl (have_names names (start + 1) shares) (λ k within. absurd (omega (arith, within))) k within
 
-pub sound_step : (file : File) (made others : List File) (has : Bool) → IsSound Fresh (slot_of file) → All (IsSound Fresh) (map slot_of made)
-    → All (IsSound Fresh) (map slot_of others) → All (IsSound Fresh) (map slot_of (cond has (file ∷ made) others))
-sound_step file made others true sound are without = All-cons (IsSound Fresh) _ _ sound are
-sound_step file made others false sound are without = without
-
-all_sound : (names : Naming) (place : ℕ) (pieces : List (List ℕ)) → All (IsSound Fresh) (map slot_of (named names place (map (share Closed) pieces)))
-all_sound names place [] = All-nil (IsSound Fresh)
-all_sound names place (bytes ∷ pieces) = sound_step (file_at names place (share Closed bytes)) (named names (place + 1) (map (share Closed) pieces)) []
-    (is_named names place) (refl, refl, refl) (all_sound names (place + 1) pieces) (All-nil (IsSound Fresh))
+named_below : (names : Naming) (count : ℕ) → are_named names count ≡ true → (place : ℕ) → place < count → is_named names place ≡ true
+named_below names zero are place less = absurd (omega (arith, less))
+named_below names (suc last) are place less = named_before names place last are (omega (arith, less))
 
 -- What a run leaves
 
@@ -128,7 +93,7 @@ pub record IsSplit (run : Run) (asked : SplitAsked) (input : List ℕ) : Type 0 
 pub is_split : {run : Run} {asked : SplitAsked} {input : List ℕ} → Does run (Split asked) → HasInput run input → IsSplit run asked input
 is_split {run} {asked} {input} does has =
     let one = did_one does has in
-    let made = one_done one.content one.does in
+    let made = one_made one (split_task asked) one.makes in
     let can = can_run run.words does.ran.read in
     let names = naming_of asked in
     let pieces = pieces_of asked.delim asked.cut asked.elide input in
@@ -136,9 +101,20 @@ is_split {run} {asked} {input} does has =
     let files : files_of run ≡ map slot_of (named names 0 (map (share Closed) pieces)) = ap (drop 2) made.slots ∙ ap (λ those. map slot_of (named names 0 those)) shares in
     let are : are_named names (length (map (share Closed) pieces)) ≡ true =
     ap (λ (those : List Share). are_named names (length those)) (sym shares) ∙ not_short _ made.unjudged in
+    let slots = map slot_of (named names 0 (map (share Closed) pieces)) in
+    let size : length (map (λ (file : Slot). file.name) slots) ≡ length slots = length-map slots (λ (file : Slot). file.name) in
+    let count : length slots ≡ length (map (share Closed) pieces) = sym (length-map slots (λ (file : Slot). file.written)) ∙ ap length (all_named names are) ∙ sym (length-map pieces (share Closed)) in
+    let called : (place : ℕ) → place < length (map (λ (file : Slot). file.name) slots) → text_at (map (λ (file : Slot). file.name) slots) place ≡ name_of names place =
+    λ place within. have_names names 0 (map (share Closed) pieces) place (omega (arith, size, within)) ∙ ap (name_of names) (omega arith) in
+    let IsMade = λ (file : File). IsSound Fresh (slot_of file) in
     record {
       can = can;
-      listed = subst (AreListed asked) (sym files) (record { named = λ place within. have_names names 0 (map (share Closed) pieces) place within ∙ ap (name_of names) (omega arith); in_order = names_in_order names 0 (map (share Closed) pieces) can.width.0; sound = all_sound names 0 pieces });
+      listed = rw files (record {
+        named = λ place within. called place (omega (arith, size, within));
+        in_order = order_by (name_of names) _ called (λ k next.
+            in_order names.prefix names.alphabet names.width names.auto names.ending k (suc k) can.width.0 (omega arith) (named_below names _ are (suc k) (omega (arith, size, count, next))));
+        sound = All-map (IsSound Fresh) slot_of _ (named_each IsMade names 0 (map (share Closed) pieces) (All-map (λ one. (place : ℕ) → IsMade (file_at names place one)) (share Closed) pieces (λ k bytes within place. (refl, refl, refl))));
+      });
       contents = ap (map (λ (file : Slot). file.written)) files ∙ all_named names are;
     }
 
@@ -157,27 +133,16 @@ AreFew count n all = (all ≤ count * n) × (count * n < all + n)
 run_size : {X : Type 0} (n i : ℕ) (xs : List X) → length (take n (drop (i * n) xs)) ≡ min n (length xs - i * n)
 run_size n i xs = length-take n (drop (i * n) xs) ∙ ap (min n) (length-drop (i * n) xs)
 
-run_some : {X : Type 0} {n count i : ℕ} (xs : List X) → 0 < n → AreFew count n (length xs) → i < count → 0 < length (take n (drop (i * n) xs))
-run_some {n} {count} {i} xs some few within = let here = up_to i count n within in let size = run_size n i xs in omega (arith, here, size, few.1, some)
-
-run_most : {X : Type 0} {n : ℕ} (i : ℕ) (xs : List X) → length (take n (drop (i * n) xs)) ≤ n
-run_most {n} i xs = let size = run_size n i xs in omega (arith, size)
-
-run_full : {X : Type 0} {n count : ℕ} (i : ℕ) (xs : List X) → AreFew count n (length xs) → i + 1 < count → length (take n (drop (i * n) xs)) ≡ n
-run_full {n} {count} i xs few next =
-    let there = up_to (suc i) count n (omega (arith, next)) in
-    let step : suc i * n ≡ i * n + n = suc-mul i n in
-    let size = run_size n i xs in omega (arith, there, step, size, few.1)
+run_pieces : (size : List ℕ → ℕ) {n all : ℕ} {x : List ℕ} {pieces : List (List ℕ)} → 0 < n → joined pieces ≡ x → AreFew (length pieces) n all → ((i : ℕ) → size (text_at pieces i) ≡ min n (all - i * n)) → ArePieces size n x pieces
+run_pieces size {n} {pieces = pieces} some are few each = record {
+  all = are;
+  some = λ i within. let here = up_to i (length pieces) n within in let one = each i in omega (arith, one, here, few.1, some);
+  most = λ i within. let one = each i in omega (arith, one);
+  full = λ i next. let there = up_to (suc i) (length pieces) n (omega (arith, next)) in let step : suc i * n ≡ i * n + n = suc-mul i n in let one = each i in omega (arith, one, there, step, few.1);
+}
 
 pub line_pieces : (delim : ℕ) {n : ℕ} {x : List ℕ} → 0 < n → ArePieces (line_count delim) n x (parts (limit.Lines n delim) x)
-line_pieces delim {n} {x} some =
-    let few = lines_count delim n x some in
-    let pieces = parts (limit.Lines n delim) x in record {
-      all = joined_parts (limit.Lines n delim) x;
-      some = λ i within. subst (λ size. 0 < size) (sym (ap length (part_lines delim n i x some))) (run_some (lines_of delim x) some few within);
-      most = λ i within. subst (λ size. size ≤ n) (sym (ap length (part_lines delim n i x some))) (run_most i (lines_of delim x));
-      full = λ i next. ap length (part_lines delim n i x some) ∙ run_full i (lines_of delim x) few next;
-    }
+line_pieces delim {n} {x} some = run_pieces (line_count delim) some (joined_parts (limit.Lines n delim) x) (lines_count delim n x some) (λ i. ap length (part_lines delim n i x some) ∙ run_size n i (lines_of delim x))
 
 -- as many lines as there are delimiters end with one
 lines_end : (delim : ℕ) {k : ℕ} (bytes : List ℕ) (ends : Bool) → 0 < k → k ≤ delimiters delim bytes → ends_with delim (first_lines delim k bytes) ≡ ends → ends ≡ true
@@ -209,14 +174,7 @@ line_ends delim {n} x some i next =
     ap (ends_with delim) (line_part delim i x some) ∙ lines_end delim rest _ some (omega (arith, left, near, more)) refl
 
 pub byte_pieces : {n : ℕ} {x : List ℕ} → 0 < n → ArePieces length n x (parts (limit.Bytes n) x)
-byte_pieces {n} {x} some =
-    let few = bytes_count n x some in
-    let pieces = parts (limit.Bytes n) x in record {
-      all = joined_parts (limit.Bytes n) x;
-      some = λ i within. subst (λ size. 0 < size) (sym (ap length (part_bytes n i x some))) (run_some x some few within);
-      most = λ i within. subst (λ size. size ≤ n) (sym (ap length (part_bytes n i x some))) (run_most i x);
-      full = λ i next. ap length (part_bytes n i x some) ∙ run_full i x few next;
-    }
+byte_pieces {n} {x} some = run_pieces length some (joined_parts (limit.Bytes n) x) (bytes_count n x some) (λ i. ap length (part_bytes n i x some) ∙ run_size n i x)
 
 -- Pieces of whole lines within n bytes
 
@@ -224,7 +182,7 @@ ends_line : (delim : ℕ) {n : ℕ} (bytes : List ℕ) → length bytes ≡ n �
 ends_line delim {n} bytes long = elim (cases_lt 0 (delimiters delim bytes)) [
   | inl lines ↦ inl (ap (ends_with delim) (whole_of_lines delim bytes lines) ∙ lines_end delim bytes _ lines (omega arith) refl)
   | inr few ↦ let none : delimiters delim bytes ≡ 0 = omega (arith, few) in
-      inr (subst (λ piece. (length piece ≡ n) × (delimiters delim piece ≡ 0)) (sym (whole_of_none delim bytes none)) (long, none))
+      inr (rw (whole_of_none delim bytes none) (long, none))
 ]
 
 uncut : (delim n : ℕ) (x : List ℕ) (pieces : List (List ℕ)) → AreLineByteParts delim n x pieces → (place : ℕ) → place + 1 < length pieces → EndsLine delim n (text_at pieces place)
@@ -236,7 +194,7 @@ uncut delim n x pieces are place next = absurd (omega (arith, next))
 
 some_line : (delim : ℕ) (text : List ℕ) → 0 < length text → 0 < length (first_lines delim 1 text)
 some_line delim [] some = absurd (omega (arith, some))
-some_line delim (byte ∷ text) some = subst (λ line. 0 < length line) (sym (first_lines-cons delim byte 0 text)) (omega arith)
+some_line delim (byte ∷ text) some = rw (first_lines-cons delim byte 0 text) (omega arith)
 
 -- the line after the complete ones of a front, which is completed
 line_after : (delim : ℕ) (front rest : List ℕ) {k : ℕ} → k ≡ delimiters delim front → length (first_lines delim (k + 1) ((front ++ rest) ++ delim ∷ [])) ≡ length front + length (first_lines delim 1 (rest ++ delim ∷ []))
@@ -281,7 +239,7 @@ filled_by delim {n} part rest enough filled =
     let count : delimiters delim next ≡ delimiters delim (take n rest) = whole_count delim (take n rest) in
     let whole : next ++ drop (length next) rest ≡ rest = first_then_after (limit.LineBytes n delim) rest in
     elim (cases_lt 0 (delimiters delim (take n rest))) [
-      | inl lines ↦ subst (λ line. n < length part + length line) (ap (λ text. first_lines delim 1 (text ++ delim ∷ [])) (sym whole) ∙ same_line delim next (drop (length next) rest) (omega (arith, lines, count))) filled
+      | inl lines ↦ rw (ap (λ text. first_lines delim 1 (text ++ delim ∷ [])) (sym whole) ∙ same_line delim next (drop (length next) rest) (omega (arith, lines, count))) at filled
       | inr few ↦
           let none : delimiters delim (take n rest) ≡ 0 = omega (arith, few) in
           open_next delim part next (ap length (whole_of_none delim (take n rest) none) ∙ length-take-le n rest enough) (count ∙ none)
@@ -346,7 +304,7 @@ dealt_lines {delim} {n} {elide} {x} some = record {
       ∙ ap (λ place. get_or (lines_of delim x) place []) (let sum = div-add-mod' i n in omega (arith, sum)));
   all = ap length (joined_dealt delim n elide x) ∙ all_dealt delim n x some;
   count = λ is. ap (λ those. length (dealt_files delim those n x)) is ∙ length-map-range_with_len (share_of delim n x) 0 n;
-  left_out = λ is. subst (λ those. All (λ bytes. 0 < length bytes) (dealt_files delim those n x)) (sym is) (all_some (round_robin delim n x));
+  left_out = λ is. rw is (all_some (round_robin delim n x));
 }
 
 -- By the way to split
@@ -355,4 +313,4 @@ dealt_lines {delim} {n} {elide} {x} some = record {
 pub by_cut : {run : Run} {asked : SplitAsked} {cut : Cut} {input : List ℕ} (P : List (List ℕ) → Type 0) → (IsInLimits cut → P (pieces_of asked.delim cut asked.elide input)) → Does run (Split asked) → HasInput run input → asked.cut ≡ cut → P (contents_of run)
 by_cut {asked} {cut} {input} P holds does has is =
     let split = is_split does has in
-    subst P (sym (split.contents ∙ ap (λ those. pieces_of asked.delim those asked.elide input) is)) (holds (subst IsInLimits is split.can.cut))
+    rw (split.contents ∙ ap (λ those. pieces_of asked.delim those asked.elide input) is) (holds (subst IsInLimits is split.can.cut))

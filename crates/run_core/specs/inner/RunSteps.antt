@@ -42,32 +42,33 @@ is_unopened (Usage kind word) = false
 is_unopened Failed = false
 is_unopened TooLong = false
 
--- what an input leaves to the next one
-abbrev pub after_input : Progress → Bool → Bool → Option Content → Progress
-after_input progress was_read failed content =
-    record {
-      was_read = was_read;
-      is_first = progress.is_first && is_missing content;
-      failed = progress.failed || failed;
-    }
+-- an input that a name stands for, where it can be read
+abbrev pub input_from : List ℕ → Option ℕ → Content → Input
+input_from name slot content = record { name = name; slot = slot; content = Some content }
 
--- one input was done, or a fault stopped the run there; the files that may be removed are those from `first` on
-pub data TookInput (told_in told : Bool) (task : Task) (most : ℕ) (outcome : Outcome) (header : List ℕ)
-    (slot : Option ℕ) (content : Option Content) (progress : Progress) (was_read : Bool) (so_far : Part) (error : Slot)
-    (first : ℕ) (sources : List Source) (new : List Slot) : Result Progress Fault → Type 0 where
+-- One input was done, with this outcome, or a fault stopped the run there: whether a header is the first was told, and
+-- whether a fault was, and standard input was read or not. The files that may be removed are those from `first` on.
+pub data TookInput (told_in told : Bool) (task : Task) (most : ℕ) (input : Input) (outcome : Outcome)
+    (is_first failed was_read : Bool) (so_far : Part) (error : Slot) (first : ℕ) (sources : List Source)
+    (new : List Slot) : Result Progress Fault → Type 0 where
   took : (next : Progress) (after : Slot) (reached : List Slot)
-      → next ≡ after_input progress was_read outcome.failed content
-      → IsDone told_in task.work most slot content sources
+      → next ≡ record {
+        was_read = was_read;
+        is_first = is_first && is_missing input.content;
+        failed = failed || outcome.failed;
+      }
+      → IsDone told_in task.work most input.slot input.content sources
       → SaysAll told task.tool outcome.messages error after
       → OutputsAt told (streams_with after) (after_part so_far outcome.part) reached
       → Swept outcome.sweeps first reached new
-      → TookInput told_in told task most outcome header slot content progress was_read so_far error first sources new
+      → TookInput told_in told task most input outcome is_first failed was_read so_far error first sources new
       (Ok next)
   cut_off : (fault : Fault) (step : Step) (reached : List Slot)
-      → RunStep told_in task most so_far header slot sources content step → Stops step reached fault
-      → StoppedBetween told (streams_with error) step.low step.high fault reached
+      → RunStep told_in task most so_far (header_text task.with_header is_first input.name) input.slot sources
+      input.content step
+      → Stops step reached fault → StoppedBetween told (streams_with error) step.low step.high fault reached
       → Swept task.work.clears first reached new
-      → TookInput told_in told task most outcome header slot content progress was_read so_far error first sources new
+      → TookInput told_in told task most input outcome is_first failed was_read so_far error first sources new
       (Err fault)
 
 -- all inputs were done, or a fault stopped the run at one of them, or before the first

@@ -11,5 +11,4 @@ given_up-requires g c unjudged = (c.requires.owns.0, c.close.ensures.owns c.requ
 
 pub returns-in-Err : goal.returns-in-Err
 returns-in-Err g c =
-    subst (λ those. EndsSo g.S.Stage.Holds g.S.Stage.Owns g.S.Stage.work g.O.Outs.told c.args.engine.now c.args.fed (g.O.Outs.slots c.args.outs.now) (g.O.Outs.slots c.given_up.new.outs) (Err those)) (sym c.given_up.ensures.same)
-    (close_short _ _ _ _ c.close.new.self c.in-Err.ensures.cut c.in-Err.ensures.refused c.close.ensures.same (λ unjudged. c.close.ensures.owns) c.given_up.ensures.judged c.given_up.ensures.swept)
+    rw c.given_up.ensures.same (close_short _ _ _ _ c.close.new.self c.in-Err.ensures.cut c.in-Err.ensures.refused c.close.ensures.same (λ unjudged. c.close.ensures.owns) c.given_up.ensures.judged c.given_up.ensures.swept)

@@ -1,4 +1,4 @@
-use Rattle.std.proofs.Common.{◌&&◌, not, inl, inr, ◌≡◌, ◌≤◌, drop, length, ◌++◌, ◌∙◌, [], true, false, sym, ap, refl, subst, take, arith}
+use Rattle.std.proofs.Common.{◌&&◌, not, inl, inr, ◌≡◌, ◌≤◌, drop, length, ◌++◌, ◌∙◌, [], true, false, sym, ap, refl, subst, take, arith, append_assoc}
 use Rattle.std.proofs.lemmas.List.{append-nil}
 use Rattle.std.proofs.lemmas.Bool.{false≢true}
 use Rattle.ports_core.specs.Source.{gets_back, Source, source_at}
@@ -6,8 +6,8 @@ use Rattle.ports_core.specs.Work.{Work, IsNeeded, IsSettled, IsSpare}
 use Rattle.ports_core.specs.Engine.{EndsWith}
 use Rattle.ports_core.proofs.SpareLemmas.{complete_used, spare_within}
 use Rattle.run_core.specs.Feeding.{Uses, enough, to_end}
-use Rattle.run_core.proofs.FeedingLemmas.{alike_itself, alike_used, judges, judging_of, broken_off, goes_on, stopped_feeding, ended, needed_more, piece_within, ends_sound, given_so, loaded_feeds, loaded_readable, loaded_others, loaded_read, loaded_needed, loaded_asked, last_given, loaded_few, loaded_taken, needed_within, read_used, takes_more, takes_none, uses_all, uses_judged, uses_part}
-use Rattle.ports_core.proofs.InputsLemmas.{changed_source, sound_at, read_none_more, keeps_again, keeps_others, read_broken, of_content, still_readable, read_more, read_failed, read_to_end, asked_again, asked_at_end, broken_now}
+use Rattle.run_core.proofs.FeedingLemmas.{of_more, of_read, alike_itself, alike_used, judges, judging_of, broken_off, goes_on, stopped_feeding, ended, needed_more, piece_within, ends_sound, given_so, loaded_feeds, loaded_readable, loaded_others, loaded_read, loaded_needed, loaded_asked, last_given, loaded_few, loaded_taken, needed_within, read_used, takes_more, takes_none, uses_all, uses_judged, uses_part}
+use Rattle.ports_core.proofs.InputsLemmas.{changed_source, sound_at, read_none_more, keeps_again, keeps_others, read_broken, still_readable, read_more, read_failed, read_to_end, asked_again, asked_at_end, broken_now}
 use Rattle.run_core.proofs.feeding.feed_input.Goals as goal
 
 -- what was taken in before the first piece
@@ -52,11 +52,8 @@ returns-in-Err g c =
     let so_far = c.pieces.invariant in
     let going : (g.S.Stage.work c.pieces.engine.stage).is_complete so_far.fed ≡ false = sym (c.done.ensures.complete so_far.fed so_far.feeds.holds) ∙ c.pieces-test.true in record {
       ends = λ before opening own at.
-          of_content g.I.Inputs.told _ (record { bytes = so_far.fed; breaks_off = true }) (source_at (g.I.Inputs.sources c.read_part.new.inputs) c.args.slot) _
-          (λ told. let broke = read_broken _ _ _ _ (so_far.read told) (c.in-Err.ensures.break_off told) in
-          broken_off _ _ _ _ _ so_far.feeds own at broke.0 broke.1 going c.abandon.ensures.swept)
-          (λ _. broken_off _ _ _ _ _ so_far.feeds own at refl refl going c.abandon.ensures.swept)
-          (λ _. broken_now _ _ _ _ so_far.readable c.in-Err.ensures.err);
+          of_read g.I.Inputs.told _ so_far.fed true _ _ (λ told. read_broken _ _ _ _ (so_far.read told) (c.in-Err.ensures.break_off told)) (λ off. broken_now _ _ _ _ so_far.readable c.in-Err.ensures.err)
+          (λ content is bytes breaks. broken_off _ _ _ _ _ so_far.feeds own at bytes breaks going c.abandon.ensures.swept);
       others = keeps_again _ _ _ _ so_far.others (keeps_others _ _ _ _ c.in-Err.ensures.err);
       reads = λ told. (so_far.fed, so_far.needed, read_failed _ _ _ _ _ _ (so_far.read told) so_far.readable c.in-Err.ensures.err);
       used = λ told ends unread.
@@ -80,15 +77,13 @@ returns-then-n-eq0 g c =
     let so_far = c.pieces.invariant in
     let going : (g.S.Stage.work c.pieces.engine.stage).is_complete so_far.fed ≡ false = sym (c.done.ensures.complete so_far.fed so_far.feeds.holds) ∙ c.pieces-test.true in record {
       ends = λ before opening own at.
-          of_content g.I.Inputs.told _ (record { bytes = so_far.fed; breaks_off = false }) (source_at (g.I.Inputs.sources c.read_part.new.inputs) c.args.slot) _
-          (λ told. let at_end = (c.in-Ok.ensures.bytes told).ended c.if-n-eq0.true (omega (arith, c.requires.room, so_far.room)) in
-          ended _ _ _ g.met.S.Stage.lawful _ _ so_far.feeds own at (let all = read_to_end _ _ _ _ (so_far.read told) at_end.0 at_end.1 in (all.0, going, all.1))
-          (let all = read_to_end _ _ _ _ (so_far.read told) at_end.0 at_end.1 in to_end all.0 all.1) (alike_itself)
-          (subst (λ (those : Work). IsNeeded those.is_complete (length c.args.buffer.now) so_far.fed) (sym so_far.feeds.same) so_far.needed)
-          (sound_at (g.I.Inputs.sources c.read_part.new.inputs) c.args.slot (still_readable _ _ _ _ c.in-Ok.n c.in-Ok.ensures.rest so_far.readable), λ _. read_none_more _ _ _ _ _ _ c.in-Ok.n (so_far.read told) so_far.readable c.if-n-eq0.true c.in-Ok.ensures.rest)
-          c.end.ensures)
-          (λ untold. ended _ _ _ g.met.S.Stage.lawful _ _ so_far.feeds own at (refl, going, refl) (to_end refl refl) (alike_itself) (subst (λ (those : Work). IsNeeded those.is_complete (length c.args.buffer.now) so_far.fed) (sym so_far.feeds.same) so_far.needed) (sound_at (g.I.Inputs.sources c.read_part.new.inputs) c.args.slot (still_readable _ _ _ _ c.in-Ok.n c.in-Ok.ensures.rest so_far.readable), λ told. absurd (false≢true (sym untold ∙ told))) c.end.ensures)
-          (λ breaks. absurd (false≢true breaks));
+          of_read g.I.Inputs.told _ so_far.fed false _ _
+          (λ told. let at_end = (c.in-Ok.ensures.bytes told).ended c.if-n-eq0.true (omega (arith, c.requires.room, so_far.room)) in let all = read_to_end _ _ _ _ (so_far.read told) at_end.0 at_end.1 in (all.1, all.0))
+          (λ off. absurd (false≢true off))
+          (λ content is bytes sound. ended _ _ _ g.met.S.Stage.lawful _ _ so_far.feeds own at (sound, going, bytes) (to_end sound bytes) (alike_itself)
+          (rw so_far.feeds.same so_far.needed)
+          (sound_at (g.I.Inputs.sources c.read_part.new.inputs) c.args.slot (still_readable _ _ _ _ c.in-Ok.n c.in-Ok.ensures.rest so_far.readable), λ told. is told ∙ read_none_more _ _ _ _ _ _ c.in-Ok.n (so_far.read told) so_far.readable c.if-n-eq0.true c.in-Ok.ensures.rest)
+          c.end.ensures);
       others = keeps_again _ _ _ _ so_far.others (keeps_others _ _ _ _ c.in-Ok.ensures.rest);
       reads = λ told. (so_far.fed, so_far.needed, read_none_more _ _ _ _ _ _ c.in-Ok.n (so_far.read told) so_far.readable c.if-n-eq0.true c.in-Ok.ensures.rest);
       used = λ told ends unread.
@@ -99,8 +94,7 @@ returns-then-n-eq0 g c =
           uses_all (read_none_more _ _ _ _ _ _ c.in-Ok.n (so_far.read told) so_far.readable c.if-n-eq0.true c.in-Ok.ensures.rest)
           (ap (λ (source : Source). source.left.bytes) after ∙ ap (drop c.in-Ok.n) none ∙ ap (λ k. drop k []) c.if-n-eq0.true)
           so_far.needed (ap (λ (work : Work). work.is_complete so_far.fed) (sym so_far.feeds.same) ∙ going)
-          (subst (λ x. (source_at (g.I.Inputs.sources c.read_part.new.inputs) c.args.slot).reached ≤ length x) (ap (λ more. so_far.fed ++ more) nothing ∙ append-nil so_far.fed)
-          ((takes_more _ (so_far.took told) so_far.readable gave c.in-Ok.ensures.rest).far unread));
+          (rw (ap (λ more. so_far.fed ++ more) nothing ∙ append-nil so_far.fed) at ((takes_more _ (so_far.took told) so_far.readable gave c.in-Ok.ensures.rest).far unread));
       asked = λ within. asked_again _ _ _ _ _ _ so_far.readable c.in-Ok.ensures.rest (omega (arith, c.piece_size-size.ensures.within, so_far.room)) (so_far.asked within);
       broke = ends_sound _ _ _ _ _ (inl refl) c.end.ensures;
       laid = c.read_part.ensures.kept ∙ so_far.laid;
@@ -118,12 +112,12 @@ pieces-preserved g c =
       read = λ told. read_more _ _ _ _ _ _ _ _ _ (so_far.read told) so_far.readable (c.in-Ok.ensures.bytes told) c.in-Ok.ensures.rest;
       took = λ told. takes_more _ (so_far.took told) so_far.readable (c.in-Ok.ensures.bytes told) c.in-Ok.ensures.rest;
       last = λ told. needed_more so_far.fed c.read_part.new.buffer (ap (λ (work : Work). work.is_complete so_far.fed) (sym so_far.feeds.same) ∙ sym (c.done.ensures.complete so_far.fed so_far.feeds.holds) ∙ c.pieces-test.true) (omega (arith, last_given _ _ _ so_far.readable (c.in-Ok.ensures.bytes told) c.in-Ok.ensures.rest));
-      few = λ standard n spare. subst (λ (those : Work). n ≤ those.ahead) so_far.feeds.same
+      few = λ standard n spare. rw (← so_far.feeds.same)
           (c.wanted.ensures.few so_far.fed (take c.in-Ok.n c.read_part.new.buffer) c.feed.new.self.stage n so_far.feeds.holds.within
           (sym (c.done.ensures.complete so_far.fed so_far.feeds.holds) ∙ c.pieces-test.true)
           (omega (arith, piece_within c.read_part.new.buffer c.in-Ok.ensures.bound, c.piece_size-size.ensures.few standard))
           c.in-Ok-feed.ensures.same (c.in-Ok-feed.ensures.holds so_far.fed so_far.feeds.holds).within
-          (subst (λ (those : Work). IsSpare those (so_far.fed ++ take c.in-Ok.n c.read_part.new.buffer) n) (sym so_far.feeds.same) spare));
+          (rw so_far.feeds.same spare));
       room = c.read_part.ensures.room ∙ so_far.room;
       needed = needed_more so_far.fed c.read_part.new.buffer (ap (λ (work : Work). work.is_complete so_far.fed) (sym so_far.feeds.same) ∙ sym (c.done.ensures.complete so_far.fed so_far.feeds.holds) ∙ c.pieces-test.true) (omega (arith, c.in-Ok.ensures.bound, c.piece_size-size.ensures.within, c.pieces.invariant.room));
       asked = λ within. asked_again _ _ _ _ _ _ so_far.readable c.in-Ok.ensures.rest (omega (arith, c.piece_size-size.ensures.within, so_far.room)) (so_far.asked within);
@@ -142,14 +136,11 @@ returns-in-Err-feed g c =
     let going : (g.S.Stage.work c.pieces.engine.stage).is_complete so_far.fed ≡ false = sym (c.done.ensures.complete so_far.fed so_far.feeds.holds) ∙ c.pieces-test.true in record {
       ends = λ before opening own at.
           let within : length (take c.in-Ok.n c.read_part.new.buffer) ≤ length c.args.buffer.now = piece_within c.read_part.new.buffer (omega (arith, c.in-Ok.ensures.bound, c.piece_size-size.ensures.within, so_far.room)) in
-          of_content g.I.Inputs.told _ (record { bytes = so_far.fed ++ take c.in-Ok.n c.read_part.new.buffer; breaks_off = false }) (source_at (g.I.Inputs.sources c.read_part.new.inputs) c.args.slot) _
-          (λ told. let more = (read_more _ _ _ _ _ _ _ _ _ (so_far.read told) so_far.readable (c.in-Ok.ensures.bytes told) c.in-Ok.ensures.rest).bytes in
-          given_so _ c.given_up.ensures.same (stopped_feeding _ _ _ g.met.S.Stage.lawful _ c.feed.new.self _ (take c.in-Ok.n c.read_part.new.buffer) _ so_far.feeds own at
-          more within going (sound_at (g.I.Inputs.sources c.read_part.new.inputs) c.args.slot (still_readable _ _ _ _ c.in-Ok.n c.in-Ok.ensures.rest so_far.readable), λ _. more)
-          c.in-Err-feed.ensures.cut c.in-Err-feed.ensures.refused c.feed.ensures.same (λ unjudged. c.feed.ensures.owns) c.given_up.ensures.judged c.given_up.ensures.swept))
-          (λ untold. given_so _ c.given_up.ensures.same (stopped_feeding _ _ _ g.met.S.Stage.lawful _ c.feed.new.self _ (take c.in-Ok.n c.read_part.new.buffer) [] so_far.feeds own at
-          (sym (append-nil _)) within going (sound_at (g.I.Inputs.sources c.read_part.new.inputs) c.args.slot (still_readable _ _ _ _ c.in-Ok.n c.in-Ok.ensures.rest so_far.readable), λ told. absurd (false≢true (sym untold ∙ told))) c.in-Err-feed.ensures.cut c.in-Err-feed.ensures.refused c.feed.ensures.same (λ unjudged. c.feed.ensures.owns) c.given_up.ensures.judged c.given_up.ensures.swept))
-          (λ breaks. absurd (false≢true breaks));
+          let more = λ (told : g.I.Inputs.told ≡ true). (read_more _ _ _ _ _ _ _ _ _ (so_far.read told) so_far.readable (c.in-Ok.ensures.bytes told) c.in-Ok.ensures.rest).bytes in
+          of_more g.I.Inputs.told _ (so_far.fed ++ take c.in-Ok.n c.read_part.new.buffer) _ _ _ more
+          (λ content is rest bytes. given_so _ c.given_up.ensures.same (stopped_feeding _ _ _ g.met.S.Stage.lawful _ c.feed.new.self _ (take c.in-Ok.n c.read_part.new.buffer) rest so_far.feeds own at bytes within going
+          (sound_at (g.I.Inputs.sources c.read_part.new.inputs) c.args.slot (still_readable _ _ _ _ c.in-Ok.n c.in-Ok.ensures.rest so_far.readable), λ told. is told ∙ more told)
+          c.in-Err-feed.ensures.cut c.in-Err-feed.ensures.refused c.feed.ensures.same (λ unjudged. c.feed.ensures.owns) c.given_up.ensures.judged c.given_up.ensures.swept));
       others = keeps_again _ _ _ _ so_far.others (keeps_others _ _ _ _ c.in-Ok.ensures.rest);
       reads = λ told. (
         so_far.fed ++ take c.in-Ok.n c.read_part.new.buffer,
@@ -161,7 +152,7 @@ returns-in-Err-feed g c =
           let judging = judging_of c.given_up.ensures.same ends in
           let settles : IsSettled (g.S.Stage.work c.pieces.engine.stage) (so_far.fed ++ take c.in-Ok.n c.read_part.new.buffer) c.in-Err-feed.fault
           = judges (g.S.Stage.work c.pieces.engine.stage).means _ (EndsWith g.S.Stage.Holds g.S.Stage.work c.pieces.engine.stage (take c.in-Ok.n c.read_part.new.buffer)) judging c.in-Err-feed.ensures.refused so_far.fed so_far.feeds.holds.within in
-          subst (λ (those : Work). Uses those (length c.args.buffer.now) c.args.slot (source_at (g.I.Inputs.sources c.args.inputs.now) c.args.slot).left (source_at (g.I.Inputs.sources c.read_part.new.inputs) c.args.slot)) so_far.feeds.same
+          rw (← so_far.feeds.same)
           (uses_judged
           (read_more _ _ _ _ _ _ _ _ _ (so_far.read told) so_far.readable gave c.in-Ok.ensures.rest).bytes
           (needed_more so_far.fed c.read_part.new.buffer going (omega (arith, c.in-Ok.ensures.bound, c.piece_size-size.ensures.within, so_far.room)))
@@ -179,7 +170,7 @@ give_back-requires-clause-input g c = c.pieces.invariant.readable
 pub give_back-requires-clause-within : goal.give_back-requires-clause-within
 give_back-requires-clause-within g c told =
     let so_far = c.pieces.invariant in
-    spare_within _ _ _ so_far.fed (g.met.S.Stage.lawful _) (subst (λ (those : Work). IsNeeded those.is_complete (source_at (g.I.Inputs.sources c.pieces.inputs) c.args.slot).last so_far.fed) (sym so_far.feeds.same) (so_far.last told)) (c.unused-unused.ensures so_far.fed so_far.feeds.holds)
+    spare_within _ _ _ so_far.fed (g.met.S.Stage.lawful _) (rw so_far.feeds.same (so_far.last told)) (c.unused-unused.ensures so_far.fed so_far.feeds.holds)
 
 pub end-requires-2-clause-owns : goal.end-requires-2-clause-owns
 end-requires-2-clause-owns g c = (c.requires.owns.0, c.pieces.invariant.feeds.owns c.requires.owns.0 c.requires.owns.1)
@@ -196,24 +187,21 @@ returns g c =
           let sound = sound_at (g.I.Inputs.sources c.give_back.new.self) c.args.slot
           (ap (λ (source : Source). source.is_open && not source.is_broken) (changed_source _ (gets_back _) _ _ so_far.readable back) ∙ so_far.readable)
           in
-          of_content g.I.Inputs.told _ (record { bytes = so_far.fed; breaks_off = false }) (source_at (g.I.Inputs.sources c.give_back.new.self) c.args.slot) _
-          (λ told. let left = read_used spare (so_far.read told) (so_far.took told) so_far.readable back in
-          ended _ _ _ g.met.S.Stage.lawful _ _ so_far.feeds own at (done, (_, (so_far.read told).bytes)) (enough _ left used) (alike_used spare (g.met.S.Stage.lawful _) used)
-          (needed_within c.requires.room spare.needed) (sound, λ _. left) c.end-2.ensures)
-          (λ untold. ended _ _ _ g.met.S.Stage.lawful _ _ so_far.feeds own at (done, ([], sym (append-nil so_far.fed))) (enough [] (sym (append-nil so_far.fed)) done) (alike_itself)
-          (subst (λ (those : Work). IsNeeded those.is_complete (length c.args.buffer.now) so_far.fed) (sym so_far.feeds.same) so_far.needed) (sound, λ told. absurd (false≢true (sym untold ∙ told))) c.end-2.ensures)
-          (λ breaks. absurd (false≢true breaks));
+          of_more g.I.Inputs.told _ so_far.fed _ _ _ (λ told. (so_far.read told).bytes)
+          (λ content is rest bytes. ended _ _ _ g.met.S.Stage.lawful _ _ so_far.feeds own at (done, (rest, bytes))
+          (enough (spare.rest ++ rest) (bytes ∙ ap (λ those. those ++ rest) spare.joined ∙ append_assoc spare.used spare.rest rest) used) (alike_used spare (g.met.S.Stage.lawful _) used)
+          (needed_within c.requires.room spare.needed) (sound, λ told. is told ∙ read_used spare (so_far.read told) (so_far.took told) so_far.readable back) c.end-2.ensures);
       reads = λ told. (
         spare.used,
-        subst (λ (those : Work). IsNeeded those.is_complete (length c.args.buffer.now) spare.used) so_far.feeds.same (needed_within c.requires.room spare.needed),
+        rw (← so_far.feeds.same) (needed_within c.requires.room spare.needed),
         read_used spare (so_far.read told) (so_far.took told) so_far.readable back,
       );
       used = λ told ends unread.
-          subst (λ (those : Work). Uses those (length c.args.buffer.now) c.args.slot (source_at (g.I.Inputs.sources c.args.inputs.now) c.args.slot).left (source_at (g.I.Inputs.sources c.give_back.new.self) c.args.slot)) so_far.feeds.same
+          rw (← so_far.feeds.same)
           (uses_part spare (read_used spare (so_far.read told) (so_far.took told) so_far.readable back) c.requires.room (complete_used _ so_far.fed _ spare done)
-          (λ standard. subst (λ (those : Work). c.unused-unused.result ≤ those.ahead) (sym so_far.feeds.same) (so_far.few standard _ (subst (λ (those : Work). IsSpare those so_far.fed c.unused-unused.result) so_far.feeds.same spare)))
+          (λ standard. rw so_far.feeds.same (so_far.few standard _ (rw so_far.feeds.same at spare)))
           (so_far.took told) unread so_far.readable back);
       others = keeps_again _ _ _ _ so_far.others (keeps_others _ _ _ _ back);
-      asked = λ within. subst (λ asked. asked ≤ length c.args.buffer.now) (sym (ap (λ (source : Source). source.asked) (changed_source _ _ _ _ so_far.readable back))) (so_far.asked within);
+      asked = λ within. rw (ap (λ (source : Source). source.asked) (changed_source _ _ _ _ so_far.readable back)) (so_far.asked within);
       laid = c.give_back.ensures.kept ∙ so_far.laid;
     }

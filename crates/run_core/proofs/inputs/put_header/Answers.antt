@@ -7,7 +7,7 @@ use Rattle.run_core.specs.Task.{header_text}
 use Rattle.run_core.proofs.inputs.put_header.Goals as goal
 
 pub returns-in_err-text-clause-err : goal.returns-in_err-text-clause-err
-returns-in_err-text-clause-err g c = fault_is _ _ _ c.from_residual.ensures.1 (subst (HeaderFails _ _ _ _) (sym c.in_err-text.ensures.err) (no_room refl))
+returns-in_err-text-clause-err g c = fault_is _ _ _ c.from_residual.ensures.1 (rw c.in_err-text.ensures.err (no_room refl))
 
 pub returns-in_err-write_whole-clause-err : goal.returns-in_err-write_whole-clause-err
 returns-in_err-write_whole-clause-err g c = fault_is _ _ _ (of_write _ _ _ c.from_residual-in_err-write_whole.ensures.1 c.in_err-write_whole.ensures.slot) (broken_header (c.deref.ensures.value ∙ c.in_ok-text.ensures.ok ∙ ap (λ due. header_text due c.args.is_first c.args.name.now) (sym c.if-not-with_header.false ∙ c.with_header.ensures)) c.in_err-write_whole.ensures.cut)

@@ -6,7 +6,7 @@ use Rattle.run_core.proofs.InputLemmas.{fresh_counts, from_over, no_memory_first
 use Rattle.run_core.proofs.inputs.run_inputs.Goals as goal
 
 pub tell-requires : goal.tell-requires
-tell-requires g c = ap (λ slots. is_open (slot_at slots 1).state) c.requires.outputs
+tell-requires g c = rw c.requires.outputs
 
 pub returns-in_default : goal.returns-in_default
 returns-in_default g c = record {

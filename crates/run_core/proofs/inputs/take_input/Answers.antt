@@ -33,20 +33,20 @@ say-requires-in-Err g c =
 
 pub returns-in-Ok-Whole-clause-took : goal.returns-in-Ok-Whole-clause-took
 returns-in-Ok-Whole-clause-took g c so_far error opened at =
-    of_source_too _ _ _ _ _ _ (λ content fed done. took_well _ _ _ _ _ _ _ so_far error _ _ _ _ (headed_count g.O.Outs.told _ _ c.in_ok-put_header.ensures.ok) (part_two at) (headed _ at c.in_ok-put_header.ensures.ok) (done refl) (inl c.in-Ok-Whole.field-0-is) fed) c.in-Ok-Whole.ensures.fed
+    of_source_too _ _ _ _ _ _ (λ content fed done. took_well _ _ _ _ _ _ _ _ so_far error _ _ _ _ (headed_count g.O.Outs.told _ _ c.in_ok-put_header.ensures.ok) (part_two at) (headed _ at c.in_ok-put_header.ensures.ok) (done refl) (inl c.in-Ok-Whole.field-0-is) fed) c.in-Ok-Whole.ensures.fed
 
 pub returns-in-Ok-Enough-clause-took : goal.returns-in-Ok-Enough-clause-took
 returns-in-Ok-Enough-clause-took g c so_far error opened at =
-    of_source_too _ _ _ _ _ _ (λ content fed done. took_well _ _ _ _ _ _ _ so_far error _ _ _ _ (headed_count g.O.Outs.told _ _ c.in_ok-put_header.ensures.ok) (part_two at) (headed _ at c.in_ok-put_header.ensures.ok) (done refl) (inr c.in-Ok-Enough.field-0-is) fed) c.in-Ok-Enough.ensures.fed
+    of_source_too _ _ _ _ _ _ (λ content fed done. took_well _ _ _ _ _ _ _ _ so_far error _ _ _ _ (headed_count g.O.Outs.told _ _ c.in_ok-put_header.ensures.ok) (part_two at) (headed _ at c.in_ok-put_header.ensures.ok) (done refl) (inr c.in-Ok-Enough.field-0-is) fed) c.in-Ok-Enough.ensures.fed
 
 pub returns-in-Ok-Broken-clause-took : goal.returns-in-Ok-Broken-clause-took
 returns-in-Ok-Broken-clause-took g c so_far error opened at =
-    of_source_too _ _ _ _ _ _ (λ content fed done. took_broken _ _ _ _ _ _ _ so_far error _ _ _ _ (headed_count g.O.Outs.told _ _ c.in_ok-put_header.ensures.ok) (part_two at) (headed _ at c.in_ok-put_header.ensures.ok) (done refl) c.in-Ok-Broken.field-0-is fed (said_as (fault.Read 0) c.tool.ensures refl c.say.ensures)) c.in-Ok-Broken.ensures.fed
+    of_source_too _ _ _ _ _ _ (λ content fed done. took_broken _ _ _ _ _ _ _ _ so_far error _ _ _ _ (headed_count g.O.Outs.told _ _ c.in_ok-put_header.ensures.ok) (part_two at) (headed _ at c.in_ok-put_header.ensures.ok) (done refl) c.in-Ok-Broken.field-0-is fed (said_as (fault.Read 0) c.tool.ensures refl c.say.ensures)) c.in-Ok-Broken.ensures.fed
 
 pub returns-then-not-is_verdict-clause-took : goal.returns-then-not-is_verdict-clause-took
 returns-then-not-is_verdict-clause-took g c so_far error opened at =
-    of_source_too _ _ _ _ _ _ (λ content fed done. took_stopped _ _ _ _ _ _ _ so_far error _ _ _ _ (headed_count g.O.Outs.told _ _ c.in_ok-put_header.ensures.ok) (part_two at) (headed _ at c.in_ok-put_header.ensures.ok) (sym c.if-not-is_verdict.ensures) fed) c.in-Err.ensures.fed
+    of_source_too _ _ _ _ _ _ (λ content fed done. took_stopped _ _ _ _ _ _ _ _ so_far error _ _ _ _ (headed_count g.O.Outs.told _ _ c.in_ok-put_header.ensures.ok) (part_two at) (headed _ at c.in_ok-put_header.ensures.ok) (sym c.if-not-is_verdict.ensures) fed) c.in-Err.ensures.fed
 
 pub returns-else-not-is_verdict-clause-took : goal.returns-else-not-is_verdict-clause-took
 returns-else-not-is_verdict-clause-took g c so_far error opened at =
-    of_source_too _ _ _ _ _ _ (λ content fed done. took_verdict _ _ _ _ _ _ _ so_far error _ _ _ _ (headed_count g.O.Outs.told _ _ c.in_ok-put_header.ensures.ok) (part_two at) (headed _ at c.in_ok-put_header.ensures.ok) (done (ap not (sym c.if-not-is_verdict.ensures))) (sym c.if-not-is_verdict.ensures) fed (said_as _ c.tool-in-Err.ensures c.subject-subject.ensures c.say-in-Err.ensures)) c.in-Err.ensures.fed
+    of_source_too _ _ _ _ _ _ (λ content fed done. took_verdict _ _ _ _ _ _ _ _ so_far error _ _ _ _ (headed_count g.O.Outs.told _ _ c.in_ok-put_header.ensures.ok) (part_two at) (headed _ at c.in_ok-put_header.ensures.ok) (done (ap not (sym c.if-not-is_verdict.ensures))) (sym c.if-not-is_verdict.ensures) fed (said_as _ c.tool-in-Err.ensures c.subject-subject.ensures c.say-in-Err.ensures)) c.in-Err.ensures.fed

@@ -1,6 +1,6 @@
 use Rattle.std.proofs.Common.{◌∙◌, sym, refl, arith}
 use Rattle.std.proofs.lemmas.Grind.{common_steps}
-use Rattle.run_core.proofs.InputLemmas.{said_as, of_opened, of_missing, of_no_room, took_file, took_standard}
+use Rattle.run_core.proofs.InputLemmas.{said_as, of_missing, of_no_room, took_opened, took_standard}
 use Rattle.run_core.proofs.ReadingLemmas.{takes_dash, takes_file, takes_missing}
 use Rattle.run_core.proofs.inputs.take_name.Goals as goal
 
@@ -8,7 +8,7 @@ use Rattle.run_core.proofs.inputs.take_name.Goals as goal
 
 pub returns-then-is_dash-clause-took : goal.returns-then-is_dash-clause-took
 returns-then-is_dash-clause-took g c so_far error opened at =
-    took_standard (g.I.Inputs.laid c.args.inputs.now) c.args.name.now (g.I.Inputs.sources c.args.inputs.now) c.standard_source-source.ensures (sym c.is_dash.ensures ∙ c.if-is_dash.true) (c.take_input.ensures.took so_far error opened at)
+    took_standard _ (g.I.Inputs.laid c.args.inputs.now) c.args.name.now (g.I.Inputs.sources c.args.inputs.now) c.standard_source-source.ensures (sym c.is_dash.ensures ∙ c.if-is_dash.true) (c.take_input.ensures.took so_far error opened at)
 
 pub returns-then-is_dash-clause-takes : goal.returns-then-is_dash-clause-takes
 returns-then-is_dash-clause-takes g c = takes_dash _ (sym c.is_dash.ensures ∙ c.if-is_dash.true) (rw c.standard_source-source.ensures at c.take_input.ensures.others) c.take_input.ensures.asked
@@ -17,9 +17,7 @@ returns-then-is_dash-clause-takes g c = takes_dash _ (sym c.is_dash.ensures ∙ 
 
 pub returns-in-Ok-clause-took : goal.returns-in-Ok-clause-took
 returns-in-Ok-clause-took g c so_far error opened at =
-    let differs = sym c.is_dash.ensures ∙ c.if-is_dash.false in
-    of_opened c.args.progress.was_read _ _ differs c.in-Ok.ensures.ok (λ content took. took_file differs c.in-Ok.ensures.ok took)
-    (c.take_input-in-Ok.ensures.took so_far error opened at)
+    took_opened (sym c.is_dash.ensures ∙ c.if-is_dash.false) c.in-Ok.ensures.ok (c.take_input-in-Ok.ensures.took so_far error opened at)
 
 pub returns-in-Ok-clause-takes : goal.returns-in-Ok-clause-takes
 returns-in-Ok-clause-takes g c = takes_file (sym c.is_dash.ensures ∙ c.if-is_dash.false) c.requires.some c.in-Ok.ensures.ok c.take_input-in-Ok.ensures.others c.take_input-in-Ok.ensures.asked
@@ -37,7 +35,7 @@ returns-else-not-is_unopened-clause-takes g c = takes_missing (sym c.is_dash.ens
 
 pub returns-then-not-is_unopened-clause-took : goal.returns-then-not-is_unopened-clause-took
 returns-then-not-is_unopened-clause-took g c so_far error opened at =
-    of_no_room (sym c.is_dash.ensures ∙ c.if-is_dash.false) c.in-Err.ensures.err (sym c.if-not-is_unopened.ensures) at
+    of_no_room _ (sym c.is_dash.ensures ∙ c.if-is_dash.false) c.in-Err.ensures.err (sym c.if-not-is_unopened.ensures) at
 
 pub returns-then-not-is_unopened-clause-takes : goal.returns-then-not-is_unopened-clause-takes
 returns-then-not-is_unopened-clause-takes g c = takes_missing (sym c.is_dash.ensures ∙ c.if-is_dash.false) c.requires.some c.in-Err.ensures.err

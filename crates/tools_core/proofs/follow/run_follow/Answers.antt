@@ -6,8 +6,7 @@ use Rattle.tools_core.proofs.RunLemmas.{refused_words}
 use Rattle.tools_core.proofs.follow.run_follow.Goals as goal
 
 pub returns-in-Ok : goal.returns-in-Ok
-returns-in-Ok g c = subst (λ (meant : Result Settings Fault). FollowingEndsAt g.W.Watch.told g.O.Outs.told (map (λ word. word.now) c.args.words.now) c.args.looks (g.W.Watch.shows c.args.watch.now) (g.W.Watch.seen c.follow_asked.new.watch) (g.W.Watch.watched c.follow_asked.new.watch) (g.O.Outs.slots c.follow_asked.new.outs) c.follow_asked.result meant)
-    (sym c.in-Ok.ensures.ok) c.follow_asked.ensures
+returns-in-Ok g c = rw c.in-Ok.ensures.ok c.follow_asked.ensures
 
 pub returns-in-Err : goal.returns-in-Err
-returns-in-Err g c = refused_words g.W.Watch.told (map (λ word. word.now) c.args.words.now) c.args.looks (g.W.Watch.shows c.args.watch.now) c.in-Err.ensures.err c.requires.unseen c.requires.unwatched c.refuse_words.ensures
+returns-in-Err g c = refused_words _ _ (map (λ word. word.now) c.args.words.now) c.args.looks (g.W.Watch.shows c.args.watch.now) _ _ _ _ c.requires.unseen c.requires.unwatched c.in-Err.ensures.err c.refuse_words.ensures

@@ -1,4 +1,5 @@
-use Rattle.tools_core.proofs.SamePromises.{leave_alike, leave_same}
+use Rattle.tools_core.proofs.LeftLemmas.{leave_alike}
+use Rattle.tools_core.proofs.PromiseLemmas.{leave_same}
 use Rattle.tools_core.proofs.StoppedPromises.{completes_or}
 use Rattle.tools_core.proofs.promises.cutting_changes_nothing.Goals as goal
 

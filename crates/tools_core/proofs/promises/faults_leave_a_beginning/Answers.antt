@@ -1,6 +1,5 @@
 use Rattle.tools_core.proofs.BeginPromises.{begins_each}
-use Rattle.tools_core.proofs.StoppedPromises.{is_broken}
-use Rattle.tools_core.proofs.ToldLemmas.{says_why}
+use Rattle.tools_core.proofs.StoppedPromises.{is_broken, says_why}
 use Rattle.tools_core.proofs.promises.faults_leave_a_beginning.Goals as goal
 
 pub returns : goal.returns

@@ -1,7 +1,8 @@
-use Rattle.std.proofs.Common.{◌∙◌, ◌∷◌, [], refl, sym, ap}
+use Rattle.std.proofs.Common.{Bor, ℕ, List, map, ◌∙◌, ◌∷◌, [], refl, sym, ap}
 use Rattle.run_core.specs.Input.{has_dash}
 use Rattle.words_core.specs.CsplitAsked.{CsplitAsked}
 use Rattle.words_core.specs.SplitAsked.{SplitAsked}
+use Rattle.words_core.specs.TeeAsked.{TeeAsked}
 use Rattle.words_core.specs.declared.settings.Settings.{Settings}
 use Rattle.tools_core.specs.Tasks.{names_of}
 use Rattle.tools_core.proofs.RunLemmas.{ends_names, for_settings, runs_names, counts_for, csplit_runs, tee_counts, tee_runs}
@@ -44,7 +45,8 @@ returns-in-Csplit g c = record {
 
 pub returns-in-Tee-clause-ends : goal.returns-in-Tee-clause-ends
 returns-in-Tee-clause-ends g c =
-    for_settings _ _ _ _ c.in-Tee.is (tee_runs (g.I.Inputs.sources c.args.inputs.now) c.deref-in-Tee.ensures.value c.settings-in-Tee.view_is c.run_tee.ensures.ends c.run_tee.ensures.whole)
+    for_settings _ _ _ _ c.in-Tee.is (tee_runs (g.I.Inputs.sources c.args.inputs.now) (ap (λ (those : TeeAsked). those.mode) c.settings-in-Tee.view_is)
+    (ap (map (λ (name : Bor (List ℕ)). name.now)) c.deref-in-Tee.ensures.value ∙ ap (λ (those : TeeAsked). those.names) c.settings-in-Tee.view_is) c.run_tee.ensures.ends c.run_tee.ensures.whole)
 
 pub returns-in-Tee-clause-opened : goal.returns-in-Tee-clause-opened
 returns-in-Tee-clause-opened g c = counts_for c.in-Tee.is refl (tee_counts c.requires.inputs c.run_tee.ensures.others)
