@@ -201,8 +201,7 @@ fn advance(
     ensures size { length words.new ≡ length words.old }
     ensures exact { (number : ℕ) → IsIn words.new number ↔ Next nodes.now byte (IsIn words.old) number }
 {
-    let from = byte as usize * words.len();
-    pass(words, nodes, &base.words, &masks.takes, from, byte);
+    pass(words, nodes, &base.words, &masks.takes, byte);
     spread(words, nodes, base, closures, false, false);
 }
 
