@@ -23,9 +23,6 @@ begun_wider pending {size} {wider} h = All-weaker (Waits size) (Waits wider) eac
     each Group w = tt
     each (Repeated d) w = waits_wider d.high d.low d.start h w
 
-pub begun_node : (nodes : List Node) {new : List Node} (node : Node) (pending : List Pending) → new ≡ nodes ++ node ∷ [] → All (Waits (length nodes)) pending → All (Waits (length new)) pending
-begun_node nodes node pending e b = begun_wider pending (let l = ap length e in let a = length-append nodes (node ∷ []) in omega (arith, l, a)) b
-
 pub popped_begun : (old new : Compiling) (d : Duplication) → Pops old (Some d) new → AreBegun old → IsBegun d.high d.low d.start (length new.nodes.items) × AreBegun new
 popped_begun old new d p b =
     let parts = All-pop (Waits (length new.nodes.items)) old.pending.items new.pending.items (Some (Repeated d)) p.2 (subst (λ n. All (Waits (length n)) old.pending.items) (sym p.0) b) in
