@@ -1,4 +1,5 @@
 -- The code that is written is the pattern's.
+use Rattle.std.proofs.lemmas.Grind.{common_steps}
 use Rattle.std.proofs.Common.{rules, ◌≡◌, ◌⊎◌, inl, inr, ℕ, zero, suc, ◌+◌, ◌-◌, ◌<◌, ◌≤◌, List, [], ◌∷◌, ◌++◌, length, drop, get_or, reverse, Option, Some, None, refl, sym, ap, ◌∙◌, subst, arith, append_assoc, append-nil}
 use Rattle.std.proofs.lemmas.List.{reverse-append, reverse-reverse, at_drop_more}
 use Rattle.bre_core.specs.Flat.{IsBounded, AreBounded}
@@ -15,7 +16,7 @@ use Rattle.scan_core.specs.declared.node.Node.TheVariants.{Back}
 use Rattle.scan_core.specs.inner.Backwards.{begun}
 use Rattle.scan_core.specs.Code.{code_of, code_of_item, IsOrdered, IsOrderedItem, copies, tail_of, up_to}
 use Rattle.scan_core.specs.inner.Compiling.{IsNow, Finishes, Begins, Closes, Writes, Passes, PassesLeaf, TakesIn, Takes, TakesAll}
-use Rattle.scan_core.proofs.Finishing.{finished_group, finished_all, finished_repeated}
+use Rattle.scan_core.proofs.Finishing.{finished_group, finished_all}
 
 parted : (one other : List Token) (old new : Compiling) → TakesAll old (one ++ other) new → (now : Compiling) × TakesAll old other now × TakesAll now one new
 parted [] other old new s = (new, s, refl)
@@ -73,9 +74,7 @@ mutual
 repeated_out : (old code : List Node) (now new : Compiling) (pending : List Pending) (d : Duplication) → d.start ≡ length old
     → now.nodes.items ++ reverse code ≡ old ++ begun d.high (reverse code) → now.pending.items ≡ pending ++ Repeated d ∷ []
     → Finishes (now.nodes.items ++ reverse code) now.pending.items new → Finishes (old ++ reverse (copies d.low code ++ tail_of code d.low d.high)) pending new
-repeated_out old code now new pending d s n p f =
-    let out = finished_repeated (now.nodes.items ++ reverse code) pending d new f p in
-    subst (λ l. Finishes l pending new) (out.1 old code (sym s) n) out.2
+repeated_out old code now new pending d s n p f = grind (arith, common_steps)
 
 -- an item that stands no time
 none_of : {nodes : List Node} (code : List Node) (low : ℕ) → low ≤ 0 → nodes ≡ nodes ++ reverse (copies low code ++ up_to (0 - low) code)

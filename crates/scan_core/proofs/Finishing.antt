@@ -1,8 +1,10 @@
 -- Items that are complete, and what waits for them.
-use Rattle.std.proofs.Common.{arith, ◌≡◌, ℕ, ◌≤◌, Option, Some, length, length-append, List, [], ◌∷◌, ◌++◌, reverse, None, sym, ap, ◌∙◌, subst}
+use Rattle.std.proofs.lemmas.Grind.{common_steps}
+use Rattle.std.proofs.Common.{rules}
+use Rattle.std.proofs.Common.{arith, ◌≡◌, ℕ, ◌≤◌, Option, Some, length, List, [], ◌∷◌, ◌++◌, reverse, None, sym, ap, ◌∙◌, subst}
 use Rattle.std.proofs.lemmas.List.{reverse-append, reverse-reverse}
 use Rattle.std.specs.List.{All}
-use Rattle.std.proofs.lemmas.List.Elements.{All-pop, All-weaker}
+use Rattle.std.proofs.lemmas.List.Elements.{All-pop}
 use Rattle.scan_core.specs.declared.compile.Compiling.{Compiling}
 use Rattle.scan_core.specs.declared.compile.Pending.{Pending}
 use Rattle.scan_core.specs.declared.compile.Pending.TheVariants.{Group, Repeated}
@@ -17,11 +19,7 @@ waits_wider None low start h w = omega (arith, h, w)
 waits_wider (Some high) low start h w = (omega (arith, h, w.0), w.1, w.2)
 
 pub begun_wider : (pending : List Pending) {size wider : ℕ} → size ≤ wider → All (Waits size) pending → All (Waits wider) pending
-begun_wider pending {size} {wider} h = All-weaker (Waits size) (Waits wider) each pending
-  where
-    each : (one : Pending) → Waits size one → Waits wider one
-    each Group w = tt
-    each (Repeated d) w = waits_wider d.high d.low d.start h w
+begun_wider pending {size} {wider} h = search rules
 
 pub popped_begun : (old new : Compiling) (d : Duplication) → Pops old (Some d) new → AreBegun old → IsBegun d.high d.low d.start (length new.nodes.items) × AreBegun new
 popped_begun old new d p b =
@@ -46,10 +44,7 @@ finish_ends {pending} final none n = ends_by (reverse pending) final (sym (rever
 
 -- what follows from an item that is complete
 pub finished_group : {nodes : List Node} {pending : List Pending} (around : List Pending) {new : Compiling} → Finishes nodes pending new → pending ≡ around ++ Group ∷ [] → IsNow nodes pending None new
-finished_group {nodes} {pending} around {new} f e =
-    let t = turned around Group e in
-    let n : IsNow nodes (reverse (Group ∷ reverse around)) None new = subst (λ stack. FinishesBy stack nodes new) t f in
-    record { nodes = n.nodes; pending = n.pending ∙ ap reverse (sym t) ∙ reverse-reverse pending; passing = n.passing }
+finished_group {nodes} {pending} around {new} f e = grind (arith, common_steps)
 
 pub finished_all : {nodes : List Node} {pending : List Pending} {new : Compiling} → Finishes nodes pending new → pending ≡ [] → IsNow nodes [] None new
 finished_all {nodes} {new} f e = subst (λ p. FinishesBy (reverse p) nodes new) e f

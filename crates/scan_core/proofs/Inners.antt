@@ -14,7 +14,7 @@ use Rattle.scan_core.specs.inner.Table.{Next, Inner, InSets, entry, IsState, no_
 use Rattle.scan_core.specs.Table.{IsOutcome}
 use Rattle.scan_core.proofs.Enterings.{positions_most, weight_length, parts_anywhere}
 use Rattle.scan_core.proofs.Codes.{parts_join}
-use Rattle.scan_core.proofs.Along.{inner, final, reaches_exact, came_exact, counted_starts, counted_more, counted_found, counted_ends, steps_more, steps_wider}
+use Rattle.scan_core.proofs.Along.{inner, final, reaches_exact, came_exact, counted_more, counted_found, counted_ends, steps_more, steps_wider}
 
 -- at every place but the last
 pub inner_entered : (code : List Node) (line : List ℕ) (place : ℕ) → place < length line → (number : ℕ) → Inner code line place number ↔ Entered code line number place
@@ -31,15 +31,7 @@ last_entered code line {place} h number = let exact = reaches_exact code line (f
 )
 
 pub walked_starts : {code : List Node} {sets : List (List Bool)} {table : Table} (line : List ℕ) → IsTableOf code sets table → Walked code sets line 0 0 0
-walked_starts {code} line t = record {
-  within = omega arith;
-  known = t.some;
-  exact = λ number. (
-    λ m. (0, inr refl, (t.front number).0 m),
-    λ f. (t.front number).1 (elim f.1 [ inl c ↦ absurd (omega (arith, c.1)) | inr e ↦ subst (λ k. FlowsOn code true false k number) e f.2 ]),
-  );
-  so_far = counted_starts code line;
-}
+walked_starts {code} line t = search rules
 
 -- what is entered where the state's set is, and before
 walked_here : {code : List Node} {sets : List (List Bool)} (line : List ℕ) {place state steps : ℕ} → Walked code sets line place state steps

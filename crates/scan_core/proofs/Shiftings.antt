@@ -70,14 +70,7 @@ states_are_light code table t state h =
 -- what was made of the table's rows and states
 pub shifted_is : {table : Table} {shifts : ShiftTable} {rows : List ℕ} {noted : List State} → rows ≡ table.rows.items → noted ≡ table.states.items → length noted ≤ 9 → IsComplete rows → AreEach 0 (IsWord rows (length noted)) 256 shifts.words.items
     → AreEach 0 (λ low. IsWeight noted (low % 64)) 256 shifts.weights.items → shifts.states.items ≡ noted → shifts.stop ≡ 6 * length noted → IsShifted table shifts
-shifted_is {table} {shifts} {noted} er en few complete words weights states stop = record {
-  few = subst (λ n. length n ≤ 9) en few;
-  complete = subst IsComplete er complete;
-  words = subst (λ n. AreEach 0 (IsWord table.rows.items (length n)) 256 shifts.words.items) en (subst (λ r. AreEach 0 (IsWord r (length noted)) 256 shifts.words.items) er words);
-  weights = subst (λ n. AreEach 0 (λ low. IsWeight n (low % 64)) 256 shifts.weights.items) en weights;
-  states = states ∙ en;
-  stop = stop ∙ ap (λ n. 6 * length n) en;
-}
+shifted_is {table} {shifts} {noted} er en few complete words weights states stop = search rules
 
 pub at_starts : {code : List Node} {shifts : ShiftTable} (line : List ℕ) → IsShiftTable code shifts → IsAt code shifts line 0 0 0
 at_starts line t = (
