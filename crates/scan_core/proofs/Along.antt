@@ -14,7 +14,7 @@ use Rattle.scan_core.specs.Code.{Leads, Goes, Walks, Entered, weight}
 use Rattle.scan_core.specs.Sets.{IsMarked}
 use Rattle.scan_core.specs.Table.{IsOutcome}
 use Rattle.scan_core.specs.inner.Table.{IsCounted}
-use Rattle.scan_core.specs.inner.Sets.{LeadsOn, Flows, FlowsOn, Passes, Came}
+use Rattle.scan_core.specs.inner.Sets.{LeadsOn, Flows, Passes, Came, Reaches}
 use Rattle.scan_core.proofs.Enterings.{positions_most}
 use Rattle.scan_core.proofs.Walks.{path_on}
 
@@ -49,43 +49,36 @@ walk_forward code line (suc count) at place to stop w =
 pub entered_on : (code : List Node) (line : List ℕ) {at place to stop : ℕ} → Entered code line at place → Goes code line at place to stop → Entered code line to stop
 entered_on code line {at} {place} {to} {stop} e g = (e.0, e.1, path_on code line 0 e.0 at place to stop e.2 (1, (to, stop, g, (refl, refl))))
 
-pub closes_exact : (code : List Node) (line : List ℕ) {place : ℕ} {at_first at_last : Bool} (Old Now : ℕ → Type 0) → IsPlace line place at_first at_last → ((number : ℕ) → Old number ↔ Came code line place number)
-    → ((number : ℕ) → Now number ↔ ((from : ℕ) × (Old from ⊎ (from ≡ 0)) × FlowsOn code at_first at_last from number)) → (number : ℕ) → Now number ↔ Entered code line number place
-closes_exact code line {place} {at_first} {at_last} Old Now p came o number = (λ h. there number ((o number).0 h), λ e. here number e)
+pub reaches_exact : (code : List Node) (line : List ℕ) {place : ℕ} {at_first at_last : Bool} → IsPlace line place at_first at_last → (number : ℕ) → Reaches code line place at_first at_last number ↔ Entered code line number place
+reaches_exact code line {place} {at_first} {at_last} p number = (there number, here number)
   where
     flows : (count from to : ℕ) → Entered code line from place → Parts (Flows code at_first at_last) count from to → Entered code line to place
     flows zero from to e q = subst (λ n. Entered code line n place) q e
     flows (suc count) from to e q = entered_on code line (flows count from q.0 e q.1) (q.2.0, q.2.1, (flow_goes q.2.0 line q.0 to p).0 q.2.2)
 
-    there : (number : ℕ) → ((from : ℕ) × (Old from ⊎ (from ≡ 0)) × FlowsOn code at_first at_last from number) → Entered code line number place
-    there number f = flows f.2.0 f.0 number (elim f.1 [
-      | inl h ↦ let c = (came f.0).0 h in entered_on code line c.3 c.4
-      | inr e ↦ (place, p.within, (0, (sym e, refl)))
-    ]) f.2.1
+    there : (number : ℕ) → Reaches code line place at_first at_last number → Entered code line number place
+    there number f = flows f.2.0 f.0 number (elim f.1 [ inl c ↦ entered_on code line c.3 c.4 | inr e ↦ (place, p.within, (0, (sym e, refl))) ]) f.2.1
 
-    close : (from to : ℕ) → Now from → Goes code line from place to place → Now to
-    close from to h g =
-        let was = (o from).0 h in
-        (o to).1 (was.0, was.1, (suc was.2.0, (from, was.2.1, (g.0, g.1, (flow_goes g.0 line from to p).1 g.2))))
-
-    step : (at from at' from' : ℕ) → from ≤ place → Entered code line at from → (from ≡ place → Now at) → Goes code line at from at' from'
-        → from' ≡ place → Now at'
+    step : (at from at' from' : ℕ) → from ≤ place → Entered code line at from → (from ≡ place → Reaches code line place at_first at_last at) → Goes code line at from at' from'
+        → from' ≡ place → Reaches code line place at_first at_last at'
     step at from at' from' l e h g q = elim (leads_place g.0 line at from at' from' g.2) [
       | inl same ↦
           let here : from ≡ place = omega (arith, same, q) in
-          close at at' (h here) (subst (λ n. Goes code line at n at' place) here (subst (λ n. Goes code line at from at' n) q g))
-      | inr more ↦ (o at').1 (at', inl ((came at').1 (from, omega (arith, more.0, q), at, e, subst (λ n. Goes code line at from at' n) q g)), (0, refl))
+          let was = h here in
+          let led = subst (λ n. Leads g.0 line at n at' place) here (subst (λ n. Leads g.0 line at from at' n) q g.2) in
+          (was.0, was.1, (suc was.2.0, (at, was.2.1, (g.0, g.1, (flow_goes g.0 line at at' p).1 led))))
+      | inr more ↦ (at', inl (from, omega (arith, more.0, q), at, e, subst (λ n. Goes code line at from at' n) q g), (0, refl))
     ]
 
-    arrive : (count at from number : ℕ) → from ≤ place → Walks code line count at from number place → Entered code line at from → (from ≡ place → Now at) → Now number
-    arrive zero at from number l w e h = subst Now w.0 (h w.1)
+    arrive : (count at from number : ℕ) → from ≤ place → Walks code line count at from number place → Entered code line at from → (from ≡ place → Reaches code line place at_first at_last at) → Reaches code line place at_first at_last number
+    arrive zero at from number l w e h = subst (Reaches code line place at_first at_last) w.0 (h w.1)
     arrive (suc count) at from number l w e h =
         arrive count w.0 w.1 number (walk_forward code line count w.0 w.1 number place w.3) w.3 (entered_on code line e w.2) (step at from w.0 w.1 l e h w.2)
 
-    here : (number : ℕ) → Entered code line number place → Now number
+    here : (number : ℕ) → Entered code line number place → Reaches code line place at_first at_last number
     here number e =
         let l = walk_forward code line e.2.0 0 e.0 number place e.2.1 in
-        arrive e.2.0 0 e.0 number l e.2.1 (e.0, e.1, (0, (refl, refl))) (λ q. (o 0).1 (0, inr refl, (0, refl)))
+        arrive e.2.0 0 e.0 number l e.2.1 (e.0, e.1, (0, (refl, refl))) (λ q. (0, inr refl, (0, refl)))
 
 pub inner : (line : List ℕ) {place : ℕ} {at_first : Bool} → place < length line → at_first ≡ (place == 0) → IsPlace line place at_first false
 inner line {place} h f = search rules

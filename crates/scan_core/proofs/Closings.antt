@@ -2,15 +2,16 @@
 use Rattle.std.proofs.Common.{◌≡◌, ◌⊎◌, inl, inr, ℕ, zero, suc, ◌+◌, ◌*◌, ◌/◌, ◌%◌, ◌^◌, ◌<◌, ◌≤◌, Bool, false, List, [], ◌∷◌, length, get_or, set, refl, sym, ap, ◌∙◌, subst, arith, w64}
 use Rattle.std.proofs.lemmas.Bool.{cases_eq}
 use Rattle.std.proofs.lemmas.List.{get_or-set_same, length-set, get_or_default}
-use Rattle.std.proofs.lemmas.Nat.{and_le_l, le_or_l}
+use Rattle.std.proofs.lemmas.Nat.{and_le_l, le_or_l, or_lt}
 use Rattle.std.proofs.lemmas.Nat.Bits.{bit_at_and, bit_at-lt, bit_at-zero, bit_at-trailing_zeros}
 use Rattle.std.specs.Prelude.{bit_and, bit_or}
 use Rattle.std.specs.Int.{bit_at, bit_not, trailing_zeros}
 use Rattle.scan_core.proofs.Enterings.{flow_anywhere}
 use Rattle.scan_core.specs.declared.base.Base.{Base}
+use Rattle.scan_core.specs.declared.closures.Closures.{Closures}
 use Rattle.scan_core.specs.declared.node.Node.{Node}
 use Rattle.scan_core.specs.inner.Base.{IsBase}
-use Rattle.scan_core.specs.inner.Closures.{ArePeers, Closes, IsLeaving, Stays}
+use Rattle.scan_core.specs.inner.Closures.{AreClosures, ArePeers, Closes, IsLeaving, Stays}
 use Rattle.scan_core.specs.declared.hops.Hop.{Hop}
 use Rattle.scan_core.specs.inner.Each.{AreEach}
 use Rattle.scan_core.specs.inner.Hops.{AreHops, Hopped, no_hop}
@@ -180,6 +181,18 @@ close_ends {code} {hops} {at_first} {at_last} {at} {left} leaves {start} {old} {
             | inr hop ↦ (g.exact to).1 (inr (hop.0, hop.1, (λ none. none_of (get_or old at 0) (get_or hops (at * 3 + hop.0) no_hop).from (from % 64) none one hop.2, hop.3)))
           ]
         ]
+
+-- a word was closed, and what else its numbers lead to was entered
+pub close_all : {code : List Node} {closures : Closures} {at_first at_last : Bool} {at left : ℕ} (looked : ℕ) (before : List ℕ) {now new : List ℕ} {hops : List Hop} {on on' : ℕ} → AreClosures code closures → at < width code → length before ≡ width code → Closes code at (get_or before at 0) looked
+    → get_or before at 0 < 2 ^ 64 → looked < 2 ^ 64 → hops ≡ closures.hops.items
+    → Visiting code at_first at_last at (bit_and (get_or (set before at (bit_or (get_or before at 0) looked)) at 0) (get_or closures.leaves.items at 0)) left (set before at (bit_or (get_or before at 0) looked)) now on → left ≡ 0
+    → Grows (Hopped hops at (bit_or (get_or before at 0) looked) 3) now new on on' → Visits code at_first at_last at before new on'
+close_all {code} {closures} {at} looked before {now} {new} {on} {on'} sets within size c word fits eh v z g =
+    let all : ℕ = bit_or (get_or before at 0) looked in
+    let same : all ≡ get_or (set before at all) at 0 = sym (get_or-set_same before at all 0 (omega (arith, size, within))) in
+    close_ends (get_or closures.leaves.items at 0) (close_word looked (omega (arith, size, within)) refl c refl) v z (sets.leaves.each at within) sets.hops within
+    (subst (λ n. n < 2 ^ 64) same (or_lt 64 (get_or before at 0) looked word fits))
+    (subst (λ word. Grows (Hopped closures.hops.items at word 3) now new on on') same (subst (λ hops. Grows (Hopped hops at all 3) now new on on') eh g))
 
 -- none of the word's numbers leads out of the base
 pub close_none : {code : List Node} {base : Base} {at_first at_last : Bool} {at : ℕ} {words : List ℕ} → IsBase code base → ((number : ℕ) → IsIn base.words.items number → IsIn words number) → at < width code → bit_and (get_or words at 0) (get_or base.leads.items at 0) ≡ 0 → Visits code at_first at_last at words words (at + 1)

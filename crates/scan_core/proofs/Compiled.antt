@@ -1,10 +1,10 @@
 -- The code that is written is the pattern's.
+use Rattle.std.proofs.lemmas.Grind.{common_steps}
 use Rattle.std.proofs.Common.{rules, ◌≡◌, ◌⊎◌, inl, inr, ℕ, zero, suc, ◌+◌, ◌-◌, ◌<◌, ◌≤◌, List, [], ◌∷◌, ◌++◌, length, drop, get_or, reverse, Option, Some, None, refl, sym, ap, ◌∙◌, subst, arith, append_assoc, append-nil}
-use Rattle.std.proofs.lemmas.List.{reverse-append, reverse-reverse, at_drop_more, at_drop_all}
+use Rattle.std.proofs.lemmas.List.{reverse-append, reverse-reverse, at_drop_more}
 use Rattle.bre_core.specs.Flat.{IsBounded, AreBounded}
 use Rattle.bre_core.specs.Match.{IsAtMost}
 use Rattle.bre_core.specs.Pattern.{Pattern, nothing, append, Item, set, front, end, group, repeat, written, written_item}
-use Rattle.bre_core.specs.Steps.{Steps}
 use Rattle.bre_core.specs.declared.token.Token.{Token}
 use Rattle.bre_core.specs.declared.token.Token.TheVariants.{Set, Front, End, Open, Close, Repeat}
 use Rattle.scan_core.specs.declared.compile.Compiling.{Compiling}
@@ -13,39 +13,20 @@ use Rattle.scan_core.specs.declared.compile.Pending.TheVariants.{Group, Repeated
 use Rattle.scan_core.specs.declared.emit.Duplication.{Duplication}
 use Rattle.scan_core.specs.declared.node.Node.{Node}
 use Rattle.scan_core.specs.declared.node.Node.TheVariants.{Back}
-use Rattle.scan_core.specs.inner.Backwards.{AreInOrder, begun}
+use Rattle.scan_core.specs.inner.Backwards.{begun}
 use Rattle.scan_core.specs.Code.{code_of, code_of_item, IsOrdered, IsOrderedItem, copies, tail_of, up_to}
-use Rattle.scan_core.specs.inner.Compiling.{IsNow, Finishes, Begins, Closes, Writes, Passes, PassesLeaf, TakesIn, Takes}
-use Rattle.bre_core.proofs.Chains.{Steps-push}
-use Rattle.scan_core.proofs.Finishing.{finished_group, finished_all, finished_repeated}
+use Rattle.scan_core.specs.inner.Compiling.{IsNow, Finishes, Begins, Closes, Writes, Passes, PassesLeaf, TakesIn, Takes, TakesAll}
+use Rattle.scan_core.proofs.Finishing.{finished_group, finished_all}
 
--- the tokens of a tree from the last to the first
-abbrev mutual
-  pub backwards : Pattern → List Token
-  backwards nothing = []
-  backwards (append pattern item) = backwards_item item ++ backwards pattern
+parted : (one other : List Token) (old new : Compiling) → TakesAll old (one ++ other) new → (now : Compiling) × TakesAll old other now × TakesAll now one new
+parted [] other old new s = (new, s, refl)
+parted (token ∷ one) other old new s = let p = parted one other old s.0 s.1 in (p.0, p.1, (s.0, p.2, s.2))
 
-  pub backwards_item : Item → List Token
-  backwards_item (set bytes) = Set bytes ∷ []
-  backwards_item front = Front ∷ []
-  backwards_item end = End ∷ []
-  backwards_item (group pattern) = Close ∷ (backwards pattern ++ Open ∷ [])
-  backwards_item (repeat item low high) = Repeat low high ∷ backwards_item item
+alone : (token : Token) (old new : Compiling) → TakesAll old (token ∷ []) new → Takes old token new
+alone token old new s = subst (λ c. Takes c token new) (sym s.1) s.2
 
-mutual
-  reverse-written : (pattern : Pattern) → reverse (written pattern) ≡ backwards pattern
-  reverse-written nothing = refl
-  reverse-written (append pattern item) =
-      reverse-append (written pattern) (written_item item) ∙ ap (λ l. l ++ reverse (written pattern)) (reverse-written_item item) ∙ ap (λ l. backwards_item item ++ l) (reverse-written pattern)
-
-  reverse-written_item : (item : Item) → reverse (written_item item) ≡ backwards_item item
-  reverse-written_item (set bytes) = refl
-  reverse-written_item front = refl
-  reverse-written_item end = refl
-  reverse-written_item (group pattern) =
-      reverse-append (Open ∷ []) (written pattern ++ Close ∷ []) ∙ ap (λ l. l ++ Open ∷ []) (reverse-append (written pattern) (Close ∷ []))
-      ∙ ap (λ l. (Close ∷ l) ++ Open ∷ []) (reverse-written pattern)
-  reverse-written_item (repeat item low high) = reverse-append (written_item item) (Repeat low high ∷ []) ∙ ap (λ l. Repeat low high ∷ l) (reverse-written_item item)
+last_taken : (one : List Token) (token : Token) (old new : Compiling) → TakesAll old (one ++ token ∷ []) new → (now : Compiling) × Takes old token now × TakesAll now one new
+last_taken one token old new s = let p = parted one (token ∷ []) old new s in (p.0, alone token old p.0 p.1, p.2)
 
 -- no duplication waits
 abbrev Base : List Pending → Type 0
@@ -67,90 +48,77 @@ passed_from zero old now new n p f = subst (λ l. Finishes l old.pending.items n
 passed_from (suc depth) old now new n p f = record { nodes = f.nodes ∙ n; pending = f.pending ∙ p; passing = f.passing }
 
 mutual
-  pass_pattern : (pattern : Pattern) (tokens : List Token) {depth : ℕ} (old final : Compiling) → old.passing ≡ Some (suc depth) → Steps Takes old (backwards pattern ++ tokens) final
-      → (new : Compiling) × IsNow old.nodes.items old.pending.items (Some (suc depth)) new × Steps Takes new tokens final
-  pass_pattern nothing tokens old final e s = (old, record { nodes = refl; pending = refl; passing = e }, s)
-  pass_pattern (append pattern item) tokens {depth} old final e s =
-      let one = pass_item item (backwards pattern ++ tokens) (suc depth) old final e (subst (λ l. Steps Takes old l final) (append_assoc (backwards_item item) (backwards pattern) tokens) s) in
-      let now : IsNow old.nodes.items old.pending.items (Some (suc depth)) one.0 = one.1 in
-      let other = pass_pattern pattern tokens one.0 final now.passing one.2 in
-      let new : IsNow one.0.nodes.items one.0.pending.items (Some (suc depth)) other.0 = other.1 in
-      (other.0, record { nodes = new.nodes ∙ now.nodes; pending = new.pending ∙ now.pending; passing = new.passing }, other.2)
+  pass_pattern : (pattern : Pattern) {depth : ℕ} (old new : Compiling) → old.passing ≡ Some (suc depth) → TakesAll old (written pattern) new → IsNow old.nodes.items old.pending.items (Some (suc depth)) new
+  pass_pattern nothing {depth} old new e s = subst (IsNow old.nodes.items old.pending.items (Some (suc depth))) s (record { nodes = refl; pending = refl; passing = e })
+  pass_pattern (append pattern item) {depth} old new e s =
+      let p = parted (written pattern) (written_item item) old new s in
+      let now : IsNow old.nodes.items old.pending.items (Some (suc depth)) p.0 = pass_item item (suc depth) old p.0 e p.1 in
+      let next = pass_pattern pattern p.0 new now.passing p.2 in
+      record { nodes = next.nodes ∙ now.nodes; pending = next.pending ∙ now.pending; passing = next.passing }
 
-  pass_item : (item : Item) (tokens : List Token) (depth : ℕ) (old final : Compiling) → old.passing ≡ Some depth → Steps Takes old (backwards_item item ++ tokens) final
-      → (new : Compiling) × PassesLeaf depth old new × Steps Takes new tokens final
-  pass_item (set bytes) tokens depth old final e s = (s.0, takes_passing old s.0 (Set bytes) {depth = depth} e s.1, s.2)
-  pass_item front tokens depth old final e s = (s.0, takes_passing old s.0 Front {depth = depth} e s.1, s.2)
-  pass_item end tokens depth old final e s = (s.0, takes_passing old s.0 End {depth = depth} e s.1, s.2)
-  pass_item (group pattern) tokens depth old final e s =
-      let opened : IsNow old.nodes.items old.pending.items (Some (suc depth)) s.0 = takes_passing old s.0 Close {depth = depth} e s.1 in
-      let inner = pass_pattern pattern (Open ∷ tokens) {depth = depth} s.0 final opened.passing (subst (λ l. Steps Takes s.0 l final) (append_assoc (backwards pattern) (Open ∷ []) tokens) s.2) in
-      let now : IsNow s.0.nodes.items s.0.pending.items (Some (suc depth)) inner.0 = inner.1 in
-      let closed = takes_passing inner.0 inner.2.0 Open {depth = suc depth} now.passing inner.2.1 in
-      (inner.2.0, passed_from depth old inner.0 inner.2.0 (now.nodes ∙ opened.nodes) (now.pending ∙ opened.pending) closed, inner.2.2)
-  pass_item (repeat item low high) tokens depth old final e s =
-      let stays : IsNow old.nodes.items old.pending.items (Some depth) s.0 = takes_passing old s.0 (Repeat low high) {depth = depth} e s.1 in
-      let inner = pass_item item tokens depth s.0 final stays.passing s.2 in
-      (inner.0, passed_from depth old s.0 inner.0 stays.nodes stays.pending inner.1, inner.2)
+  pass_item : (item : Item) (depth : ℕ) (old new : Compiling) → old.passing ≡ Some depth → TakesAll old (written_item item) new → PassesLeaf depth old new
+  pass_item (set bytes) depth old new e s = takes_passing old new (Set bytes) {depth = depth} e (alone (Set bytes) old new s)
+  pass_item front depth old new e s = takes_passing old new Front {depth = depth} e (alone Front old new s)
+  pass_item end depth old new e s = takes_passing old new End {depth = depth} e (alone End old new s)
+  pass_item (group pattern) depth old new e s =
+      let p = last_taken (written pattern) Close old s.0 s.1 in
+      let opened : IsNow old.nodes.items old.pending.items (Some (suc depth)) p.0 = takes_passing old p.0 Close {depth = depth} e p.1 in
+      let inner = pass_pattern pattern p.0 s.0 opened.passing p.2 in
+      passed_from depth old s.0 new (inner.nodes ∙ opened.nodes) (inner.pending ∙ opened.pending) (takes_passing s.0 new Open {depth = suc depth} inner.passing s.2)
+  pass_item (repeat item low high) depth old new e s =
+      let p = last_taken (written_item item) (Repeat low high) old new s in
+      let stays : IsNow old.nodes.items old.pending.items (Some depth) p.0 = takes_passing old p.0 (Repeat low high) {depth = depth} e p.1 in
+      passed_from depth old p.0 new stays.nodes stays.pending (pass_item item depth p.0 new stays.passing p.2)
 
 -- a duplication's item was written out
-repeated_out : (old code : List Node) (now new : Compiling) (pending : List Pending) (d : Duplication) → d.start ≡ length old → AreInOrder d.low d.high
+repeated_out : (old code : List Node) (now new : Compiling) (pending : List Pending) (d : Duplication) → d.start ≡ length old
     → now.nodes.items ++ reverse code ≡ old ++ begun d.high (reverse code) → now.pending.items ≡ pending ++ Repeated d ∷ []
     → Finishes (now.nodes.items ++ reverse code) now.pending.items new → Finishes (old ++ reverse (copies d.low code ++ tail_of code d.low d.high)) pending new
-repeated_out old code now new pending d s o n p f =
-    let out = finished_repeated (now.nodes.items ++ reverse code) pending d new f p in
-    subst (λ l. Finishes l pending new) (out.1 old code (sym s) o n) out.2
+repeated_out old code now new pending d s n p f = grind (arith, common_steps)
 
 -- an item that stands no time
 none_of : {nodes : List Node} (code : List Node) (low : ℕ) → low ≤ 0 → nodes ≡ nodes ++ reverse (copies low code ++ up_to (0 - low) code)
 none_of {nodes} code low h = search rules
 
 mutual
-  write_pattern : (pattern : Pattern) (tokens : List Token) (old final : Compiling) → IsOrdered pattern → old.passing ≡ None → Base old.pending.items → Steps Takes old (backwards pattern ++ tokens) final
-      → (new : Compiling) × IsNow (old.nodes.items ++ reverse (code_of pattern)) old.pending.items None new × Steps Takes new tokens final
-  write_pattern nothing tokens old final o e b s = (old, record { nodes = sym (append-nil old.nodes.items); pending = refl; passing = e }, s)
-  write_pattern (append pattern item) tokens old final o e b s =
-      let one = write_item item (backwards pattern ++ tokens) old final o.1 e (subst (λ l. Steps Takes old l final) (append_assoc (backwards_item item) (backwards pattern) tokens) s) in
-      let now = finished_base b one.1 in
-      let other = write_pattern pattern tokens one.0 final o.0 now.passing (subst Base (sym now.pending) b) one.2 in
-      let new : IsNow (one.0.nodes.items ++ reverse (code_of pattern)) one.0.pending.items None other.0 = other.1 in (
-        other.0,
-        record {
-          nodes = new.nodes ∙ ap (λ l. l ++ reverse (code_of pattern)) now.nodes ∙ append_assoc old.nodes.items (reverse (code_of_item item)) (reverse (code_of pattern))
-              ∙ ap (λ l. old.nodes.items ++ l) (sym (reverse-append (code_of pattern) (code_of_item item)));
-          pending = new.pending ∙ now.pending;
-          passing = new.passing;
-        },
-        other.2,
-      )
+  write_pattern : (pattern : Pattern) (old new : Compiling) → IsOrdered pattern → old.passing ≡ None → Base old.pending.items → TakesAll old (written pattern) new → IsNow (old.nodes.items ++ reverse (code_of pattern)) old.pending.items None new
+  write_pattern nothing old new o e b s = subst (IsNow (old.nodes.items ++ []) old.pending.items None) s (record { nodes = sym (append-nil old.nodes.items); pending = refl; passing = e })
+  write_pattern (append pattern item) old new o e b s =
+      let p = parted (written pattern) (written_item item) old new s in
+      let now = finished_base b (write_item item old p.0 o.1 e p.1) in
+      let next = write_pattern pattern p.0 new o.0 now.passing (subst Base (sym now.pending) b) p.2 in
+      record {
+        nodes = next.nodes ∙ ap (λ l. l ++ reverse (code_of pattern)) now.nodes ∙ append_assoc old.nodes.items (reverse (code_of_item item)) (reverse (code_of pattern))
+            ∙ ap (λ l. old.nodes.items ++ l) (sym (reverse-append (code_of pattern) (code_of_item item)));
+        pending = next.pending ∙ now.pending;
+        passing = next.passing;
+      }
 
-  write_item : (item : Item) (tokens : List Token) (old final : Compiling) → IsOrderedItem item → old.passing ≡ None → Steps Takes old (backwards_item item ++ tokens) final
-      → (new : Compiling) × Finishes (old.nodes.items ++ reverse (code_of_item item)) old.pending.items new × Steps Takes new tokens final
-  write_item (set bytes) tokens old final o e s = (s.0, takes_writing old s.0 (Set bytes) e s.1, s.2)
-  write_item front tokens old final o e s = (s.0, takes_writing old s.0 Front e s.1, s.2)
-  write_item end tokens old final o e s = (s.0, takes_writing old s.0 End e s.1, s.2)
-  write_item (group pattern) tokens old final o e s =
-      let opened : IsNow old.nodes.items (old.pending.items ++ Group ∷ []) None s.0 = takes_writing old s.0 Close e s.1 in
-      let inner = write_pattern pattern (Open ∷ tokens) s.0 final o opened.passing (inr (old.pending.items, opened.pending)) (subst (λ l. Steps Takes s.0 l final) (append_assoc (backwards pattern) (Open ∷ []) tokens) s.2) in
-      let now : IsNow (s.0.nodes.items ++ reverse (code_of pattern)) s.0.pending.items None inner.0 = inner.1 in
-      let closed : Closes inner.0 inner.2.0 = takes_writing inner.0 inner.2.0 Open now.passing inner.2.1 in
-      (inner.2.0, subst (λ l. Finishes l old.pending.items inner.2.0) (now.nodes ∙ ap (λ l. l ++ reverse (code_of pattern)) opened.nodes) (closed old.pending.items (now.pending ∙ opened.pending)), inner.2.2)
-  write_item (repeat item low None) tokens old final o e s =
-      let begins : Begins low None old s.0 = takes_writing old s.0 (Repeat low None) e s.1 in
-      let inner = write_item item tokens s.0 final o.0 begins.passing s.2 in
+  write_item : (item : Item) (old new : Compiling) → IsOrderedItem item → old.passing ≡ None → TakesAll old (written_item item) new → Finishes (old.nodes.items ++ reverse (code_of_item item)) old.pending.items new
+  write_item (set bytes) old new o e s = takes_writing old new (Set bytes) e (alone (Set bytes) old new s)
+  write_item front old new o e s = takes_writing old new Front e (alone Front old new s)
+  write_item end old new o e s = takes_writing old new End e (alone End old new s)
+  write_item (group pattern) old new o e s =
+      let p = last_taken (written pattern) Close old s.0 s.1 in
+      let opened : IsNow old.nodes.items (old.pending.items ++ Group ∷ []) None p.0 = takes_writing old p.0 Close e p.1 in
+      let inner = write_pattern pattern p.0 s.0 o opened.passing (inr (old.pending.items, opened.pending)) p.2 in
+      let closed : Closes s.0 new = takes_writing s.0 new Open inner.passing s.2 in
+      subst (λ l. Finishes l old.pending.items new) (inner.nodes ∙ ap (λ l. l ++ reverse (code_of pattern)) opened.nodes) (closed old.pending.items (inner.pending ∙ opened.pending))
+  write_item (repeat item low None) old new o e s =
+      let p = last_taken (written_item item) (Repeat low None) old new s in
+      let begins : Begins low None old p.0 = takes_writing old p.0 (Repeat low None) e p.1 in
       let nodes = ap (λ l. l ++ reverse (code_of_item item)) begins.nodes ∙ append_assoc old.nodes.items (Back 0 ∷ []) (reverse (code_of_item item)) in
       let d : Duplication = record { start = length old.nodes.items; low = low; high = None } in
-      (inner.0, repeated_out old.nodes.items (code_of_item item) s.0 inner.0 old.pending.items d refl tt nodes begins.pending inner.1, inner.2)
-  write_item (repeat item low (Some zero)) tokens old final o e s =
-      let begins : Begins low (Some zero) old s.0 = takes_writing old s.0 (Repeat low (Some zero)) e s.1 in
-      let inner = pass_item item tokens 0 s.0 final begins.passing s.2 in
-      (inner.0, subst (λ l. Finishes l old.pending.items inner.0) (begins.nodes ∙ none_of {nodes = old.nodes.items} (code_of_item item) low o.1) (subst (λ p. Finishes s.0.nodes.items p inner.0) begins.pending inner.1), inner.2)
-  write_item (repeat item low (Some (suc high))) tokens old final o e s =
-      let begins : Begins low (Some (suc high)) old s.0 = takes_writing old s.0 (Repeat low (Some (suc high))) e s.1 in
-      let inner = write_item item tokens s.0 final o.0 begins.passing s.2 in
-      let nodes = ap (λ l. l ++ reverse (code_of_item item)) begins.nodes in
+      repeated_out old.nodes.items (code_of_item item) p.0 new old.pending.items d refl nodes begins.pending (write_item item p.0 new o.0 begins.passing p.2)
+  write_item (repeat item low (Some zero)) old new o e s =
+      let p = last_taken (written_item item) (Repeat low (Some zero)) old new s in
+      let begins : Begins low (Some zero) old p.0 = takes_writing old p.0 (Repeat low (Some zero)) e p.1 in
+      subst (λ l. Finishes l old.pending.items new) (begins.nodes ∙ none_of (code_of_item item) low o.1) (subst (λ l. Finishes p.0.nodes.items l new) begins.pending (pass_item item 0 p.0 new begins.passing p.2))
+  write_item (repeat item low (Some (suc high))) old new o e s =
+      let p = last_taken (written_item item) (Repeat low (Some (suc high))) old new s in
+      let begins : Begins low (Some (suc high)) old p.0 = takes_writing old p.0 (Repeat low (Some (suc high))) e p.1 in
       let d : Duplication = record { start = length old.nodes.items; low = low; high = Some (suc high) } in
-      (inner.0, repeated_out old.nodes.items (code_of_item item) s.0 inner.0 old.pending.items d refl (o.1, omega arith) nodes begins.pending inner.1, inner.2)
+      repeated_out old.nodes.items (code_of_item item) p.0 new old.pending.items d refl (ap (λ l. l ++ reverse (code_of_item item)) begins.nodes) begins.pending (write_item item p.0 new o.0 begins.passing p.2)
 
 -- the bounds of a tree's duplications are in order where those of its tokens are
 bounded_parts : (one other : List Token) → AreBounded (one ++ other) → AreBounded one × AreBounded other
@@ -176,21 +144,18 @@ mutual
       (ordered_item item parts.0, bound_order low high parts.1.0)
 
 -- all tokens were read
-pub compiled : (pattern : Pattern) {tokens : List Token} {first : Compiling} (final : Compiling) → tokens ≡ written pattern → AreBounded tokens → IsNow [] [] None first → Steps Takes first (reverse tokens) final → reverse final.nodes.items ≡ code_of pattern
+pub compiled : (pattern : Pattern) {tokens : List Token} {first : Compiling} (final : Compiling) → tokens ≡ written pattern → AreBounded tokens → IsNow [] [] None first → TakesAll first tokens final → reverse final.nodes.items ≡ code_of pattern
 compiled pattern {first} final e b n s =
-    let way : Steps Takes first (backwards pattern ++ []) final = subst (λ l. Steps Takes first l final) (ap reverse e ∙ reverse-written pattern ∙ sym (append-nil (backwards pattern))) s in
-    let all = write_pattern pattern [] first final (ordered pattern (subst AreBounded e b)) n.passing (inl n.pending) way in
-    let now : IsNow (first.nodes.items ++ reverse (code_of pattern)) first.pending.items None all.0 = all.1 in
-    ap (λ c. reverse c.nodes.items) (sym all.2) ∙ ap reverse (now.nodes ∙ ap (λ l. l ++ reverse (code_of pattern)) n.nodes) ∙ reverse-reverse (code_of pattern)
-
--- no token was read yet
-pub way_starts : (tokens : List Token) (place : ℕ) (first : Compiling) → length tokens ≤ place → Steps Takes first (reverse (drop place tokens)) first
-way_starts tokens place first h = subst (λ l. Steps Takes first (reverse l) first) (sym (at_drop_all (λ ts. ts) tokens place h)) refl
+    let now = write_pattern pattern first final (ordered pattern (subst AreBounded e b)) n.passing (inl n.pending) (subst (λ ts. TakesAll first ts final) e s) in
+    ap reverse (now.nodes ∙ ap (λ l. l ++ reverse (code_of pattern)) n.nodes) ∙ reverse-reverse (code_of pattern)
 
 -- one token more, towards the front
-pub way_more : (tokens : List Token) {place : ℕ} (before : ℕ) {token : Token} (first now new : Compiling) → place ≡ before + 1 → before < length tokens → token ≡ get_or tokens before token → Steps Takes first (reverse (drop place tokens)) now → Takes now token new
-    → Steps Takes first (reverse (drop before tokens)) new
-way_more tokens {place} before {token} first now new e h is s t =
-    let rest : drop before tokens ≡ token ∷ drop (before + 1) tokens = at_drop_more (λ ts. ts) tokens before token h ∙ ap (λ k. k ∷ drop (before + 1) tokens) (sym is) in
-    let all : reverse (drop before tokens) ≡ reverse (drop place tokens) ++ token ∷ [] = ap reverse rest ∙ reverse-append (token ∷ []) (drop (before + 1) tokens) ∙ ap (λ n. reverse (drop n tokens) ++ token ∷ []) (sym e) in
-    subst (λ l. Steps Takes first l new) (sym all) (Steps-push Takes first now new (reverse (drop place tokens)) token s t)
+pub way_more : (tokens : List Token) (before : ℕ) {place : ℕ} {token : Token} (first now new : Compiling) → place ≡ before + 1 → before < length tokens → token ≡ get_or tokens before token → TakesAll first (drop place tokens) now → Takes now token new
+    → TakesAll first (drop before tokens) new
+way_more tokens before {token} first now new e h is s t =
+    subst (λ l. TakesAll first l new) (sym (at_drop_more (λ ts. ts) tokens before token h ∙ ap (λ k. k ∷ drop (before + 1) tokens) (sym is))) (now, subst (λ n. TakesAll first (drop n tokens) now) e s, t)
+
+pub bounded_at : (tokens : List Token) (place : ℕ) {token : Token} → AreBounded tokens → place < length tokens → token ≡ get_or tokens place token → IsBounded token
+bounded_at [] place b h e = absurd (omega arith)
+bounded_at (first ∷ tokens) zero b h e = subst IsBounded (sym e) b.0
+bounded_at (first ∷ tokens) (suc place) b h e = bounded_at tokens place b.1 (omega arith) e

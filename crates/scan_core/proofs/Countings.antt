@@ -10,6 +10,7 @@ use Rattle.scan_core.specs.declared.masks.Kind.TheVariants.{Counts}
 use Rattle.scan_core.specs.declared.node.Node.{Node}
 use Rattle.scan_core.specs.Sets.{IsMarked, weight_if, positions_among}
 use Rattle.scan_core.proofs.Enterings.{weight_most}
+use Rattle.scan_core.specs.inner.Each.{AreEach}
 use Rattle.scan_core.specs.inner.Words.{IsIn, IsMask, bits, counted_at, flags_of, width}
 use Rattle.std.proofs.lemmas.Grind.{common_steps}
 
@@ -84,16 +85,14 @@ counted_most [] (suc n) = omega arith
 counted_most (node ∷ code) zero = weight_most node
 counted_most (node ∷ code) (suc n) = counted_most code n
 
-pub positions_are : (code : List Node) (words counts : List ℕ) → length words ≡ width code → length counts ≡ width code → IsMask code Counts 0 counts → ((n : ℕ) → n < length words → get_or words n 0 < 2 ^ 64) → ones_below words counts (length words) ≡ positions_among code (flags_of words)
-positions_are code words counts size same m fits = ones_sum (counted_at code) words counts (same ∙ sym size) fits exact ∙ sym (among_sum code (flags_of words))
+pub positions_are : (code : List Node) (words counts : List ℕ) → length words ≡ width code → AreEach 0 (IsMask code Counts) (width code) counts → ((n : ℕ) → n < length words → get_or words n 0 < 2 ^ 64) → ones_below words counts (length words) ≡ positions_among code (flags_of words)
+positions_are code words counts size m fits = ones_sum (counted_at code) words counts (m.size ∙ sym size) fits exact ∙ sym (among_sum code (flags_of words))
   where
     exact : (n bit : ℕ) → n < length words → bit < 64 → bit_at (get_or counts n 0) bit ≡ counted_at code (64 * n + bit)
     exact n bit h l =
-        let word : 0 + (64 * n + bit) / 64 ≡ n = omega (arith, l) in
-        let place : (64 * n + bit) % 64 ≡ bit = omega (arith, l) in
-        let e : bit_at (get_or counts (0 + (64 * n + bit) / 64) 0) ((64 * n + bit) % 64) ≡ bit_at (get_or counts n 0) bit = ap (λ k. bit_at (get_or counts k 0) ((64 * n + bit) % 64)) word ∙ ap (bit_at (get_or counts n 0)) place in
-        let i = m (64 * n + bit) (omega (arith, h, l, size)) in
-        equal (bit_at (get_or counts n 0) bit) (counted_at code (64 * n + bit)) (bit_at-lt (get_or counts n 0) bit) (counted_most code (64 * n + bit)) (λ b. i.0 (e ∙ b)) (λ b. sym e ∙ i.1 b)
+        let e : n * 64 + bit ≡ 64 * n + bit = omega arith in
+        let i = m.each n (omega (arith, h, size)) bit l in
+        equal (bit_at (get_or counts n 0) bit) (counted_at code (n * 64 + bit)) (bit_at-lt (get_or counts n 0) bit) (counted_most code (n * 64 + bit)) i.0 i.1 ∙ ap (counted_at code) e
       where
         equal : (a b : ℕ) → a < 2 → b ≤ 1 → (a ≡ 1 → b ≡ 1) → (b ≡ 1 → a ≡ 1) → a ≡ b
         equal a b f g there back = elim (cases_eq a 1) [

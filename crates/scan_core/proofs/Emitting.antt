@@ -61,10 +61,10 @@ item_here : {nodes now : List Node} (more before code : List Node) {start size :
 item_here more before code {start} {size} b n s g = grind (arith, common_steps)
 
 -- `count` times
-pub exact_out : {nodes new : List Node} (before code : List Node) {start size low high times : ℕ} → length before ≡ start → nodes ≡ before ++ reverse code → size ≡ length nodes - start → low ≡ high → 0 < high
-    → times ≡ low - 1 → new ≡ nodes ++ copies times (stretch start size nodes) → new ≡ before ++ reverse (copies low code ++ up_to (high - low) code)
-exact_out {nodes} before code {start} {size} {low} {high} b n s same some t e =
-    e ∙ ap (λ k. nodes ++ copies k (stretch start size nodes)) t ∙ ap (λ l. nodes ++ copies (low - 1) l) (item_here [] before code b n s (sym (append-nil nodes))) ∙ ap (λ l. l ++ copies (low - 1) (reverse code)) n
+pub exact_out : {nodes new : List Node} (before code : List Node) {start size low high : ℕ} → length before ≡ start → nodes ≡ before ++ reverse code → size ≡ length nodes - start → low ≡ high → 0 < high
+    → new ≡ nodes ++ copies (low - 1) (stretch start size nodes) → new ≡ before ++ reverse (copies low code ++ up_to (high - low) code)
+exact_out {nodes} before code {low} {high} b n s same some e =
+    e ∙ ap (λ l. nodes ++ copies (low - 1) l) (item_here [] before code b n s (sym (append-nil nodes))) ∙ ap (λ l. l ++ copies (low - 1) (reverse code)) n
     ∙ append_assoc before (reverse code) (copies (low - 1) (reverse code)) ∙ ap (λ l. before ++ l) (copies_turn (low - 1) (reverse code))
     ∙ ap (λ k. before ++ copies k (reverse code)) one ∙ ap (λ l. before ++ l) (sym (reverse-copies low code))
     ∙ ap (λ l. before ++ reverse l) (sym (append-nil (copies low code))) ∙ ap (λ k. before ++ reverse (copies low code ++ up_to k code)) none

@@ -1,48 +1,54 @@
 -- Items that are complete, and what waits for them.
-use Rattle.std.proofs.Common.{arith, ◌≡◌, List, [], ◌∷◌, ◌++◌, reverse, None, sym, ap, ◌∙◌, subst}
+use Rattle.std.proofs.lemmas.Grind.{common_steps}
+use Rattle.std.proofs.Common.{rules}
+use Rattle.std.proofs.Common.{arith, ◌≡◌, ℕ, ◌≤◌, Option, Some, length, List, [], ◌∷◌, ◌++◌, reverse, None, sym, ap, ◌∙◌, subst}
 use Rattle.std.proofs.lemmas.List.{reverse-append, reverse-reverse}
-use Rattle.bre_core.proofs.Lists.{no_end}
+use Rattle.std.specs.List.{All}
+use Rattle.std.proofs.lemmas.List.Elements.{All-pop}
 use Rattle.scan_core.specs.declared.compile.Compiling.{Compiling}
 use Rattle.scan_core.specs.declared.compile.Pending.{Pending}
 use Rattle.scan_core.specs.declared.compile.Pending.TheVariants.{Group, Repeated}
 use Rattle.scan_core.specs.declared.emit.Duplication.{Duplication}
 use Rattle.scan_core.specs.declared.node.Node.{Node}
-use Rattle.scan_core.specs.inner.Backwards.{Repeats}
-use Rattle.scan_core.specs.inner.Compiling.{IsNow, FinishesBy, Finishes, PopsNone}
-use Rattle.std.proofs.lemmas.Grind.{common_steps}
+use Rattle.scan_core.specs.inner.Backwards.{IsBegun, Repeats}
+use Rattle.scan_core.specs.inner.Compiling.{AreBegun, Pops, Waits, IsNow, FinishesBy, Finishes, PopsNone}
+
+-- what waits where there are more nodes
+waits_wider : (high : Option ℕ) (low start : ℕ) {size wider : ℕ} → size ≤ wider → IsBegun high low start size → IsBegun high low start wider
+waits_wider None low start h w = omega (arith, h, w)
+waits_wider (Some high) low start h w = (omega (arith, h, w.0), w.1, w.2)
+
+pub begun_wider : (pending : List Pending) {size wider : ℕ} → size ≤ wider → All (Waits size) pending → All (Waits wider) pending
+begun_wider pending {size} {wider} h = search rules
+
+pub popped_begun : (old new : Compiling) (d : Duplication) → Pops old (Some d) new → AreBegun old → IsBegun d.high d.low d.start (length new.nodes.items) × AreBegun new
+popped_begun old new d p b =
+    let parts = All-pop (Waits (length new.nodes.items)) old.pending.items new.pending.items (Some (Repeated d)) p.2 (subst (λ n. All (Waits (length n)) old.pending.items) (sym p.0) b) in
+    (parts.1, parts.0)
+
+turned : {pending : List Pending} (around : List Pending) (last : Pending) → pending ≡ around ++ last ∷ [] → reverse pending ≡ last ∷ reverse around
+turned around last e = ap reverse e ∙ reverse-append around (last ∷ [])
 
 -- the last duplication that waits is written out
 pub finish_more : (nodes written : List Node) {pending : List Pending} (around : List Pending) (d : Duplication) (final : Compiling) → pending ≡ around ++ Repeated d ∷ [] → Repeats d nodes written → Finishes written around final → Finishes nodes pending final
-finish_more nodes written around d final e r f [] s = absurd (no_end around (Repeated d) (sym e ∙ s))
-finish_more nodes written around d final e r f (Group ∷ stack) s = grind (arith, common_steps)
-finish_more nodes written around d final e r f (Repeated other ∷ stack) s = grind (arith, common_steps)
+finish_more nodes written around d final e r f = subst (λ stack. FinishesBy stack nodes final) (sym (turned around (Repeated d) e)) (written, r, f)
 
 -- no duplication waits
-pub finish_ends : {nodes : List Node} {pending : List Pending} (final : Compiling) → PopsNone pending → final.nodes.items ≡ nodes → final.pending.items ≡ pending → final.passing ≡ None → Finishes nodes pending final
-finish_ends {nodes} {pending} final none n p q [] s = record { nodes = n; pending = p ∙ s; passing = q }
-finish_ends {nodes} {pending} final none n p q (Group ∷ stack) s = record { nodes = n; pending = p ∙ s; passing = q }
-finish_ends final none n p q (Repeated d ∷ stack) s = absurd (none (reverse stack) d (s ∙ reverse-append (Repeated d ∷ []) stack))
+ends_by : (stack : List Pending) {nodes : List Node} {pending : List Pending} (final : Compiling) → pending ≡ reverse stack → PopsNone pending → IsNow nodes pending None final → FinishesBy stack nodes final
+ends_by (Repeated d ∷ stack) final s none n = absurd (none (reverse stack) d (s ∙ reverse-append (Repeated d ∷ []) stack))
+ends_by [] final s none n = record { nodes = n.nodes; pending = n.pending ∙ s; passing = n.passing }
+ends_by (Group ∷ stack) final s none n = record { nodes = n.nodes; pending = n.pending ∙ s; passing = n.passing }
+
+pub finish_ends : {nodes : List Node} {pending : List Pending} (final : Compiling) → PopsNone pending → IsNow nodes pending None final → Finishes nodes pending final
+finish_ends {pending} final none n = ends_by (reverse pending) final (sym (reverse-reverse pending)) none n
 
 -- what follows from an item that is complete
 pub finished_group : {nodes : List Node} {pending : List Pending} (around : List Pending) {new : Compiling} → Finishes nodes pending new → pending ≡ around ++ Group ∷ [] → IsNow nodes pending None new
-finished_group {nodes} {pending} around f e =
-    let e' : pending ≡ reverse (Group ∷ reverse around) =
-    e ∙ ap (λ l. l ++ Group ∷ []) (sym (reverse-reverse around)) ∙ sym (reverse-append (Group ∷ []) (reverse around)) in
-    let n = f (Group ∷ reverse around) e' in
-    record { nodes = n.nodes; pending = n.pending ∙ sym e'; passing = n.passing }
+finished_group {nodes} {pending} around {new} f e = grind (arith, common_steps)
 
 pub finished_all : {nodes : List Node} {pending : List Pending} {new : Compiling} → Finishes nodes pending new → pending ≡ [] → IsNow nodes [] None new
-finished_all f e = f [] e
+finished_all {nodes} {new} f e = subst (λ p. FinishesBy (reverse p) nodes new) e f
 
 pub finished_repeated : (nodes : List Node) {pending : List Pending} (around : List Pending) (d : Duplication) (new : Compiling) → Finishes nodes pending new → pending ≡ around ++ Repeated d ∷ []
     → (written : List Node) × Repeats d nodes written × Finishes written around new
-finished_repeated nodes {pending} around d new f e =
-    let e' : pending ≡ reverse (Repeated d ∷ reverse around) =
-    e ∙ ap (λ l. l ++ Repeated d ∷ []) (sym (reverse-reverse around)) ∙ sym (reverse-append (Repeated d ∷ []) (reverse around)) in
-    let first = f (Repeated d ∷ reverse around) e' in (
-      first.0,
-      first.1,
-      λ stack q.
-          let same : reverse around ≡ stack = ap reverse q ∙ reverse-reverse stack in
-          subst (λ t. FinishesBy t first.0 new) same first.2,
-    )
+finished_repeated nodes around d new f e = subst (λ stack. FinishesBy stack nodes new) (turned around (Repeated d) e) f

@@ -1,6 +1,6 @@
 -- The sets of the places along a line, and a table of them.
-use Rattle.std.proofs.Common.{rules, ◌≡◌, ◌⊎◌, ◌↔◌, inl, inr, ℕ, zero, suc, ◌+◌, ◌*◌, ◌-◌, ◌<◌, ◌≤◌, Bool, true, false, List, length, get_or, slice_index, refl, sym, ap, ◌∙◌, subst, arith}
-use Rattle.std.proofs.lemmas.Bool.{cases_eq, false≢true}
+use Rattle.std.proofs.Common.{rules, ◌≡◌, ◌↔◌, inl, inr, ℕ, zero, suc, ◌+◌, ◌*◌, ◌-◌, ◌<◌, ◌≤◌, Bool, true, false, List, length, get_or, slice_index, refl, sym, ap, ◌∙◌, subst, arith}
+use Rattle.std.proofs.lemmas.Bool.{cases_eq, ne_eqb}
 use Rattle.scan_core.specs.declared.node.Node.{Node}
 use Rattle.scan_core.specs.declared.table.Table.{Table}
 use Rattle.scan_core.specs.declared.table.State.{State}
@@ -9,46 +9,29 @@ use Rattle.std.proofs.lemmas.List.{get_or_default}
 use Rattle.scan_core.specs.Code.{Entered, weight}
 use Rattle.scan_core.specs.Counted.{set_at}
 use Rattle.scan_core.specs.Sets.{IsMarked, positions_among}
-use Rattle.scan_core.specs.inner.Sets.{Flows, FlowsOn, Passes}
+use Rattle.scan_core.specs.inner.Sets.{Flows, FlowsOn}
 use Rattle.scan_core.specs.inner.Table.{Next, Inner, InSets, entry, IsState, no_state, IsTableOf, Walked, IsCounted}
 use Rattle.scan_core.specs.Table.{IsOutcome}
 use Rattle.scan_core.proofs.Enterings.{positions_most, weight_length, parts_anywhere}
 use Rattle.scan_core.proofs.Codes.{parts_join}
-use Rattle.scan_core.proofs.Along.{closes_exact, came_exact, counted_starts, counted_more, counted_found, counted_ends, steps_more, steps_wider}
+use Rattle.scan_core.proofs.Along.{inner, final, reaches_exact, came_exact, counted_more, counted_found, counted_ends, steps_more, steps_wider}
 
 -- at every place but the last
 pub inner_entered : (code : List Node) (line : List ℕ) (place : ℕ) → place < length line → (number : ℕ) → Inner code line place number ↔ Entered code line number place
-inner_entered code line zero h number =
-    closes_exact code line (λ n. ⊥) (Inner code line 0) (record { within = omega arith; first = (λ t. refl, λ e. refl); last = (λ t. absurd (false≢true t), λ e. absurd (omega (arith, e, h))) })
-    (λ n. (λ b. absurd b, λ c. absurd (omega (arith, c.1))))
-    (λ n. (λ f. (0, inr refl, f), λ f. elim f.1 [ inl b ↦ absurd b | inr e ↦ subst (λ k. FlowsOn code true false k n) e f.2 ])) number
-inner_entered code line (suc place) h number =
-    closes_exact code line (λ n. (before : ℕ) × Inner code line place before × Passes code (slice_index line place) before n) (Inner code line (suc place))
-    (record { within = omega (arith, h); first = (λ t. absurd (false≢true t), λ e. absurd (omega (arith, e))); last = (λ t. absurd (false≢true t), λ e. absurd (omega (arith, e, h))) })
-    (came_exact code line place (Inner code line place) (inner_entered code line place (omega (arith, h))) (omega (arith, h)) refl)
-    (λ n. (λ f. f, λ f. f)) number
-
-pub next_by : (code : List Node) {byte : ℕ} (One Other : ℕ → Type 0) → ((n : ℕ) → One n → Other n) → (number : ℕ) → Next code byte One number → Next code byte Other number
-next_by code One Other there number h = (h.0, elim h.1 [ inl s ↦ inl (s.0, there s.0 s.1, s.2) | inr e ↦ inr e ], h.2)
+inner_entered code line zero h number = reaches_exact code line (inner line h refl) number
+inner_entered code line (suc place) h number = reaches_exact code line (inner line h (sym (ne_eqb (suc place) 0 (λ e. omega (arith, e))))) number
 
 -- at the last place, after a byte
 pub last_entered : (code : List Node) (line : List ℕ) {place : ℕ} → suc place ≡ length line → (number : ℕ) → Entered code line number (suc place) ↔ ((from : ℕ) × Inner code line (suc place) from × FlowsOn code false true from number)
-last_entered code line {place} h number = (
-  λ e. let f = (exact number).1 e in (f.0, (f.0, f.1, (0, refl)), f.2),
+last_entered code line {place} h number = let exact = reaches_exact code line (final line h (sym (ne_eqb (length line) 0 (λ e. omega (arith, e, h))))) number in (
+  λ e. let f = exact.1 e in (f.0, (f.0, f.1, (0, refl)), f.2),
   λ k.
       let before = parts_anywhere code false true k.1.2.0 k.1.0 k.0 k.1.2.1 in
-      (exact number).0 (k.1.0, k.1.1, (k.1.2.0 + k.2.0, parts_join (Flows code false true) k.1.2.0 k.2.0 k.1.0 k.0 number before k.2.1)),
+      exact.0 (k.1.0, k.1.1, (k.1.2.0 + k.2.0, parts_join (Flows code false true) k.1.2.0 k.2.0 k.1.0 k.0 number before k.2.1)),
 )
-  where
-    exact : (n : ℕ) → ((from : ℕ) × (((before : ℕ) × Inner code line place before × Passes code (slice_index line place) before from) ⊎ (from ≡ 0)) × FlowsOn code false true from n) ↔ Entered code line n (suc place)
-    exact n = closes_exact code line (λ m. (before : ℕ) × Inner code line place before × Passes code (slice_index line place) before m)
-        (λ m. (from : ℕ) × (((before : ℕ) × Inner code line place before × Passes code (slice_index line place) before from) ⊎ (from ≡ 0)) × FlowsOn code false true from m)
-        (record { within = omega (arith, h); first = (λ t. absurd (false≢true t), λ e. absurd (omega (arith, e))); last = (λ t. h, λ e. refl) })
-        (came_exact code line place (Inner code line place) (inner_entered code line place (omega (arith, h))) (omega (arith, h)) refl)
-        (λ m. (λ f. f, λ f. f)) n
 
 pub walked_starts : {code : List Node} {sets : List (List Bool)} {table : Table} (line : List ℕ) → IsTableOf code sets table → Walked code sets line 0 0 0
-walked_starts {code} line t = record { within = omega arith; known = t.some; exact = t.front; so_far = counted_starts code line }
+walked_starts {code} line t = search rules
 
 -- what is entered where the state's set is, and before
 walked_here : {code : List Node} {sets : List (List Bool)} (line : List ℕ) {place state steps : ℕ} → Walked code sets line place state steps
@@ -57,16 +40,23 @@ walked_here {code} line {place} w h number =
     let i = inner_entered code line place h number in
     (λ m. i.0 ((w.exact number).0 m), λ f. (w.exact number).1 (i.1 f))
 
+-- what a byte leads to from the state's set
+next_inner : {code : List Node} {sets : List (List Bool)} (line : List ℕ) {place state steps : ℕ} → Walked code sets line place state steps → place < length line
+    → (number : ℕ) → Next code (slice_index line place) (InSets sets state) number ↔ Inner code line (suc place) number
+next_inner {code} {sets} line {place} {state} w h number = let came = came_exact code line place (InSets sets state) (walked_here line w h) h refl in (
+  λ n. (n.0, elim n.1 [ inl led ↦ inl ((came n.0).0 led) | inr e ↦ inr e ], n.2),
+  λ f. (f.0, elim f.1 [ inl c ↦ inl ((came f.0).1 c) | inr e ↦ inr e ], f.2),
+)
+
 -- one byte more
 pub walked_more : {code : List Node} {sets : List (List Bool)} {table : Table} (line : List ℕ) {place state next steps steps' : ℕ} → IsTableOf code sets table → Walked code sets line place state steps → place < length line → slice_index line place < 256
     → next ≡ entry table.rows.items state (slice_index line place) → next < 65534 → steps' ≡ steps + positions_among code (set_at sets state) → Walked code sets line (suc place) next steps'
 walked_more {code} {sets} {table} line {place} {state} {steps} {steps'} t w h b e k p = record {
   within = omega (arith, h);
   known = omega (arith, e, step.0);
-  exact = λ number. subst (λ s. InSets sets s number ↔ Inner code line (suc place) number) (sym e) (
-    λ i. next_by code (InSets sets state) (Inner code line place) (λ n. (w.exact n).0) number ((step.1 number).0 i),
-    λ i. (step.1 number).1 (next_by code (Inner code line place) (InSets sets state) (λ n. (w.exact n).1) number i),
-  );
+  exact = λ number.
+      let n = next_inner line w h number in
+      subst (λ s. InSets sets s number ↔ Inner code line (suc place) number) (sym e) (λ i. n.0 ((step.1 number).0 i), λ i. (step.1 number).1 (n.1 i));
   so_far =
       let one : place + 1 ≡ suc place = omega arith in
       subst (λ n. IsCounted code line n steps') one (subst (IsCounted code line (place + 1)) (sym p) (counted_more (set_at sets state) w.so_far (walked_here line w h) (t.none state w.known)));
@@ -136,7 +126,7 @@ pub walk_stops : {code : List Node} (table : Table) (line : List ℕ) (place sta
 walk_stops {code} table line place state {steps} d' {noted} d w h b e k f =
     let r = entry_read state (slice_index line place) d' w.1 w.2.known b e in
     let n = noted_read d w.1 w.2.known f in
-    let next = next_by code (InSets w.0 state) (Inner code line place) (λ m. (w.2.exact m).0) (length code) ((w.1.told state (slice_index line place) w.2.known b).stop (sym r ∙ k)) in
+    let next = (next_inner line w.2 h (length code)).0 ((w.1.told state (slice_index line place) w.2.known b).stop (sym r ∙ k)) in
     let one : suc place ≡ place + 1 = omega arith in
     let counted = subst (λ p. IsCounted code line (place + 1) (steps + p)) (sym n.positions) (counted_more (set_at w.0 state) w.2.so_far (walked_here line w.2 h) (w.1.none state w.2.known)) in
     counted_found counted (omega (arith, h)) (subst (Entered code line (length code)) one (entered_there code line place (length code) h next)) (omega arith)

@@ -41,30 +41,22 @@ shifted_high kept carry bit h small =
     omega (arith, e, none, a, b, c)
 
 -- a bit of a word that the byte is taken from
-kept_bit : (code : List Node) (words takes : List ℕ) (byte from at bit : ℕ) → IsMask code (Takes byte) from takes → at < width code → bit < 64
-    → (bit_at (bit_and (get_or words at 0) (get_or takes (from + at) 0)) bit ≡ 1) ↔ Led code byte words (at * 64 + bit + 1)
-kept_bit code words takes byte from at bit m within small = (
+kept_bit : (code : List Node) (words : List ℕ) (byte at bit takes : ℕ) → IsMask code (Takes byte) at takes → bit < 64
+    → (bit_at (bit_and (get_or words at 0) takes) bit ≡ 1) ↔ Led code byte words (at * 64 + bit + 1)
+kept_bit code words byte at bit takes m small = (
   λ h.
       let one : bit_at (get_or words at 0) bit ≡ 1 = omega (arith, both, h) in
-      let two : bit_at (get_or takes (from + at) 0) bit ≡ 1 = omega (arith, both, h) in
-      (at * 64 + bit, (is_in_word words at bit small).0 one, mask.0 two),
+      let two : bit_at takes bit ≡ 1 = omega (arith, both, h) in
+      (at * 64 + bit, (is_in_word words at bit small).0 one, (m bit small).0 two),
   λ l.
       let same : l.0 ≡ at * 64 + bit = (let e = l.2.3 in omega (arith, e)) in
       let one = (is_in_word words at bit small).1 (subst (IsIn words) same l.1) in
-      let two = mask.1 (subst (λ n. Passes code byte n (at * 64 + bit + 1)) same l.2) in
+      let two = (m bit small).1 (subst (λ n. Passes code byte n (at * 64 + bit + 1)) same l.2) in
       omega (arith, both, one, two),
 )
   where
-    both : bit_at (bit_and (get_or words at 0) (get_or takes (from + at) 0)) bit ≡ min (bit_at (get_or words at 0) bit) (bit_at (get_or takes (from + at) 0) bit)
-    both = bit_at_and (get_or words at 0) (get_or takes (from + at) 0) bit
-
-    mask : (bit_at (get_or takes (from + at) 0) bit ≡ 1) ↔ Passes code byte (at * 64 + bit) (at * 64 + bit + 1)
-    mask =
-        let word : (at * 64 + bit) / 64 ≡ at = omega (arith, small) in
-        let place : (at * 64 + bit) % 64 ≡ bit = omega (arith, small) in
-        let e : bit_at (get_or takes (from + (at * 64 + bit) / 64) 0) ((at * 64 + bit) % 64) ≡ bit_at (get_or takes (from + at) 0) bit = ap (λ k. bit_at (get_or takes (from + k) 0) ((at * 64 + bit) % 64)) word ∙ ap (bit_at (get_or takes (from + at) 0)) place in
-        let i = m (at * 64 + bit) (omega (arith, within, small)) in
-        (λ h. i.0 (e ∙ h), λ p. sym e ∙ i.1 p)
+    both : bit_at (bit_and (get_or words at 0) takes) bit ≡ min (bit_at (get_or words at 0) bit) (bit_at takes bit)
+    both = bit_at_and (get_or words at 0) takes bit
 
 pub set_elsewhere : (words : List ℕ) {at : ℕ} (word number : ℕ) → (number / 64 ≡ at → ⊥) → IsIn (set words at word) number ↔ IsIn words number
 unfolding IsIn
@@ -78,9 +70,9 @@ pub record Passing (code : List Node) (byte : ℕ) (base old now : List ℕ) (at
   pub bit : carry < 2
   pub over : (carry ≡ 1) ↔ Led code byte old (at * 64)
 
-pub passing_more : {code : List Node} {byte : ℕ} {base old now new : List ℕ} (takes : List ℕ) (from : ℕ) {at carry kept : ℕ} → Passing code byte base old now at carry → IsMask code (Takes byte) from takes → length old ≡ width code → at < length old
-    → kept ≡ bit_and (get_or now at 0) (get_or takes (from + at) 0) → kept < 2 ^ 64 → new ≡ set now at (bit_or (bit_or (kept * 2 ^ 1 % 2 ^ 64) carry) (get_or base at 0)) → Passing code byte base old new (at + 1) (kept / 2 ^ 63)
-passing_more {code} {byte} {base} {old} {now} {new} takes from {at} {carry} {kept} p m size h ek fits en = record {
+pub passing_more : {code : List Node} {byte : ℕ} {base old now new : List ℕ} {at carry kept : ℕ} (takes : ℕ) → Passing code byte base old now at carry → IsMask code (Takes byte) at takes → at < length old
+    → kept ≡ bit_and (get_or now at 0) takes → kept < 2 ^ 64 → new ≡ set now at (bit_or (bit_or (kept * 2 ^ 1 % 2 ^ 64) carry) (get_or base at 0)) → Passing code byte base old new (at + 1) (kept / 2 ^ 63)
+passing_more {code} {byte} {base} {old} {now} {new} {at} {carry} {kept} takes p m h ek fits en = record {
   size = ap length en ∙ length-set now at (bit_or (bit_or (kept * 2 ^ 1 % 2 ^ 64) carry) (get_or base at 0)) ∙ p.size;
   past = λ number l. elim (cases_lt number (64 * at)) [
     | inl before ↦ subst (λ w. IsIn w number ↔ LedOrBase code byte base old number) (sym en) (earlier number before (p.past number before))
@@ -101,8 +93,8 @@ passing_more {code} {byte} {base} {old} {now} {new} takes from {at} {carry} {kep
   where
     kept_is : (bit : ℕ) → bit < 64 → (bit_at kept bit ≡ 1) ↔ Led code byte old (at * 64 + bit + 1)
     kept_is bit small =
-        let e : kept ≡ bit_and (get_or old at 0) (get_or takes (from + at) 0) = ek ∙ ap (λ w. bit_and w (get_or takes (from + at) 0)) (p.rest at (omega arith)) in
-        subst (λ w. (bit_at w bit ≡ 1) ↔ Led code byte old (at * 64 + bit + 1)) (sym e) (kept_bit code old takes byte from at bit m (omega (arith, size, h)) small)
+        let e : kept ≡ bit_and (get_or old at 0) takes = ek ∙ ap (λ w. bit_and w takes) (p.rest at (omega arith)) in
+        subst (λ w. (bit_at w bit ≡ 1) ↔ Led code byte old (at * 64 + bit + 1)) (sym e) (kept_bit code old byte at bit takes m small)
 
     read : get_or new at 0 ≡ bit_or (bit_or (kept * 2 ^ 1 % 2 ^ 64) carry) (get_or base at 0)
     read = let s = p.size in ap (λ w. get_or w at 0) en ∙ get_or-set_same now at (bit_or (bit_or (kept * 2 ^ 1 % 2 ^ 64) carry) (get_or base at 0)) 0 (omega (arith, h, s))

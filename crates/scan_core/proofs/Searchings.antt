@@ -11,7 +11,7 @@ use Rattle.scan_core.specs.inner.Sets.{FlowsOn, Passes, Came}
 use Rattle.scan_core.specs.Table.{IsOutcome}
 use Rattle.scan_core.specs.inner.Table.{IsCounted}
 use Rattle.scan_core.specs.inner.Words.{IsIn, width, flags_of, SpreadsOut}
-use Rattle.scan_core.proofs.Along.{IsPlace, closes_exact, came_exact, counted_more, counted_found, counted_ends, steps_more, steps_wider}
+use Rattle.scan_core.proofs.Along.{IsPlace, reaches_exact, came_exact, counted_more, counted_found, counted_ends, steps_more, steps_wider}
 use Rattle.scan_core.proofs.Countings.{flags_are}
 use Rattle.scan_core.proofs.Enterings.{positions_most, parts_anywhere, weight_length}
 use Rattle.scan_core.proofs.Visitings.{flows_join}
@@ -25,13 +25,13 @@ pub record Searched (code : List Node) (line : List ℕ) (place : ℕ) (words : 
 -- what is entered at a place
 pub entered_here : {code : List Node} (line : List ℕ) {place steps : ℕ} {at_first at_last : Bool} {old new : List ℕ} → Searched code line place old steps → IsPlace line place at_first at_last → SpreadsOut code at_first at_last old new
     → (number : ℕ) → IsIn new number ↔ Entered code line number place
-entered_here {code} line {place} {at_first} {at_last} {new} s p o = closes_exact code line (Came code line place) (IsIn new) p (λ number. (λ h. h, λ h. h)) (λ number. (
-  λ h. let f = (o.exact number).0 h in elim ((s.came f.0).0 f.1) [
+entered_here {code} line {at_first} {at_last} s p o number = let r = reaches_exact code line p number in (
+  λ h. let f = (o.exact number).0 h in r.0 (elim ((s.came f.0).0 f.1) [
     | inl came ↦ (f.0, inl came, f.2)
     | inr on ↦ (0, inr refl, flows_join code at_first at_last f.2.0 0 f.0 number (on.0, parts_anywhere code at_first at_last on.0 0 f.0 on.1) f.2.1)
-  ],
-  λ f. (o.exact number).1 (f.0, (s.came f.0).1 (elim f.1 [ inl came ↦ inl came | inr e ↦ inr (0, sym e) ]), f.2),
-))
+  ]),
+  λ e. let f = r.1 e in (o.exact number).1 (f.0, (s.came f.0).1 (elim f.1 [ inl came ↦ inl came | inr e ↦ inr (0, sym e) ]), f.2),
+)
 
 -- the set of a place has no more positions than the code
 pub few_positions : (code : List Node) (words : List ℕ) {positions : ℕ} → positions ≡ positions_among code (flags_of words) → positions ≤ weight code + 1

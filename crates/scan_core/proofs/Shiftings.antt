@@ -10,8 +10,9 @@ use Rattle.scan_core.specs.declared.table.State.{State}
 use Rattle.scan_core.specs.declared.table.Table.{Table}
 use Rattle.scan_core.specs.Code.{weight}
 use Rattle.scan_core.specs.Counted.{set_at, HasStepsBefore}
-use Rattle.scan_core.specs.inner.Shifts.{AreLight, IsAt, IsComplete, IsOffset, IsReached, IsShiftTable, IsShifted, IsStateAt, IsWeight, six_bits}
-use Rattle.scan_core.specs.Table.{IsFound, IsOutcome}
+use Rattle.scan_core.specs.inner.Shifts.{AreLight, IsAt, IsComplete, IsOffset, IsShiftTable, IsShifted, IsStateAt, IsWeight, IsWord, six_bits}
+use Rattle.scan_core.specs.inner.Each.{AreEach}
+use Rattle.scan_core.specs.Table.{IsOutcome}
 use Rattle.scan_core.specs.inner.Table.{IsTable, IsTableOf, Walked, entry, no_state}
 use Rattle.scan_core.proofs.Along.{steps_more}
 use Rattle.scan_core.proofs.Enterings.{positions_most, weight_length}
@@ -65,6 +66,11 @@ states_are_light code table t state h =
     let f = t.1.few in
     let p = n.positions in
     omega (arith, m, w, f, p)
+
+-- what was made of the table's rows and states
+pub shifted_is : {table : Table} {shifts : ShiftTable} {rows : List ℕ} {noted : List State} → rows ≡ table.rows.items → noted ≡ table.states.items → length noted ≤ 9 → IsComplete rows → AreEach 0 (IsWord rows (length noted)) 256 shifts.words.items
+    → AreEach 0 (λ low. IsWeight noted (low % 64)) 256 shifts.weights.items → shifts.states.items ≡ noted → shifts.stop ≡ 6 * length noted → IsShifted table shifts
+shifted_is {table} {shifts} {noted} er en few complete words weights states stop = search rules
 
 pub at_starts : {code : List Node} {shifts : ShiftTable} (line : List ℕ) → IsShiftTable code shifts → IsAt code shifts line 0 0 0
 at_starts line t = (
@@ -198,23 +204,3 @@ at_fits {code} line {place} word {steps} a p = bound_fits code place steps a.1.1
 
 pub outcome_fits : {code : List Node} (shifts : ShiftTable) (line : List ℕ) {found : Bool} {steps : ℕ} → IsShiftTable code shifts → IsOutcome code line (record { found = found; steps = steps }) → length line ≤ 18446744073709551615 → steps < 340282366920938463463374607431768211456
 outcome_fits {code} shifts line {steps} t o p = bound_fits code (length line + 1) steps t.1.1.few o.bound (omega (arith, p))
-
--- in whatever number of steps
-
-pub reached_starts : (code : List Node) (shifts : ShiftTable) (line : List ℕ) → IsShiftTable code shifts → IsReached code shifts line 0 0
-reached_starts code shifts line t = (0, at_starts line t)
-
-pub reached_moved : (code : List Node) (shifts : ShiftTable) (line : List ℕ) {place place' : ℕ} (word : ℕ) → place ≡ place' → IsReached code shifts line place word → IsReached code shifts line place' word
-reached_moved code shifts line word p r = (r.0, at_moved line word p refl r.1)
-
-pub reached_more : (code : List Node) (shifts : ShiftTable) (line : List ℕ) (place word : ℕ) {word' read : ℕ} (d : ℕ) → IsReached code shifts line place word → place < length line → slice_index line place < 256
-    → read ≡ get_or shifts.words.items (slice_index line place) d → word' ≡ read / 2 ^ (word % 64) → IsReached code shifts line (place + 1) word'
-reached_more code shifts line place word d r h b e w = (r.0 + get_or shifts.weights.items (word % 256) 0, at_more line word d 0 r.1 h b e w refl)
-
-pub reached_end : {code : List Node} (shifts : ShiftTable) (line : List ℕ) {place : ℕ} (word : ℕ) {noted : State} (d : State) → IsReached code shifts line place word → (word % 64 ≡ shifts.stop → ⊥) → place ≡ length line → 0 < length line → noted ≡ get_or shifts.states.items (word % 64 / 6) d
-    → IsFound code line noted.ends
-reached_end shifts line word d r n h some e = (at_end line word d r.1 n h some e).exact
-
-pub reached_fixed : {code : List Node} (shifts : ShiftTable) (line : List ℕ) (place word : ℕ) {noted : State} (d : State) → IsReached code shifts line place word → (word % 64 ≡ shifts.stop → ⊥) → 0 < length line → ((k : ℕ) → k < length line → slice_index line k < 256)
-    → noted ≡ get_or shifts.states.items (word % 64 / 6) d → noted.is_fixed ≡ true → IsFound code line noted.ends
-reached_fixed shifts line place word d r n some b e f = (at_fixed line word d r.1 n some b e f refl).exact

@@ -21,7 +21,6 @@ use Rattle.scan_core.specs.inner.Words.{IsIn, SpreadsOut, flags_of, width}
 use Rattle.scan_core.proofs.Countings.{flags_are, flags_length}
 use Rattle.scan_core.proofs.Each.{each_more, each_to, each_by}
 use Rattle.scan_core.proofs.Enterings.{at_index, at_once, at_least}
-use Rattle.scan_core.proofs.Inners.{next_by}
 use Rattle.scan_core.proofs.Visitings.{flows_join}
 
 tells_more : {code : List Node} {sets : List (List Bool)} (set : List Bool) {state byte read : ℕ} → state < length sets → Tells code sets state byte read
@@ -55,6 +54,9 @@ tells_at {code} {sets} {place} {state} {byte} {read} e h = search rules
 pub told_of : {code : List Node} {entries : ℕ} {sets : List (List Bool)} {rows : List ℕ} (state byte : ℕ) → Built code entries sets rows → byte < 256 → state * 256 + byte < entries
     → Tells code sets state byte (entry rows state byte)
 told_of state byte b h l = subst (λ t. t) (sym (tells_at refl h)) (b.told.each (state * 256 + byte) l)
+
+next_by : (code : List Node) {byte : ℕ} (One Other : ℕ → Type 0) → ((n : ℕ) → One n → Other n) → (number : ℕ) → Next code byte One number → Next code byte Other number
+next_by code One Other there number h = (h.0, elim h.1 [ inl s ↦ inl (s.0, there s.0 s.1, s.2) | inr e ↦ inr e ], h.2)
 
 -- two bytes that every node treats alike lead alike
 next_alike : (code : List Node) (one other : ℕ) (Set : ℕ → Type 0) (number : ℕ) → AreAlike code one other → Next code one Set number → Next code other Set number

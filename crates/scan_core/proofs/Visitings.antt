@@ -7,7 +7,6 @@ use Rattle.std.specs.Prelude.{bit_and}
 use Rattle.std.specs.Int.{bit_at, bit_not}
 use Rattle.bre_core.specs.Match.{Parts}
 use Rattle.scan_core.specs.declared.node.Node.{Node}
-use Rattle.scan_core.proofs.Bits.{goes_none}
 use Rattle.scan_core.proofs.Enterings.{parts_anywhere}
 use Rattle.scan_core.specs.inner.Sets.{Flows, FlowsOn}
 use Rattle.scan_core.specs.inner.Words.{Adds, GoesOn, IsIn, unset, Visits, SpreadsOut}
@@ -64,8 +63,7 @@ pub record Visiting (code : List Node) (at_first at_last : Bool) (at pending lef
   pub rest : (bit : ℕ) → bit < 64 → bit_at pending bit ≡ 1 → (bit_at left bit ≡ 1) ⊎ ((to : ℕ) → Flows code at_first at_last (at * 64 + bit) to → IsIn now to)
 
 pub visit_starts : {code : List Node} {at_first at_last : Bool} {at pending : ℕ} {old : List ℕ} → Visiting code at_first at_last at pending pending old old (at + 1)
-visit_starts {code} {at_first} {at_last} {at} {old} =
-    record { adds = adds_none code at_first at_last old; goes = goes_none old (at + 1); within = λ bit small h. h; rest = λ bit small h. inl h }
+visit_starts {code} {at_first} {at_last} {at} {old} = search rules
 
 -- what the first words lead to was entered
 pub record Spreading (code : List Node) (at_first at_last : Bool) (old now : List ℕ) (at : ℕ) : Type 0 where

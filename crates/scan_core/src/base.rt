@@ -1,18 +1,14 @@
 //! What is in each set: a search begins at every place, so number 0 is entered there, and with it all that it leads to.
 
-ghost use Rattle.std.specs.Prelude.{◌≡◌, ◌⊎◌, ◌↔◌, ◌<◌, ◌+◌, ◌*◌, ◌/◌, ℕ, Bool, false, IsTrue, IfOk, IfErr, [], length};
+ghost use Rattle.std.specs.Prelude.{◌≡◌, ◌⊎◌, ◌↔◌, ◌<◌, ◌+◌, ◌*◌, ◌/◌, ℕ, Bool, false, IsTrue, IfOk, IfErr, length};
 ghost use Rattle.bre_core.specs.declared.fault.BreFault.TheVariants.{Memory};
 ghost use Rattle.scan_core.specs.inner.Base.{IsBase, IsLeading};
 ghost use Rattle.scan_core.specs.inner.Closures.{AreClosures};
-ghost use Rattle.scan_core.specs.inner.Each.{AreEach};
-ghost use Rattle.scan_core.specs.inner.Hops.{AreHops};
-ghost use Rattle.scan_core.specs.inner.Landings.{AreLandings, IsOther};
 ghost use Rattle.scan_core.specs.inner.Sets.{IsCode, Flows, FlowsOn};
 ghost use Rattle.scan_core.specs.inner.Words.{IsIn, width};
 
 use crate::closing::spread_all;
 use crate::closures::Closures;
-use crate::hops::Hop;
 use crate::landing::{Landing, add_landings, others_of};
 use crate::node::Node;
 use crate::way::{When, way_of};
@@ -65,45 +61,6 @@ fn leading(nodes: &[Node], words: &[u64], at: usize) -> u64
     word
 }
 
-/// The numbers whose nodes lead out of a set.
-fn leads_of(alloc: Global, nodes: &[Node], words: &[u64]) -> Result<Vec<u64>, BreFault>
-    requires code { IsCode nodes.now }
-    requires size { length words.now ≡ width nodes.now }
-    ensures ok { IfOk result (λ leads. AreEach 0 (IsLeading nodes.now words.now) (width nodes.now) leads.items) }
-    ensures err { IfErr result (λ fault. fault ≡ Memory) }
-{
-    let mut leads = Vec::new(alloc);
-    for at in 0..nodes.len() / 64 + 1 {
-        leads.push(leading(nodes, words, at))?;
-    }
-    Ok(leads)
-}
-
-/// Adds the landings of all words. Returns the numbers whose nodes lead out of their word and of the base otherwise.
-fn land_all(
-    alloc: Global,
-    nodes: &[Node],
-    hops: &[Hop],
-    base: &[u64],
-    landings: &mut Vec<Landing>,
-) -> Result<Vec<u64>, BreFault>
-    requires code { IsCode nodes.now }
-    requires hops { AreHops nodes.now hops.now }
-    requires size { length base.now ≡ width nodes.now }
-    requires none { landings.old.items ≡ [] }
-    ensures sound { IfOk result (λ _. AreLandings nodes.now landings.new.items) }
-    ensures ok { IfOk result (λ others. AreEach 0 (IsOther nodes.now base.now landings.new.items) (width nodes.now) others.items) }
-    ensures err { IfErr result (λ fault. fault ≡ Memory) }
-{
-    let mut others = Vec::new(alloc);
-    for at in 0..nodes.len() / 64 + 1 {
-        let start = landings.len();
-        add_landings(landings, nodes, hops, base, at)?;
-        others.push(others_of(nodes, base, landings, start, at))?;
-    }
-    Ok(others)
-}
-
 /// Makes a set what number 0 leads to without a byte, at a line's front or elsewhere.
 pub fn begin(words: &mut [u64], nodes: &[Node], closures: &Closures, at_first: bool)
     requires code { IsCode nodes.now }
@@ -126,9 +83,16 @@ pub fn base_of(alloc: Global, nodes: &[Node], closures: &Closures) -> Result<Bas
 {
     let mut words = vec![in alloc; 0u64; nodes.len() / 64 + 1]?;
     begin(&mut words, nodes, closures, false);
-    let leads = leads_of(alloc, nodes, &words)?;
+    let base = words.as_slice();
+    let mut leads = Vec::new(alloc);
     let mut landings = Vec::new(alloc);
-    let others = land_all(alloc, nodes, &closures.hops, &words, &mut landings)?;
+    let mut others = Vec::new(alloc);
+    for at in 0..nodes.len() / 64 + 1 {
+        leads.push(leading(nodes, base, at))?;
+        let start = landings.len();
+        add_landings(&mut landings, nodes, &closures.hops, base, at)?;
+        others.push(others_of(nodes, base, &landings, start, at))?;
+    }
     Ok(Base {
         words,
         leads,

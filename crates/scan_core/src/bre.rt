@@ -18,7 +18,6 @@ use crate::needle::Needle;
 use crate::node::Node;
 use crate::rarest::needle_of;
 use crate::search::search;
-use crate::shift_find::find_by_shifts;
 use crate::shift_table::{ShiftTable, shifts_of};
 use crate::shift_walk::walk_by_shifts;
 use crate::table::Table;
@@ -147,7 +146,7 @@ impl Bre {
         ensures order { IsOrdered self.now }
     {
         if let Some(shifts) = &self.shifts {
-            return Some(find_by_shifts(shifts, &self.code, line));
+            return Some(walk_by_shifts(shifts, &self.code, line).found);
         }
         match self.walk(line) {
             Some(outcome) => Some(outcome.found),

@@ -66,21 +66,6 @@ fn key_of(words: &[u64]) -> u64 {
     key
 }
 
-/// Whether two sets are the same.
-fn same(one: &[u64], other: &[u64]) -> bool
-    ensures { IsTrue result → one.now ≡ other.now }
-{
-    if one.len() != other.len() {
-        return false;
-    }
-    for i in 0..one.len() {
-        if one[i] != other[i] {
-            return false;
-        }
-    }
-    true
-}
-
 /// Where a set is among others, if it is found.
 fn find(sets: &[Marks], key: u64, words: &[u64]) -> Option<usize>
     ensures within { IfSome result (λ place. place < length sets.now) }
@@ -88,7 +73,7 @@ fn find(sets: &[Marks], key: u64, words: &[u64]) -> Option<usize>
 {
     for i in 0..sets.len() {
         let set = &sets[i];
-        if set.key == key && same(&set.words, words) {
+        if set.key == key && set.words.as_slice() == words {
             return Some(i);
         }
     }
@@ -201,8 +186,7 @@ fn advance(
     ensures size { length words.new ≡ length words.old }
     ensures exact { (number : ℕ) → IsIn words.new number ↔ Next nodes.now byte (IsIn words.old) number }
 {
-    let from = byte as usize * words.len();
-    pass(words, nodes, &base.words, &masks.takes, from, byte);
+    pass(words, nodes, &base.words, &masks.takes, byte);
     spread(words, nodes, base, closures, false, false);
 }
 

@@ -240,47 +240,6 @@ fn insides_of(alloc: Global, nodes: &[Node]) -> Result<Vec<u64>, BreFault>
     Ok(inside)
 }
 
-/// The numbers of each word whose nodes lead out of it otherwise than by its hops.
-fn leaves_of(alloc: Global, nodes: &[Node], hops: &[Hop]) -> Result<Vec<u64>, BreFault>
-    requires code { IsCode nodes.now }
-    requires hops { length hops.now ≡ width nodes.now * 3 }
-    ensures ok { IfOk result (λ leaves. AreEach 0 (IsLeaving nodes.now hops.now) (width nodes.now) leaves.items) }
-    ensures err { IfErr result (λ fault. fault ≡ Memory) }
-{
-    let mut leaves = Vec::new(alloc);
-    for at in 0..nodes.len() / 64 + 1 {
-        leaves.push(leaving(nodes, hops, at))?;
-    }
-    Ok(leaves)
-}
-
-/// The peers of each number.
-fn all_peers(alloc: Global, nodes: &[Node]) -> Result<Vec<u64>, BreFault>
-    requires code { IsCode nodes.now }
-    requires short { length nodes.now < 2 ^ 32 }
-    ensures ok { IfOk result (λ peers. AreEach 0 (ArePeers nodes.now) (width nodes.now * 64) peers.items) }
-    ensures err { IfErr result (λ fault. fault ≡ Memory) }
-{
-    let mut peers = Vec::new(alloc);
-    for number in 0..(nodes.len() / 64 + 1) * 64 {
-        peers.push(peers_of(nodes, number))?;
-    }
-    Ok(peers)
-}
-
-/// The numbers that are led to in each word, as `nexts_in` finds them.
-fn all_nexts(alloc: Global, nodes: &[Node]) -> Result<Vec<Option<u64>>, BreFault>
-    requires { IsCode nodes.now }
-    ensures ok { IfOk result (λ nexts. AreEach None (λ at nexts. IfSome nexts (AreNexts nodes.now at)) (width nodes.now) nexts.items) }
-    ensures err { IfErr result (λ fault. fault ≡ Memory) }
-{
-    let mut nexts = Vec::new(alloc);
-    for at in 0..nodes.len() / 64 + 1 {
-        nexts.push(nexts_in(nodes, at))?;
-    }
-    Ok(nexts)
-}
-
 /// The closures of a code.
 pub fn closures_of(alloc: Global, nodes: &[Node]) -> Result<Closures, BreFault>
     requires code { IsCode nodes.now }
@@ -289,10 +248,18 @@ pub fn closures_of(alloc: Global, nodes: &[Node]) -> Result<Closures, BreFault>
     ensures err { IfErr result (λ fault. fault ≡ Memory) }
 {
     let inside = insides_of(alloc, nodes)?;
-    let nexts = all_nexts(alloc, nodes)?;
     let hops = hops_of(alloc, nodes)?;
-    let leaves = leaves_of(alloc, nodes, &hops)?;
-    let peers = all_peers(alloc, nodes)?;
+    let led = hops.as_slice();
+    let mut nexts = Vec::new(alloc);
+    let mut leaves = Vec::new(alloc);
+    for at in 0..nodes.len() / 64 + 1 {
+        nexts.push(nexts_in(nodes, at))?;
+        leaves.push(leaving(nodes, led, at))?;
+    }
+    let mut peers = Vec::new(alloc);
+    for number in 0..(nodes.len() / 64 + 1) * 64 {
+        peers.push(peers_of(nodes, number))?;
+    }
     Ok(Closures {
         inside,
         nexts,

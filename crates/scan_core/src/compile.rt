@@ -2,9 +2,11 @@
 //! before its item, and the code's nodes are written from the last to the first and turned round once.
 
 ghost use Rattle.std.specs.Prelude.{◌≡◌, ◌<◌, ◌≤◌, ◌+◌, ◌++◌, ◌∷◌, ◌-◌, ◌^◌, [], None, OnOk, OnSome, IfOk, IfErr, MatchOption, IfSome};
+ghost use Rattle.bre_core.specs.Flat.{IsBounded};
 ghost use Rattle.bre_core.specs.declared.fault.BreFault.TheVariants.{Memory};
+ghost use Rattle.bre_core.specs.declared.token.Token.TheVariants.{Repeat};
 ghost use Rattle.scan_core.specs.Code.{code_of, IsOrdered};
-ghost use Rattle.scan_core.specs.inner.Compiling.{Pops, Finishes, Begins, Writes, Passes, Takes, depth_in};
+ghost use Rattle.scan_core.specs.inner.Compiling.{Pops, AreBegun, Finishes, Begins, Writes, Passes, Takes, depth_in};
 
 use crate::emit::{Duplication, keep, write_out};
 use crate::node::Node;
@@ -69,8 +71,10 @@ impl Compiling {
 
     /// An item is complete: writes out the duplications that wait for it.
     fn finish(&mut self) -> Result<(), BreFault>
+        requires begun { AreBegun self.old }
         requires passing { self.old.passing ≡ None }
         ensures ok { OnOk result (Finishes self.old.nodes.items self.old.pending.items self.new) }
+        ensures begun { OnOk result (AreBegun self.new) }
         ensures passed { OnOk result (self.new.passing ≡ None) }
         ensures err { IfErr result (λ fault. fault ≡ Memory) }
     {
@@ -82,8 +86,11 @@ impl Compiling {
 
     /// Begins a duplication, or passes its item over where it stands no time.
     fn begin(&mut self, low: u8, high: Option<u8>) -> Result<(), BreFault>
+        requires begun { AreBegun self.old }
+        requires order { IsBounded (Repeat low high) }
         requires passing { self.old.passing ≡ None }
         ensures ok { OnOk result (Begins low high self.old self.new) }
+        ensures begun { OnOk result (AreBegun self.new) }
         ensures depth { OnOk result (depth_in self.new.passing ≤ depth_in self.old.passing + 1) }
         ensures err { IfErr result (λ fault. fault ≡ Memory) }
     {
@@ -106,8 +113,11 @@ impl Compiling {
 
     /// Goes over a token outside of what is passed over.
     fn write(&mut self, token: &Token) -> Result<(), BreFault>
+        requires begun { AreBegun self.old }
+        requires order { IsBounded token.now }
         requires passing { self.old.passing ≡ None }
         ensures ok { OnOk result (Writes token.now self.old self.new) }
+        ensures begun { OnOk result (AreBegun self.new) }
         ensures depth { OnOk result (depth_in self.new.passing ≤ depth_in self.old.passing + 1) }
         ensures err { IfErr result (λ fault. fault ≡ Memory) }
     {
@@ -135,9 +145,11 @@ impl Compiling {
 
     /// Reads a token of an item that isn't written; `depth` groups of the item are open.
     fn pass(&mut self, depth: usize, token: &Token) -> Result<(), BreFault>
+        requires begun { AreBegun self.old }
         requires passing { self.old.passing ≡ Some depth }
         requires small { depth < 2 ^ 64 - 1 }
         ensures ok { OnOk result (Passes depth token.now self.old self.new) }
+        ensures begun { OnOk result (AreBegun self.new) }
         ensures depth { OnOk result (depth_in self.new.passing ≤ depth_in self.old.passing + 1) }
         ensures err { IfErr result (λ fault. fault ≡ Memory) }
     {
@@ -160,8 +172,11 @@ impl Compiling {
 
     /// Goes over a token.
     fn take(&mut self, token: &Token) -> Result<(), BreFault>
+        requires begun { AreBegun self.old }
+        requires order { IsBounded token.now }
         requires small { depth_in self.old.passing < 2 ^ 64 - 1 }
         ensures ok { OnOk result (Takes self.old token.now self.new) }
+        ensures begun { OnOk result (AreBegun self.new) }
         ensures depth { OnOk result (depth_in self.new.passing ≤ depth_in self.old.passing + 1) }
         ensures err { IfErr result (λ fault. fault ≡ Memory) }
     {

@@ -5,7 +5,7 @@ ghost use Rattle.bre_core.specs.declared.fault.BreFault.TheVariants.{Memory};
 ghost use Rattle.scan_core.specs.declared.node.Node.{Node};
 ghost use Rattle.scan_core.specs.declared.node.Node.TheVariants.{Choose, Back};
 ghost use Rattle.scan_core.specs.Code.{copies, starred, up_to};
-ghost use Rattle.scan_core.specs.inner.Backwards.{stretch, Repeats};
+ghost use Rattle.scan_core.specs.inner.Backwards.{stretch, IsBegun, Repeats};
 
 use crate::node::Node;
 use bre_core::BreFault;
@@ -65,24 +65,16 @@ fn copy_times(nodes: &mut Vec<Node>, from: usize, size: usize, count: u8) -> Res
     Ok(())
 }
 
-/// Writes the item of a duplication out as often as the duplication asks for, where its nodes stand last.
+/// Writes the item of a duplication out as often as the duplication asks for: its nodes stand last, and some are there.
 pub fn write_out(nodes: &mut Vec<Node>, duplication: Duplication) -> Result<(), BreFault>
+    requires { IsBegun duplication.high duplication.low duplication.start (length nodes.old.items) }
     ensures ok { OnOk result (Repeats duplication nodes.old.items nodes.new.items) }
+    ensures more { OnOk result (length nodes.old.items ≤ length nodes.new.items) }
     ensures err { IfErr result (λ fault. fault ≡ Memory) }
 {
     match duplication.high {
-        None => {
-            if duplication.start >= nodes.len() {
-                return Ok(());
-            }
-            write_starred(nodes, duplication.start, duplication.low)
-        }
-        Some(high) => {
-            if duplication.start > nodes.len() {
-                return Ok(());
-            }
-            write_bounded(nodes, duplication.start, duplication.low, high)
-        }
+        None => write_starred(nodes, duplication.start, duplication.low),
+        Some(high) => write_bounded(nodes, duplication.start, duplication.low, high),
     }
 }
 
@@ -91,6 +83,7 @@ fn write_starred(nodes: &mut Vec<Node>, start: usize, low: u8) -> Result<(), Bre
     requires { start < length nodes.old.items }
     ensures ok { OnOk result ((before code : List Node) → length before ≡ start → nodes.old.items ≡ before ++ Back 0 ∷ reverse code
         → nodes.new.items ≡ before ++ reverse (copies low code ++ starred code)) }
+    ensures more { OnOk result (length nodes.old.items ≤ length nodes.new.items) }
     ensures err { IfErr result (λ fault. fault ≡ Memory) }
 {
     let size = nodes.len() - start - 1;
@@ -101,17 +94,20 @@ fn write_starred(nodes: &mut Vec<Node>, start: usize, low: u8) -> Result<(), Bre
 
 /// From `low` to `high` times: `low` copies, and then copies of which each may be left out with those after it.
 fn write_bounded(nodes: &mut Vec<Node>, start: usize, low: u8, high: u8) -> Result<(), BreFault>
-    requires { start ≤ length nodes.old.items }
-    ensures ok { OnOk result ((before code : List Node) → length before ≡ start → low ≤ high → 0 < high → nodes.old.items ≡ before ++ reverse code
+    requires start { start ≤ length nodes.old.items }
+    requires order { low ≤ high }
+    requires some { 0 < high }
+    ensures ok { OnOk result ((before code : List Node) → length before ≡ start → nodes.old.items ≡ before ++ reverse code
         → nodes.new.items ≡ before ++ reverse (copies low code ++ up_to (high - low) code)) }
+    ensures more { OnOk result (length nodes.old.items ≤ length nodes.new.items) }
     ensures err { IfErr result (λ fault. fault ≡ Memory) }
 {
     let size = nodes.len() - start;
     if low == high {
-        return copy_times(nodes, start, size, low.saturating_sub(1));
+        return copy_times(nodes, start, size, low - 1);
     }
     choose(nodes, start)?;
-    for _more in 1..high.saturating_sub(low) {
+    for _more in 1..high - low {
         copy(nodes, start, size)?;
         choose(nodes, start)?;
     }

@@ -23,7 +23,6 @@ mod node;
 mod rarest;
 mod scan;
 mod search;
-mod shift_find;
 mod shift_table;
 mod shift_walk;
 mod table;

@@ -1,11 +1,10 @@
 //! The numbers of a pattern's code by what their nodes do, as words of 64 numbers.
 
-ghost use Rattle.std.specs.Prelude.{◌≡◌, ◌↔◌, ◌<◌, ◌+◌, ◌^◌, ℕ, IsTrue, IfOk, IfErr, OnOk};
-ghost use Rattle.std.specs.Int.{bit_at};
+ghost use Rattle.std.specs.Prelude.{◌≡◌, ◌↔◌, ◌<◌, ◌+◌, ℕ, IsTrue, IfOk, IfErr};
 ghost use Rattle.bre_core.specs.declared.fault.BreFault.TheVariants.{Memory};
 ghost use Rattle.scan_core.specs.declared.masks.Kind.TheVariants.{Counts};
 ghost use Rattle.scan_core.specs.inner.Sets.{Passes};
-ghost use Rattle.scan_core.specs.inner.Words.{AddsMask, IsMasks, IsOf};
+ghost use Rattle.scan_core.specs.inner.Words.{IsMask, IsMasks, IsOf, width};
 
 use crate::node::Node;
 use bre_core::BreFault;
@@ -65,27 +64,16 @@ fn is_of(nodes: &[Node], kind: Kind, number: usize) -> bool
     }
 }
 
-/// The 64 numbers of a kind from a number on, as a word.
-fn word_of(nodes: &[Node], kind: Kind, from: usize) -> u64
-    requires { from + 64 < 2 ^ 64 }
-    ensures { (bit : ℕ) → bit < 64 → (bit_at result bit ≡ 1) ↔ IsOf nodes.now kind (from + bit) }
+/// The numbers of a kind in a word.
+fn word_of(nodes: &[Node], kind: Kind, at: usize) -> u64
+    requires { at < width nodes.now }
+    ensures { IsMask nodes.now kind at result }
 {
     let mut word: u64 = 0;
     for bit in 0..64usize {
-        word |= (is_of(nodes, kind, from + bit) as u64) << bit;
+        word |= (is_of(nodes, kind, at * 64 + bit) as u64) << bit;
     }
     word
-}
-
-/// Adds the words of a kind to others.
-fn add(words: &mut Vec<u64>, nodes: &[Node], kind: Kind) -> Result<(), BreFault>
-    ensures ok { OnOk result (AddsMask nodes.now kind words.old.items words.new.items) }
-    ensures err { IfErr result (λ fault. fault ≡ Memory) }
-{
-    for at in 0..nodes.len() / 64 + 1 {
-        words.push(word_of(nodes, kind, at * 64))?;
-    }
-    Ok(())
 }
 
 /// The numbers of each kind.
@@ -93,11 +81,14 @@ pub fn masks_of(alloc: Global, nodes: &[Node]) -> Result<Masks, BreFault>
     ensures ok { IfOk result (IsMasks nodes.now) }
     ensures err { IfErr result (λ fault. fault ≡ Memory) }
 {
+    let width = nodes.len() / 64 + 1;
     let mut takes = Vec::new(alloc);
-    for byte in 0..256u16 {
-        add(&mut takes, nodes, Kind::Takes(byte as u8))?;
+    for place in 0..256 * width {
+        takes.push(word_of(nodes, Kind::Takes((place / width) as u8), place % width))?;
     }
     let mut counts = Vec::new(alloc);
-    add(&mut counts, nodes, Kind::Counts)?;
+    for at in 0..width {
+        counts.push(word_of(nodes, Kind::Counts, at))?;
+    }
     Ok(Masks { takes, counts })
 }

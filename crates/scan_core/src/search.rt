@@ -42,14 +42,7 @@ pub fn search(
             return Outcome { found: true, steps };
         }
         let byte = line[place];
-        pass(
-            words,
-            nodes,
-            &base.words,
-            &masks.takes,
-            byte as usize * words.len(),
-            byte,
-        );
+        pass(words, nodes, &base.words, &masks.takes, byte);
     }
     spread(words, nodes, base, closures, line.is_empty(), true);
     steps += positions(words, nodes, &masks.counts) as u128;

@@ -2,7 +2,6 @@
 
 ghost use Rattle.std.specs.Prelude.{◌≡◌, ◌<◌, ◌≤◌, ◌*◌, ◌%◌, ℕ, IsTrue, IfOk, IfErr, IfSome, length};
 ghost use Rattle.bre_core.specs.declared.fault.BreFault.TheVariants.{Memory};
-ghost use Rattle.scan_core.specs.inner.Each.{AreEach};
 ghost use Rattle.scan_core.specs.inner.Shifts.{AreLight, IsComplete, IsOffset, IsShiftTable, IsWeight, IsWord};
 ghost use Rattle.scan_core.specs.inner.Table.{IsTable};
 
@@ -74,20 +73,6 @@ fn word_of(rows: &[u16], count: usize, byte: usize) -> u64
     word
 }
 
-/// The word of each byte.
-fn words_of(alloc: Global, rows: &[u16], count: usize) -> Result<Vec<u64>, BreFault>
-    requires rows { length rows.now ≡ count * 256 }
-    requires count { count ≤ 9 }
-    ensures ok { IfOk result (λ words. AreEach 0 (IsWord rows.now count) 256 words.items) }
-    ensures err { IfErr result (λ fault. fault ≡ Memory) }
-{
-    let mut words = Vec::new(alloc);
-    for byte in 0..256usize {
-        words.push(word_of(rows, count, byte))?;
-    }
-    Ok(words)
-}
-
 /// The positions of the state that the low six bits are, if they are one.
 fn weight_of(states: &[State], low: usize) -> u64
     requires { AreLight states.now }
@@ -100,44 +85,7 @@ fn weight_of(states: &[State], low: usize) -> u64
     }
 }
 
-/// The positions of each state.
-fn weights_of(alloc: Global, states: &[State]) -> Result<Vec<u64>, BreFault>
-    requires { AreLight states.now }
-    ensures ok { IfOk result (λ weights. AreEach 0 (λ low. IsWeight states.now (low % 64)) 256 weights.items) }
-    ensures err { IfErr result (λ fault. fault ≡ Memory) }
-{
-    let mut weights = Vec::new(alloc);
-    for low in 0..256usize {
-        weights.push(weight_of(states, low))?;
-    }
-    Ok(weights)
-}
-
-/// The table as words: none where it has too many states, or no room for one.
-fn shift_table(alloc: Global, nodes: &[Node], table: &Table) -> Result<Option<ShiftTable>, BreFault>
-    requires { IsTable nodes.now table.now }
-    ensures ok { IfOk result (λ made. IfSome made (IsShiftTable nodes.now)) }
-    ensures err { IfErr result (λ fault. fault ≡ Memory) }
-{
-    let count = table.states.len();
-    if count > MOST_STATES {
-        return Ok(None);
-    }
-    if !is_complete(&table.rows) {
-        return Ok(None);
-    }
-    let words = words_of(alloc, &table.rows, count)?;
-    let weights = weights_of(alloc, &table.states)?;
-    let states = Vec::from_slice(alloc, &table.states)?;
-    Ok(Some(ShiftTable {
-        words,
-        weights,
-        states,
-        stop: 6 * count as u64,
-    }))
-}
-
-/// The table as words, where there is a table that can be.
+/// The table as words, if there is a table: none where it has too many states, or no room for one.
 pub fn shifts_of(
     alloc: Global,
     nodes: &[Node],
@@ -147,8 +95,29 @@ pub fn shifts_of(
     ensures ok { IfOk result (λ made. IfSome made (IsShiftTable nodes.now)) }
     ensures err { IfErr result (λ fault. fault ≡ Memory) }
 {
-    match table {
-        Some(table) => shift_table(alloc, nodes, table),
-        None => Ok(None),
+    let Some(table) = table else {
+        return Ok(None);
+    };
+    let rows = table.rows.as_slice();
+    let noted = table.states.as_slice();
+    let count = noted.len();
+    if count > MOST_STATES {
+        return Ok(None);
     }
+    if !is_complete(rows) {
+        return Ok(None);
+    }
+    let mut words = Vec::new(alloc);
+    let mut weights = Vec::new(alloc);
+    for byte in 0..256usize {
+        words.push(word_of(rows, count, byte))?;
+        weights.push(weight_of(noted, byte))?;
+    }
+    let states = Vec::from_slice(alloc, noted)?;
+    Ok(Some(ShiftTable {
+        words,
+        weights,
+        states,
+        stop: 6 * count as u64,
+    }))
 }

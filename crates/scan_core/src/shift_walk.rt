@@ -45,7 +45,9 @@ fn stride(
     Strode { word, steps }
 }
 
-/// Whether the line has a match, and the steps. The table is that of these nodes, and the line isn't empty.
+/// Whether the line has a match, and the steps. The table is that of these nodes, and the line isn't empty. It is always
+/// inlined, so that a caller that wants no steps counts none.
+#[inline(always)]
 pub fn walk_by_shifts(table: &ShiftTable, nodes: &[Node], line: &[u8]) -> Outcome
     requires table { IsShiftTable nodes.now table.now }
     requires some { 0 < length line.now }

@@ -1,10 +1,11 @@
 //! Sets of a code's numbers as words: a step of the whole set takes a few operations for 64 numbers.
 
 ghost use Rattle.std.specs.Prelude.{◌≡◌, ◌⊎◌, ◌↔◌, ◌<◌, ◌≤◌, ◌+◌, ◌*◌, ℕ, IsTrue, length};
-ghost use Rattle.scan_core.specs.declared.masks.Kind.TheVariants.{Takes, Counts};
+ghost use Rattle.scan_core.specs.declared.masks.Kind.TheVariants.{Counts};
+ghost use Rattle.scan_core.specs.inner.Each.{AreEach};
 ghost use Rattle.scan_core.specs.inner.Sets.{IsCode, Flows, Passes};
 ghost use Rattle.scan_core.specs.Sets.{positions_among};
-ghost use Rattle.scan_core.specs.inner.Words.{Grows, IsIn, IsMask, flags_of, width};
+ghost use Rattle.scan_core.specs.inner.Words.{AreTakes, Grows, IsIn, IsMask, flags_of, width};
 
 use crate::node::Node;
 use crate::way::{is_open, way_of};
@@ -74,17 +75,16 @@ pub fn clear(words: &mut [u64])
     }
 }
 
-/// Makes of a set what a byte leads to from it, with what is in each set. The numbers whose nodes take the byte stand from a
-/// place on.
+/// Makes of a set what a byte leads to from it, with what is in each set. `takes` has the numbers whose nodes take each byte.
 #[inline(always)]
-pub fn pass(words: &mut [u64], nodes: &[Node], base: &[u64], takes: &[u64], from: usize, byte: u8)
+pub fn pass(words: &mut [u64], nodes: &[Node], base: &[u64], takes: &[u64], byte: u8)
     requires size { length words.old ≡ width nodes.now }
     requires base { length base.now ≡ width nodes.now }
-    requires takes { IsMask nodes.now (Takes byte) from takes.now }
-    requires takes_size { from + width nodes.now ≤ length takes.now }
+    requires takes { AreTakes nodes.now takes.now }
     ensures size { length words.new ≡ length words.old }
     ensures exact { (number : ℕ) → IsIn words.new number ↔ (((before : ℕ) × IsIn words.old before × Passes nodes.now byte before number) ⊎ IsIn base.now number) }
 {
+    let from = byte as usize * words.len();
     let mut carry: u64 = 0;
     for at in 0..words.len() {
         let kept = words[at] & takes[from + at];
@@ -97,8 +97,7 @@ pub fn pass(words: &mut [u64], nodes: &[Node], base: &[u64], takes: &[u64], from
 #[inline(always)]
 pub fn positions(words: &[u64], nodes: &[Node], counts: &[u64]) -> usize
     requires size { length words.now ≡ width nodes.now }
-    requires counts { IsMask nodes.now Counts 0 counts.now }
-    requires counts_size { length counts.now ≡ width nodes.now }
+    requires counts { AreEach 0 (IsMask nodes.now Counts) (width nodes.now) counts.now }
     ensures { result ≡ positions_among nodes.now (flags_of words.now) }
 {
     let mut positions = 0;

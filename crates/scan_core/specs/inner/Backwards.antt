@@ -14,13 +14,13 @@ abbrev pub begun : Option ℕ → List Node → List Node
 begun None nodes = Back 0 ∷ nodes
 begun (Some high) nodes = nodes
 
--- a duplication's bounds are in order
-abbrev pub AreInOrder : ℕ → Option ℕ → Type 0
-AreInOrder low None = Unit {0}
-AreInOrder low (Some high) = (low ≤ high) × (0 < high)
+-- a duplication's item may stand from its place on among `size` nodes, and its bounds are in order
+abbrev pub IsBegun : Option ℕ → ℕ → ℕ → ℕ → Type 0
+IsBegun None low start size = start < size
+IsBegun (Some high) low start size = (start ≤ size) × (low ≤ high) × (0 < high)
 
 -- the item that stands from the duplication's place on was written out as often as the duplication asks for
 abbrev pub Repeats : Duplication → List Node → List Node → Type 0
 Repeats duplication old new = (before code : List Node) → length before ≡ duplication.start
-    → AreInOrder duplication.low duplication.high → old ≡ before ++ begun duplication.high (reverse code)
+    → old ≡ before ++ begun duplication.high (reverse code)
     → new ≡ before ++ reverse (copies duplication.low code ++ tail_of code duplication.low duplication.high)

@@ -1,5 +1,6 @@
 -- Going over a pattern's tokens from the last to the first: what one token does.
 use Rattle.std.specs.Prelude.{◌≡◌, ℕ, zero, suc, List, [], ◌∷◌, ◌++◌, length, reverse, Option, Some, None}
+use Rattle.std.specs.List.{All}
 use Rattle.bre_core.specs.declared.token.Token.{Token}
 use Rattle.bre_core.specs.declared.token.Token.TheVariants.{Set, Front, End, Open, Close, Repeat}
 use Rattle.scan_core.specs.declared.compile.Compiling.{Compiling}
@@ -8,7 +9,15 @@ use Rattle.scan_core.specs.declared.compile.Pending.TheVariants.{Group, Repeated
 use Rattle.scan_core.specs.declared.emit.Duplication.{Duplication}
 use Rattle.scan_core.specs.declared.node.Node.{Node}
 use Rattle.scan_core.specs.declared.node.Node.TheVariants.{Take, First, Last, Back}
-use Rattle.scan_core.specs.inner.Backwards.{Repeats}
+use Rattle.scan_core.specs.inner.Backwards.{IsBegun, Repeats}
+
+-- what waits for an item waits for one that may stand among the nodes
+abbrev pub Waits : ℕ → Pending → Type 0
+Waits size Group = Unit {0}
+Waits size (Repeated duplication) = IsBegun duplication.high duplication.low duplication.start size
+
+abbrev pub AreBegun : Compiling → Type 0
+AreBegun compiling = All (Waits (length compiling.nodes.items)) compiling.pending.items
 
 -- the state, in its parts
 pub record IsNow (written : List Node) (waiting : List Pending) (depth : Option ℕ) (new : Compiling) : Type 0 where
@@ -25,7 +34,7 @@ FinishesBy (Repeated duplication ∷ stack) nodes new = (written : List Node) ×
     × FinishesBy stack written new
 
 abbrev pub Finishes : List Node → List Pending → Compiling → Type 0
-Finishes nodes pending new = (stack : List Pending) → pending ≡ reverse stack → FinishesBy stack nodes new
+Finishes nodes pending new = FinishesBy (reverse pending) nodes new
 
 -- a duplication begins; one that asks for no time passes its item over
 abbrev pub Begins : ℕ → Option ℕ → Compiling → Compiling → Type 0
@@ -74,6 +83,11 @@ TakesIn (Some depth) token old new = Passes depth token old new
 
 abbrev pub Takes : Compiling → Token → Compiling → Type 0
 Takes old token new = TakesIn old.passing token old new
+
+-- the tokens from the last to the first
+abbrev pub TakesAll : Compiling → List Token → Compiling → Type 0
+TakesAll old [] new = old ≡ new
+TakesAll old (token ∷ tokens) new = (now : Compiling) × TakesAll old tokens now × Takes now token new
 
 -- how deep it is in what is passed over
 abbrev pub depth_in : Option ℕ → ℕ

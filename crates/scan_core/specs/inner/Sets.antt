@@ -40,3 +40,8 @@ pub record IsCode (code : List Node) : Type 0 where
 abbrev pub Came : List Node → List ℕ → ℕ → ℕ → Type 0
 Came code line place number = (before : ℕ) × (place ≡ before + 1) × (from : ℕ) × Entered code line from before
     × Goes code line from before number place
+
+-- what follows at a place without a byte: from what the byte before led to, and from number 0
+abbrev pub Reaches : List Node → List ℕ → ℕ → Bool → Bool → ℕ → Type 0
+Reaches code line place at_first at_last number = (from : ℕ) × (Came code line place from ⊎ (from ≡ 0))
+    × FlowsOn code at_first at_last from number

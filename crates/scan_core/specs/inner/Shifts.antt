@@ -66,7 +66,3 @@ pub record IsStateAt (code : List Node) (table : Table) (line : List ℕ) (place
 abbrev pub IsAt : List Node → ShiftTable → List ℕ → ℕ → ℕ → ℕ → Type 0
 IsAt code shifts line place word steps = (table : Table) × IsTable code table × IsShifted table shifts
     × ((state : ℕ) × (word % 64 ≡ 6 * state) × IsStateAt code table line place state steps)
-
--- the same, in whatever number of steps
-abbrev pub IsReached : List Node → ShiftTable → List ℕ → ℕ → ℕ → Type 0
-IsReached code shifts line place word = (steps : ℕ) × IsAt code shifts line place word steps

@@ -1,11 +1,11 @@
 -- What private calls say: a table of sets of a code's numbers: which set a byte leads to.
-use Rattle.std.specs.Prelude.{◌≡◌, ◌⊎◌, ◌↔◌, ℕ, zero, suc, ◌+◌, ◌*◌, ◌<◌, ◌≤◌, Bool, true, false, IsTrue, List, length, slice_index, slice_index_or}
+use Rattle.std.specs.Prelude.{◌≡◌, ◌⊎◌, ◌↔◌, ℕ, zero, suc, ◌+◌, ◌*◌, ◌<◌, ◌≤◌, Bool, true, false, IsTrue, List, length, slice_index_or}
 use Rattle.scan_core.specs.declared.node.Node.{Node}
 use Rattle.scan_core.specs.declared.table.State.{State}
 use Rattle.scan_core.specs.declared.table.Table.{Table}
 use Rattle.scan_core.specs.Code.{Entered, weight}
 use Rattle.scan_core.specs.Sets.{IsMarked, positions_among}
-use Rattle.scan_core.specs.inner.Sets.{FlowsOn, Passes}
+use Rattle.scan_core.specs.inner.Sets.{FlowsOn, Passes, Reaches}
 use Rattle.scan_core.specs.Counted.{set_at, AreSteps}
 
 -- what a byte and then none leads to from the numbers of a set, the search having begun once more
@@ -15,8 +15,8 @@ Next code byte Set number = (from : ℕ) × (((before : ℕ) × Set before × Pa
 
 -- what is entered at a place that isn't the line's last
 abbrev pub Inner : List Node → List ℕ → ℕ → ℕ → Type 0
-Inner code line zero number = FlowsOn code true false 0 number
-Inner code line (suc place) number = Next code (slice_index line place) (Inner code line place) number
+Inner code line zero number = Reaches code line 0 true false number
+Inner code line (suc place) number = Reaches code line (suc place) false false number
 
 abbrev pub InSets : List (List Bool) → ℕ → ℕ → Type 0
 InSets sets state number = IsMarked (set_at sets state) number

@@ -6,6 +6,7 @@ use Rattle.scan_core.specs.declared.masks.Kind.TheVariants.{Takes, Counts}
 use Rattle.scan_core.specs.declared.masks.Masks.{Masks}
 use Rattle.scan_core.specs.declared.node.Node.{Node}
 use Rattle.scan_core.specs.Code.{weight_of}
+use Rattle.scan_core.specs.inner.Each.{AreEach}
 use Rattle.scan_core.specs.inner.Sets.{Flows, FlowsOn, Passes}
 
 unfoldable pub IsIn : List ℕ → ℕ → Type 0
@@ -59,22 +60,18 @@ abbrev pub IsOf : List Node → Kind → ℕ → Type 0
 IsOf code (Takes byte) number = Passes code byte number (number + 1)
 IsOf code Counts number = counted_at code number ≡ 1
 
--- from a place on, words have the numbers of a kind
-abbrev pub IsMask : List Node → Kind → ℕ → List ℕ → Type 0
-IsMask code kind from words = (number : ℕ) → number < 64 * width code
-    → (bit_at (slice_index_or words (from + number / 64) 0) (number % 64) ≡ 1) ↔ IsOf code kind number
+-- a word has its numbers of a kind
+abbrev pub IsMask : List Node → Kind → ℕ → ℕ → Type 0
+IsMask code kind at word = (bit : ℕ) → bit < 64 → (bit_at word bit ≡ 1) ↔ IsOf code kind (at * 64 + bit)
+
+-- the words of the numbers that take each byte
+abbrev pub AreTakes : List Node → List ℕ → Type 0
+AreTakes code =
+    AreEach 0 (λ place. IsMask code (Takes (place / width code)) (place % width code)) (256 * width code)
 
 pub record IsMasks (code : List Node) (masks : Masks) : Type 0 where
-  pub takes_size : length masks.takes.items ≡ 256 * width code
-  pub takes : (byte : ℕ) → byte < 256 → IsMask code (Takes byte) (byte * width code) masks.takes.items
-  pub counts_size : length masks.counts.items ≡ width code
-  pub counts : IsMask code Counts 0 masks.counts.items
-
--- the words of a kind were added to others
-pub record AddsMask (code : List Node) (kind : Kind) (old new : List ℕ) : Type 0 where
-  pub size : length new ≡ length old + width code
-  pub kept : (at : ℕ) → at < length old → slice_index_or new at 0 ≡ slice_index_or old at 0
-  pub exact : IsMask code kind (length old) new
+  pub takes : AreTakes code masks.takes.items
+  pub counts : AreEach 0 (IsMask code Counts) (width code) masks.counts.items
 
 -- what the nodes of a word lead to was entered, if the word to go on with is the next; in earlier words none was, up to
 -- that

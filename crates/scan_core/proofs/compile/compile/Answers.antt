@@ -1,22 +1,28 @@
-use Rattle.std.proofs.Common.{◌≡◌, ◌-◌, reverse, drop, length, ap, ◌∙◌, subst, arith}
+use Rattle.std.proofs.Common.{rules, ◌≡◌, ◌-◌, drop, length, refl, sym, ap, ◌∙◌, subst, arith}
+use Rattle.std.proofs.lemmas.List.{at_drop_all}
 use Rattle.bre_core.specs.Flat.{AreBounded}
-use Rattle.bre_core.specs.Steps.{Steps}
-use Rattle.scan_core.specs.inner.Compiling.{Takes, depth_in}
-use Rattle.scan_core.proofs.Compiled.{compiled, ordered, way_starts, way_more}
+use Rattle.scan_core.specs.inner.Compiling.{TakesAll, depth_in}
+use Rattle.scan_core.proofs.Compiled.{bounded_at, compiled, ordered, way_more}
 use Rattle.scan_core.proofs.compile.compile.Goals as goal
 
 pub loop-place-init : goal.loop-place-init
-loop-place-init c = record {
+loop-place-init c = let first = c.new-compiling.result in record {
+  begun = search rules;
   depth = let d = ap depth_in c.new-compiling.ensures.passing in omega (arith, d);
   way = (
-    c.new-compiling.result,
+    first,
     record { nodes = c.new-compiling.ensures.nodes; pending = c.new-compiling.ensures.pending; passing = c.new-compiling.ensures.passing },
-    way_starts c.tokens-tokens.result.now (length c.tokens-tokens.result.now) c.new-compiling.result (omega arith),
+    subst (λ l. TakesAll first l first) (sym (at_drop_all (λ ts. ts) c.tokens-tokens.result.now (length c.tokens-tokens.result.now) (omega arith))) refl,
   );
 }
 
+pub take-requires-clause-order : goal.take-requires-clause-order
+take-requires-clause-order c =
+    bounded_at c.tokens-tokens.result.now (c.loop-place.place - 1) c.tokens-tokens.ensures.order (omega (arith, c.loop-place.auto, c.loop-place-test.true)) c.index-tokens-place.is
+
 pub loop-place-preserved : goal.loop-place-preserved
 loop-place-preserved c = let w = c.loop-place.invariant.way in record {
+  begun = c.in_ok-take.ensures.begun;
   depth = omega (arith, c.in_ok-take.ensures.depth, c.loop-place.invariant.depth, c.loop-place-test.true);
   way = (
     w.0,
@@ -31,7 +37,7 @@ returns-clause-ok c =
     let w = c.loop-place.invariant.way in
     let front : c.loop-place.place ≡ 0 = omega (arith, c.loop-place-test.false) in
     c.reverse.ensures.items ∙ compiled c.args.expression.now c.loop-place.compiling c.tokens-tokens.ensures.written c.tokens-tokens.ensures.order w.1
-    (subst (λ n. Steps Takes w.0 (reverse (drop n c.tokens-tokens.result.now)) c.loop-place.compiling) front w.2)
+    (subst (λ n. TakesAll w.0 (drop n c.tokens-tokens.result.now) c.loop-place.compiling) front w.2)
 
 pub returns-clause-order : goal.returns-clause-order
 returns-clause-order c = ordered c.args.expression.now (subst AreBounded c.tokens-tokens.ensures.written c.tokens-tokens.ensures.order)

@@ -1,4 +1,4 @@
-use Rattle.std.proofs.Common.{◌-◌, arith}
+use Rattle.std.proofs.Common.{arith}
 use Rattle.std.proofs.lemmas.Grind.{common_steps}
 use Rattle.std.proofs.lemmas.Result.{on_ok_weaker}
 use Rattle.scan_core.proofs.Emitting.{exact_out, optional_more, bounded_out, grown_on}
@@ -6,7 +6,7 @@ use Rattle.scan_core.proofs.emit.write_bounded.Goals as goal
 
 pub returns-then-low-high-clause-ok : goal.returns-then-low-high-clause-ok
 returns-then-low-high-clause-ok c = on_ok_weaker c.copy_times.result
-    (λ e before code b o some n. exact_out before code {size = c.len.result - c.args.start} {times = c.saturating_sub.result} b n (omega (arith, c.len.ensures)) c.if-low-high.true some (omega arith) e) c.copy_times.ensures.ok
+    (λ e before code b n. exact_out before code b n (omega (arith, c.len.ensures)) c.if-low-high.true c.requires.some e) c.copy_times.ensures.ok
 
 pub copy-requires : goal.copy-requires
 copy-requires c = grind (arith, common_steps)
@@ -26,8 +26,8 @@ copy_times-requires-2 c = grind (arith, common_steps)
 
 pub returns-clause-ok : goal.returns-clause-ok
 returns-clause-ok c = let g = c.loop-more.invariant.grown in on_ok_weaker c.copy_times-2.result
-    (λ e before code b o some n. bounded_out g.0 before code c.args.low c.args.high b n (omega (arith, c.len.ensures)) g.1
-    (c.loop-more.invariant.written before code b n) (omega (arith, c.loop-more-test.false, c.loop-more.auto, o, c.if-low-high.false)) e) c.copy_times-2.ensures.ok
+    (λ e before code b n. bounded_out g.0 before code c.args.low c.args.high b n (omega (arith, c.len.ensures)) g.1
+    (c.loop-more.invariant.written before code b n) (omega (arith, c.loop-more-test.false, c.loop-more.auto, c.requires.order, c.if-low-high.false)) e) c.copy_times-2.ensures.ok
 
 pub choose-requires-in-loop-more : goal.choose-requires-in-loop-more
 choose-requires-in-loop-more c = grind (arith, common_steps)

@@ -1,5 +1,8 @@
-use Rattle.scan_core.proofs.Masking.{take_more}
+use Rattle.scan_core.proofs.Each.{each_more}
 use Rattle.scan_core.proofs.masks.masks_of.Goals as goal
 
-pub loop-byte-preserved : goal.loop-byte-preserved
-loop-byte-preserved c = take_more c.loop-byte.invariant c.in_ok-add.ensures.ok
+pub loop-place-preserved : goal.loop-place-preserved
+loop-place-preserved c = each_more c.loop-place.invariant c.word_of.ensures c.in_ok-push.ensures.items
+
+pub loop-at-preserved : goal.loop-at-preserved
+loop-at-preserved c = each_more c.loop-at.invariant c.word_of-in-loop-at.ensures c.in_ok-push-2.ensures.items

@@ -1,5 +1,11 @@
-use Rattle.scan_core.proofs.Masking.{Taking}
+use Rattle.std.proofs.Common.{◌/◌, ◌%◌}
+use Rattle.scan_core.specs.declared.masks.Kind.TheVariants.{Takes, Counts}
+use Rattle.scan_core.specs.inner.Each.{AreEach}
+use Rattle.scan_core.specs.inner.Words.{IsMask, width}
 use Rattle.scan_core.proofs.masks.masks_of.Given as goal
 
-abbrev pub invariant-loop-byte : goal.invariant-loop-byte
-invariant-loop-byte l = Taking l.nodes l.takes.items l.byte
+abbrev pub invariant-loop-place : goal.invariant-loop-place
+invariant-loop-place l = AreEach 0 (λ place. IsMask l.nodes (Takes (place / width l.nodes)) (place % width l.nodes)) l.place l.takes.items
+
+abbrev pub invariant-loop-at : goal.invariant-loop-at
+invariant-loop-at l = AreEach 0 (IsMask l.nodes Counts) l.at l.counts.items

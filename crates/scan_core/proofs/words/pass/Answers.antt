@@ -1,13 +1,15 @@
-use Rattle.std.proofs.Common.{rules, ◌+◌, ◌<◌, ◌^◌, refl, arith, slice_index_or}
+use Rattle.std.proofs.Common.{◌<◌, ◌+◌, ◌*◌, ◌^◌, length, refl, arith, rules, slice_index_or}
 use Rattle.std.proofs.lemmas.Nat.{and_le_l}
+use Rattle.scan_core.proofs.Masking.{takes_word}
 use Rattle.scan_core.proofs.Passings.{passing_more, passing_ends}
 use Rattle.scan_core.proofs.words.pass.Goals as goal
 
 pub loop-at-preserved : goal.loop-at-preserved
 loop-at-preserved c =
     let f : slice_index_or c.loop-at.words c.loop-at.at 0 < 2 ^ 64 = search rules in
-    let l = and_le_l (slice_index_or c.loop-at.words c.loop-at.at 0) (slice_index_or c.args.takes.now (c.args.from + c.loop-at.at) 0) in
-    passing_more c.args.takes.now c.args.from c.loop-at.invariant c.requires.takes c.requires.size (omega arith) refl (omega (arith, f, l)) refl
+    let takes = takes_word c.args.nodes.now c.args.takes.now c.args.byte c.loop-at.at c.requires.takes c.requires.size (omega arith) (omega (arith, c.loop-at-test.true, c.requires.size)) in
+    let l = and_le_l (slice_index_or c.loop-at.words c.loop-at.at 0) (slice_index_or c.args.takes.now (c.args.byte * length c.args.words.now + c.loop-at.at) 0) in
+    passing_more _ c.loop-at.invariant takes (omega arith) refl (omega (arith, f, l)) refl
 
 pub returns-clause-exact : goal.returns-clause-exact
 returns-clause-exact c = passing_ends c.loop-at.invariant (omega arith) c.requires.size c.requires.base
