@@ -26,7 +26,8 @@ use Rattle.csplit_core.specs.Operand.{Line, Operand}
 use Rattle.csplit_core.specs.Output.{contents_of, part_of, Style}
 use Rattle.csplit_core.specs.inner.PlanLaws.{AreWithin}
 use Rattle.csplit_core.specs.Writer.{WriterState, IsReady as CanWrite, Breaks, OwnsFiles}
-use Rattle.csplit_core.specs.inner.Writer.{Reaches, fault_in, At, BegunNot, KeepsFiles, new_writer}
+use Rattle.csplit_core.specs.inner.Writer.{Reaches, At, BegunNot, KeepsFiles, new_writer}
+use Rattle.ports_core.specs.inner.Part.{fault_in}
 use Rattle.csplit_core.specs.declared.progress.Turn.TheVariants.{Below}
 use Rattle.csplit_core.specs.inner.Cutter.{EndsAll, IsWhole, Takes, settled_part, whole_part, IsLine, Clears, Keeps}
 use Rattle.csplit_core.specs.inner.CsplitState.{Closed, Closes, ended_so, Judges, Passes, Sweeps, ended_well, ended_short}

@@ -35,7 +35,7 @@ use Rattle.csplit_core.proofs.TryLemmas.{EndsStill, stays}
 use Rattle.csplit_core.specs.declared.line_cutter.Passed.{Passed}
 use Rattle.ports_core.proofs.PartLemmas.{part_trans}
 use Rattle.csplit_core.specs.inner.PlanLaws.{needed}
-use Rattle.csplit_core.specs.inner.Writer.{fault_in}
+use Rattle.ports_core.specs.inner.Part.{fault_in}
 use Rattle.std.proofs.Math.Seq.{take-add}
 use Rattle.std.specs.Prelude.{IfOk}
 

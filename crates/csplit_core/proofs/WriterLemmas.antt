@@ -6,10 +6,13 @@ use Rattle.ports_core.specs.inner.Part.{AllClosed, InTurn}
 use Rattle.ports_core.specs.declared.fault.Fault.{Fault}
 use Rattle.ports_core.specs.declared.slot.Mode.TheVariants.{Fresh}
 use Rattle.ports_core.specs.declared.slot.State.{State}
+use Rattle.ports_core.proofs.PartSteps.{Becomes, becomes_again, with_last, halts_here, there_from}
 use Rattle.ports_core.proofs.SlotLemmas.{length-changed_at}
 use Rattle.ports_core.proofs.FileLemmas.{gets, ended, file_more, last_changes, write_makes, close_makes}
 use Rattle.ports_core.proofs.PartLemmas.{begins_itself, begins_more, take_begins_after, files_begin_themselves, part_begins_itself, out_more, outputs_count, turn_between, turn_last, turn_next}
-use Rattle.csplit_core.specs.inner.Writer.{MakesNone, unnamed, failed, Wrote, with_bytes, with_section, At, IsThere, KeepsFiles, KeepsOrBreaks, Leaves, Reaches, fault_in}
+use Rattle.csplit_core.specs.inner.Writer.{MakesNone, unnamed, failed, with_bytes, with_section, At, KeepsFiles, KeepsOrBreaks, Leaves, Reaches}
+use Rattle.ports_core.specs.inner.Part.{IsThere, fault_in}
+use Rattle.ports_core.specs.inner.Write.{Wrote}
 use Rattle.std.specs.Prelude.{IfNone}
 use Rattle.std.proofs.lemmas.List.{append-nil}
 use Rattle.ports_core.specs.inner.Slot.{KeepsBroken}
@@ -27,33 +30,7 @@ use Rattle.ports_core.specs.inner.Write as short
 -- Outputs that have a part have another, as their last file is opened, written and closed, and standard output gets a line; or a fault stops
 -- them in between.
 
-pub record Becomes (told : Bool) (low high : Part) (old new : List Slot) (fault : Option Fault) : Type 0 where
-  pub gets : (before : List Slot) → OutputsAt told before low old → IsThere told (OutputsAt told before high new) before low high new fault
-
-there_from : (told : Bool) (There : Type 0) (before : List Slot) {low middle : Part} (high : Part) (new : List Slot) (fault : Option Fault) → Begins low middle → IsThere told There before middle high new fault → IsThere told There before low high new fault
-there_from told There before high new None begins at = at
-there_from told There before {low} {middle} high new (Some fault) begins at = turn_between told before low middle high high fault new begins at (part_begins_itself high)
-
-pub becomes_again : {told : Bool} {low middle high : Part} {old mid new : List Slot} {fault : Option Fault} → Begins low middle → Becomes told low middle old mid None → Becomes told middle high mid new fault → Becomes told low high old new fault
-becomes_again {told} {high = high} {new = new} {fault} begins first second = record { gets = λ before at. there_from told _ before high new fault begins (second.gets before (first.gets before at)) }
-
-pub falls_wider : {told : Bool} {low middle high : Part} {old new : List Slot} {fault : Fault} → Becomes told low middle old new (Some fault) → Begins middle high → Becomes told low high old new (Some fault)
-falls_wider {told} {low} {middle} {high} {new = new} {fault = fault} falls begins =
-    record { gets = λ before at. turn_between told before low low middle high fault new (part_begins_itself low) (falls.gets before at) begins }
-
--- a file with this name
-abbrev pub file_of : List ℕ → List ℕ → State → File
-file_of name bytes state = record { name = name; mode = Fresh; bytes = bytes; state = state; is_broken = false }
-
--- these files, and a last one
-abbrev pub with_last : List ℕ → List File → File → Part
-with_last out front file = record { out = out; files = front ++ file ∷ [] }
-
 -- What begins what
-
-pub front_begins : (front low high : List File) → FilesBegin low high → FilesBegin (front ++ low) (front ++ high)
-front_begins [] low high begins = begins
-front_begins (file ∷ front) low high begins = (refl, refl, refl, inr refl, begins_itself file.bytes, front_begins front low high begins)
 
 pub more_files : (front more : List File) → FilesBegin front (front ++ more)
 more_files [] more = tt
@@ -65,84 +42,15 @@ line_begins {out} line {files} = record { out = begins_more out line; files = fi
 pub file_begins : {out : List ℕ} (front : List File) (file : File) → Begins (record { out = out; files = front }) (with_last out front file)
 file_begins {out} front file = record { out = begins_itself out; files = more_files front (file ∷ []) }
 
-pub bytes_more : (out : List ℕ) (front : List File) (name bytes more : List ℕ) → Begins (with_last out front (file_of name bytes state.Open)) (with_last out front (file_of name (bytes ++ more) state.Open))
-bytes_more out front name bytes more = record { out = begins_itself out; files = front_begins front (file_of name bytes state.Open ∷ []) (file_of name (bytes ++ more) state.Open ∷ []) (refl, refl, refl, inl refl, begins_more bytes more, tt) }
-
-taken_more : (out : List ℕ) (front : List File) (name bytes more : List ℕ) (n : ℕ) → Begins (with_last out front (file_of name (bytes ++ take n more) state.Open)) (with_last out front (file_of name (bytes ++ more) state.Open))
-taken_more out front name bytes more n = record { out = begins_itself out; files = front_begins front (file_of name (bytes ++ take n more) state.Open ∷ []) (file_of name (bytes ++ more) state.Open ∷ []) (refl, refl, refl, inl refl, take_begins_after n bytes more, tt) }
-
-pub close_begins : (out : List ℕ) (front : List File) (name bytes : List ℕ) → Begins (with_last out front (file_of name bytes state.Open)) (with_last out front (file_of name bytes state.Closed))
-close_begins out front name bytes = record { out = begins_itself out; files = front_begins front (file_of name bytes state.Open ∷ []) (file_of name bytes state.Closed ∷ []) (refl, refl, refl, inl refl, begins_itself bytes, tt) }
-
 -- Steps
 
--- a fault that comes while the outputs have the lower part still
-halts_here : {told : Bool} {low high : Part} {old new : List Slot} {fault : Fault} {place : ℕ} → Begins low high → InTurn low.files place → Marks (IsNext low high) fault old new
-    → ((before : List Slot) → OutputsAt told before low old → IsAt fault (length before) place (length low.files)) → Becomes told low high old new (Some fault)
-halts_here {low = low} {old = old} {place = place} begins turn marks from = record {
-  gets = λ before at. record {
-    part = low;
-    above = part_begins_itself low;
-    below = begins;
-    place = place;
-    turn = turn;
-    reached = old;
-    outputs = at;
-    marks = marks;
-    from = from before at;
-  };
-}
-
 module _ (told : Bool) (out : List ℕ) (front : List File) where
-  -- the last slot is that of the last file
-  last_place : (file : File) {before old : List Slot} {slot : ℕ} → suc slot ≡ length old → OutputsAt told before (with_last out front file) old → slot ≡ length before + length front
-  last_place file {before} {old} last at =
-      let all : length old ≡ length before + length (front ++ file ∷ []) = outputs_count told before (with_last out front file) old at in
-      let files : length (front ++ file ∷ []) ≡ length front + 1 = length-append front (file ∷ []) in omega (arith, last)
-
-  -- a file is opened, or isn't
-  pub opens : (name : List ℕ) {old new : List Slot} → new ≡ old ++ opened name Fresh ∷ [] → Becomes told (record { out = out; files = front }) (with_last out front (file_of name [] state.Open)) old new None
-  opens name {old} {new} is = record { gets = λ before at. file_more told before (record { out = out; files = front }) old new name Fresh at is }
-
   pub opens_not : {name : List ℕ} {high : Part} {old new : List Slot} {fault : Fault} → AllClosed front → Begins (record { out = out; files = front }) high → IsNext (record { out = out; files = front }) high name
       → MakesNone old name new fault → Becomes told (record { out = out; files = front }) high old new (Some fault)
   opens_not closed begins next (unnamed same) = halts_here begins (turn_next front closed) same (λ before at. tt)
   opens_not {name} closed begins next (failed _ (broke slot kept number is added)) =
       halts_here begins (turn_next front closed) (number, (name, kept, next, is, added)) (λ before at. refl)
   opens_not closed begins next (failed _ (numberless full same)) = halts_here begins (turn_next front closed) same (λ before at. tt)
-
-  -- the last file gets bytes
-  bytes_added : (name bytes more : List ℕ) {slot : ℕ} (old : List Slot) {new : List Slot} → suc slot ≡ length old → new ≡ with_written slot (told_of told more) old
-      → Becomes told (with_last out front (file_of name bytes state.Open)) (with_last out front (file_of name (bytes ++ more) state.Open)) old new None
-  bytes_added name bytes more {slot} old {new} last wrote = record {
-    gets = λ before at.
-        last_changes told (adds (told_of told more)) (gets more) (write_makes told more) before (with_last out front (file_of name bytes state.Open)) front (file_of name bytes state.Open) old new slot refl last at wrote;
-  }
-
-  pub writes_to : (name bytes more : List ℕ) {slot : ℕ} (old : List Slot) {new : List Slot} (fault : Option Fault) → AllClosed front → suc slot ≡ length old → Wrote told slot more old new fault
-      → Becomes told (with_last out front (file_of name bytes state.Open)) (with_last out front (file_of name (bytes ++ more) state.Open)) old new fault
-  writes_to name bytes more old None closed last wrote = bytes_added name bytes more old last wrote
-  writes_to name bytes more {slot} old (Some _) closed last (short.broke n cut) =
-      becomes_again (bytes_more out front name bytes (take n more)) (bytes_added name bytes (take n more) old last refl) (halts_here (taken_more out front name bytes more n)
-      (turn_last front (file_of name (bytes ++ take n more) state.Open) (length front) refl closed)
-      (let size : length (with_written slot (told_of told (take n more)) old) ≡ length old = length-changed_at slot _ old in omega (arith, last), cut.slots)
-      (λ before at. inr (last_place (file_of name (bytes ++ take n more) state.Open) (last ∙ sym (length-changed_at slot _ old)) at)))
-
-  -- it is closed, or breaks as it is
-  pub closes_last : (name bytes : List ℕ) {slot : ℕ} (old : List Slot) {new : List Slot} → suc slot ≡ length old → new ≡ changed_at slot closes old
-      → Becomes told (with_last out front (file_of name bytes state.Open)) (with_last out front (file_of name bytes state.Closed)) old new None
-  closes_last name bytes {slot} old {new} last closed = record {
-    gets = λ before at.
-        last_changes told closes ended (close_makes told) before (with_last out front (file_of name bytes state.Open)) front (file_of name bytes state.Open) old new slot refl last at closed;
-  }
-
-  pub closes_not : (name bytes : List ℕ) {slot : ℕ} (old : List Slot) {new : List Slot} → AllClosed front → suc slot ≡ length old → new ≡ with_broken slot (changed_at slot closes old)
-      → Becomes told (with_last out front (file_of name bytes state.Open)) (with_last out front (file_of name bytes state.Closed)) old new (Some (fault.Write slot))
-  closes_not name bytes {slot} old closed last is =
-      becomes_again (close_begins out front name bytes) (closes_last name bytes old last refl) (halts_here (part_begins_itself _)
-      (turn_last front (file_of name bytes state.Closed) (length front) refl closed)
-      (let size : length (changed_at slot closes old) ≡ length old = length-changed_at slot closes old in omega (arith, last), is)
-      (λ before at. inr (last_place (file_of name bytes state.Closed) (last ∙ sym (length-changed_at slot closes old)) at)))
 
   -- standard output gets a line
   line_added : (line : List ℕ) (old : List Slot) {new : List Slot} → new ≡ with_written 0 (told_of told line) old → Becomes told (record { out = out; files = front }) (record { out = out ++ line; files = front }) old new None

@@ -10,7 +10,7 @@ ghost use Rattle.csplit_core.specs.inner.CsplitState.{Closes, Passes};
 ghost use Rattle.csplit_core.specs.CsplitState.{Holds, IsReady, Owns, files, work};
 ghost use Rattle.csplit_core.specs.inner.Cutter.{IsLine, Takes};
 ghost use Rattle.csplit_core.specs.Cutter.{IsSound, load};
-ghost use Rattle.csplit_core.specs.inner.Writer.{fault_in};
+ghost use Rattle.ports_core.specs.inner.Part.{fault_in};
 ghost use Rattle.csplit_core.specs.Input.{newline};
 ghost use Rattle.csplit_core.specs.laws.InputLaws.{lawful};
 ghost use Rattle.csplit_core.specs.Writer.{Breaks, IsReady as CanWrite};

@@ -2,7 +2,8 @@
 ghost use Rattle.std.specs.Prelude.{◌≡◌, ◌+◌, ◌<◌, ◌≤◌, ◌^◌, ◌++◌, [], length, take, IfOk, IfErr, OnOk};
 ghost use Rattle.seg_core.specs.Line.{but_last_lines, last_lines};
 ghost use Rattle.seg_core.specs.Window.{without_first};
-ghost use Rattle.csplit_core.specs.inner.Writer.{with_bytes, Goes, fault_in};
+ghost use Rattle.csplit_core.specs.inner.Writer.{with_bytes, Goes};
+ghost use Rattle.ports_core.specs.inner.Part.{fault_in};
 ghost use Rattle.csplit_core.specs.Writer.{IsReady, seen_writer, size_of};
 
 use crate::section_writer::SectionWriter;

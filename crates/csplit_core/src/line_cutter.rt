@@ -13,7 +13,7 @@ ghost use Rattle.csplit_core.specs.inner.Cutter.{AreClear, Clears, CutAt, CutsAl
 ghost use Rattle.csplit_core.specs.Input.{all_lines, newline, without_newline};
 ghost use Rattle.csplit_core.specs.Measure.{Fits};
 ghost use Rattle.csplit_core.specs.Operand.{Line};
-ghost use Rattle.csplit_core.specs.inner.Writer.{fault_in};
+ghost use Rattle.ports_core.specs.inner.Part.{fault_in};
 ghost use Rattle.csplit_core.specs.inner.Progress.{AreSeen, MovesOn, Turns};
 ghost use Rattle.csplit_core.specs.Writer.{IsReady, size_of};
 ghost use Rattle.csplit_core.specs.declared.progress.Turn.TheVariants as turn_is;

@@ -2,7 +2,9 @@
 ghost use Rattle.std.specs.Prelude.{◌≡◌, ◌+◌, ◌<◌, ◌≤◌, ◌^◌, ◌++◌, ◌∷◌, [], false, length, decimal, vec_capacity, vec_len, IfErr, IsTrue, OnOk};
 ghost use Rattle.ports_core.specs.Slot.{is_writable};
 ghost use Rattle.ports_core.specs.Swept.{AreThere, Removes};
-ghost use Rattle.csplit_core.specs.inner.Writer.{with_bytes, with_kept, with_section, Goes, fault_in, new_writer, Appends, Makes, Wrote};
+ghost use Rattle.csplit_core.specs.inner.Writer.{with_bytes, with_kept, with_section, Goes, new_writer, Appends, Makes};
+ghost use Rattle.ports_core.specs.inner.Part.{fault_in};
+ghost use Rattle.ports_core.specs.inner.Write.{Wrote};
 ghost use Rattle.csplit_core.specs.Input.{newline};
 ghost use Rattle.csplit_core.specs.Writer.{IsReady, seen_writer, size_of};
 ghost use Rattle.csplit_core.specs.declared.section_writer.Current.TheVariants.{File, Skipped};

@@ -1,10 +1,10 @@
 -- Outputs that have a part have another, as their last file is opened, written and closed; or a fault stops them in between.
-use Rattle.std.proofs.Common.{◌≡◌, ℕ, ◌+◌, suc, Bool, false, List, [], ◌∷◌, ◌++◌, length, take, Option, Some, None, Result, Ok, Err, inl, inr, refl, sym, ◌∙◌, arith, length-append}
+use Rattle.std.proofs.Common.{◌≡◌, ℕ, ◌+◌, suc, Bool, false, List, [], ◌∷◌, ◌++◌, length, take, Option, Some, None, inl, inr, refl, sym, ◌∙◌, arith, length-append}
 use Rattle.ports_core.specs.Slot.{Slot, opened, changed_at, adds, closes, with_written, with_broken, told_of}
 use Rattle.ports_core.specs.Part.{File, Part, OutputsAt, Begins, FilesBegin, IsNext, Marks, IsAt}
-use Rattle.ports_core.specs.inner.Part.{AllClosed, InTurn, StoppedInTurn}
+use Rattle.ports_core.specs.inner.Part.{AllClosed, InTurn, IsThere}
 use Rattle.ports_core.specs.inner.Write as short
-use Rattle.ports_core.specs.inner.Write.{WritesShort}
+use Rattle.ports_core.specs.inner.Write.{Wrote}
 use Rattle.ports_core.specs.declared.fault.Fault.{Fault}
 use Rattle.ports_core.specs.declared.fault.Fault.TheVariants as fault
 use Rattle.ports_core.specs.declared.slot.Mode.TheVariants.{Fresh}
@@ -14,25 +14,10 @@ use Rattle.ports_core.proofs.SlotLemmas.{length-changed_at}
 use Rattle.ports_core.proofs.FileLemmas.{gets, ended, file_more, last_changes, write_makes, close_makes}
 use Rattle.ports_core.proofs.PartLemmas.{begins_itself, begins_more, take_begins_after, part_begins_itself, outputs_count, turn_between, turn_last}
 
--- the fault of a call, if it ended with one
-abbrev pub fault_in : {T : Type 0} → Result T Fault → Option Fault
-fault_in (Ok result) = None
-fault_in (Err fault) = Some fault
-
--- outputs that were to get from one part to another have that, or a fault stopped them between the two
-abbrev pub IsThere : Bool → Type 0 → List Slot → Part → Part → List Slot → Option Fault → Type 0
-IsThere told There before low high new None = There
-IsThere told There before low high new (Some fault) = StoppedInTurn told before low high fault new
-
--- a slot got these bytes, or broke among them
-abbrev pub Wrote : Bool → ℕ → List ℕ → List Slot → List Slot → Option Fault → Type 0
-Wrote told slot bytes old new None = new ≡ with_written slot (told_of told bytes) old
-Wrote told slot bytes old new (Some fault) = WritesShort told slot bytes old new fault
-
 pub record Becomes (told : Bool) (low high : Part) (old new : List Slot) (fault : Option Fault) : Type 0 where
   pub gets : (before : List Slot) → OutputsAt told before low old → IsThere told (OutputsAt told before high new) before low high new fault
 
-there_from : (told : Bool) (There : Type 0) (before : List Slot) {low middle : Part} (high : Part) (new : List Slot) (fault : Option Fault) → Begins low middle → IsThere told There before middle high new fault → IsThere told There before low high new fault
+pub there_from : (told : Bool) (There : Type 0) (before : List Slot) {low middle : Part} (high : Part) (new : List Slot) (fault : Option Fault) → Begins low middle → IsThere told There before middle high new fault → IsThere told There before low high new fault
 there_from told There before high new None begins at = at
 there_from told There before {low} {middle} high new (Some fault) begins at = turn_between told before low middle high high fault new begins at (part_begins_itself high)
 

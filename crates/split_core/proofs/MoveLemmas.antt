@@ -15,7 +15,8 @@ use Rattle.ports_core.specs.Engine.{IsMet, is_verdict}
 use Rattle.ports_core.specs.declared.fault.Fault.{Fault}
 use Rattle.ports_core.specs.declared.fault.Fault.TheVariants.{Write, Suffixes}
 use Rattle.ports_core.proofs.PartLemmas.{begins_itself, begins_more, turn_last, turn_next}
-use Rattle.ports_core.proofs.PartSteps.{Becomes, fault_in, with_last, becomes_again, falls_wider, halts_here, opens, writes_to, closes_last, closes_not}
+use Rattle.ports_core.proofs.PartSteps.{Becomes, with_last, becomes_again, falls_wider, halts_here, opens, writes_to, closes_last, closes_not}
+use Rattle.ports_core.specs.inner.Part.{fault_in}
 use Rattle.ports_core.specs.inner.Write.{WritesShort, broke}
 use Rattle.ports_core.proofs.SlotSteps.{keeps_again, keeps_same, rose_later, write_rose, open_rose}
 use Rattle.split_core.specs.Split.{Share, share, split_means, is_named, are_named, from_start, only_files, file_at, named, name_of}

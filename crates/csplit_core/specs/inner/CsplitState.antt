@@ -10,7 +10,8 @@ use Rattle.csplit_core.specs.Cutter.{CutterState, Stands, load, suppress_in}
 use Rattle.csplit_core.specs.inner.Cutter.{IsJudged, IsWhole, Keeps, Takes, settled_part, whole_part}
 use Rattle.csplit_core.specs.Input.{all_lines, newline, open_line}
 use Rattle.csplit_core.specs.Planned.{plan}
-use Rattle.csplit_core.specs.inner.Writer.{Reaches, fault_in}
+use Rattle.csplit_core.specs.inner.Writer.{Reaches}
+use Rattle.ports_core.specs.inner.Part.{fault_in}
 use Rattle.csplit_core.specs.declared.progress.Turn.TheVariants.{Below}
 use Rattle.csplit_core.specs.CsplitState.{CsplitState, Owns, files, whole_lines, work}
 

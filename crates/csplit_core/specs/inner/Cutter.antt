@@ -21,7 +21,8 @@ use Rattle.csplit_core.specs.Progress.{AimsAt}
 use Rattle.csplit_core.specs.inner.Progress.{GoesPast}
 use Rattle.csplit_core.specs.Section.{is_final}
 use Rattle.csplit_core.specs.Writer.{OwnsFiles, IsReady, size_of}
-use Rattle.csplit_core.specs.inner.Writer.{BegunNot, Leaves, Reaches, fault_in, new_writer}
+use Rattle.csplit_core.specs.inner.Writer.{BegunNot, Leaves, Reaches, new_writer}
+use Rattle.ports_core.specs.inner.Part.{fault_in}
 use Rattle.csplit_core.specs.declared.progress.Turn.{Turn}
 use Rattle.csplit_core.specs.declared.progress.Turn.TheVariants.{UsedUp, Missed, Above, Below, Cuts}
 use Rattle.csplit_core.specs.declared.line_cutter.Cut.{Cut}

@@ -3,7 +3,7 @@ use Rattle.std.specs.Prelude.{Bool, true, List, [], ◌∷◌, ◌++◌, ℕ, �
 use Rattle.ports_core.specs.Part.{Part, OutputsAt, nothing}
 use Rattle.csplit_core.specs.Output.{Style}
 use Rattle.csplit_core.specs.Draft.{Draft, last_contents, draft_part}
-use Rattle.ports_core.specs.inner.Part.{StoppedInTurn}
+use Rattle.ports_core.specs.inner.Part.{IsThere, fault_in}
 use Rattle.ports_core.specs.Slot.{Slot, FailsToOpen, opened, told_of, with_written}
 use Rattle.ports_core.specs.inner.Slot.{KeepsBroken}
 use Rattle.ports_core.specs.Swept.{AreThere, HasNoFiles}
@@ -11,7 +11,7 @@ use Rattle.ports_core.specs.declared.fault.Fault.{Fault}
 use Rattle.csplit_core.specs.Writer.{WriterState, Writes, OwnsFiles, IsReady, Breaks}
 use Rattle.csplit_core.specs.declared.section_writer.Current.TheVariants.{Skipped, File, Unopened}
 use Rattle.ports_core.specs.Name.{numbered_name}
-use Rattle.ports_core.specs.inner.Write.{WritesShort}
+use Rattle.ports_core.specs.inner.Write.{Wrote}
 use Rattle.ports_core.specs.declared.fault.Fault.TheVariants.{Memory}
 use Rattle.ports_core.specs.declared.slot.Mode.TheVariants.{Fresh}
 
@@ -41,16 +41,6 @@ with_kept kept draft = record { ended = draft.ended; is_kept = kept; bytes = [] 
 pub record At (told : Bool) (writer : WriterState) (before : List Slot) (part : Part) (now : List Slot) : Type 0 where
   pub owns : OwnsFiles writer (length before) now
   pub outputs : OutputsAt told before part now
-
--- the fault of a call, if it ended with one
-abbrev pub fault_in : {T : Type 0} → Result T Fault → Option Fault
-fault_in (Ok result) = None
-fault_in (Err fault) = Some fault
-
--- outputs that were to get from one part to another have that, or a fault stopped them between the two
-abbrev pub IsThere : Bool → Type 0 → List Slot → Part → Part → List Slot → Option Fault → Type 0
-IsThere told There before low high new None = There
-IsThere told There before low high new (Some fault) = StoppedInTurn told before low high fault new
 
 -- so it is of outputs that had the one part
 pub record Reaches (told : Bool) (writer next : WriterState) (low high : Part) (old new : List Slot) (fault : Option Fault) : Type 0 where
@@ -93,11 +83,6 @@ pub record BegunNot (told : Bool) (style : Style) (part : Part) (old new : List 
   pub none : HasNoFiles (length old) new
 
 -- What the steps of the writer of sections do.
-
--- a slot got these bytes, or broke among them
-abbrev pub Wrote : Bool → ℕ → List ℕ → List Slot → List Slot → Option Fault → Type 0
-Wrote told slot bytes old new None = new ≡ with_written slot (told_of told bytes) old
-Wrote told slot bytes old new (Some fault) = WritesShort told slot bytes old new fault
 
 -- the file of the open section, which has `size` bytes, got these as well, or broke among them
 pub record Appends (told : Bool) (writer : WriterState) (slot size : ℕ) (bytes : List ℕ) (old new : List Slot) (next : WriterState) (fault : Option Fault) : Type 0 where

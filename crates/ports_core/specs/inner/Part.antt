@@ -1,6 +1,6 @@
 -- What private calls say: what a tool has written at some moment: bytes on standard output, and files in the order in
 -- which they were opened.
-use Rattle.std.specs.Prelude.{◌≡◌, ℕ, ◌≤◌, suc, Bool, List, [], ◌∷◌, length, take}
+use Rattle.std.specs.Prelude.{◌≡◌, ℕ, ◌≤◌, suc, Bool, List, [], ◌∷◌, length, take, Option, Some, None, Result, Ok, Err}
 use Rattle.ports_core.specs.Slot.{Slot}
 use Rattle.ports_core.specs.declared.slot.State.TheVariants as state
 use Rattle.ports_core.specs.declared.fault.Fault.{Fault}
@@ -29,3 +29,13 @@ pub record StoppedInTurn (told : Bool) (before : List Slot) (low high : Part) (f
   pub outputs : OutputsAt told before part reached
   pub marks : Marks (IsNext part high) fault reached now
   pub from : IsAt fault (length before) place (length part.files)
+
+-- the fault of a call, if it ended with one
+abbrev pub fault_in : {T : Type 0} → Result T Fault → Option Fault
+fault_in (Ok result) = None
+fault_in (Err fault) = Some fault
+
+-- outputs that were to get from one part to another have that, or a fault stopped them between the two
+abbrev pub IsThere : Bool → Type 0 → List Slot → Part → Part → List Slot → Option Fault → Type 0
+IsThere told There before low high new None = There
+IsThere told There before low high new (Some fault) = StoppedInTurn told before low high fault new

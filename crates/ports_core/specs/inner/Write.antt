@@ -1,6 +1,6 @@
 -- What private calls say: what writes leave in the slots.
-use Rattle.std.specs.Prelude.{ℕ, Bool, List}
-use Rattle.ports_core.specs.Slot.{Slot}
+use Rattle.std.specs.Prelude.{◌≡◌, ℕ, Bool, List, Option, Some, None}
+use Rattle.ports_core.specs.Slot.{Slot, told_of, with_written}
 use Rattle.ports_core.specs.declared.fault.Fault.{Fault}
 use Rattle.ports_core.specs.declared.fault.Fault.TheVariants.{Write}
 use Rattle.ports_core.specs.Write.{BrokeAfter}
@@ -8,3 +8,8 @@ use Rattle.ports_core.specs.Write.{BrokeAfter}
 -- the slot broke among these bytes, and the fault says so
 pub data WritesShort (told : Bool) (slot : ℕ) (bytes : List ℕ) (old new : List Slot) : Fault → Type 0 where
   broke : (n : ℕ) → BrokeAfter told old new slot bytes n → WritesShort told slot bytes old new (Write slot)
+
+-- a slot got these bytes, or broke among them
+abbrev pub Wrote : Bool → ℕ → List ℕ → List Slot → List Slot → Option Fault → Type 0
+Wrote told slot bytes old new None = new ≡ with_written slot (told_of told bytes) old
+Wrote told slot bytes old new (Some fault) = WritesShort told slot bytes old new fault

@@ -5,7 +5,9 @@ use Rattle.ports_core.specs.Slot.{Slot, Rose, is_closable, unopened}
 use Rattle.ports_core.specs.inner.Slot.{KeepsBroken}
 use Rattle.ports_core.specs.declared.slot.State.TheVariants as state
 use Rattle.ports_core.specs.Part.{Part, OutputsAt}
-use Rattle.ports_core.proofs.PartSteps.{Becomes, Wrote, fault_in}
+use Rattle.ports_core.proofs.PartSteps.{Becomes}
+use Rattle.ports_core.specs.inner.Part.{fault_in}
+use Rattle.ports_core.specs.inner.Write.{Wrote}
 use Rattle.ports_core.specs.declared.fault.Fault.{Fault}
 use Rattle.ports_core.specs.declared.fault.Fault.TheVariants.{Memory, Write, Open, Suffixes}
 use Rattle.split_core.specs.Parts.{most, unless_empty}

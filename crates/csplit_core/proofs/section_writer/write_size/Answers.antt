@@ -5,7 +5,7 @@ use Rattle.ports_core.specs.Write.{BrokeAfter}
 use Rattle.ports_core.specs.inner.Write.{broke}
 use Rattle.ports_core.proofs.HandedOn.{of_write}
 use Rattle.csplit_core.proofs.WriterLemmas.{stop_is}
-use Rattle.csplit_core.specs.inner.Writer.{Wrote}
+use Rattle.ports_core.specs.inner.Write.{Wrote}
 use Rattle.csplit_core.proofs.WriterCalls.{line_is}
 use Rattle.csplit_core.proofs.section_writer.write_size.Goals as goal
 
