@@ -18,14 +18,13 @@ use Rattle.csplit_core.specs.Plan.{State, start, Step, Ending, used_up, below, R
 use Rattle.csplit_core.specs.Planned.{Plan, plan}
 use Rattle.csplit_core.specs.laws.PlanLaws.{plan_runs, plan_once}
 use Rattle.csplit_core.specs.Progress.{state_of, AimsAt, EndsHere}
-use Rattle.csplit_core.specs.inner.Progress.{AreSeen, Turns, MovesOn}
+use Rattle.csplit_core.specs.inner.Cutter.{AreSeen, Turns, MovesOn, IsNoCut, Opened, settled_part, whole_part, IsJudged, EndsAll}
 use Rattle.csplit_core.specs.Section.{settled_end, is_final, section, section_of, lines_between, is_last_kept, whole_end, bytes_of}
 use Rattle.csplit_core.specs.declared.progress.Progress.{Progress}
 use Rattle.csplit_core.specs.declared.progress.Turn.{Turn}
 use Rattle.csplit_core.specs.declared.progress.Turn.TheVariants.{Below, Cuts, UsedUp, Missed, Above}
 use Rattle.csplit_core.specs.Writer.{WriterState, Writes, size_of}
 use Rattle.csplit_core.specs.Cutter.{CutterState, most_next, pattern_next, kept_next, next_of, most_by, pattern_by, kept_by, settled_draft, IsFit, Stands, suppress_in, state_in, text_from, draft_by, IsLive, IsPast}
-use Rattle.csplit_core.specs.inner.Cutter.{IsNoCut, Opened, settled_part, whole_part, IsJudged, EndsAll}
 use Rattle.csplit_core.proofs.TryLemmas.{repeated_anew, turn_ends, no_cut_aims, left_is}
 use Rattle.ports_core.proofs.SlotSteps.{none_past}
 use Rattle.csplit_core.proofs.WriterCalls.{begun_not, new_owns, new_writes, no_draft, ended_part}

@@ -28,8 +28,7 @@ use Rattle.csplit_core.specs.inner.PlanLaws.{AreWithin}
 use Rattle.csplit_core.specs.Writer.{WriterState, IsReady as CanWrite, Breaks, OwnsFiles}
 use Rattle.csplit_core.specs.inner.Writer.{Reaches, fault_in, At, BegunNot, KeepsFiles, new_writer}
 use Rattle.csplit_core.specs.declared.progress.Turn.TheVariants.{Below}
-use Rattle.csplit_core.specs.inner.Cutter.{EndsAll, IsWhole, Takes, settled_part, whole_part, IsLine, Clears, Keeps}
-use Rattle.csplit_core.specs.inner.CsplitState.{Closed, Closes, ended_so, Judges, Passes, Sweeps, ended_well, ended_short}
+use Rattle.csplit_core.specs.inner.Cutter.{EndsAll, IsWhole, Takes, settled_part, whole_part, IsLine, Clears, Keeps, Closed, Closes, ended_so, Judges, Passes, Sweeps, ended_well, ended_short}
 use Rattle.csplit_core.proofs.WriterLemmas.{leaves_lacking, reaches_again, reaches_as, stops_wider, where_well}
 use Rattle.ports_core.specs.Engine.{is_verdict, TakesIn, PutsOut, CutsOff, EndsShort, EndsWith, EndsThere, Finishes, StandsAt, IsMet, KeepsOwn}
 use Rattle.csplit_core.specs.declared.progress.Turn.{Turn}
