@@ -1,5 +1,5 @@
 -- What is settled is what all continuations agree on, and where lines go.
-use Rattle.std.proofs.Common.{◌≡◌, inl, inr, ℕ, suc, ◌+◌, ◌-◌, ◌<◌, ◌≤◌, max, eqb, ◌&&◌, Bool, true, false, cond, List, [], ◌∷◌, ◌++◌, All, length, get_or, refl, sym, ◌∙◌, ap, subst, arith, length-append, lit<, zero, map, take, drop, append_assoc, nat_lt, nat_le, min, length-take, ◌⊎◌, ne_eqb, eq-eqb, length-drop, length-take-le, take_all}
+use Rattle.std.proofs.Common.{◌≡◌, inl, inr, ℕ, suc, ◌+◌, ◌-◌, ◌<◌, ◌≤◌, max, eqb, ◌&&◌, Bool, true, false, cond, List, [], ◌∷◌, ◌++◌, All, length, get_or, refl, sym, ◌∙◌, ap, subst, arith, length-append, lit<, zero, map, take, drop, append_assoc, nat_lt, nat_le, min, length-take, ◌⊎◌, ne_eqb, eq-eqb, length-drop, length-take-le, take_all, rules}
 use Rattle.std.proofs.lemmas.List.Elements.{All-nil, All-cons}
 use Rattle.seg_core.specs.Line.{IsComplete}
 use Rattle.csplit_core.specs.Agreed.{CanCome, kept_lines, whole_outputs, settled_outputs, IsFront, AreFronts, output_at, IsAgreed}
@@ -20,6 +20,7 @@ use Rattle.std.specs.Prelude.{◌≢◌}
 use Rattle.std.proofs.lemmas.Bool.Decides.{nat_tests}
 use Rattle.csplit_core.specs.Place.{Place, in_section, left_out, nowhere, place_from, place_of, IsUndecided, is_in, lines_into, ArePlaced}
 use Rattle.csplit_core.proofs.WholeLemmas.{between_rest, after_within, ends_after_all}
+use Rattle.std.proofs.lemmas.Grind.{common_steps}
 
 -- What is settled is what all continuations agree on.
 
@@ -28,14 +29,14 @@ use Rattle.csplit_core.proofs.WholeLemmas.{between_rest, after_within, ends_afte
 -- a search never begins further than one past the lines that are there
 search_by : (total : ℕ) (state : State) (first : Bool) → state.current ≤ total → state.matched ≤ total → cond first 1 (suc (max state.current state.matched)) ≤ suc total
 search_by total state true within matched = omega arith
-search_by total state false within matched = let most : max state.current state.matched ≤ total = max-le within matched in omega (arith, most)
+search_by total state false within matched = grind (arith, common_steps)
 
 search_past_cut : (suppress : Bool) (total : ℕ) (state : State) (cut : ℕ) → state.current ≡ line_after suppress cut → cut ≤ total → state.matched ≤ total → search_line suppress state ≤ suc total
-search_past_cut true total state cut is within matched = let e : state.current - 1 ≤ total = omega (arith, is, within) in let most : max (state.current - 1) state.matched ≤ total = max-le e matched in omega (arith, most)
-search_past_cut false total state cut is within matched = search_by total state (eqb state.current 1 && eqb state.matched 0) (omega (arith, is, within)) matched
+search_past_cut true total state cut is within matched = grind (arith, common_steps)
+search_past_cut false total state cut is within matched = grind (arith, common_steps)
 
 matched_within : (suppress : Bool) (lines : List Line) (state : State) (operand : Operand) (target : Target) (matched cut : ℕ) → CutsAt suppress lines state operand target matched cut → state.matched ≤ length lines → matched ≤ length lines
-matched_within suppress lines state operand (Number n) matched cut at within = omega (arith, at.0, within)
+matched_within suppress lines state operand (Number n) matched cut at within = search rules
 matched_within suppress lines state operand (Search pattern kept offset) matched cut at within = at.0.within
 
 search_within : {suppress : Bool} {lines : List Line} {first : State} {steps : List Step} {last : State} {ending : Ending} → Runs suppress lines first steps last ending → first.matched ≤ length lines → search_line suppress first ≤ suc (length lines)
@@ -54,20 +55,14 @@ abbrev pub matching_line : Line
 matching_line = record { text = 10 ∷ []; marks = λ operand. true }
 
 pub none_comes : CanCome []
-none_comes = All-nil (λ (line : Line). All (λ byte. byte < 256) line.text × IsComplete newline line.text)
+none_comes = grind (arith, common_steps)
 
 pub matching_comes : CanCome (matching_line ∷ [])
-matching_comes = All-cons (λ (line : Line). All (λ byte. byte < 256) line.text × IsComplete newline line.text) matching_line []
-    (All-cons (λ byte. byte < 256) 10 [] (lit< tt) (All-nil (λ byte. byte < 256)), ([], refl, tt)) none_comes
+matching_comes = grind (arith, common_steps)
 
 matches_first : (suppress : Bool) (x : List Line) (state : State) {operand : Operand} → MatchesNone operand x (search_line suppress state) → search_line suppress state ≤ suc (length x)
     → IsFirst operand (x ++ matching_line ∷ []) (search_line suppress state) (suc (length x))
-matches_first suppress x state {operand} none within = record {
-  not_before = within;
-  within = let e : length (x ++ matching_line ∷ []) ≡ length x + 1 = length-append x (matching_line ∷ []) in omega (arith, e);
-  match = ap (λ i. (get_or (x ++ matching_line ∷ []) i unmarked).marks operand) (let e : suc (length x) - 1 ≡ length x = omega arith in e) ∙ ap (λ (line : Line). line.marks operand) (get_or-append_seam x matching_line [] unmarked);
-  first = λ other from less. match_still operand x (matching_line ∷ []) other (let some : 1 ≤ search_line suppress state = search_some suppress state in omega (arith, some, from)) (omega (arith, less)) ∙ none other from (omega (arith, less));
-}
+matches_first suppress x state {operand} none within = grind (arith, common_steps)
 
 -- the cut falls within the lines that are there: the section ends there, or the cut is below it
 pub data Turned (suppress : Bool) (x : List Line) (state : State) (operand : Operand) (cut : ℕ) : Type 0 where
@@ -115,7 +110,7 @@ end_waits suppress operands x =
 -- Outputs
 
 kept_by : (has : Bool) (lines : List Line) (low high : List (List Line)) → AreFronts low high → AreFronts (cond has (lines ∷ low) low) (cond has (lines ∷ high) high)
-kept_by true lines low high fronts = (([], sym (append-nil lines)), fronts)
+kept_by true lines low high fronts = search rules
 kept_by false lines low high fronts = fronts
 
 last_by : (has : Bool) (one other : List Line) (more : List (List Line)) → IsFront one other → AreFronts (cond has (one ∷ []) []) (cond has (other ∷ more) more)
@@ -123,14 +118,11 @@ last_by true one other more front = (front, tt)
 last_by false one other more front = tt
 
 kept_grow : (front : List Section) (begun other : Section) (more : List Section) → begun.is_kept ≡ other.is_kept → IsFront begun.lines other.lines → AreFronts (kept_lines (front ++ begun ∷ [])) (kept_lines (front ++ other ∷ more))
-kept_grow [] begun other more same begins = subst (λ has. AreFronts (cond begun.is_kept (begun.lines ∷ []) []) (cond has (other.lines ∷ kept_lines more) (kept_lines more))) same (last_by begun.is_kept begun.lines other.lines (kept_lines more) begins)
+kept_grow [] begun other more same begins = grind (arith, common_steps)
 kept_grow (one ∷ front) begun other more same begins = kept_by one.is_kept one.lines _ _ (kept_grow front begun other more same begins)
 
 outputs_grow : {low high : List Section} → Grow low high → AreFronts (kept_lines low) (kept_lines high)
-outputs_grow {high} grow =
-    subst (λ those. AreFronts (kept_lines those) (kept_lines high)) (sym grow.low_is)
-    (subst (λ those. AreFronts (kept_lines (grow.front ++ grow.begun ∷ [])) (kept_lines those)) (sym (grow.high_is ∙ ap (λ those. grow.front ++ those) grow.next.are))
-    (kept_grow grow.front grow.begun grow.next.other grow.next.more grow.next.kept (grow.next.rest, grow.next.lines)))
+outputs_grow {high} grow = grind (arith, common_steps, kept_grow)
 
 kept-append : (a b : List Section) → kept_lines (a ++ b) ≡ kept_lines a ++ kept_lines b
 kept-append [] b = refl
@@ -140,7 +132,7 @@ kept-append (one ∷ a) b = by one.is_kept (kept-append a b) where
   by false is = is
 
 kept_length : (has : Bool) (one other : List Line) (front : List (List Line)) → length (front ++ cond has (one ∷ []) []) ≡ length (front ++ cond has (other ∷ []) [])
-kept_length true one other front = length-append front (one ∷ []) ∙ sym (length-append front (other ∷ []))
+kept_length true one other front = grind (arith, common_steps)
 kept_length false one other front = refl
 
 fewest : (suppress : Bool) (operands : List Operand) (x : List Line) → length (whole_outputs suppress operands (x ++ [])) ≡ length (settled_outputs suppress operands x)
@@ -151,13 +143,13 @@ fewest suppress operands x =
 
 -- no front is longer than the whole
 front_short : (front whole : List Line) → IsFront front whole → length front ≤ length whole
-front_short front whole (rest, is) = let e : length whole ≡ length front + length rest = ap length is ∙ length-append front rest in omega (arith, e)
+front_short front whole (rest, is) = grind (arith, common_steps)
 
 -- at a place of the closed sections the outputs are the same, and at the next they are what the open section has
 at_front : (front rest other : List (List Line)) (place : ℕ) → place < length front → output_at (front ++ rest) place ≡ output_at (front ++ other) place
-at_front [] rest other place less = absurd (omega (arith, less))
+at_front [] rest other place less = search rules
 at_front (one ∷ front) rest other zero less = refl
-at_front (one ∷ front) rest other (suc place) less = at_front front rest other place (omega (arith, less))
+at_front (one ∷ front) rest other (suc place) less = grind (arith, common_steps)
 
 at_last : (front rest : List (List Line)) (one : List Line) → output_at (front ++ one ∷ rest) (length front) ≡ one
 at_last [] rest one = refl
@@ -175,18 +167,8 @@ pub record Decides (suppress : Bool) (operands : List Operand) (x : List Line) :
 
 short_by : (has : Bool) (front : List (List Line)) (one other : List Line) (more : List (List Line)) (place : ℕ) → length other ≤ length one → place < length (front ++ cond has (one ∷ []) [])
     → length (output_at (front ++ cond has (other ∷ more) more) place) ≤ length (output_at (front ++ cond has (one ∷ []) []) place)
-short_by true front one other more place short less = elim (cases_lt place (length front)) [
-  | inl before ↦ let e : length (output_at (front ++ other ∷ more) place) ≡ length (output_at (front ++ one ∷ []) place) = ap length (at_front front (other ∷ more) (one ∷ []) place before) in omega (arith, e)
-  | inr last ↦
-      let longer : length (front ++ one ∷ []) ≡ length front + 1 = length-append front (one ∷ []) in
-      let e : length front ≡ place = omega (arith, less, last, longer) in
-      subst (λ p. length (output_at (front ++ other ∷ more) p) ≤ length (output_at (front ++ one ∷ []) p)) e
-      (let l : length (output_at (front ++ other ∷ more) (length front)) ≡ length other = ap length (at_last front more other) in
-      let r : length (output_at (front ++ one ∷ []) (length front)) ≡ length one = ap length (at_last front [] one) in omega (arith, l, r, short))
-]
-short_by false front one other more place short less =
-    let none : length (front ++ []) ≡ length front = ap length (append-nil front) in
-    let e : length (output_at (front ++ more) place) ≡ length (output_at (front ++ []) place) = ap length (at_front front more [] place (omega (arith, less, none))) in omega (arith, e)
+short_by true front one other more place short less = grind (arith, common_steps)
+short_by false front one other more place short less = grind (arith, common_steps)
 
 longest : (suppress : Bool) (operands : List Operand) (x : List Line) → Decides suppress operands x → (place : ℕ) → place < length (settled_outputs suppress operands x) → (y : List Line) × (z : List Line) × CanCome y × CanCome z
     × ((front : List Line) → IsFront front (output_at (whole_outputs suppress operands (x ++ y)) place) → IsFront front (output_at (whole_outputs suppress operands (x ++ z)) place) → length front ≤ length (output_at (settled_outputs suppress operands x) place))
@@ -241,7 +223,7 @@ decides_now {suppress} {operands} {x} same = record {
 }
 
 none_taken : (first : ℕ) (lines : List Line) → length (lines_between first 0 lines) ≡ 0
-none_taken first lines = ap (λ n. length (take n (drop (first - 1) lines))) (let e : 0 - first ≡ 0 = omega arith in e)
+none_taken first lines = grind (arith, common_steps)
 
 decides_back : {suppress : Bool} {operands : List Operand} {x : List Line} {operand : Operand} (k : ℕ) → 1 ≤ (plan suppress operands x).last.current → is_last_kept (plan suppress operands x).ending ≡ is_kept operand.target
     → settled_end (length x) (plan suppress operands x).ending ≡ suc (length x) - k → Turned suppress x (plan suppress operands x).last operand (suc (length x) - k) → Decides suppress operands x
@@ -271,8 +253,8 @@ settled_is_agreed suppress operands x = record {
 
 -- a line after a cut is after the one that is left out there
 pub left_by : (suppress : Bool) (line cut : ℕ) → nat_lt line cut ≡ false → (suppress && nat_le line cut) ≡ false → line_after suppress cut ≤ line
-left_by true line cut is are = grind (arith, nat_tests, are)
-left_by false line cut is are = from_not_less line cut is
+left_by true line cut is are = search rules
+left_by false line cut is are = search rules
 
 pub not_left : (suppress : Bool) (line cut : ℕ) → line_after suppress cut ≤ line → (suppress && nat_le line cut) ≡ false
 not_left true line cut rest' = grind (arith, nat_tests, rest')
@@ -312,28 +294,21 @@ place_after {suppress} run total index line more how from = ap (λ i. place_from
 -- What is settled of the open section is in it whatever comes
 
 in_rest : (total : ℕ) {index : ℕ} (line : ℕ) (how : Ending) → line < whole_end total how → cond (nat_lt line (whole_end total how)) (in_section index) nowhere ≡ in_section index
-in_rest total {index} line how less = ap (λ b. cond b (in_section index) nowhere) (less_test line (whole_end total how) less)
+in_rest total {index} line how less = grind (arith, common_steps)
 
 settled_place : {suppress : Bool} (a b : List Line) {last : State} (ending : Ending) → EndsAs suppress a last ending → (more : List Step) (end : State) {how : Ending} → Runs suppress (a ++ b) last more end how
     → {index : ℕ} (line : ℕ) → last.current ≤ line → line < settled_end (length a) ending → place_from suppress (length (a ++ b)) index more how line ≡ in_section index
-settled_place a b ending ends more end (is_used_up state none) line from before = in_rest (length (a ++ b)) line used_up (omega (arith, length-append a b, settled_most (length a) ending, before))
-settled_place a b ending ends more end (misses state operand operands are none) line from before =
-    in_rest (length (a ++ b)) line (missed operand state.repetition) (omega (arith, length-append a b, settled_most (length a) ending, before))
-settled_place a b ending ends more end (is_above state operand operands matched cut are at far) line from before =
-    in_rest (length (a ++ b)) line (above operand state.repetition matched cut) (omega (arith, length-append a b, settled_most (length a) ending, before))
-settled_place {suppress} a b ending ends more end (is_below state operand operands matched cut are at in_lines low) line from before =
-    let so = cuts_from suppress a b state ending ends are in let past = so.1 matched cut at in absurd (omega (arith, past, low, from, before))
-settled_place {suppress} a b ending ends more end (cuts state operand operands matched cut steps' last' ending' are at least in_lines rest) {index} line from before =
-    let so = cuts_from suppress a b state ending ends are in let past = so.1 matched cut at in
-    ap (λ has. cond has (in_section index) (cond (suppress && nat_le line cut) (left_out index) (place_from suppress (length (a ++ b)) (index + 1) steps' ending' line))) (less_test line cut (omega (arith, past, before)))
+settled_place a b ending ends more end (is_used_up state none) line from before = grind (arith, common_steps)
+settled_place a b ending ends more end (misses state operand operands are none) line from before = grind (arith, common_steps)
+settled_place a b ending ends more end (is_above state operand operands matched cut are at far) line from before = grind (arith, common_steps)
+settled_place {suppress} a b ending ends more end (is_below state operand operands matched cut are at in_lines low) line from before = grind (arith, common_steps)
+settled_place {suppress} a b ending ends more end (cuts state operand operands matched cut steps' last' ending' are at least in_lines rest) {index} line from before = grind (arith, common_steps)
 
 -- where the cut is below the current line all lines go nowhere
 
 nowhere_by : {suppress : Bool} {lines : List Line} {first : State} {operand : Operand} {operands : List Operand} (matched cut : ℕ) → first.operands ≡ operand ∷ operands → CutsAt suppress lines first operand operand.target matched cut → cut ≤ length lines → cut < first.current
     → (more : List Step) (end : State) {how : Ending} → Runs suppress lines first more end how → (index line : ℕ) → place_from suppress (length lines) index more how line ≡ nowhere
-nowhere_by {suppress} {lines} {first} {operand} {operands} matched cut is at within low more end run index line =
-    ap (λ (p : Plan). place_from suppress (length lines) index p.steps p.ending line) (run_once (omega (arith, low)) (is_below first operand operands matched cut is at within low) run)
-    ∙ ap (λ b. cond b (in_section index) nowhere) (not_less_test line 0 (omega arith))
+nowhere_by {suppress} {lines} {first} {operand} {operands} matched cut is at within low more end run index line = search rules
 
 -- One place for each line that doesn't wait
 
@@ -369,11 +344,11 @@ place_here suppress operands x y line some within not =
 -- Two places for each that does
 
 rest_later : {index : ℕ} (other : ℕ) → index < other → (has : Bool) → cond has (in_section other) nowhere ≡ in_section index → ⊥
-rest_later {index} other less true same = let e : other ≡ index = cc in omega (arith, e, less)
+rest_later {index} other less true same = grind (arith, common_steps)
 rest_later other less false same = cc
 
 step_later : {index : ℕ} (other : ℕ) {rest' : Place} → index < other → (rest' ≡ in_section index → ⊥) → (lt le : Bool) → cond lt (in_section other) (cond le (left_out other) rest') ≡ in_section index → ⊥
-step_later {index} other less later true le same = let e : other ≡ index = cc in omega (arith, e, less)
+step_later {index} other less later true le same = grind (arith, common_steps)
 step_later other less later false true same = cc
 step_later other less later false false same = later same
 
@@ -385,12 +360,7 @@ in_later suppress total other line (step ∷ steps) how less is =
 
 -- a line after the cut isn't in the section
 cut_before : (suppress : Bool) (total : ℕ) {index : ℕ} (line : ℕ) (step : Step) (steps : List Step) (how : Ending) → step.cut ≤ line → place_from suppress total index (step ∷ steps) how line ≡ in_section index → ⊥
-cut_before suppress total {index} line step steps how before is =
-    left_later (suppress && nat_le line step.cut) (sym (ap (λ has. cond has (in_section index) (cond (suppress && nat_le line step.cut) (left_out index) (place_from suppress total (index + 1) steps how line))) (not_less_test line step.cut before)) ∙ is)
-  where
-    left_later : (le : Bool) → cond le (left_out index) (place_from suppress total (index + 1) steps how line) ≡ in_section index → ⊥
-    left_later true same = cc
-    left_later false same = in_later suppress total (index + 1) line steps how (omega arith) same
+cut_before suppress total {index} line step steps how before is = grind (arith, common_steps, not_less_test, in_later)
 
 turned_away : {suppress : Bool} {x : List Line} {state : State} {operand : Operand} (k line : ℕ) → Turned suppress x state operand (suc (length x) - k) → suc (length x) - k ≤ line
     → (steps : List Step) × (end : State) × (how : Ending) × Runs suppress (x ++ matching_line ∷ []) state steps end how × ((index : ℕ) → place_from suppress (length (x ++ matching_line ∷ [])) index steps how line ≡ in_section index → ⊥)
@@ -467,7 +437,7 @@ waiting_is_undecided suppress operands x =
 -- Which lines go into a section
 
 into_step : (has : Bool) (line : Line) (whole front rest : List Line) → whole ≡ front ++ rest → cond has (line ∷ whole) whole ≡ cond has (line ∷ front) front ++ rest
-into_step true line whole front rest is = ap (λ those. line ∷ those) is
+into_step true line whole front rest is = cc
 into_step false line whole front rest is = is
 
 into-append : (s : ℕ) (places : ℕ → Place) (n : ℕ) (a b : List Line) → lines_into s places n (a ++ b) ≡ lines_into s places n a ++ lines_into s places (n + length a) b
@@ -495,7 +465,7 @@ into_same s places others n (line ∷ a) same =
     ∙ ap (λ those. cond (is_in s (others n)) (line ∷ those) those) (into_same s places others (n + 1) a (λ k from within. same k (omega (arith, from)) (omega (arith, within))))
 
 goes_elsewhere : {s : ℕ} (place : Place) → (place ≡ in_section s → ⊥) → is_in s place ≡ false
-goes_elsewhere {s} (in_section other) differs = ne_eqb s other (λ same. differs (ap in_section (sym same)))
+goes_elsewhere {s} (in_section other) differs = grind (arith, common_steps)
 goes_elsewhere place differs = refl
 
 -- The last section
@@ -504,7 +474,7 @@ abbrev rest_places : ℕ → ℕ → ℕ → Place
 rest_places end index line = cond (nat_lt line end) (in_section index) nowhere
 
 rest_elsewhere : (s index : ℕ) (has : Bool) → index < s → is_in s (cond has (in_section index) nowhere) ≡ false
-rest_elsewhere s index true less = ne_eqb s index (λ same. omega (arith, less, same))
+rest_elsewhere s index true less = grind (arith, common_steps)
 rest_elsewhere s index false less = refl
 
 rest_placed : (lines : List Line) (current end index : ℕ) → 1 ≤ current → (end ≡ suc (length lines)) ⊎ (end ≡ 0) → (k : ℕ) {s : ℕ} → s ≡ index + k
@@ -560,12 +530,10 @@ step_parts suppress lines current cut index s later some least within =
     ∙ ap (λ has. cond has (left_out index) (later line)) (not_left suppress line cut from)))
 
 append_none : {a b : List Line} → b ≡ [] → a ++ b ≡ a
-append_none {a} none = ap (λ those. a ++ those) none ∙ Rattle.std.proofs.Common.append-nil a
+append_none {a} none = grind (arith, common_steps)
 
 step_before : (suppress : Bool) (lines : List Line) (current cut : ℕ) {index : ℕ} (later : ℕ → Place) (line : ℕ) → 1 ≤ current → current ≤ cut → cut ≤ length lines → line < current + length (lines_between current cut lines) → places_with suppress index cut later line ≡ in_section index
-step_before suppress lines current cut {index} later line some least within before =
-    let front : length (lines_between current cut lines) ≡ cut - current = length-take-le (cut - current) (drop (current - 1) lines) (let long : length (drop (current - 1) lines) ≡ length lines - (current - 1) = length-drop (current - 1) lines in omega (arith, long, some, least, within)) in
-    ap (λ has. cond has (in_section index) (cond (suppress && nat_le line cut) (left_out index) (later line))) (less_test line cut (omega (arith, before, front, least)))
+step_before suppress lines current cut {index} later line some least within before = grind (arith, common_steps)
 
 placed_from : {suppress : Bool} {lines : List Line} {first : State} {steps : List Step} {last : State} {ending : Ending} → Runs suppress lines first steps last ending → 1 ≤ first.current → (index k : ℕ) {s : ℕ} → s ≡ index + k
     → get_or (map (λ (one : Section). one.lines) (sections_by true whole_end lines (record { steps = steps; last = last; ending = ending }))) k []
@@ -599,11 +567,7 @@ rest_not_left false index cut same = cc
 left_by_step : {suppress : Bool} {index : ℕ} (cut line : ℕ) {step : Step} {steps : List Step} {later : Place} (lt le : Bool) → nat_lt line step.cut ≡ lt → (suppress && nat_le line step.cut) ≡ le → (later ≡ left_out cut → LeftAt suppress (index + 1) cut line steps)
     → cond lt (in_section index) (cond le (left_out index) later) ≡ left_out cut → LeftAt suppress index cut line (step ∷ steps)
 left_by_step cut line true le lt_is le_is rest same = absurd (cc)
-left_by_step {suppress} {index} cut line {step} false true lt_is le_is rest same =
-    let both = and_parts suppress (nat_le line step.cut) le_is in
-    let low : line ≤ step.cut = grind (arith, nat_tests, both.1) in
-    let high : step.cut ≤ line = from_not_less line step.cut lt_is in
-    let number : index ≡ cut = cc in record { so = both.0; k = 0; at = omega (arith, number); is = omega (arith, low, high) }
+left_by_step {suppress} {index} cut line {step} false true lt_is le_is rest same = grind (arith, common_steps)
 left_by_step {index} cut line false false lt_is le_is rest same =
     let there = rest same in let at : cut ≡ index + 1 + there.k = there.at in record { so = there.so; k = suc there.k; at = omega (arith, at); is = there.is }
 
@@ -613,7 +577,7 @@ left_at suppress total index cut line (step ∷ steps) ending same =
     left_by_step {suppress = suppress} {index = index} cut line {step = step} {steps = steps} {later = place_from suppress total (index + 1) steps ending line} (nat_lt line step.cut) (suppress && nat_le line step.cut) refl refl (left_at suppress total (index + 1) cut line steps ending) same
 
 rest_not_nowhere : (index line end : ℕ) → line < end → cond (nat_lt line end) (in_section index) nowhere ≡ nowhere → ⊥
-rest_not_nowhere index line end less same = let there : in_section index ≡ nowhere = sym (ap (λ has. cond has (in_section index) nowhere) (less_test line end less)) ∙ same in cc
+rest_not_nowhere index line end less same = grind (arith, common_steps)
 
 nowhere_by_step : (lt le : Bool) (index : ℕ) {later : Place} (A : Type 0) → (lt ≡ false → le ≡ false → later ≡ nowhere → A) → cond lt (in_section index) (cond le (left_out index) later) ≡ nowhere → A
 nowhere_by_step false false index A rest same = rest refl refl same

@@ -17,13 +17,12 @@ use Rattle.csplit_core.specs.Plan.{State, start, Step, Ending, search_line, line
 use Rattle.csplit_core.specs.Planned.{Plan, plan_within}
 use Rattle.csplit_core.specs.inner.PlanLaws.{needed}
 use Rattle.csplit_core.specs.laws.PlanLaws.{plan_once, runs}
-use Rattle.csplit_core.specs.inner.Progress.{GoesPast}
+use Rattle.csplit_core.specs.inner.Cutter.{GoesPast, settled_part, part_at, search_after, CutsNow, WentOn, PassesCut, IsAfter, CutAt, CutsAll, WillCut, IsEnd}
 use Rattle.csplit_core.specs.Section.{Section, section, section_of, lines_between, bytes_of, is_last_kept, settled_end, settled_sections}
 use Rattle.csplit_core.specs.laws.SectionLaws.{part_grows, ends_as}
 use Rattle.csplit_core.specs.Writer.{WriterState, Writes, size_of}
 use Rattle.csplit_core.specs.declared.line_cutter.Cut.{Cut}
 use Rattle.csplit_core.specs.Cutter.{CutterState, suppress_in, state_in, kept_by, text_from, Leads, draft_by, IsFit, IsAt}
-use Rattle.csplit_core.specs.inner.Cutter.{settled_part, part_at, search_after, CutsNow, WentOn, PassesCut, IsAfter, CutAt, CutsAll, WillCut, IsEnd}
 use Rattle.csplit_core.proofs.CutterLemmas.{goes_or_lacks, last_kept}
 use Rattle.csplit_core.proofs.WholeLemmas.{after_within}
 use Rattle.csplit_core.proofs.LineLemmas.{bytes_between, first_further, from_further}

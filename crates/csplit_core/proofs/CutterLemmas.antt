@@ -1,7 +1,7 @@
 -- Lemmas on the cutter of lines: what is settled, and what holding lines leaves.
 use Rattle.std.proofs.Common.{◌≡◌, ℕ, ◌+◌, ◌-◌, ◌≤◌, Bool, true, false, List, [], ◌∷◌, ◌++◌, length, map, refl, sym, ◌∙◌, ap, arith, ◌⊎◌, inl, inr, Option, None, subst, ◌<◌, min, Some, Result, Ok, Err, OnOk, IfErr, take, drop, append_assoc, length-append}
 use Rattle.std.proofs.lemmas.Bool.{false≢true, cases_lt}
-use Rattle.std.proofs.lemmas.List.{map-append, append-nil, length-take-le, length-drop, take-append-drop, take-append-le, take_all, drop_all, take_at, drop_at}
+use Rattle.std.proofs.lemmas.List.{map-append, append-nil, length-take-le, length-drop, take-append-drop, take-append-le, take_all, drop_all, take_at, drop_at, drop-drop}
 use Rattle.seg_core.specs.Line.{line_count, first_lines, after_lines, but_last_lines, last_lines}
 use Rattle.csplit_core.specs.Csplit.{settled_of}
 use Rattle.csplit_core.specs.Draft.{draft_part, Draft, last_contents, AreClosed}
@@ -250,15 +250,18 @@ goes_as {told} {writer} {next} {old = old} {new} {fault} is goes = subst (λ byt
 
 -- A beginning of what waited was written and dropped, and `left` bytes are still to go.
 pub record Emptying (told : Bool) (writer now : WriterState) (window left_in : Window) (n left : ℕ) (old new : List Slot) : Type 0 where
-  pub gone : List ℕ
-  pub whole : window.held ≡ gone ++ left_in.held
-  pub count : length gone + left ≡ n
-  pub same : left_in ≡ record window { held = left_in.held }
-  pub went : Goes told writer (with_bytes gone) old new now None
+  pub few : left ≤ n
+  pub rest : left_in ≡ without_first window (n - left)
+  pub went : Goes told writer (with_bytes (take (n - left) window.held)) old new now None
   pub size : size_of now.current + length left_in.held ≤ size_of writer.current + length window.held
 
 pub starts : {told : Bool} {writer : WriterState} {window : Window} {n : ℕ} {slots : List Slot} → IsReady writer slots → Emptying told writer writer window window n n slots slots
-starts ready = record { gone = []; whole = refl; count = omega arith; same = refl; went = goes_none ready; size = omega arith }
+starts {window = window} {n} ready = let none : n - n ≡ 0 = omega arith in record {
+  few = omega arith;
+  rest = sym (ap (without_first window) none);
+  went = goes_as (sym (ap (λ k. take k window.held) none)) (goes_none ready);
+  size = omega arith;
+}
 
 -- the first bytes of what stands at the front are the first of all
 front_bytes : (bytes : ℕ) {held : List ℕ} (front rest : List ℕ) → held ≡ front ++ rest → bytes ≤ length front → take bytes front ≡ take bytes held
@@ -271,8 +274,8 @@ module _ {told : Bool} {writer now : WriterState} {window left_in : Window} {n l
   -- what is still to go is held
   pub left_within : n ≤ length window.held → left ≤ length left_in.held
   left_within enough =
-      let long : length window.held ≡ length so_far.gone + length left_in.held = ap length so_far.whole ∙ length-append so_far.gone left_in.held in
-      let count = so_far.count in omega (arith, long, count, enough)
+      let long : length left_in.held ≡ length window.held - (n - left) = ap (λ (w : Window). length w.held) so_far.rest ∙ length-drop (n - left) window.held in
+      let few = so_far.few in omega (arith, long, few, enough)
 
   pub fits_front : (bytes most : ℕ) (front rest : List ℕ) → left_in.held ≡ front ++ rest → bytes ≤ length front → size_of writer.current + length window.held < most → size_of now.current + length (take bytes front) < most
   fits_front bytes most front rest is within fits =
@@ -280,20 +283,21 @@ module _ {told : Bool} {writer now : WriterState} {window left_in : Window} {n l
       let less : length front ≤ length left_in.held = front_within front rest is in
       let size = so_far.size in omega (arith, long, less, size, within, fits)
 
+  -- what went, with more bytes of what stands at the front
+  taken_more : (bytes : ℕ) (front rest : List ℕ) → left_in.held ≡ front ++ rest → bytes ≤ length front → take (n - left) window.held ++ take bytes front ≡ take (n - left + bytes) window.held
+  taken_more bytes front rest is within =
+      ap (λ those. take (n - left) window.held ++ those) (front_bytes bytes front rest is within ∙ ap (λ (w : Window). take bytes w.held) so_far.rest) ∙ sym (take-add (n - left) bytes window.held)
+
   pub empties : (bytes : ℕ) (front rest : List ℕ) {next : WriterState} {after : Window} {new : List Slot} → left_in.held ≡ front ++ rest → bytes ≤ length front → bytes ≤ left → after ≡ without_first left_in bytes
       → Goes told now (with_bytes (take bytes front)) mid new next None → size_of next.current ≤ size_of now.current + length (take bytes front) → Emptying told writer next window after n (left - bytes) old new
   empties bytes front rest {after = after} is within few dropped went more =
       let long : length (take bytes front) ≡ bytes = length-take-le bytes front within in
       let less : length front ≤ length left_in.held = front_within front rest is in
-      let left_is : after.held ≡ drop bytes left_in.held = ap (λ (w : Window). w.held) dropped in
-      let after_long : length after.held ≡ length left_in.held - bytes = ap length left_is ∙ length-drop bytes left_in.held in record {
-        gone = so_far.gone ++ take bytes front;
-        whole = so_far.whole
-            ∙ ap (λ held. so_far.gone ++ held) (sym (take-append-drop bytes left_in.held) ∙ ap (λ z. z ++ drop bytes left_in.held) (sym (front_bytes bytes front rest is within)) ∙ ap (λ z. take bytes front ++ z) (sym left_is))
-            ∙ sym (append_assoc so_far.gone (take bytes front) after.held);
-        count = (let so = so_far.count in let all : length (so_far.gone ++ take bytes front) ≡ length so_far.gone + length (take bytes front) = length-append so_far.gone (take bytes front) in omega (arith, so, all, long, few));
-        same = dropped ∙ ap (λ (w : Window). without_first w bytes) so_far.same ∙ ap (λ held. record window { held = held }) (sym left_is);
-        went = goes_more so_far.gone (take bytes front) so_far.went went;
+      let after_long : length after.held ≡ length left_in.held - bytes = ap (λ (w : Window). length w.held) dropped ∙ length-drop bytes left_in.held in
+      let count : n - left + bytes ≡ n - (left - bytes) = (let all = so_far.few in omega (arith, all, few)) in record {
+        few = (let all = so_far.few in omega (arith, all));
+        rest = dropped ∙ ap (λ (w : Window). without_first w bytes) so_far.rest ∙ ap (λ held. record window { held = held }) (drop-drop bytes (n - left) window.held) ∙ ap (without_first window) count;
+        went = goes_as (taken_more bytes front rest is within ∙ ap (λ k. take k window.held) count) (goes_more (take (n - left) window.held) (take bytes front) so_far.went went);
         size = (let size = so_far.size in omega (arith, size, more, long, less, after_long, within));
       }
 
@@ -301,22 +305,16 @@ module _ {told : Bool} {writer now : WriterState} {window left_in : Window} {n l
   pub empties_short : (bytes : ℕ) (front rest : List ℕ) {next : WriterState} {new : List Slot} {fault : Fault} → left_in.held ≡ front ++ rest → bytes ≤ length front → bytes ≤ left → Goes told now (with_bytes (take bytes front)) mid new next (Some fault)
       → Goes told writer (with_bytes (take n window.held)) old new next (Some fault)
   empties_short bytes front rest is within few stopped =
-      let all : take n window.held ≡ (so_far.gone ++ take bytes front) ++ take (left - bytes) (drop bytes left_in.held) =
-      ap (take n) so_far.whole ∙ ap (λ m. take m (so_far.gone ++ left_in.held)) (sym so_far.count) ∙ take-append-add so_far.gone left_in.held left
-      ∙ ap (λ z. so_far.gone ++ z) (ap (λ m. take m left_in.held) (let e : left ≡ bytes + (left - bytes) = omega (arith, few) in e) ∙ take-add bytes (left - bytes) left_in.held
-      ∙ ap (λ z. z ++ take (left - bytes) (drop bytes left_in.held)) (sym (front_bytes bytes front rest is within)))
-      ∙ sym (append_assoc so_far.gone (take bytes front) (take (left - bytes) (drop bytes left_in.held))) in
-      goes_as (sym all) (stops_among (so_far.gone ++ take bytes front) (take (left - bytes) (drop bytes left_in.held)) (goes_more so_far.gone (take bytes front) so_far.went stopped))
+      let count : n - left + bytes + (left - bytes) ≡ n = (let all = so_far.few in omega (arith, all, few)) in
+      goes_as (ap (λ those. those ++ take (left - bytes) (drop (n - left + bytes) window.held)) (taken_more bytes front rest is within) ∙ sym (take-add (n - left + bytes) (left - bytes) window.held) ∙ ap (λ k. take k window.held) count)
+      (stops_among (take (n - left) window.held ++ take bytes front) (take (left - bytes) (drop (n - left + bytes) window.held)) (goes_more (take (n - left) window.held) (take bytes front) so_far.went stopped))
 
   -- all of it was written
-  all_gone : left ≤ 0 → length so_far.gone ≡ n
-  all_gone none = let count = so_far.count in omega (arith, count, none)
-
   pub emptied_went : left ≤ 0 → Goes told writer (with_bytes (take n window.held)) old mid now None
-  emptied_went none = goes_as (sym (ap (take n) so_far.whole ∙ take_at so_far.gone left_in.held n (all_gone none))) so_far.went
+  emptied_went none = goes_as (ap (λ k. take k window.held) (let e : n - left ≡ n = omega (arith, none) in e)) so_far.went
 
   pub emptied_window : left ≤ 0 → left_in ≡ without_first window n
-  emptied_window none = so_far.same ∙ ap (λ held. record window { held = held }) (sym (ap (drop n) so_far.whole ∙ drop_at so_far.gone left_in.held n (all_gone none)))
+  emptied_window none = so_far.rest ∙ ap (without_first window) (let e : n - left ≡ n = omega (arith, none) in e)
 
 -- What leaves of the lines that wait and of a text after them, and what stays: of the text only where all that waited leaves.
 pub record Parted (delim most over front : ℕ) (held text : List ℕ) : Type 0 where

@@ -18,14 +18,13 @@ use Rattle.csplit_core.specs.Plan.{State, start, Step, Ending, used_up, below, R
 use Rattle.csplit_core.specs.Planned.{Plan, plan}
 use Rattle.csplit_core.specs.laws.PlanLaws.{plan_runs, plan_once}
 use Rattle.csplit_core.specs.Progress.{state_of, AimsAt, EndsHere}
-use Rattle.csplit_core.specs.inner.Progress.{AreSeen, Turns, MovesOn}
+use Rattle.csplit_core.specs.inner.Cutter.{AreSeen, Turns, MovesOn, IsNoCut, Opened, settled_part, whole_part, IsJudged, EndsAll}
 use Rattle.csplit_core.specs.Section.{settled_end, is_final, section, section_of, lines_between, is_last_kept, whole_end, bytes_of}
 use Rattle.csplit_core.specs.declared.progress.Progress.{Progress}
 use Rattle.csplit_core.specs.declared.progress.Turn.{Turn}
 use Rattle.csplit_core.specs.declared.progress.Turn.TheVariants.{Below, Cuts, UsedUp, Missed, Above}
 use Rattle.csplit_core.specs.Writer.{WriterState, Writes, size_of}
 use Rattle.csplit_core.specs.Cutter.{CutterState, most_next, pattern_next, kept_next, next_of, most_by, pattern_by, kept_by, settled_draft, IsFit, Stands, suppress_in, state_in, text_from, draft_by, IsLive, IsPast}
-use Rattle.csplit_core.specs.inner.Cutter.{IsNoCut, Opened, settled_part, whole_part, IsJudged, EndsAll}
 use Rattle.csplit_core.proofs.TryLemmas.{repeated_anew, turn_ends, no_cut_aims, left_is}
 use Rattle.ports_core.proofs.SlotSteps.{none_past}
 use Rattle.csplit_core.proofs.WriterCalls.{begun_not, new_owns, new_writes, no_draft, ended_part}
@@ -39,13 +38,14 @@ use Rattle.csplit_core.specs.laws.SectionLaws.{ends_as, front_of}
 use Rattle.csplit_core.proofs.LineLemmas.{count_from, from_further}
 use Rattle.csplit_core.proofs.WholeLemmas.{ends_after_all}
 use Rattle.std.proofs.lemmas.Bool.Decides.{nat_tests}
+use Rattle.std.proofs.lemmas.Grind.{common_steps}
 
 -- What opening the cutter leaves: the first section, with no line yet.
 
 -- Over no line a plan has no step.
 
 first_only : {suppress : Bool} {first : State} {steps : List Step} {last : State} {ending : Ending} → Runs suppress [] first steps last ending → 1 ≤ first.current → Runs suppress [] first [] first ending
-first_only (cuts state operand operands matched cut steps' last' ending' is at from within rest) some = absurd (omega (arith, some, from, within))
+first_only (cuts state operand operands matched cut steps' last' ending' is at from within rest) some = grind (arith, common_steps)
 first_only run some = run
 
 none_settled : (ending : Ending) → 0 ≡ settled_end 0 ending - 1
@@ -66,14 +66,10 @@ abbrev pub first_progress : Progress
 first_progress = record { done = 0; repetition = 0; current = 1; matched = 0 }
 
 seen_none : {suppress : Bool} (operands : List Operand) → AreSeen suppress [] 0 (start operands) false
-seen_none operands = record {
-  count = refl;
-  last = λ operand rest are near. refl;
-  others = λ operand rest are other from less. absurd (omega (arith, less));
-}
+seen_none operands = grind (arith, common_steps)
 
 first_no_cut : (operands : List Operand) (turn : Turn) → MovesOn operands 0 first_progress turn → IsNoCut turn
-first_no_cut operands (Cuts matched line) moves = absurd (omega (arith, moves.6, moves.7))
+first_no_cut operands (Cuts matched line) moves = grind (arith, common_steps)
 first_no_cut operands _ moves = tt
 
 abbrev SaysFirst : Bool → List Operand → Turn → Type 0
@@ -86,7 +82,7 @@ first_ends {suppress} operands {turn} says moves =
 final_below : (turn : Turn) (ending : Ending) → AimsAt turn ending → is_final ending ≡ true → turn ≡ Below
 final_below Below (below operand repetition) aims past = refl
 final_below turn (below operand repetition) aims past = absurd aims
-final_below turn ending aims past = absurd (false≢true past)
+final_below turn ending aims past = cc
 
 -- The cutter that was opened
 
@@ -126,12 +122,7 @@ first_stands operands {writer} {aim} writes ends true past =
     })
 
 first_fit : (operands : List Operand) (writer : WriterState) (aim : Turn) → IsFit (first_cutter operands writer aim)
-first_fit operands writer aim = record {
-  fits = record { some = omega arith; current = omega arith; matched = omega arith; repeated = repeated_anew 0 (start operands) operands refl };
-  most = refl;
-  delim = refl;
-  sought = refl;
-}
+first_fit operands writer aim = grind (arith, common_steps)
 
 first_opened : (told : Bool) {style : Style} {operands : List Operand} {old new : List Slot} {writer : WriterState} (aim : Turn) → 2 ≤ length old → Goes told (new_writer style) (with_kept (kept_by operands)) old new writer None → size_of writer.current ≡ 0 → SaysFirst style.suppress operands aim → MovesOn operands 0 first_progress aim
     → Opened told style operands old new (first_cutter operands writer aim)
@@ -200,7 +191,7 @@ whole_part_is style operands lines =
 
 whole_past : (total : ℕ) (ending : Ending) → is_final ending ≡ true → settled_end total ending ≡ whole_end total ending
 whole_past total (below operand repetition) past = refl
-whole_past total _ past = absurd (false≢true past)
+whole_past total _ past = cc
 
 all_first : (n : ℕ) {y : List ℕ} → line_count newline y ≤ n → first_lines newline n y ≡ y
 all_first n {y} few = ap joined (take_all n (lines_of newline y) few) ∙ joined-lines_of newline y
@@ -233,13 +224,7 @@ live_draft {cutter} {x} fit live = record {
 }
 
 past_whole : {cutter : CutterState} {x : List ℕ} → IsPast cutter x → with_bytes cutter.window.held (settled_draft (suppress_in cutter) cutter.operands (all_lines x)) ≡ draft_to whole_end (suppress_in cutter) cutter.operands (all_lines x)
-past_whole {cutter} {x} past =
-    let lines = all_lines x in
-    let p = plan (suppress_in cutter) cutter.operands (all_lines x) in
-    ap (λ bytes. draft_by (all_lines x) p.steps (is_last_kept p.ending) bytes)
-    (ap (λ held. bytes_of (lines_between p.last.current (settled_end (length lines) p.ending) lines) ++ held) past.none
-    ∙ append-nil (bytes_of (lines_between p.last.current (settled_end (length lines) p.ending) lines))
-    ∙ ap (λ end. bytes_of (lines_between p.last.current end lines)) (whole_past (length lines) p.ending past.past))
+past_whole {cutter} {x} past = grind (arith, common_steps)
 
 past_draft : {cutter : CutterState} {x : List ℕ} → IsPast cutter x → LastDraft cutter x
 past_draft {cutter} {x} past = record {
@@ -280,7 +265,7 @@ judged_later {cutter} {x} same stands =
 -- What `end` does: the lines that wait are written, and then the section ends.
 
 all_held : (cutter : CutterState) {n : ℕ} → n ≡ length cutter.window.held → take n cutter.window.held ≡ cutter.window.held
-all_held cutter {n} all = take_all n cutter.window.held (omega (arith, all))
+all_held cutter {n} all = grind (arith, common_steps)
 
 pub end_goes : {told : Bool} {cutter : CutterState} {between next : WriterState} (window : Window) {n : ℕ} {old mid new : List Slot} {fault : Option Fault} → IsFit cutter → n ≡ length cutter.window.held
     → Goes told cutter.writer (with_bytes (take n cutter.window.held)) old mid between None → Goes told between (with_section false) mid new next fault → EndsAll told cutter old new (record cutter { writer = next; window = window }) fault
@@ -323,7 +308,7 @@ none_of suppress lines state (above operand repetition matched cut) ends none = 
 -- what is said of the operand of an ending and of how often it was performed is said of the next one
 next_one : (f : Operand → ℕ → Option Fault) (state : State) {operand other : Operand} {operands others : List Operand} {repetition : ℕ} → state.operands ≡ other ∷ others → repetition ≡ state.repetition
     → state.operands ≡ operand ∷ operands → f operand state.repetition ≡ f other repetition
-next_one f state {operand} {other} is often are = ap (λ o. f o state.repetition) (front_of operand other (sym are ∙ is)) ∙ ap (f other) (sym often)
+next_one f state {operand} {other} is often are = grind (arith, common_steps)
 
 -- the fault of the next operand, by what it did
 abbrev pub verdict_at : Turn → Operand → ℕ → Option Fault
@@ -335,9 +320,9 @@ verdict_at turn operand repetition = None
 verdict_is : (suppress : Bool) (lines : List Line) (state : State) {operand : Operand} {operands : List Operand} (aim : Turn) (ending : Ending) → EndsAs suppress lines state ending → state.operands ≡ operand ∷ operands → AimsAt aim ending
     → verdict_at aim operand state.repetition ≡ verdict_of ending
 verdict_is suppress lines state UsedUp used_up ends are aims = refl
-verdict_is suppress lines state Missed (missed other repetition) (rest, is, none, often) are aims = next_one (λ o n. verdict_of (missed o n)) state is often are
-verdict_is suppress lines state (Above matched line) (above other repetition matched' cut) (rest, is, at, far, often) are aims = next_one (λ o n. verdict_of (above o n 0 0)) state is often are
-verdict_is suppress lines state Below (below other repetition) (rest, matched, cut, is, at, within, low, often) are aims = next_one (λ o n. verdict_of (below o n)) state is often are
+verdict_is suppress lines state Missed (missed other repetition) (rest, is, none, often) are aims = grind (arith, common_steps)
+verdict_is suppress lines state (Above matched line) (above other repetition matched' cut) (rest, is, at, far, often) are aims = grind (arith, common_steps)
+verdict_is suppress lines state Below (below other repetition) (rest, matched, cut, is, at, within, low, often) are aims = grind (arith, common_steps)
 verdict_is suppress lines state aim ending ends are aims = absurd aims
 
 -- What `verdict` returns

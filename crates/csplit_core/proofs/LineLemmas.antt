@@ -1,5 +1,5 @@
 -- Lines of a text as operands see them, their bytes, and what follows the last newline, where more bytes come.
-use Rattle.std.proofs.Common.{◌≡◌, ◌⊎◌, inl, inr, ℕ, suc, ◌+◌, ◌-◌, ◌<◌, ◌≤◌, List, [], ◌∷◌, ◌++◌, length, map, take, drop, refl, sym, ◌∙◌, ap, subst, arith, length-append, Bool, true, false, cond, append_assoc}
+use Rattle.std.proofs.Common.{◌≡◌, ◌⊎◌, inl, inr, ℕ, suc, ◌+◌, ◌-◌, ◌<◌, ◌≤◌, List, [], ◌∷◌, ◌++◌, length, map, take, drop, refl, sym, ◌∙◌, ap, subst, arith, length-append, Bool, true, false, cond, append_assoc, rules}
 use Rattle.std.proofs.lemmas.Bool.{cases_lt, false≢true, cases_eq, eq-eqb, ne_eqb}
 use Rattle.std.proofs.lemmas.List.{take-append-drop, take_all, map-append, take-map, drop-map, length-map, length-drop, drop_at, drop_all, drop-append-le, take-append-le, drop-drop, append-nil, append_cancel_left, length-take, length-take-le}
 use Rattle.std.proofs.Math.Seq.{take-add}
@@ -16,14 +16,15 @@ use Rattle.seg_core.proofs.Delimiters.{delimiters-append}
 use Rattle.seg_core.proofs.LastLines.{first_lines-whole}
 use Rattle.csplit_core.specs.CsplitState.{whole_lines}
 use Rattle.std.proofs.Math.Nat.{min-le_left}
+use Rattle.std.proofs.lemmas.Grind.{common_steps}
 
 -- Lines of a text as operands see them, and their bytes.
 
 -- the lines of complete lines and of what follows them
 pub lines-append : {x : List ℕ} (t : List ℕ) → Joins x t → lines_of newline (x ++ t) ≡ lines_of newline x ++ lines_of newline t
-lines-append t (inl (inl none)) = subst (λ those. lines_of newline (those ++ t) ≡ lines_of newline those ++ lines_of newline t) (sym none) refl
+lines-append t (inl (inl none)) = grind (arith, common_steps)
 lines-append {x} t (inl (inr whole)) = lines_of-append newline x t whole
-lines-append {x} t (inr none) = subst (λ those. lines_of newline (x ++ those) ≡ lines_of newline x ++ lines_of newline those) (sym none) (ap (lines_of newline) (append-nil x) ∙ sym (append-nil (lines_of newline x)))
+lines-append {x} t (inr none) = grind (arith, common_steps)
 
 pub all_lines-append : {x : List ℕ} (t : List ℕ) → Joins x t → all_lines (x ++ t) ≡ all_lines x ++ all_lines t
 all_lines-append {x} t whole = ap (map marked) (lines-append t whole) ∙ map-append marked (lines_of newline x) (lines_of newline t)
@@ -42,11 +43,11 @@ count-line {x} line whole one = count-append line (inl whole) ∙ ap (λ those. 
 
 -- complete lines have as many delimiters
 pub whole_count : {x : List ℕ} → IsWhole x → line_count newline x ≡ delimiters newline x
-whole_count (inl none) = subst (λ those. line_count newline those ≡ delimiters newline those) (sym none) refl
+whole_count (inl none) = grind (arith, common_steps)
 whole_count {x} (inr whole) = line_count-closed newline x whole
 
 pub whole-append : {x : List ℕ} (t : List ℕ) → IsWhole x → IsWhole t → IsWhole (x ++ t)
-whole-append {x} [] whole other = subst IsWhole (sym (Rattle.std.proofs.lemmas.List.append-nil x)) whole
+whole-append {x} [] whole other = grind (arith, common_steps)
 whole-append (byte ∷ t) whole (inl none) = absurd (cc)
 whole-append {x} (byte ∷ t) whole (inr ends) = inr (ends_with-append newline x (byte ∷ t) (omega arith) ∙ ends)
 
@@ -140,12 +141,12 @@ after_first (byte ∷ text) line {rest} is first = sym (joined-lines_of newline 
 
 -- what is left of a slice
 pub rest_all : (n : ℕ) (left : List ℕ) → take (length left - n) (drop n left) ≡ drop n left
-rest_all n left = take_all (length left - n) (drop n left) (let e : length (drop n left) ≡ length left - n = length-drop n left in omega (arith, e))
+rest_all n left = grind (arith, common_steps)
 
 -- The complete lines of a text and what follows them, where more bytes come.
 
 take_few : {X : Type 0} (n : ℕ) (xs : List X) → length (take n xs) ≤ n
-take_few n xs = let e = length-take n xs in let least = min-le_left n (length xs) in omega (arith, e, least)
+take_few n xs = grind (arith, common_steps)
 
 pub whole_by : (x : List ℕ) (ends : Bool) → ends_with newline x ≡ ends → line_count newline x ≤ delimiters newline x → IsWhole x
 whole_by [] ends is few = inl refl
@@ -153,10 +154,7 @@ whole_by (byte ∷ x) true is few = inr is
 whole_by (byte ∷ x) false is few = absurd (let count = line_count-open newline (byte ∷ x) (omega arith) is in omega (arith, count, few))
 
 pub lines_whole : (x : List ℕ) → IsWhole (whole_lines x)
-lines_whole x = whole_by (whole_lines x) (ends_with newline (whole_lines x)) refl
-    (let count : line_count newline (whole_lines x) ≡ length (take (delimiters newline x) (lines_of newline x)) = ap length (lines_of-first_lines newline (delimiters newline x) x) in
-    let few : length (take (delimiters newline x) (lines_of newline x)) ≤ delimiters newline x = take_few (delimiters newline x) (lines_of newline x) in
-    let all : delimiters newline (whole_lines x) ≡ delimiters newline x = delimiters-first_lines newline (delimiters newline x) x (omega arith) in omega (arith, count, few, all))
+lines_whole x = grind (arith, common_steps, whole_by, lines_of-first_lines, take_few, delimiters-first_lines)
 
 pub lines_then_open : {x : List ℕ} → whole_lines x ++ open_line x ≡ x
 lines_then_open {x} = first_lines_then_rest newline (delimiters newline x) x
@@ -212,10 +210,10 @@ none_open rest piece none also = tail_is [] (inl refl) (no_newline rest piece no
 -- a piece with one
 
 take_some : (n : ℕ) (x : List ℕ) → 0 < n → n ≤ length x → 0 < length (take n x)
-take_some n x some within = let e = length-take-le n x within in omega (arith, e, some)
+take_some n x some within = grind (arith, common_steps)
 
 pub ends_by : (x : List ℕ) → IsWhole x → 0 < length x → ends_with newline x ≡ true
-ends_by x (inl empty) some = absurd (let e : length x ≡ 0 = ap length empty in omega (arith, e, some))
+ends_by x (inl empty) some = grind (arith, common_steps)
 ends_by x (inr ends) some = ends
 
 pub piece_ends : {piece : List ℕ} (end : ℕ) → LastEndsAt newline piece end → ends_with newline (take end piece) ≡ true
@@ -225,7 +223,7 @@ some_ends : (rest text : List ℕ) → ends_with newline text ≡ true → ends_
 some_ends rest text ends = ends_with-append newline rest text (ends_with-some newline text ends) ∙ ends
 
 split_piece : (rest piece : List ℕ) (end : ℕ) → rest ++ piece ≡ (rest ++ take end piece) ++ drop end piece
-split_piece rest piece end = ap (λ those. rest ++ those) (sym (take-append-drop end piece)) ∙ sym (append_assoc rest (take end piece) (drop end piece))
+split_piece rest piece end = grind (arith, common_steps)
 
 pub piece_lines : (rest : List ℕ) {piece : List ℕ} (end : ℕ) → LastEndsAt newline piece end → whole_lines (rest ++ piece) ≡ rest ++ take end piece
 piece_lines rest {piece} end last = ap whole_lines (split_piece rest piece end) ∙ front_is (rest ++ take end piece) (drop end piece) (inr (some_ends rest (take end piece) (piece_ends end last))) last.none_after
@@ -265,20 +263,20 @@ joined_by rest end none (inl (text, is, also)) = inl (rest ++ text, ap (λ those
 joined_by rest end none (inr (some, also)) = inr (let e : length (rest ++ end) ≡ length rest + length end = length-append rest end in omega (arith, e, some), none-append rest end none also)
 
 pub joined_line : (rest end : List ℕ) → delimiters newline rest ≡ 0 → IsLine end → IsLine (rest ++ end)
-joined_line rest end none is = line_by (rest ++ end) (joined_by rest end (none_in rest none) (subst (AreLines newline) is (AreLines-lines_of newline end)))
+joined_line rest end none is = grind (arith, common_steps, line_by, joined_by, none_in, AreLines-lines_of)
 
 -- the first of complete lines is complete, and so are those after it
 
 complete_by : {text : List ℕ} (line : List ℕ) {rest : List ℕ} (ends : Bool) → ends_with newline line ≡ ends → (ends_with newline line ≡ false → rest ≡ []) → text ≡ line ++ rest → ends_with newline text ≡ true → ends_with newline line ≡ true
 complete_by line true is last joined whole = is
-complete_by line false is last joined whole = absurd (false≢true (sym is ∙ ap (ends_with newline) (sym (joined ∙ ap (λ those. line ++ those) (last is) ∙ append-nil line)) ∙ whole))
+complete_by line false is last joined whole = grind (arith, common_steps)
 
 pub first_complete : {text : List ℕ} (line : List ℕ) {rest : List ℕ} → (ends_with newline line ≡ false → rest ≡ []) → text ≡ line ++ rest → ends_with newline text ≡ true → ends_with newline line ≡ true
-first_complete line last joined whole = complete_by line (ends_with newline line) refl last joined whole
+first_complete line last joined whole = grind (arith, common_steps)
 
 pub others_whole : {text : List ℕ} (line rest : List ℕ) → text ≡ line ++ rest → ends_with newline text ≡ true → IsWhole rest
 others_whole line [] joined whole = inl refl
-others_whole line (byte ∷ rest) joined whole = inr (sym (ends_with-append newline line (byte ∷ rest) (omega arith)) ∙ ap (ends_with newline) (sym joined) ∙ whole)
+others_whole line (byte ∷ rest) joined whole = grind (arith, common_steps, ends_with-append)
 
 pub open_complete : (rest line : List ℕ) → ends_with newline line ≡ true → IsWhole (rest ++ line)
 open_complete rest line ends = inr (some_ends rest line ends)

@@ -1,5 +1,5 @@
 -- How many bytes wait, what the stage that takes in bytes does with the cutter of lines, and what it owes.
-use Rattle.std.proofs.Common.{◌≡◌, ℕ, ◌+◌, ◌-◌, ◌≤◌, cond, List, [], length, drop, sym, ◌∙◌, ap, arith, inl, inr, ◌<◌, ◌^◌, min, false, ◌++◌, length-append, ◌⊎◌, Bool, true, ◌∷◌, map, Option, Some, None, Result, Ok, Err, IfErr, refl, subst, append_assoc, eqb, OnOk, take, not, IsTrue}
+use Rattle.std.proofs.Common.{◌≡◌, ℕ, ◌+◌, ◌-◌, ◌≤◌, cond, List, [], length, drop, sym, ◌∙◌, ap, arith, inl, inr, ◌<◌, ◌^◌, min, false, ◌++◌, length-append, ◌⊎◌, Bool, true, ◌∷◌, map, Option, Some, None, Result, Ok, Err, IfErr, refl, subst, append_assoc, eqb, OnOk, take, not, IsTrue, rules}
 use Rattle.std.proofs.lemmas.List.{drop-map, append-nil, take-append-drop}
 use Rattle.seg_core.specs.Line.{lines_of, joined, after_lines, first_lines, delimiters, ends_with, LastEndsAt}
 use Rattle.csplit_core.specs.Input.{newline, marked, all_lines, open_line}
@@ -29,8 +29,7 @@ use Rattle.csplit_core.specs.Writer.{WriterState, IsReady as CanWrite, Breaks, O
 use Rattle.csplit_core.specs.inner.Writer.{Reaches, At, BegunNot, KeepsFiles, new_writer}
 use Rattle.ports_core.specs.inner.Part.{fault_in}
 use Rattle.csplit_core.specs.declared.progress.Turn.TheVariants.{Below}
-use Rattle.csplit_core.specs.inner.Cutter.{EndsAll, IsWhole, Takes, settled_part, whole_part, IsLine, Clears, Keeps}
-use Rattle.csplit_core.specs.inner.CsplitState.{Closed, Closes, ended_so, Judges, Passes, Sweeps, ended_well, ended_short}
+use Rattle.csplit_core.specs.inner.Cutter.{EndsAll, IsWhole, Takes, settled_part, whole_part, IsLine, Clears, Keeps, Closed, Closes, ended_so, Judges, Passes, Sweeps, ended_well, ended_short}
 use Rattle.csplit_core.proofs.WriterLemmas.{leaves_lacking, reaches_again, reaches_as, stops_wider, where_well}
 use Rattle.ports_core.specs.Engine.{is_verdict, TakesIn, PutsOut, CutsOff, EndsShort, EndsWith, EndsThere, Finishes, StandsAt, IsMet, KeepsOwn}
 use Rattle.csplit_core.specs.declared.progress.Turn.{Turn}
@@ -38,6 +37,7 @@ use Rattle.ports_core.specs.Swept.{AreThere, Swept}
 use Rattle.ports_core.proofs.PartLemmas.{outputs_count, stopped_in_turn}
 use Rattle.csplit_core.proofs.WriterCalls.{new_owns, files_cleared, files_left}
 use Rattle.ports_core.specs.Engine as engine
+use Rattle.std.proofs.lemmas.Grind.{common_steps}
 
 -- How many bytes wait.
 
@@ -148,8 +148,8 @@ closed_short {stage = stage} stopped = record { keeps = stopped.keeps; reaches =
 -- Where later input goes nowhere, it changes nothing of the end either.
 
 no_lines : (current total : ℕ) (ending : Ending) (lines : List Line) → is_final ending ≡ true → lines_between current (whole_end total ending) lines ≡ []
-no_lines current total (below operand repetition) lines final = ap (λ n. Rattle.std.proofs.Common.take n (Rattle.std.proofs.Common.drop (current - 1) lines)) (let none : 0 - current ≡ 0 = omega arith in none)
-no_lines current total _ lines final = absurd (false≢true final)
+no_lines current total (below operand repetition) lines final = grind (arith, common_steps)
+no_lines current total _ lines final = cc
 
 final_sections : (a b : List Line) (p : Plan) → AreWithin (length a) p.steps → is_final p.ending ≡ true → whole_sections (a ++ b) p ≡ whole_sections a p
 final_sections a b p within final =
@@ -184,8 +184,7 @@ rest_of_lines rest end others is = append_assoc rest end others ∙ ap (λ those
 
 -- no line was open
 pub lines_alone : {told : Bool} {before stage : CsplitState} {next : CutterState} {lines : List ℕ} {n : ℕ} {old new : List Slot} {fault : Option Fault} → before ≡ stage → n ≡ length before.rest → eqb n 0 ≡ true → Takes told before.cutter lines old new next fault → Takes told stage.cutter (stage.rest ++ lines) old new next fault
-lines_alone {told} {before} {next = next} {lines} {old = old} {new} {fault} is size empty takes =
-    subst (λ (s : CsplitState). Takes told s.cutter (s.rest ++ lines) old new next fault) is (subst (λ rest. Takes told before.cutter (rest ++ lines) old new next fault) (sym (none_there (ap (λ k. eqb k 0) size) empty)) takes)
+lines_alone {told} {before} {next = next} {lines} {old = old} {new} {fault} is size empty takes = grind (arith, common_steps)
 
 pub lines_stop : {told : Bool} {one two : CutterState} (rest : List ℕ) {lines : List ℕ} (end : List ℕ) {others : List ℕ} {old new : List Slot} {fault : Fault} → lines ≡ end ++ others → (ends_with newline end ≡ false → others ≡ []) → ends_with newline lines ≡ true
     → Takes told one (rest ++ end) old new two (Some fault) → Takes told one (rest ++ lines) old new two (Some fault)
@@ -274,7 +273,7 @@ some_stopped {told} {view} next {piece} end {old} {new} {fault} is last lines_is
 -- The last line
 
 some_by : (items : List ℕ) → eqb (length items) 0 ≡ false → 0 < length items
-some_by [] is = absurd (false≢true (sym is))
+some_by [] is = search rules
 some_by (byte ∷ items) is = omega arith
 
 pub last_none : {told : Bool} {before stage : CsplitState} {n : ℕ} {slots : List Slot} → before ≡ stage → n ≡ length before.rest → eqb n 0 ≡ true → CanWrite stage.cutter.writer slots → IsSound stage.cutter → Takes told stage.cutter stage.rest slots slots stage.cutter None
@@ -339,7 +338,7 @@ holds_by {stage = stage} {next} {piece} {x} passed holds (inr differs) = record 
 -- why a fault came
 met_by : (style : Style) (Lacks : Type 0) (Ends : Fault → Type 0) (old new : List Slot) (fault : Fault) → Lacks → Breaks style old new fault → IsMet (csplit_means style) (record { memory = true; files = true }) Lacks Ends old new fault
 met_by style Lacks Ends old new Memory lacks breaks = (refl, lacks)
-met_by style Lacks Ends old new (Write slot) lacks breaks = (λ none. ap not (breaks.0 none), λ none. absurd (false≢true (sym none)), breaks.1)
+met_by style Lacks Ends old new (Write slot) lacks breaks = grind (arith, common_steps)
 met_by style Lacks Ends old new (Open slot) lacks breaks = (refl, refl, breaks)
 met_by style _ _ old new _ lacks breaks = absurd breaks
 

@@ -1,5 +1,5 @@
 -- What stays of a plan when more lines come, what a turn says of it, and what trying the next operand with the last line says.
-use Rattle.std.proofs.Common.{◌≡◌, inl, inr, ℕ, suc, ◌+◌, ◌-◌, ◌<◌, ◌≤◌, max, eqb, ◌&&◌, Bool, true, false, cond, List, [], ◌∷◌, ◌++◌, length, get_or, refl, ◌∙◌, ap, arith, length-append, zero, ◌*◌, ◌^◌, drop, sym, subst, None, Result, Ok, Err, OnOk, IfErr, Option, Some}
+use Rattle.std.proofs.Common.{◌≡◌, inl, inr, ℕ, suc, ◌+◌, ◌-◌, ◌<◌, ◌≤◌, max, eqb, ◌&&◌, Bool, true, false, cond, List, [], ◌∷◌, ◌++◌, length, get_or, refl, ◌∙◌, ap, arith, length-append, zero, ◌*◌, ◌^◌, drop, sym, subst, None, Result, Ok, Err, OnOk, IfErr, Option, Some, rules}
 use Rattle.std.proofs.lemmas.Bool.{cases_lt, cases_eq, eqb-true, and_parts, false≢true}
 use Rattle.std.proofs.lemmas.List.{append-nil, drop_more}
 use Rattle.std.proofs.Math.Nat.{max-le, le-max_left, le-max_right, min-eq_left, min-eq_right, min-le_left}
@@ -11,7 +11,7 @@ use Rattle.csplit_core.specs.laws.PlanLaws.{search_some, match_still, cuts_still
 use Rattle.std.specs.Prelude.{min, max, eqb, ◌&&◌}
 use Rattle.bre_core.specs.Pattern.{Pattern}
 use Rattle.csplit_core.specs.Progress.{state_of, EndsHere, AimsAt}
-use Rattle.csplit_core.specs.inner.Progress.{AreSeen, Turns, FallsAt, MovesOn, GoesPast}
+use Rattle.csplit_core.specs.inner.Cutter.{AreSeen, Turns, FallsAt, MovesOn, GoesPast, WillCut, PassesOn, WentOn, PassesCut, IsWhole, IsLine, Joins, Looked, IsFound, IsNoCut, search_after, StaysNear, Tries, TriesNext}
 use Rattle.csplit_core.specs.declared.progress.Turn.{Turn}
 use Rattle.csplit_core.specs.declared.progress.Turn.TheVariants.{UsedUp, Missed, Above, Below, Cuts}
 use Rattle.csplit_core.specs.Measure.{Moves, IsRepeatedBy, IsRepeated, Fits}
@@ -23,12 +23,17 @@ use Rattle.ports_core.specs.declared.fault.Fault.{Fault}
 use Rattle.csplit_core.specs.Input.{newline, without_newline, marked, all_lines, is_match_of}
 use Rattle.csplit_core.specs.declared.line_cutter.Cut.{Cut}
 use Rattle.csplit_core.specs.Cutter.{CutterState, state_in, most_by, pattern_by, suppress_in, IsFit, pattern_in, AimHolds, IsLive, EndsNow}
+<<<<<<< HEAD
 use Rattle.csplit_core.specs.inner.Cutter.{WillCut, PassesOn, WentOn, PassesCut, IsWhole, IsLine, Joins, Looked, IsFound, IsNoCut, search_after, StaysNear, Tries, TriesNext}
 use Rattle.ports_core.specs.inner.Part.{fault_in}
+=======
+use Rattle.csplit_core.specs.inner.Writer.{fault_in}
+>>>>>>> c9f6484327ea8c5b59f882dbf7b847b7c332e827
 use Rattle.ports_core.specs.declared.fault.Fault.TheVariants.{Memory}
 use Rattle.bre_core.specs.Search.{contains}
 use Rattle.seg_core.specs.Line.{line_count}
 use Rattle.csplit_core.proofs.LineLemmas.{all_lines-append, all_lines-line, length-all_lines, count-append, count-line, whole-append}
+use Rattle.std.proofs.lemmas.Grind.{common_steps}
 
 -- What stays of a plan when more lines come, and which lines have to be looked at.
 
@@ -38,17 +43,11 @@ NoneFrom operand count lines from = (k : ℕ) → k < length lines → from ≤ 
 
 -- a search that matched nothing goes on over more lines
 none_from : (operand : Operand) (a b : List Line) (from : ℕ) → 1 ≤ from → MatchesNone operand a from → NoneFrom operand (length a) b from → MatchesNone operand (a ++ b) from
-none_from operand a b from some none those line from_on within = elim (cases_lt (length a) line) [
-  | inl beyond ↦
-      let e : length (a ++ b) ≡ length a + length b = length-append a b in
-      ap (λ (l : Line). l.marks operand) (get_or-append_right a b (line - 1) unmarked (omega (arith, beyond)))
-      ∙ those (line - 1 - length a) (omega (arith, e, beyond, within)) (omega (arith, beyond, from_on))
-  | inr here ↦ match_still operand a b line (omega (arith, some, from_on)) here ∙ none line from_on here
-]
+none_from operand a b from some none those line from_on within = grind (arith, common_steps)
 
 misses_from : (suppress : Bool) (a b : List Line) (state : State) (operand : Operand) (target : Target) → Misses suppress a state operand target → NoneFrom operand (length a) b (search_line suppress state) → Misses suppress (a ++ b) state operand target
 misses_from suppress a b state operand (Number n) none those = none
-misses_from suppress a b state operand (Search pattern kept offset) none those = none_from operand a b (search_line suppress state) (search_some suppress state) none those
+misses_from suppress a b state operand (Search pattern kept offset) none those = grind (arith, common_steps)
 
 -- After a cut, no line before the last one has to be looked at again
 
@@ -60,46 +59,23 @@ most_from current matched true = omega arith
 most_from current matched false = omega arith
 
 at_one : {current matched : ℕ} → current ≡ 1 → matched ≡ 0 → from_of current matched ≡ 1
-at_one {matched} is none = ap (λ c. from_of c matched) is ∙ ap (λ f. cond (eqb 1 1 && eqb f 0) 1 (suc (max 1 f))) none
+at_one {matched} is none = grind (arith, common_steps)
 
 from_first : (current matched cut matched' : ℕ) → 1 ≤ current → current ≤ cut → matched ≤ matched' → (then : Bool) → (eqb cut 1 && eqb matched' 0) ≡ then → from_of current matched ≤ cond then 1 (suc (max cut matched'))
-from_first current matched cut matched' some least more true is =
-    let two = and_parts (eqb cut 1) (eqb matched' 0) is in
-    let cut_is : cut ≡ 1 = eqb-true cut 1 two.0 in
-    let none : matched' ≡ 0 = eqb-true matched' 0 two.1 in
-    let e : from_of current matched ≡ 1 = at_one {current = current} {matched = matched} (omega (arith, some, least, cut_is)) (omega (arith, more, none)) in omega (arith, e)
-from_first current matched cut matched' some least more false is =
-    let most : from_of current matched ≤ suc (max current matched) = most_from current matched (eqb current 1 && eqb matched 0) in
-    let left : cut ≤ max cut matched' = le-max_left cut matched' in
-    let right : matched' ≤ max cut matched' = le-max_right cut matched' in
-    let a : current ≤ max cut matched' = omega (arith, least, left) in
-    let b : matched ≤ max cut matched' = omega (arith, more, right) in
-    let all : max current matched ≤ max cut matched' = max-le a b in omega (arith, most, all)
+from_first current matched cut matched' some least more true is = grind (arith, common_steps)
+from_first current matched cut matched' some least more false is = grind (arith, common_steps)
 
 -- a search after a cut begins no earlier than one that begins where the state was before it
 pub search_grows : (suppress : Bool) (state next : State) (cut : ℕ) → 1 ≤ state.current → state.current ≤ cut → state.matched ≤ next.matched → next.current ≡ line_after suppress cut → search_line suppress state ≤ search_line suppress next
-search_grows true state next cut some least more is =
-    let left : next.current - 1 ≤ max (next.current - 1) next.matched = le-max_left (next.current - 1) next.matched in
-    let right : next.matched ≤ max (next.current - 1) next.matched = le-max_right (next.current - 1) next.matched in
-    let a : state.current - 1 ≤ max (next.current - 1) next.matched = omega (arith, least, left, is) in
-    let b : state.matched ≤ max (next.current - 1) next.matched = omega (arith, more, right) in
-    let all : max (state.current - 1) state.matched ≤ max (next.current - 1) next.matched = max-le a b in omega (arith, all)
-search_grows false state next cut some least more is = from_first state.current state.matched next.current next.matched some (omega (arith, least, is)) more (eqb next.current 1 && eqb next.matched 0) refl
+search_grows true state next cut some least more is = grind (arith, common_steps)
+search_grows false state next cut some least more is = grind (arith, common_steps)
 
 -- where no line before the last one is matched, that line alone decides
 pub looks_last : {operand : Operand} {lines : List Line} {from : ℕ} → ((other : ℕ) → from ≤ other → other < length lines → is_match operand lines other ≡ false) → from ≤ length lines → is_match operand lines (length lines) ≡ true → IsFirst operand lines from (length lines)
-looks_last looked least is = record {
-  not_before = least;
-  within = omega arith;
-  match = is;
-  first = looked;
-}
+looks_last looked least is = grind (arith, common_steps)
 
 pub looks_past : (operand : Operand) (lines : List Line) (from : ℕ) → ((other : ℕ) → from ≤ other → other < length lines → is_match operand lines other ≡ false) → (from ≤ length lines → is_match operand lines (length lines) ≡ false) → MatchesNone operand lines from
-looks_past operand lines from looked none line from_on within = elim (cases_eq line (length lines)) [
-  | inl same ↦ ap (is_match operand lines) same ∙ none (omega (arith, from_on, within))
-  | inr other ↦ looked line from_on (omega (arith, within, other))
-]
+looks_past operand lines from looked none line from_on within = grind (arith, common_steps)
 
 -- What stays as it is while more lines come
 
@@ -131,16 +107,10 @@ stays suppress operands a b so =
 
 -- a number that was capped, and is below the cap, is the number
 pub capped : (real cap most total : ℕ) → most ≡ min real cap → most ≤ total → total < cap → most ≡ real
-capped real cap most total is within low = elim (cases_lt cap real) [
-  | inl more ↦ let e : min real cap ≡ cap = min-eq_right (omega (arith, more)) in absurd (omega (arith, is, e, within, low))
-  | inr less ↦ is ∙ min-eq_left less
-]
+capped real cap most total is within low = grind (arith, common_steps)
 
 capped_less : (real cap : ℕ) {most : ℕ} → most ≡ min real cap → most ≤ real
-capped_less real cap is = elim (cases_lt cap real) [
-  | inl more ↦ let e : min real cap ≡ cap = min-eq_right (omega (arith, more)) in omega (arith, is, e, more)
-  | inr less ↦ let e : min real cap ≡ real = min-eq_left less in omega (arith, is, e)
-]
+capped_less real cap is = grind (arith, common_steps)
 
 pub falls : (suppress : Bool) (all : List Line) {total : ℕ} (state : State) {operand : Operand} {operands : List Operand} (matched real : ℕ) {most : ℕ} → length all ≡ total → state.operands ≡ operand ∷ operands
     → CutsAt suppress all state operand operand.target matched real → most ≡ min real (2 ^ 64 - 1) → total < 2 ^ 64 - 1 → (turn : Turn) → FallsAt total state.current matched most turn → Turns suppress all state turn
@@ -195,7 +165,7 @@ pub used_up_here : {suppress : Bool} {lines : List Line} {state : State} → sta
 used_up_here {state = state} none = record { ending = used_up; runs = is_used_up state none; aims = tt }
 
 pub left_is : (operands : List Operand) (at : ℕ) {operand : Operand} → at < length operands → operand ≡ get_or operands at operand → drop at operands ≡ operand ∷ drop (at + 1) operands
-left_is operands at {operand} within is = drop_more operands at operand within ∙ ap (λ o. o ∷ drop (at + 1) operands) (sym is)
+left_is operands at {operand} within is = grind (arith, common_steps)
 
 drop_next : (operands : List Operand) {rest : List Operand} {operand : Operand} (at : ℕ) → drop at operands ≡ operand ∷ rest → drop (suc at) operands ≡ rest
 drop_next [] zero are = absurd (cc)
@@ -221,15 +191,12 @@ repeated_again total state next (Search pattern kept offset) cut at some within 
 
 pub repeated_anew : (total : ℕ) (state : State) (operands : List Operand) → state.repetition ≡ 0 → IsRepeated total state operands
 repeated_anew total state [] none = none
-repeated_anew total state (operand ∷ operands) none = by operand.target where
-  by : (target : Target) → IsRepeatedBy total state target
-  by (Number n) = omega (arith, none)
-  by (Search pattern kept offset) = omega (arith, none)
+repeated_anew total state (operand ∷ operands) none = grind (arith, common_steps)
 
 repeated_by : (total : ℕ) (state : State) (operand : Operand) (operands : List Operand) {matched : ℕ} (cut : ℕ) → Moves total state operand.target matched cut → 1 ≤ cut → cut ≤ total → IsRepeated total state (operand ∷ operands)
     → (more : Bool) (next : State) → next.repetition ≡ repetition_after more state.repetition → next.matched ≡ matched → IsRepeated total next (operands_after more operand operands)
 repeated_by total state operand operands cut at some within few true next again same = repeated_again total state next operand.target cut at some within again same few
-repeated_by total state operand operands cut at some within few false next again same = repeated_anew total next operands again
+repeated_by total state operand operands cut at some within few false next again same = search rules
 
 fits_after : (suppress : Bool) {total : ℕ} {state : State} {operand : Operand} {operands : List Operand} (matched cut : ℕ) → Fits total state → state.operands ≡ operand ∷ operands → Moves total state operand.target matched cut → matched ≤ total → state.current ≤ cut → cut ≤ total
     → Fits total (state_after suppress operand operands state.repetition matched cut)
@@ -288,24 +255,15 @@ module _ {cutter : CutterState} {cut : Cut} {operand : Operand} (progress : Prog
 
 -- the mark of the last line
 last_mark : (operand : Operand) {lines : List Line} {total : ℕ} (line : List ℕ) (front : List Line) → lines ≡ front ++ marked line ∷ [] → length lines ≡ total → is_match operand lines total ≡ is_match_of line operand.target
-last_mark operand {lines} {total} line front is count =
-    let long : length lines ≡ length front + 1 = ap length is ∙ length-append front (marked line ∷ []) in
-    ap (λ those. is_match operand those total) is
-    ∙ ap (λ n. (get_or (front ++ marked line ∷ []) n unmarked).marks operand) (let e : total - 1 ≡ length front = omega (arith, long, count) in e)
-    ∙ ap (λ (l : Line). l.marks operand) (get_or-append_seam front (marked line) [] unmarked)
+last_mark operand {lines} {total} line front is count = grind (arith, common_steps)
 
 pub found_is : {cutter : CutterState} (line : List ℕ) {text : List ℕ} (number : ℕ) {found : Bool} (target : Target) → text ≡ without_newline line → cutter.sought ≡ pattern_in target → IsFound cutter text number found
     → search_line (suppress_in cutter) (state_in cutter) ≤ number → is_match_of line target ≡ found
 found_is line number (Number n) is sought says near = sym (says.none sought)
-found_is line number (Search pattern kept offset) is sought says near = sym (says.some pattern sought near ∙ ap (contains pattern) is)
+found_is line number (Search pattern kept offset) is sought says near = grind (arith, common_steps)
 
 seen_all : {cutter : CutterState} {x : List ℕ} (line : List ℕ) {found : Bool} → IsFit cutter → IsFound cutter (without_newline line) cutter.lines found → Looked cutter x line → AreSeen (suppress_in cutter) (all_lines x) cutter.lines (state_in cutter) found
-seen_all {cutter} {x} line fit says looked =
-    let count : length (all_lines x) ≡ cutter.lines = length-all_lines x ∙ sym looked.counted in record {
-      count = count;
-      last = λ operand operands are near. last_mark operand line looked.last.0 looked.last.1 count ∙ found_is line cutter.lines operand.target refl (fit.sought ∙ ap pattern_by are) says near;
-      others = looked.others;
-    }
+seen_all {cutter} {x} line fit says looked = grind (arith, common_steps)
 
 pub turn_ends : {suppress : Bool} {lines : List Line} {state : State} (turn : Turn) → IsNoCut turn → Turns suppress lines state turn → EndsHere suppress lines state turn
 turn_ends (Cuts matched line) no_cut ends = absurd no_cut
@@ -318,14 +276,11 @@ no_cut_aims operands total progress _ no_cut moves = tt
 
 -- a search after a cut begins at the cut or after it, and after the line that was matched last
 pub after_cut : (suppress : Bool) (cut : Cut) → cut.line ≤ search_after suppress cut
-after_cut true cut = let left : cut.line + 1 - 1 ≤ max (cut.line + 1 - 1) cut.matched = le-max_left (cut.line + 1 - 1) cut.matched in omega (arith, left)
-after_cut false cut = by (eqb cut.line 1 && eqb cut.matched 0) refl where
-  by : (first : Bool) → (eqb cut.line 1 && eqb cut.matched 0) ≡ first → cut.line ≤ cond first 1 (suc (max cut.line cut.matched))
-  by true is = let one = eqb-true cut.line 1 (and_parts (eqb cut.line 1) (eqb cut.matched 0) is).0 in omega (arith, one)
-  by false is = let left = le-max_left cut.line cut.matched in omega (arith, left)
+after_cut true cut = grind (arith, common_steps)
+after_cut false cut = grind (arith, common_steps)
 
 pub after_matched : (suppress : Bool) (cut : Cut) → cut.matched < search_after suppress cut
-after_matched suppress cut = search_past suppress (record { operands = []; repetition = 0; current = line_after suppress cut.line; matched = cut.matched })
+after_matched suppress cut = grind (arith, common_steps)
 
 near_by : {cutter : CutterState} {x : List ℕ} (line : List ℕ) (cut : Cut) {operand : Operand} {operands : List Operand} (target : Target) → (state_in cutter).operands ≡ operand ∷ operands → operand.target ≡ target → IsFit cutter → Looked cutter x line
     → CutsAt (suppress_in cutter) (all_lines x) (state_in cutter) operand target cut.matched cut.line → cutter.progress.current ≤ cut.line → StaysNear cutter cut
@@ -340,8 +295,7 @@ near_by {cutter} line cut {operand} {operands} (Search pattern kept offset) are 
 ]
 
 pub cut_near : {cutter : CutterState} {x : List ℕ} (line : List ℕ) (cut : Cut) {turn : Turn} → turn ≡ Cuts cut.matched cut.line → IsFit cutter → Looked cutter x line → Turns (suppress_in cutter) (all_lines x) (state_in cutter) turn → StaysNear cutter cut
-cut_near {cutter} {x} line cut is fit looked turns =
-    let here = subst (Turns (suppress_in cutter) (all_lines x) (state_in cutter)) is turns in near_by line cut here.operand.target here.are refl fit looked here.cuts here.from
+cut_near {cutter} {x} line cut is fit looked turns = search rules
 
 -- what `try_last` owes
 
@@ -369,10 +323,8 @@ still_by : {cutter : CutterState} (x text : List ℕ) {lines : ℕ} (aim : Turn)
     → StaysOver cutter text lines aim → EndsStill (suppress_in cutter) (length (all_lines x)) (all_lines text) (length (all_lines x ++ all_lines text)) (state_in cutter) ending
 still_by x text aim used_up fit count all aims stays = tt
 still_by x text aim (below operand repetition) fit count all aims stays = tt
-still_by {cutter} x text Missed (missed operand repetition) fit count all aims stays = λ next rest are.
-    subst (λ n. NoneFrom next n (all_lines text) (search_line (suppress_in cutter) (state_in cutter))) count (stays next (fit.sought ∙ ap pattern_by are))
-still_by x text (Above last line) (above operand repetition matched cut) fit count all aims stays =
-    let least : min cut (2 ^ 64 - 1) ≤ cut = min-le_left cut (2 ^ 64 - 1) in omega (arith, least, aims.1, stays, all)
+still_by {cutter} x text Missed (missed operand repetition) fit count all aims stays = grind (arith, common_steps)
+still_by x text (Above last line) (above operand repetition matched cut) fit count all aims stays = grind (arith, common_steps)
 still_by x text _ _ fit count all aims stays = absurd aims
 
 -- what passing over a text leaves of the plan
@@ -399,54 +351,27 @@ next_stays {cutter} {x} line fit live whole one aim stays =
 
 -- the lines as they are counted
 lines_are : {cutter : CutterState} {x : List ℕ} (live : IsLive cutter x) → length (all_lines x) ≡ cutter.lines
-lines_are {x} live = length-all_lines x ∙ sym live.at.counted
+lines_are {x} live = grind (arith, common_steps)
 
 -- the line of a cut that was above the last one came in
 above_cuts : {suppress : Bool} (lines : List Line) (line : Line) {state : State} {total matched at : ℕ} (ending : Ending) → length lines ≡ total → state.current ≤ total + 1 → EndsAs suppress lines state ending → AimsAt (Above matched at) ending → at ≤ total + 1 → total + 1 < 2 ^ 64 - 1
     → GoesPast suppress (lines ++ line ∷ []) state matched at × (at ≡ total + 1)
-above_cuts {suppress} lines line {state} {total} {at} (above operand repetition matched' cut) count within (operands, are, at_cut, far, often) aims near few =
-    let same : at ≡ cut = capped cut (2 ^ 64 - 1) at (total + 1) aims.1 near few in
-    let here : cut ≡ total + 1 = omega (arith, same, near, far, count) in
-    let all : length (lines ++ line ∷ []) ≡ length lines + 1 = length-append lines (line ∷ []) in (
-      subst (λ m. GoesPast suppress (lines ++ line ∷ []) state m at) (sym aims.0)
-          (subst (GoesPast suppress (lines ++ line ∷ []) state matched') (sym same) (record {
-            operand = operand;
-            operands = operands;
-            are = are;
-            cuts = cuts_still suppress lines (line ∷ []) state operand operand.target matched' cut at_cut;
-            from = omega (arith, here, within);
-            within = omega (arith, here, all, count);
-          })),
-      same ∙ here,
-    )
+above_cuts {suppress} lines line {state} {total} {at} (above operand repetition matched' cut) count within (operands, are, at_cut, far, often) aims near few = grind (arith, common_steps)
 above_cuts lines line _ count within ends aims near few = absurd aims
 
 pub next_cut : {cutter : CutterState} {x : List ℕ} (line : List ℕ) {matched at : ℕ} → IsFit cutter → IsLive cutter x → IsWhole x → IsLine line → cutter.aim ≡ Above matched at → at ≤ cutter.lines + 1 → cutter.lines < 2 ^ 63
     → GoesPast (suppress_in cutter) (all_lines (x ++ line)) (state_in cutter) matched at × (cutter.lines + 1 ≤ search_after (suppress_in cutter) (record { matched = matched; line = at }))
-next_cut {cutter} {x} line {matched} {at} fit live whole one aim near few =
-    let goes = above_cuts (all_lines x) (marked line) live.ends.ending (lines_are live) fit.fits.current (ends_as _ _ _ _ _ _ live.ends.runs) (subst (λ a. AimsAt a live.ends.ending) aim live.ends.aims) near (omega (arith, few)) in (
-      subst (λ lines. GoesPast (suppress_in cutter) lines (state_in cutter) matched at) (sym (all_lines-line line whole one)) goes.0,
-      (let after = after_cut (suppress_in cutter) (record { matched = matched; line = at }) in omega (arith, after, goes.1)),
-    )
+next_cut {cutter} {x} line {matched} {at} fit live whole one aim near few = grind (arith, common_steps, above_cuts, lines_are, ends_as, all_lines-line, after_cut)
 
 -- where a pattern matched no line so far
 
 missed_looked : (suppress : Bool) (a : List Line) (line : Line) (state : State) (ending : Ending) → EndsAs suppress a state ending → AimsAt Missed ending → {operand : Operand} {operands : List Operand} → state.operands ≡ operand ∷ operands
     → (other : ℕ) → search_line suppress state ≤ other → other ≤ length a → is_match operand (a ++ line ∷ []) other ≡ false
-missed_looked suppress a line state (missed operand' repetition) (operands', is, none, often) aims {operand} are other from within =
-    let some : 1 ≤ search_line suppress state = search_some suppress state in
-    match_still operand a (line ∷ []) other (omega (arith, some, from)) within
-    ∙ by operand.target (subst (λ (o : Operand). Misses suppress a state o o.target) (front_of operand' operand (sym is ∙ are)) none) where
-      by : (target : Target) → Misses suppress a state operand target → is_match operand a other ≡ false
-      by (Number n) none = absurd none
-      by (Search pattern kept offset) none = none other from within
+missed_looked suppress a line state (missed operand' repetition) (operands', is, none, often) aims {operand} are other from within = grind (arith, common_steps)
 missed_looked suppress a line state _ ends aims are other from within = absurd aims
 
 missed_sought : (suppress : Bool) (a : List Line) (state : State) (ending : Ending) → EndsAs suppress a state ending → AimsAt Missed ending → pattern_by state.operands ≡ None → ⊥
-missed_sought suppress a state (missed operand repetition) (operands, is, fails, often) aims none = by operand.target fails (sym (ap pattern_by is) ∙ none) where
-  by : (target : Target) → Misses suppress a state operand target → pattern_in target ≡ None → ⊥
-  by (Number n) fails none = fails
-  by (Search pattern kept offset) fails none = cc
+missed_sought suppress a state (missed operand repetition) (operands, is, fails, often) aims none = grind (arith, common_steps)
 missed_sought suppress a state _ ends aims none = absurd aims
 
 pub next_looked : {cutter : CutterState} {x : List ℕ} (line : List ℕ) (live : IsLive cutter x) → IsWhole x → IsLine line → cutter.aim ≡ Missed → Looked (record cutter { lines = cutter.lines + 1 }) (x ++ line) line
@@ -461,9 +386,7 @@ next_looked {cutter} {x} line live whole one aim =
     }
 
 pub next_sought : {cutter : CutterState} {x : List ℕ} (live : IsLive cutter x) → IsFit cutter → cutter.aim ≡ Missed → cutter.sought ≡ None → ⊥
-next_sought {cutter} {x} live fit aim none =
-    missed_sought (suppress_in cutter) (all_lines x) (state_in cutter) live.ends.ending (ends_as _ _ _ _ _ _ live.ends.runs)
-    (subst (λ a. AimsAt a live.ends.ending) aim live.ends.aims) (sym fit.sought ∙ none)
+next_sought {cutter} {x} live fit aim none = search rules
 
 pub next_tries : {cutter : CutterState} (next : CutterState) (line : List ℕ) (result : Option Cut) → IsFit cutter → IsLine line → cutter.aim ≡ Missed → next.lines ≡ cutter.lines + 1 → Tries (record cutter { lines = cutter.lines + 1 }) line next result → TriesNext cutter line next result
 next_tries next line None fit one aim counted tries = λ x whole live. tries (x ++ line) (next_looked line live whole one aim)

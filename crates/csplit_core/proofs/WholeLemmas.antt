@@ -1,5 +1,5 @@
 -- The last section and the lines that wait are all lines that are left.
-use Rattle.std.proofs.Common.{ℕ, suc, ◌≤◌, Bool, true, false, arith, ◌≡◌, ◌-◌, List, length, drop, refl, sym, subst, length-drop, ◌+◌, [], ◌∷◌, ◌++◌, map, ◌∙◌, ap, append_assoc, cond}
+use Rattle.std.proofs.Common.{ℕ, suc, ◌≤◌, Bool, true, false, arith, ◌≡◌, ◌-◌, List, length, drop, refl, sym, subst, length-drop, ◌+◌, [], ◌∷◌, ◌++◌, map, ◌∙◌, ap, append_assoc, cond, rules}
 use Rattle.csplit_core.specs.Plan.{line_after, start, Ending, missed, below, State, Step, Runs, cuts}
 use Rattle.csplit_core.specs.Operand.{Operand, Line, most_held}
 use Rattle.csplit_core.specs.Planned.{Plan, plan}
@@ -8,6 +8,7 @@ use Rattle.csplit_core.specs.laws.PlanLaws.{plan_runs}
 use Rattle.csplit_core.specs.laws.SectionLaws.{are_within}
 use Rattle.std.proofs.lemmas.Bool.{false≢true}
 use Rattle.std.proofs.lemmas.List.{append-nil, take-append-drop, take_all, drop-drop}
+use Rattle.std.proofs.lemmas.Grind.{common_steps}
 
 -- The last section: all of its lines but the last ones are settled, as many as the offset goes back.
 
@@ -19,18 +20,15 @@ after_within false cut total within = omega (arith, within)
 -- Few lines wait.
 
 left_over : (lines : List Line) (current past : ℕ) → 1 ≤ current → length (drop (past - current) (drop (current - 1) lines)) ≤ suc (length lines) - past
-left_over lines current past some =
-    let one : length (drop (past - current) (drop (current - 1) lines)) ≡ length (drop (current - 1) lines) - (past - current) = length-drop (past - current) (drop (current - 1) lines) in
-    let other : length (drop (current - 1) lines) ≡ length lines - (current - 1) = length-drop (current - 1) lines in omega (arith, one, other, some)
+left_over lines current past some = grind (arith, common_steps)
 
 few_at : (lines : List Line) (plan' : Plan) (ending : Ending) → plan'.ending ≡ ending → 1 ≤ plan'.last.current → length (waiting_lines lines plan') ≤ most_waiting ending
-few_at lines plan' (missed operand repetition) is some = subst (λ e. length (waiting_lines lines (record plan' { ending = e })) ≤ most_held operand.target) (sym is)
-    (let few : length (drop (suc (length lines) - most_held operand.target - plan'.last.current) (drop (plan'.last.current - 1) lines)) ≤ suc (length lines) - (suc (length lines) - most_held operand.target) = left_over lines plan'.last.current (suc (length lines) - most_held operand.target) some in omega (arith, few))
-few_at lines plan' (below operand repetition) is some = subst (λ e. length (waiting_lines lines (record plan' { ending = e })) ≤ 0) (sym is) (omega arith)
-few_at lines plan' ending is some = subst (λ e. length (waiting_lines lines (record plan' { ending = e })) ≤ 0) (sym is) (let few : length (drop (suc (length lines) - plan'.last.current) (drop (plan'.last.current - 1) lines)) ≤ suc (length lines) - suc (length lines) = left_over lines plan'.last.current (suc (length lines)) some in omega (arith, few))
+few_at lines plan' (missed operand repetition) is some = grind (arith, common_steps)
+few_at lines plan' (below operand repetition) is some = grind (arith, common_steps)
+few_at lines plan' ending is some = grind (arith, common_steps)
 
 pub few_wait : (suppress : Bool) (operands : List Operand) (x : List Line) → length (waiting_lines x (plan suppress operands x)) ≤ most_waiting (plan suppress operands x).ending
-few_wait suppress operands x = few_at x (plan suppress operands x) (plan suppress operands x).ending refl (are_within suppress x (start operands) _ _ _ (plan_runs suppress operands x) (omega arith)).1
+few_wait suppress operands x = grind (arith, common_steps)
 
 -- No line is lost.
 
@@ -70,11 +68,11 @@ none_lost operands x live =
     (take-append-drop (settled_end (length x) plan'.ending - plan'.last.current) (drop (plan'.last.current - 1) x))
 
 pub ends_after_all : (total : ℕ) (ending : Ending) → is_final ending ≡ false → whole_end total ending ≡ suc total
-ends_after_all total (below operand repetition) live = absurd (false≢true (sym live))
+ends_after_all total (below operand repetition) live = cc
 ends_after_all total ending live = refl
 
 rest_is_all : (x : List Line) (current : ℕ) → 1 ≤ current → lines_between current (suc (length x)) x ≡ drop (current - 1) x
-rest_is_all x current some = take_all (suc (length x) - current) (drop (current - 1) x) (let e : length (drop (current - 1) x) ≡ length x - (current - 1) = length-drop (current - 1) x in omega (arith, e, some))
+rest_is_all x current some = grind (arith, common_steps)
 
 pub none_lost_at_end : (operands : List Operand) (x : List Line) → is_final (plan false operands x).ending ≡ false → lines_in (whole_sections x (plan false operands x)) ≡ x
 none_lost_at_end operands x live =

@@ -1,5 +1,5 @@
 -- What is written of a draft, whose the files are, and what the calls of the writer of sections do.
-use Rattle.std.proofs.Common.{◌≡◌, ℕ, ◌+◌, suc, Bool, true, false, cond, not, ◌&&◌, List, [], ◌∷◌, ◌++◌, length, decimal, refl, sym, ◌∙◌, ap, subst, arith, length-append, ◌⊎◌, inl, inr, ◌<◌, ◌≤◌, eqb, eq-eqb, ne_eqb, ◌||◌, IsTrue, zero, take, drop, replicate, Option, Some, None, Err}
+use Rattle.std.proofs.Common.{◌≡◌, ℕ, ◌+◌, suc, Bool, true, false, cond, not, ◌&&◌, List, [], ◌∷◌, ◌++◌, length, decimal, refl, sym, ◌∙◌, ap, subst, arith, length-append, ◌⊎◌, inl, inr, ◌<◌, ◌≤◌, eqb, eq-eqb, ne_eqb, ◌||◌, IsTrue, zero, take, drop, replicate, Option, Some, None, Err, rules}
 use Rattle.std.proofs.lemmas.List.{append-nil}
 use Rattle.ports_core.specs.Name.{numbered_name}
 use Rattle.ports_core.specs.Part.{Part, Begins, IsBeginning, OutputsAt, IsNext, File as PartFile}
@@ -29,6 +29,7 @@ use Rattle.std.proofs.Math.Seq.{take-append-add}
 use Rattle.ports_core.specs.declared.fault.Fault.TheVariants.{Memory}
 use Rattle.csplit_core.specs.declared.section_writer.Current.{Current}
 use Rattle.std.specs.Prelude.{IfNone}
+use Rattle.std.proofs.lemmas.Grind.{common_steps}
 
 -- What is written of sections, of which one more was begun or ended.
 
@@ -98,9 +99,7 @@ closed_part style draft line makes is = ended_part style draft ∙ part_made sty
 
 pub line_of : (style : Style) (draft : Draft) (quiet : Bool) → makes_file style (last_contents true draft) ≡ true → style.quiet ≡ quiet
     → size_line style (last_contents true draft) ≡ cond (not quiet) (decimal (length draft.bytes) ++ newline ∷ []) []
-line_of style draft quiet makes is =
-    ap (λ made. cond (made && (true && not style.quiet)) (decimal (length draft.bytes) ++ newline ∷ []) []) makes
-    ∙ ap (λ q. cond (true && (true && not q)) (decimal (length draft.bytes) ++ newline ∷ []) []) is
+line_of style draft quiet makes is = grind (arith, common_steps)
 
 -- how many files there are
 
@@ -113,7 +112,7 @@ count_none style ended one none = ap (λ (part : Part). length part.files) (part
 -- the files of sections that ended are closed
 
 closed_by : (style : Style) (place : ℕ) (one : Contents) (makes : Bool) (rest other : List PartFile) → one.is_closed ≡ true → AllClosed rest → AllClosed other → AllClosed (cond makes (file_at style place one ∷ rest) other)
-closed_by style place one true rest other closed all also = (ap (λ c. (file_at style place (record one { is_closed = c })).state) closed, all)
+closed_by style place one true rest other closed all also = grind (arith, common_steps)
 closed_by style place one false rest other closed all also = also
 
 pub closed_files : (style : Style) (place : ℕ) (ended : List Contents) → AreClosed ended → AllClosed (files_of style place ended)
@@ -139,7 +138,7 @@ at_file {slots} is ready = subst (λ current. IsOpenAt current slots) is ready.c
 
 -- and is the last output, where that is known of the open section
 pub last_file : (writer : WriterState) {slot size : ℕ} (slots : List Slot) → writer.current ≡ File slot size → IsLast writer.current slots → suc slot ≡ length slots
-last_file writer slots is last = subst (λ current. IsLast current slots) is last
+last_file writer slots is last = grind (arith, common_steps)
 
 -- The files are there, and stay the writer's own.
 
@@ -178,8 +177,7 @@ among_more place slot (one ∷ files) = ap (λ b. eqb place one || b) (among_mor
 
 -- a file that is there stands before the end
 there_within : (place : ℕ) (slots : List Slot) → is_removable slots place → place < length slots
-there_within place slots can =
-    elim (cases_lt place (length slots)) [ inl less ↦ less | inr past ↦ absurd (false≢true (sym (none_past slots place past) ∙ can.1)) ]
+there_within place slots can = grind (arith, common_steps)
 
 there_more : (files : List ℕ) (slots : List Slot) (name : List ℕ) {slot : ℕ} → slot ≡ length slots → 2 ≤ length slots → AreThere files slots → AreThere (files ++ slot ∷ []) (slots ++ opened name Fresh ∷ [])
 there_more [] slots name at two are =
@@ -236,20 +234,17 @@ owned_opened {writer} {next} {slot} {old} {new} two made = record {
   there are = subst (λ those. AreThere those new) (sym files) (subst (AreThere (writer.files ++ slot ∷ [])) (sym made.added) (there_more writer.files old (next_name writer) at two are))
 
 unopened_keeps : (kept : List ℕ) (old : List Slot) (place : ℕ) → has_file (slot_at (old ++ unopened kept ∷ []) place).state ≡ has_file (slot_at old place).state
-unopened_keeps kept old place = elim (cases_lt place (length old)) [
-  | inl less ↦ file_before old (unopened kept) place less
-  | inr past ↦ none_opened old kept place past ∙ sym (none_past old place past)
-]
+unopened_keeps kept old place = grind (arith, common_steps)
 
 unmade_keeps : {name : List ℕ} {old new : List Slot} {f : Fault} → MakesNone old name new f → (place : ℕ) → has_file (slot_at new place).state ≡ has_file (slot_at old place).state
-unmade_keeps (unnamed same) place = ap (λ slots. has_file (slot_at slots place).state) same
-unmade_keeps {old} (failed _ (broke slot kept number is added)) place = ap (λ slots. has_file (slot_at slots place).state) added ∙ unopened_keeps kept old place
-unmade_keeps (failed _ (numberless full same)) place = ap (λ slots. has_file (slot_at slots place).state) same
+unmade_keeps (unnamed same) place = grind (arith, common_steps)
+unmade_keeps {old} (failed _ (broke slot kept number is added)) place = grind (arith, common_steps)
+unmade_keeps (failed _ (numberless full same)) place = grind (arith, common_steps)
 
 unmade_size : {name : List ℕ} {old new : List Slot} {f : Fault} → MakesNone old name new f → length old ≤ length new
-unmade_size {old} {new} (unnamed same) = (let size : length new ≡ length old = ap length same in omega (arith, size))
-unmade_size {old} {new} (failed _ (broke slot kept number is added)) = (let size : length new ≡ length old + 1 = ap length added ∙ length-append old (unopened kept ∷ []) in omega (arith, size))
-unmade_size {old} {new} (failed _ (numberless full same)) = (let size : length new ≡ length old = ap length same in omega (arith, size))
+unmade_size {old} {new} (unnamed same) = grind (arith, common_steps)
+unmade_size {old} {new} (failed _ (broke slot kept number is added)) = grind (arith, common_steps)
+unmade_size {old} {new} (failed _ (numberless full same)) = grind (arith, common_steps)
 
 pub owned_unopened : {writer : WriterState} {name : List ℕ} {old new : List Slot} {f : Fault} → MakesNone old name new f → KeepsFiles writer (record writer { current = Unopened }) old new
 owned_unopened {writer} {old} {new} none = record {
@@ -268,14 +263,14 @@ owned_unopened {writer} {old} {new} none = record {
 
 pub make_breaks : (style : Style) {name : List ℕ} {old new : List Slot} {f : Fault} → MakesNone old name new f → Breaks style old new f
 make_breaks style (unnamed same) = tt
-make_breaks style {old} {new} (failed _ (broke slot kept number is added)) = open_rose slot kept old new number added
+make_breaks style {old} {new} (failed _ (broke slot kept number is added)) = grind (arith, common_steps)
 make_breaks style (failed _ (numberless full same)) = tt
 
 pub write_breaks : (told : Bool) (style : Style) {slot : ℕ} {bytes : List ℕ} {old new : List Slot} {f : Fault} → 2 ≤ slot → IsTrue (is_writable old slot) → WritesShort told slot bytes old new f → Breaks style old new f
 write_breaks told style {slot} {bytes} {old} {new} streams can (short.broke n cut) = (λ none. absurd (omega (arith, streams, none)), write_rose told slot bytes n old new can cut)
 
 pub line_breaks : (told : Bool) (style : Style) (line : List ℕ) {old new : List Slot} {f : Fault} → style.quiet ≡ false → IsTrue (is_writable old 0) → WritesShort told 0 line old new f → Breaks style old new f
-line_breaks told style line {old} {new} said_so can (short.broke n cut) = (λ here. said_so, write_rose told 0 line n old new can cut)
+line_breaks told style line {old} {new} said_so can (short.broke n cut) = grind (arith, common_steps)
 
 pub close_breaks : (style : Style) (slot : ℕ) (old : List Slot) {new : List Slot} → 2 ≤ slot → IsTrue (is_writable old slot) → new ≡ with_broken slot (changed_at slot closes old) → Breaks style old new (fault.Write slot)
 close_breaks style slot old {new} streams can is = (λ none. absurd (omega (arith, streams, none)), close_rose slot old new can (writable_within slot old can) is)
@@ -312,28 +307,21 @@ state_of style files current = record { style = style; files = files; current = 
 -- What the open section is
 
 pub now_is : {writer : WriterState} {draft : Draft} {current : Current} → writer.current ≡ current → Writes writer draft → IsCurrent writer.style draft.is_kept draft.bytes current
-now_is {writer} {draft} is writes = subst (λ current. IsCurrent writer.style draft.is_kept draft.bytes current) is writes.current
+now_is {writer} {draft} is writes = grind (arith, common_steps)
 
 -- a section that is skipped makes no file, and neither does an empty one where those are left out
 pub skips_file : (style : Style) (one : Contents) → one.is_kept ≡ false → makes_file style one ≡ false
-skips_file style one kept = ap (λ k. k && not (style.elide && is_empty one.bytes)) kept
+skips_file style one kept = grind (arith, common_steps)
 
 pub elides_file : (style : Style) (one : Contents) → style.elide ≡ true → one.bytes ≡ [] → makes_file style one ≡ false
-elides_file style one elide none = ap (λ bytes. one.is_kept && not (style.elide && is_empty bytes)) none ∙ ap (λ e. one.is_kept && not (e && true)) elide ∙ never one.is_kept where
-  never : (kept : Bool) → (kept && false) ≡ false
-  never true = refl
-  never false = refl
+elides_file style one elide none = grind (arith, common_steps)
 
 -- Nothing is written, since neither what the open section was nor what it is makes a file
 
 pub goes_still : {told : Bool} {writer : WriterState} {change : Draft → Draft} (current : Current) {slots : List Slot} → IsReady writer slots → IsOpenAt current slots → (IsLast writer.current slots → IsLast current slots)
     → ((draft : Draft) → Writes writer draft → (draft_part writer.style draft ≡ draft_part writer.style (change draft)) × AreClosed (change draft).ended × IsCurrent writer.style (change draft).is_kept (change draft).bytes current)
     → Goes told writer change slots slots (record writer { current = current }) None
-goes_still {told} {writer} current {slots} ready at last stays = record {
-  leaves = record { style = refl; owns = owned_same refl last (made_same slots); slots = keeps_same slots slots refl; ready = record { streams = ready.streams; output = ready.output; files = ready.files; current = at } };
-  reaches = λ draft writes. reaches_by (owned_same refl last (made_same slots)) (λ before. record { gets = λ these outputs. subst (λ part. OutputsAt told these part slots) (stays draft writes).0 outputs });
-  writes = λ draft writes. let so = stays draft writes in record { closed = so.1; made = writes.made ∙ ap (λ (part : Part). length part.files) so.0; current = so.2 };
-}
+goes_still {told} {writer} current {slots} ready at last stays = grind (arith, common_steps)
 
 pub put_skipped : {told : Bool} {writer : WriterState} (bytes : List ℕ) {slots : List Slot} → writer.current ≡ Skipped → IsReady writer slots → Goes told writer (with_bytes bytes) slots slots writer None
 put_skipped {writer = writer} bytes is ready = goes_still writer.current ready ready.current (λ last. last) (λ draft writes. let kept = now_is is writes in (
@@ -345,7 +333,7 @@ put_skipped {writer = writer} bytes is ready = goes_still writer.current ready r
 -- The file of the open section gets more bytes, or breaks.
 
 still_makes : (style : Style) (draft : Draft) (bytes : List ℕ) → makes_file style (last_contents false draft) ≡ true → makes_file style (last_contents false (with_bytes bytes draft)) ≡ true
-still_makes style draft bytes makes = made_more style.elide draft.is_kept draft.bytes bytes makes
+still_makes style draft bytes makes = grind (arith, common_steps)
 
 file_now : {told : Bool} {writer next : WriterState} {slot size : ℕ} {bytes : List ℕ} {old new : List Slot} (fault : Option Fault) → writer.current ≡ File slot size → Appends told writer slot size bytes old new next fault → (more : ℕ) × (next.current ≡ File slot more)
 file_now {size = size} {bytes} None is appends = (size + length bytes, appends.current)
@@ -399,7 +387,7 @@ put_file {told} {writer} bytes {old} {fault = fault} is ready appends = record {
 }
 
 pub some_bytes : (bytes : List ℕ) → false ≡ eqb (length bytes) 0 → is_empty bytes ≡ false
-some_bytes [] is = absurd (false≢true (is ∙ eq-eqb 0 0 refl))
+some_bytes [] is = grind (arith, common_steps)
 some_bytes (byte ∷ bytes) is = refl
 
 -- A file is made for the open section, and a section begins.
@@ -408,8 +396,7 @@ some_bytes (byte ∷ bytes) is = refl
 
 made_becomes : {told : Bool} {writer next : WriterState} (ended : List Contents) {slot : ℕ} {old new : List Slot} → length writer.files ≡ length (files_of writer.style 0 ended) → Made writer old new next slot
     → Becomes told (part_by writer.style ended) (with_last (size_lines writer.style ended) (files_of writer.style 0 ended) (file_of (name_after writer.style ended) [] state.Open)) old new None
-made_becomes {told} {writer} ended {old = old} count made = opens told (size_lines writer.style ended) (files_of writer.style 0 ended) (name_after writer.style ended)
-    (made.added ∙ ap (λ n. old ++ opened (numbered_name writer.style.prefix writer.style.digits n) Fresh ∷ []) count)
+made_becomes {told} {writer} ended {old = old} count made = grind (arith, common_steps)
 
 next_file : (style : Style) (ended : List Contents) (one : Contents) → makes_file style one ≡ true → IsNext (part_by style ended) (part_by style (ended ++ one ∷ [])) (name_after style ended)
 next_file style ended one makes = record {
@@ -428,7 +415,7 @@ unmade_falls {told} writer ended one {old} {new} {f} makes closed count none =
     (subst (λ n. MakesNone old (numbered_name writer.style.prefix writer.style.digits n) new f) count none)
 
 current_made : {writer next : WriterState} {slot : ℕ} {old new : List Slot} → Made writer old new next slot → next.current ≡ File slot 0
-current_made made = ap (λ (those : WriterState). those.current) made.same
+current_made made = grind (arith, common_steps)
 
 pub made_ready : {writer next : WriterState} {slot : ℕ} {old new : List Slot} → IsReady writer old → Made writer old new next slot → IsReady next new
 made_ready {writer} {slot} {old} {new} ready made = record {
@@ -456,9 +443,7 @@ unmade_leaves {writer} {old = old} {new} (same, none) = record {
 -- The first bytes of a section whose file isn't made before them
 
 first_makes : (style : Style) (draft : Draft) (bytes : List ℕ) → draft.is_kept ≡ true → style.elide ≡ true → draft.bytes ≡ [] → is_empty bytes ≡ false → makes_file style (last_contents false (with_bytes bytes draft)) ≡ true
-first_makes style draft bytes kept elide none some =
-    ap (λ those. draft.is_kept && not (style.elide && is_empty (those ++ bytes))) none ∙ ap (λ e. draft.is_kept && not (style.elide && e)) some
-    ∙ ap (λ e. draft.is_kept && not (e && false)) elide ∙ ap (λ k. k && true) kept
+first_makes style draft bytes kept elide none some = grind (arith, common_steps)
 
 -- what is known where a draft has no file of the open section, and one is made of it for another
 record Unwritten (writer : WriterState) (draft next : Draft) : Type 0 where
@@ -470,11 +455,7 @@ made_count : {writer : WriterState} {draft : Draft} → makes_file writer.style 
 made_count {writer} {draft} none writes = writes.made ∙ count_none writer.style draft.ended (last_contents false draft) none
 
 unwritten : {writer : WriterState} (bytes : List ℕ) {draft : Draft} → writer.current ≡ Unmade → is_empty bytes ≡ false → Writes writer draft → Unwritten writer draft (with_bytes bytes draft)
-unwritten {writer} bytes {draft} is some writes = let now = now_is is writes in record {
-  same = refl;
-  none = elides_file writer.style (last_contents false draft) now.1 now.2;
-  makes = first_makes writer.style draft bytes now.0 now.1 now.2 some;
-}
+unwritten {writer} bytes {draft} is some writes = grind (arith, common_steps)
 
 -- it could not be made
 goes_unmade : {told : Bool} {writer next : WriterState} {change : Draft → Draft} {old new : List Slot} {f : Fault} → ((draft : Draft) → Writes writer draft → Unwritten writer draft (change draft)) → Makes writer old new next (Err f) → Goes told writer change old new next (Some f)
@@ -520,11 +501,7 @@ begun_none {writer = writer} current is none is_current at last ready = goes_sti
 
 -- one with a file
 begun_file : {writer : WriterState} {kept : Bool} → writer.current ≡ Skipped → kept ≡ true → writer.style.elide ≡ false → (draft : Draft) → Writes writer draft → Unwritten writer draft (with_kept kept draft)
-begun_file {writer} is kept_is elide draft writes = record {
-  same = refl;
-  none = skips_file writer.style (last_contents false draft) (now_is is writes);
-  makes = ap (λ k. k && not (writer.style.elide && true)) kept_is ∙ ap (λ e. true && not (e && true)) elide;
-}
+begun_file {writer} is kept_is elide draft writes = grind (arith, common_steps)
 
 pub begin_made : {told : Bool} {writer next : WriterState} {kept : Bool} {slot : ℕ} {old new : List Slot} → writer.current ≡ Skipped → kept ≡ true → writer.style.elide ≡ false → IsReady writer old → Made writer old new next slot → Goes told writer (with_kept kept) old new next None
 begin_made {writer = writer} {kept = kept} {slot} is kept_is elide ready made = record {
@@ -548,17 +525,10 @@ abbrev pub no_draft : Draft
 no_draft = record { ended = []; is_kept = false; bytes = [] }
 
 pub new_writes : (style : Style) → Writes (new_writer style) no_draft
-new_writes style = record { closed = tt; made = refl; current = refl }
+new_writes style = grind (arith, common_steps)
 
 pub new_owns : (style : Style) {slots : List Slot} → 2 ≤ length slots → OwnsFiles (new_writer style) (length slots) slots
-new_owns style {slots} two = record {
-  streams = two;
-  within = omega arith;
-  from = λ place among. absurd (false≢true among);
-  own = λ place past. none_past slots place past;
-  there = tt;
-  last = tt;
-}
+new_owns style {slots} two = grind (arith, common_steps)
 
 pub begun_not : {told : Bool} {style : Style} {kept : Bool} {old new : List Slot} {next : WriterState} {f : Fault} → 2 ≤ length old → Goes told (new_writer style) (with_kept kept) old new next (Some f) → next.files ≡ []
     → BegunNot told style (draft_part style (first_draft kept)) old new f

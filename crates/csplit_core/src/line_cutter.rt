@@ -9,12 +9,11 @@ ghost use Rattle.csplit_core.specs.Plan.{above, missed};
 ghost use Rattle.csplit_core.specs.Planned.{plan};
 ghost use Rattle.ports_core.specs.Swept.{AreThere};
 ghost use Rattle.csplit_core.specs.Cutter.{AimHolds, IsFit, IsSound, load, most_by, pattern_by, seen, state_in, suppress_in};
-ghost use Rattle.csplit_core.specs.inner.Cutter.{AreClear, Clears, CutAt, CutsAll, CutsOn, EndsAll, GoesOn, IsJudged, Opens, Holds, IsFound, IsLine, IsNextFound, IsNoCut, IsWhole, PassesClear, PassesCut, PassesOver, Spread, StopsAt, Stretches, Takes, Tries, TriesNext, WillCut};
+ghost use Rattle.csplit_core.specs.inner.Cutter.{AreClear, Clears, CutAt, CutsAll, CutsOn, EndsAll, GoesOn, IsJudged, Opens, Holds, IsFound, IsLine, IsNextFound, IsNoCut, IsWhole, PassesClear, PassesCut, PassesOver, Spread, StopsAt, Stretches, Takes, Tries, TriesNext, WillCut, AreSeen, MovesOn, Turns};
 ghost use Rattle.csplit_core.specs.Input.{all_lines, newline, without_newline};
 ghost use Rattle.csplit_core.specs.Measure.{Fits};
 ghost use Rattle.csplit_core.specs.Operand.{Line};
 ghost use Rattle.ports_core.specs.inner.Part.{fault_in};
-ghost use Rattle.csplit_core.specs.inner.Progress.{AreSeen, MovesOn, Turns};
 ghost use Rattle.csplit_core.specs.Writer.{IsReady, size_of};
 ghost use Rattle.csplit_core.specs.declared.progress.Turn.TheVariants as turn_is;
 

@@ -3,7 +3,7 @@ ghost use Rattle.std.specs.Prelude.{◌≡◌, ◌<◌, ◌≤◌, ◌+◌, ◌-
 ghost use Rattle.csplit_core.specs.Measure.{Fits};
 ghost use Rattle.csplit_core.specs.Operand.{Line, has_more, moved};
 ghost use Rattle.csplit_core.specs.Plan.{line_after, search_line, state_after};
-ghost use Rattle.csplit_core.specs.inner.Progress.{AreSeen, FallsAt, MovesOn, Turns};
+ghost use Rattle.csplit_core.specs.inner.Cutter.{AreSeen, FallsAt, MovesOn, Turns};
 ghost use Rattle.csplit_core.specs.Progress.{state_of};
 ghost use Rattle.operand_core.specs.declared.operand.Operand.{Operand};
 

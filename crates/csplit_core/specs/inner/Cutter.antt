@@ -1,34 +1,84 @@
--- What private calls say: what contracts see of the cutter of lines, and what its calls do.
-use Rattle.std.specs.Prelude.{◌≡◌, ◌⊎◌, ℕ, ◌+◌, ◌<◌, ◌≤◌, Bool, true, false, List, [], ◌∷◌, ◌++◌, length, take, drop, get_or, Option, Some, None, IfNone, IfSome, IfOk, Result, Ok, Err}
+-- What private calls say of where a run stands, of the cutter of lines, and of the stage that takes in bytes.
+use Rattle.std.specs.Prelude.{◌≡◌, ℕ, ◌<◌, ◌≤◌, Bool, false, List, ◌∷◌, length, drop, ◌⊎◌, ◌+◌, true, [], ◌++◌, take, get_or, Option, Some, None, IfNone, IfSome, IfOk, Result, Ok, Err, ◌≢◌, OnOk}
+use Rattle.csplit_core.specs.Operand.{Operand, Line, is_match}
+use Rattle.csplit_core.specs.Plan.{State, CutsAt, search_line, line_after, state_after}
+use Rattle.csplit_core.specs.Measure.{Moves}
+use Rattle.csplit_core.specs.declared.progress.Progress.{Progress}
+use Rattle.csplit_core.specs.declared.progress.Turn.{Turn}
+use Rattle.csplit_core.specs.declared.progress.Turn.TheVariants.{UsedUp, Missed, Above, Below, Cuts}
+use Rattle.csplit_core.specs.Progress.{state_of, WillMove, EndsHere, AimsAt}
 use Rattle.bre_core.specs.Pattern.{Pattern}
 use Rattle.bre_core.specs.Search.{contains}
-use Rattle.seg_core.specs.Line.{lines_of, line_count, ends_with}
+use Rattle.seg_core.specs.Line.{lines_of, line_count, ends_with, delimiters}
 use Rattle.ports_core.specs.Part.{Part, Begins, nothing}
 use Rattle.ports_core.specs.Slot.{Slot}
-use Rattle.ports_core.specs.Swept.{Removes}
+use Rattle.ports_core.specs.Swept.{Removes, AreThere, RemovesIf}
 use Rattle.ports_core.specs.declared.fault.Fault.{Fault}
 use Rattle.ports_core.specs.declared.fault.Fault.TheVariants.{Memory}
-use Rattle.csplit_core.specs.Csplit.{settled_of, whole_of}
+use Rattle.csplit_core.specs.Csplit.{settled_of, whole_of, verdict_of}
 use Rattle.csplit_core.specs.Draft.{draft_part}
-use Rattle.csplit_core.specs.Input.{newline, without_newline, marked, all_lines}
-use Rattle.csplit_core.specs.Measure.{Moves}
-use Rattle.csplit_core.specs.Operand.{Operand, Line, is_match}
+use Rattle.csplit_core.specs.Input.{newline, without_newline, marked, all_lines, open_line}
 use Rattle.csplit_core.specs.Output.{Style}
-use Rattle.csplit_core.specs.Plan.{search_line, line_after, state_after}
 use Rattle.csplit_core.specs.Planned.{plan}
 use Rattle.csplit_core.specs.inner.PlanLaws.{needed}
-use Rattle.csplit_core.specs.Progress.{AimsAt}
-use Rattle.csplit_core.specs.inner.Progress.{GoesPast}
 use Rattle.csplit_core.specs.Section.{is_final}
 use Rattle.csplit_core.specs.Writer.{OwnsFiles, IsReady, size_of}
+<<<<<<< HEAD
 use Rattle.csplit_core.specs.inner.Writer.{BegunNot, Leaves, Reaches, new_writer}
 use Rattle.ports_core.specs.inner.Part.{fault_in}
 use Rattle.csplit_core.specs.declared.progress.Turn.{Turn}
 use Rattle.csplit_core.specs.declared.progress.Turn.TheVariants.{UsedUp, Missed, Above, Below, Cuts}
+=======
+use Rattle.csplit_core.specs.inner.Writer.{BegunNot, Leaves, Reaches, fault_in, new_writer}
+>>>>>>> c9f6484327ea8c5b59f882dbf7b847b7c332e827
 use Rattle.csplit_core.specs.declared.line_cutter.Cut.{Cut}
 use Rattle.csplit_core.specs.declared.line_cutter.LineCutter.{LineCutter}
 use Rattle.csplit_core.specs.declared.line_cutter.Passed.{Passed}
 use Rattle.csplit_core.specs.Cutter.{CutterState, AimHolds, seen, suppress_in, state_in, kept_by, IsFit, IsSound, load, draft_by, IsAt, EndsNow, IsLive, Stands}
+use Rattle.ports_core.specs.Engine.{Clears as EngineClears, KeepsOwn, is_verdict}
+use Rattle.csplit_core.specs.CsplitState.{CsplitState, Owns, files, whole_lines, work}
+
+-- There are `total` lines; of the next operand it is known whether it matches the last one, if its search reaches that
+-- line, and that it matches none between the beginning of its search and the last line.
+pub record AreSeen (suppress : Bool) (lines : List Line) (total : ℕ) (state : State) (found : Bool) : Type 0 where
+  pub count : length lines ≡ total
+  pub last : (operand : Operand) (operands : List Operand) → state.operands ≡ operand ∷ operands
+      → search_line suppress state ≤ total → is_match operand lines total ≡ found
+  pub others : (operand : Operand) (operands : List Operand) → state.operands ≡ operand ∷ operands → (other : ℕ)
+      → search_line suppress state ≤ other → other < total → is_match operand lines other ≡ false
+
+-- the next operand cuts at this line, which is among those that are there
+pub record GoesPast (suppress : Bool) (lines : List Line) (state : State) (matched cut : ℕ) : Type 0 where
+  pub operand : Operand
+  pub operands : List Operand
+  pub are : state.operands ≡ operand ∷ operands
+  pub cuts : CutsAt suppress lines state operand operand.target matched cut
+  pub from : state.current ≤ cut
+  pub within : cut ≤ length lines
+
+-- what a turn says of the plan: it ends here, or has one more step
+abbrev pub Turns : Bool → List Line → State → Turn → Type 0
+Turns suppress lines state (Cuts matched line) = GoesPast suppress lines state matched line
+Turns suppress lines state turn = EndsHere suppress lines state turn
+
+-- where a cut falls
+abbrev pub FallsAt : (total current matched cut : ℕ) → Turn → Type 0
+FallsAt total current matched cut UsedUp = ⊥
+FallsAt total current matched cut Missed = ⊥
+FallsAt total current matched cut (Above last line) = (last ≡ matched) × (line ≡ cut) × (total < cut)
+FallsAt total current matched cut Below = (cut ≤ total) × (cut < current)
+FallsAt total current matched cut (Cuts last line) = (last ≡ matched) × (line ≡ cut) × (current ≤ cut) × (cut ≤ total)
+
+-- a cut moves on: so a run makes no more steps than `needed` says
+abbrev pub MovesOn : List Operand → (total : ℕ) → Progress → Turn → Type 0
+MovesOn operands total progress UsedUp = Unit {0}
+MovesOn operands total progress Missed = Unit {0}
+MovesOn operands total progress (Above matched line) = WillMove operands total progress matched line
+MovesOn operands total progress Below = Unit {0}
+MovesOn operands total progress (Cuts matched line) = (operand : Operand) × (rest : List Operand)
+    × (progress.done < length operands) × (drop progress.done operands ≡ operand ∷ rest)
+    × Moves total (state_of operands progress) operand.target matched line × (matched ≤ total)
+    × (progress.current ≤ line) × (line ≤ total)
 
 -- a text of complete lines
 abbrev pub IsWhole : List ℕ → Type 0
@@ -341,3 +391,49 @@ pub record EndsAll (told : Bool) (cutter : CutterState) (old new : List Slot) (n
 pub record Clears (cutter : CutterState) (old new : List Slot) (next : CutterState) : Type 0 where
   pub same : next ≡ record cutter { writer = record cutter.writer { files = next.writer.files } }
   pub removes : Removes cutter.writer.files old next.writer.files new
+
+-- a piece came after the open line, and of both what follows their complete lines waits
+pub record Came (cutter : CutterState) (rest piece : List ℕ) (next : CutterState) (after : List ℕ) : Type 0 where
+  pub live : next.aim ≢ Below → after ≡ open_line (rest ++ piece)
+  pub past : next.aim ≡ Below → (cutter.aim ≡ Below → rest ≡ []) → after ≡ []
+  pub still : cutter.aim ≡ Below → next ≡ cutter
+  pub unbroken : delimiters newline after ≡ 0
+  pub size : load next + length after ≤ load cutter + length rest + length piece
+
+-- Their complete lines went to the cutter, or a fault came among them.
+pub record PassesFrom (told : Bool) (cutter : CutterState) (rest piece : List ℕ) (old new : List Slot) (next : CutterState) (after : List ℕ)
+    (result : Result (Unit {0}) Fault) : Type 0 where
+  pub took : Takes told cutter (whole_lines (rest ++ piece)) old new next (fault_in result)
+  pub passed : OnOk result (Came cutter rest piece next after)
+
+abbrev pub Passes : Bool → CsplitState → List ℕ → List Slot → List Slot → CsplitState → Result (Unit {0}) Fault → Type 0
+Passes told stage piece old new next result = PassesFrom told stage.cutter stage.rest piece old new next.cutter next.rest result
+
+-- The open line came in, if there was one, and the last section ended; or a fault came before that.
+pub record Closed (told : Bool) (stage : CsplitState) (old new : List Slot) (next : CsplitState) (fault : Option Fault) : Type 0 where
+  pub keeps : Keeps stage.cutter next.cutter old new fault
+  pub reaches : (x : List ℕ) → IsWhole x → Stands stage.cutter x
+      → Reaches told stage.cutter.writer next.cutter.writer (settled_part stage.cutter x) (whole_part stage.cutter (x ++ stage.rest)) old new fault
+  pub judged : IfNone fault ((x : List ℕ) → IsWhole x → Stands stage.cutter x → IsJudged next.cutter (x ++ stage.rest))
+
+-- what the cutter says of the fault, once the last section ended, is where the plan over all lines ends
+abbrev pub Judges : CutterState → Option Fault → Type 0
+Judges cutter verdict = (x : List ℕ) → IsJudged cutter x
+    → verdict ≡ verdict_of (plan (suppress_in cutter) cutter.operands (all_lines x)).ending
+
+-- The files of a stage were removed, unless they are to be kept.
+pub record Sweeps (stage : CsplitState) (old new : List Slot) (next : CsplitState) : Type 0 where
+  pub same : work next ≡ work stage
+  pub removes : RemovesIf (work stage).clears (files stage) old (files next) new
+  pub swept : EngineClears Owns work stage old new
+  pub owns : KeepsOwn Owns stage next old new
+  pub there : AreThere (files next) new
+
+-- How the end went: well; or a fault came before it; or it came, and the work ends with a fault.
+pub data Closes (told : Bool) (stage : CsplitState) (old new : List Slot) (next : CsplitState) : Result (Unit {0}) Fault
+    → Type 0 where
+  ended_well : Closed told stage old new next None → Judges next.cutter None → Closes told stage old new next (Ok tt)
+  ended_short : (fault : Fault) → Closed told stage old new next (Some fault) → Closes told stage old new next (Err fault)
+  ended_so : (fault : Fault) (mid : CsplitState) (reached : List Slot) → Closed told stage old reached mid None
+      → Judges mid.cutter (Some fault) → is_verdict fault ≡ true → Sweeps mid reached new next
+      → Closes told stage old new next (Err fault)

@@ -1,62 +1,53 @@
 -- Laws that traits cite: the plan that is computed is the one plan there is, and it goes on as the lines do.
-use Rattle.std.proofs.Common.{◌≡◌, inl, inr, ℕ, zero, suc, ◌+◌, ◌-◌, ◌<◌, ◌≤◌, max, eqb, ◌&&◌, Bool, true, false, cond, List, [], ◌∷◌, ◌++◌, length, drop, get_or, Option, Some, None, refl, sym, ◌∙◌, ap, arith, length-append, length-drop, ◌*◌, nat_lt, subst}
+use Rattle.std.proofs.Common.{◌≡◌, inl, inr, ℕ, zero, suc, ◌+◌, ◌-◌, ◌<◌, ◌≤◌, max, eqb, ◌&&◌, Bool, true, false, cond, List, [], ◌∷◌, ◌++◌, append_assoc, length, drop, take, get_or, Option, Some, None, refl, sym, ◌∙◌, ap, arith, length-append, length-drop, ◌*◌, nat_lt, subst}
 use Rattle.std.proofs.lemmas.Bool.{false≢true, cases_lt}
-use Rattle.std.proofs.lemmas.List.{get_or-drop, get_or_append_left}
+use Rattle.std.proofs.lemmas.List.{drop_all, get_or_append_left, length-take-le, take-append-drop}
 use Rattle.std.proofs.Math.Nat.{le-max_right}
+use Rattle.std.proofs.Math.Seq.{get_or-append_seam}
 use Rattle.csplit_core.specs.Operand.{Operand, Line, unmarked, is_match, Offset, Target, Number, Search, moved, has_more}
 use Rattle.csplit_core.specs.Plan.{State, search_line, IsFirst, MatchesNone, start, Step, Ending, used_up, missed, above, below, CutsAt, Misses, line_after, operands_after, repetition_after, state_after, step_of, Runs, is_used_up, misses, is_above, is_below, cuts}
 use Rattle.csplit_core.specs.Planned.{first_among, first_match, Turn, ends, goes, turn_at, turn_from, turn_to, turn_of, ended, with_step, plan_within, plan}
-use Rattle.csplit_core.specs.inner.PlanLaws.{FromAs, MatchesAs, after, left_of, needed_by, needed, so, RunsAs}
+use Rattle.csplit_core.specs.inner.PlanLaws.{MatchesAs, after, left_of, needed_by, needed, so, RunsAs}
 use Rattle.std.proofs.lemmas.Bool.Decides.{nat_tests}
 use Rattle.bre_core.specs.Pattern.{Pattern}
 use Rattle.csplit_core.specs.Measure.{Moves}
 
 -- Laws that traits cite: laws of the first match of an operand.
 
-later : (operand : Operand) (at : ℕ) (line : Line) (lines : List Line) → line.marks operand ≡ false
-    → (matched : Option ℕ) → FromAs operand (suc at) lines matched → FromAs operand at (line ∷ lines) matched
-later operand at line lines is None none = λ k less. each k less where
-  each : (k : ℕ) → k < suc (length lines) → (get_or (line ∷ lines) k unmarked).marks operand ≡ false
-  each zero less = is
-  each (suc k) less = none k (omega arith)
-later operand at line lines is (Some number) some = (suc some.0, omega (arith, some.1), omega (arith, some.2), some.3, λ j less. each j less) where
-  each : (j : ℕ) → j < suc some.0 → (get_or (line ∷ lines) j unmarked).marks operand ≡ false
-  each zero less = is
-  each (suc j) less = some.4 j (omega arith)
-
-from_by : (operand : Operand) (at : ℕ) (line : Line) (lines : List Line) (has : Bool) → line.marks operand ≡ has
-    → FromAs operand (suc at) lines (first_among operand (suc at) lines)
-    → FromAs operand at (line ∷ lines) (cond has (Some at) (first_among operand (suc at) lines))
-from_by operand at line lines true is rest = (0, omega arith, omega arith, is, λ j less. absurd (omega (arith, less)))
-from_by operand at line lines false is rest = later operand at line lines is (first_among operand (suc at) lines) rest
-
-first_among_as : (operand : Operand) (at : ℕ) (lines : List Line) → FromAs operand at lines (first_among operand at lines)
-first_among_as operand at [] = λ k less. absurd (omega (arith, less))
-first_among_as operand at (line ∷ lines) = from_by operand at line lines (line.marks operand) refl (first_among_as operand (suc at) lines)
-
-dropped : (operand : Operand) (lines : List Line) (from line k : ℕ) → 1 ≤ from → line ≡ from + k
-    → (get_or (drop (from - 1) lines) k unmarked).marks operand ≡ is_match operand lines line
-dropped operand lines from line k some is =
-    ap (λ (l : Line). l.marks operand) (get_or-drop (from - 1) lines k unmarked
-    ∙ ap (λ i. get_or lines i unmarked) (let e : from - 1 + k ≡ line - 1 = omega (arith, some, is) in e))
-
-matched_by : (operand : Operand) (lines : List Line) (from : ℕ) → 1 ≤ from → (matched : Option ℕ)
-    → FromAs operand from (drop (from - 1) lines) matched → MatchesAs operand lines from matched
-matched_by operand lines from some None none = λ line from_on within. sym (dropped operand lines from line (line - from) some (omega (arith, from_on)))
-    ∙ none (line - from) (let e : length (drop (from - 1) lines)
-    ≡ length lines - (from - 1) = length-drop (from - 1) lines in omega (arith, e, from_on, within, some))
-matched_by operand lines from some (Some line) (k, is, within, here, before) = record {
-  not_before = omega (arith, is);
-  within = let e : length (drop (from - 1) lines) ≡ length lines - (from - 1) =
-      length-drop (from - 1) lines in omega (arith, e, is, within, some);
-  match = sym (dropped operand lines from line k some is) ∙ here;
-  first = λ other from_on less. sym (dropped operand lines from other (other - from) some (omega (arith, from_on)))
-      ∙ before (other - from) (omega (arith, from_on, less, is));
+matched_on : {operand : Operand} {lines : List Line} {from : ℕ} (has : Bool) → is_match operand lines from ≡ has → from ≤ length lines
+    → (matched : Option ℕ) → MatchesAs operand lines (suc from) matched → MatchesAs operand lines from (cond has (Some from) matched)
+matched_on true is within matched rest =
+    record { not_before = omega arith; within = within; match = is; first = λ other from_on less. absurd (omega (arith, from_on, less)) }
+matched_on {operand} {lines} {from} false is within None none = λ line from_on in_lines. elim (cases_lt from line) [
+  | inl later ↦ none line later in_lines
+  | inr same ↦ subst (λ n. is_match operand lines n ≡ false) (let e : from ≡ line = omega (arith, from_on, same) in e) is
+]
+matched_on {operand} {lines} {from} false is within (Some line) some = record {
+  not_before = let later = some.not_before in omega (arith, later);
+  within = some.within;
+  match = some.match;
+  first = λ other from_on less. elim (cases_lt from other) [
+    | inl later ↦ some.first other later less
+    | inr same ↦ subst (λ n. is_match operand lines n ≡ false) (let e : from ≡ other = omega (arith, from_on, same) in e) is
+  ];
 }
 
+among : (operand : Operand) (front rest : List Line) {from : ℕ} → from ≡ length front + 1 → MatchesAs operand (front ++ rest) from (first_among operand from rest)
+among operand front [] is = λ line from_on within. absurd (let e = length-append front [] in omega (arith, e, from_on, within, is))
+among operand front (line ∷ rest) {from} is = matched_on (line.marks operand)
+    (ap (λ n. (get_or (front ++ line ∷ rest) n unmarked).marks operand) (let e : from - 1 ≡ length front = omega (arith, is) in e)
+    ∙ ap (λ (l : Line). l.marks operand) (get_or-append_seam front line rest unmarked))
+    (let e = length-append front (line ∷ rest) in omega (arith, e, is)) (first_among operand (suc from) rest)
+    (subst (λ those. MatchesAs operand those (suc from) (first_among operand (suc from) rest)) (append_assoc front (line ∷ []) rest)
+    (among operand (front ++ line ∷ []) rest (let e = length-append front (line ∷ []) in omega (arith, e, is))))
+
 pub first_match_as : (operand : Operand) (lines : List Line) (from : ℕ) → 1 ≤ from → MatchesAs operand lines from (first_match operand lines from)
-first_match_as operand lines from some =
-    matched_by operand lines from some (first_match operand lines from) (first_among_as operand from (drop (from - 1) lines))
+first_match_as operand lines from some = elim (cases_lt (length lines) (from - 1)) [
+  | inl beyond ↦ subst (λ those. MatchesAs operand lines from (first_among operand from those)) (sym (drop_all (from - 1) lines (omega (arith, beyond))))
+      (λ line from_on within. absurd (omega (arith, beyond, from_on, within)))
+  | inr on ↦ subst (λ those. MatchesAs operand those from (first_match operand lines from)) (take-append-drop (from - 1) lines)
+      (among operand (take (from - 1) lines) (drop (from - 1) lines) (let e = length-take-le (from - 1) lines on in omega (arith, e, some)))
+]
 
 -- no other line is the first
 pub one_first : {operand : Operand} {lines : List Line} {from : ℕ} (one other : ℕ) → IsFirst operand lines from one

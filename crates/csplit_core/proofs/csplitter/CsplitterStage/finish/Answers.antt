@@ -2,7 +2,7 @@ use Rattle.std.proofs.Common.{ap, subst}
 use Rattle.ports_core.proofs.HandedOn.{handed_on}
 use Rattle.csplit_core.specs.CsplitState.{CsplitState}
 use Rattle.csplit_core.specs.Cutter.{seen}
-use Rattle.csplit_core.specs.inner.CsplitState.{Judges, ended_well, ended_short}
+use Rattle.csplit_core.specs.inner.Cutter.{Judges, ended_well, ended_short}
 use Rattle.csplit_core.proofs.StageLemmas.{closed_on, closed_short, judged_by}
 use Rattle.csplit_core.proofs.csplitter.CsplitterStage.finish.Goals as goal
 
