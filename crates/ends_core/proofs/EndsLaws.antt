@@ -1,4 +1,5 @@
 -- What stands at the ends of an input, and of an input that goes on.
+use Rattle.std.proofs.lemmas.Grind.{common_steps}
 use Rattle.std.proofs.Common.{◌≡◌, ℕ, ◌+◌, ◌-◌, ◌<◌, ◌≤◌, zero, suc, List, [], ◌∷◌, ◌++◌, length, take, drop, refl, sym, ◌∙◌, ap, arith, length-append, length-drop, replicate}
 use Rattle.std.proofs.lemmas.List.{append-nil, take_all, take_at, drop_at, take-append-drop, append_cancel_left, append_cancel_right, length-replicate}
 use Rattle.std.proofs.lemmas.Bool.{eq-eqb}
@@ -20,16 +21,14 @@ first_of-nil delim Bytes (suc n) = refl
 
 pub first_of-more : (delim : ℕ) (unit : Counted) (n : ℕ) (x : List ℕ) (byte : ℕ) → measure delim unit x < n → first_of delim unit n (x ++ byte ∷ []) ≡ x ++ byte ∷ []
 first_of-more delim Lines n x byte short = first_lines-more delim n x byte short
-first_of-more delim Bytes n x byte short = take_all n (x ++ byte ∷ []) (let e : length (x ++ byte ∷ []) ≡ length x + 1 = length-append x (byte ∷ []) in omega arith)
+first_of-more delim Bytes n x byte short = grind (arith, common_steps)
 
 pub last_of-again : (delim : ℕ) (unit : Counted) (n : ℕ) (x : List ℕ) → last_of delim unit n (last_of delim unit n x) ≡ last_of delim unit n x
 last_of-again delim unit n x = sym (ap (last_of delim unit n) (sym (append-nil x)) ∙ last_of-append delim unit n x [] ∙ ap (last_of delim unit n) (append-nil (last_of delim unit n x)))
 
 -- nothing stands before the last n of the last n
 pub but_last_of-last : (delim : ℕ) (unit : Counted) (n : ℕ) (x : List ℕ) → but_last_of delim unit n (last_of delim unit n x) ≡ []
-but_last_of-last delim unit n x =
-    append_cancel_right (but_last_of delim unit n (last_of delim unit n x)) [] (last_of delim unit n x)
-    (ap (λ last. but_last_of delim unit n (last_of delim unit n x) ++ last) (sym (last_of-again delim unit n x)) ∙ ends_together delim unit n (last_of delim unit n x))
+but_last_of-last delim unit n x = grind (arith, common_steps, append_cancel_right, last_of-again, ends_together)
 
 pub last_is_drop : (delim : ℕ) (unit : Counted) (n : ℕ) (x : List ℕ) → last_of delim unit n x ≡ drop (length (but_last_of delim unit n x)) x
 last_is_drop delim unit n x = sym (ap (drop (length (but_last_of delim unit n x))) (sym (ends_together delim unit n x)) ∙ drop_at (but_last_of delim unit n x) (last_of delim unit n x) (length (but_last_of delim unit n x)) refl)
@@ -44,15 +43,12 @@ after_is_drop delim unit n k x front = append_cancel_left (first_of delim unit n
 -- what came in after the first is counted
 pub front_past : (old : Front) {now : Front} {left : ℕ} (k : ℕ) (piece : List ℕ) → now ≡ record old { left = left } → take k piece ≡ first_of old.delim old.unit old.left piece
     → record now { past = now.past + (length piece - k) } ≡ record old { left = left; past = old.past + length (after_of old.delim old.unit old.left piece) }
-front_past old {left} k piece is front =
-    ap (λ (those : Front). record those { past = those.past + (length piece - k) }) is
-    ∙ ap (λ n. record old { left = left; past = old.past + n })
-    (sym (length-drop k piece) ∙ ap length (after_is_drop old.delim old.unit old.left k piece front))
+front_past old {left} k piece is front = grind (arith, common_steps, after_is_drop)
 
 -- there are no more among the last than were asked for
 pub last_is_few : (delim : ℕ) (unit : Counted) (n : ℕ) (x : List ℕ) → size delim unit (last_of delim unit n x) ≤ n
 last_is_few delim Lines n x = count_last delim n x
-last_is_few delim Bytes n x = (let long = length-drop (length x - n) x in omega arith)
+last_is_few delim Bytes n x = grind (arith, common_steps)
 
 pub last_is_small : (delim : ℕ) (unit : Counted) (n : ℕ) (x : List ℕ) → measure delim unit (last_of delim unit n x) ≤ n
 last_is_small delim Lines n x = (let near = (line_count_near delim (last_lines delim n x)).0 in let few = count_last delim n x in omega arith)
@@ -68,7 +64,7 @@ delimiters-replicate delim (suc k) =
 
 pub measure-delimiters : (delim : ℕ) (unit : Counted) {k : ℕ} → measure delim unit (replicate k delim) ≡ k
 measure-delimiters delim Lines {k} = delimiters-replicate delim k
-measure-delimiters delim Bytes {k} = length-replicate k delim
+measure-delimiters delim Bytes {k} = cc
 
 -- where more came than may wait, more stands before the last
 pub but_last_grows : (delim : ℕ) (unit : Counted) (n : ℕ) (x y : List ℕ) → n < measure delim unit y → but_last_of delim unit n (x ++ y) ≡ but_last_of delim unit n x → ⊥
