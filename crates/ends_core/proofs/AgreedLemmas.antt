@@ -26,7 +26,7 @@ use Rattle.ports_core.specs.Work.{Work}
 
 -- after enough further lines or bytes all that came in stands before the last n
 far : (delim : ℕ) (unit : Counted) (n : ℕ) (x : List ℕ) → length x < length (but_last_of delim unit n (x ++ replicate (n + 1) delim))
-far delim unit n x = grind (arith, common_steps, cases_lt, last_is_drop, drop-append-le, measure-append, measure-delimiters, last_is_small)
+far delim unit n x = search (rules, cases_lt, last_is_drop, drop-append-le, measure-append, measure-delimiters, last_is_small)
 
 -- Heads
 
@@ -100,7 +100,7 @@ head_cuts delim unit but_last n = record {
 
 pub head_undecided : (delim : ℕ) → delim < 256 → (unit : Counted) (but_last : Bool) (n : ℕ) {x : List ℕ} → IsUndecided (head_spots delim unit but_last n) x (head_waiting delim unit but_last n x)
 head_undecided delim byte unit false n = first_undecided delim unit n (head_cuts delim unit false n)
-head_undecided delim byte unit true n = search rules
+head_undecided delim byte unit true n = last_undecided delim unit n (head_cuts delim unit true n) byte
 
 -- Tails: where a byte goes
 
@@ -160,12 +160,12 @@ others_come delim byte Lines k = grind (arith, common_steps, one_comes, other, o
 others_come delim byte Bytes k = grind (arith, common_steps)
 
 others_size : (delim : ℕ) (unit : Counted) {k : ℕ} → size delim unit (other delim ∷ others delim unit k) ≡ suc k
-others_size delim Lines {k} = grind (arith, common_steps, line_count-closed, other, ends_with-append, ends_there, ne_eqb, other_differs, measure-delimiters)
+others_size delim Lines {k} = search (rules, line_count-closed, other, ends_with-append, ends_there, ne_eqb, other_differs, measure-delimiters)
 others_size delim Bytes {k} = grind (arith, common_steps)
 
 delimiters_size : (delim : ℕ) (unit : Counted) {k : ℕ} → size delim unit (replicate (suc k) delim) ≡ suc k
 delimiters_size delim Lines {k} = line_count-closed delim (replicate (suc k) delim) (ends_there delim k) ∙ measure-delimiters delim Lines
-delimiters_size delim Bytes {k} = cc
+delimiters_size delim Bytes {k} = search rules
 
 -- after a complete line these are the last n
 last_exact : (delim : ℕ) (unit : Counted) {n : ℕ} (front : List ℕ) {back : List ℕ} → ends_with delim front ≡ true → size delim unit back ≡ n → last_of delim unit n (front ++ back) ≡ back
@@ -202,7 +202,15 @@ apart {delim} byte {unit} zero {x} = record {
   z_comes = none_comes;
   nothing_common = λ bytes begins also. (let short = beginning_short bytes _ begins in let none = none_last delim unit (x ++ []) in omega (arith, short, none));
 }
-apart {delim} byte {unit} (suc k) {x} = search rules
+apart {delim} byte {unit} (suc k) {x} = record {
+  y = delim ∷ replicate (suc k) delim;
+  z = delim ∷ other delim ∷ others delim unit k;
+  y_comes = one_comes delim (replicate (suc k) delim) byte (copies_come (suc k) delim byte);
+  z_comes = others_come delim byte unit k;
+  nothing_common = λ bytes begins also. none_common delim (other delim) (replicate k delim) (others delim unit k) bytes (other_differs delim)
+      (subst (IsBeginning bytes) (last_after delim unit x (delimiters_size delim unit)) begins)
+      (subst (IsBeginning bytes) (last_after delim unit x (others_size delim unit)) also);
+}
 
 last_longest : {delim : ℕ} {unit : Counted} {n : ℕ} {x : List ℕ} → Apart delim unit n x → (place : ℕ) → place < 1 → (y : List ℕ) × (z : List ℕ) × CanCome y × CanCome z
     × ((bytes : List ℕ) → IsBeginning bytes (output_at ((tail_work delim unit false n).whole (x ++ y)) place) → IsBeginning bytes (output_at ((tail_work delim unit false n).whole (x ++ z)) place) → length bytes ≤ length (output_at nothing place))
@@ -291,7 +299,14 @@ pub head_placed : (delim : ℕ) (unit : Counted) (but_last : Bool) (n : ℕ) →
 head_placed delim unit but_last n = grind (arith, common_steps, head_stretch, apart)
 
 tail_stretch : (delim : ℕ) (unit : Counted) (from_nth : Bool) (n : ℕ) → IsStretch (tail_spots delim unit from_nth n) (tail_of delim unit from_nth n)
-tail_stretch delim unit from_nth n = search (rules, append-nil, tail_together)
+tail_stretch delim unit from_nth n = record {
+  before = tail_first delim unit from_nth n;
+  rest = λ x. [];
+  whole = λ x. sym (ap (λ those. tail_first delim unit from_nth n x ++ those) (append-nil (tail_of delim unit from_nth n x))
+      ∙ tail_together delim unit from_nth n);
+  nowhere = tail_nowhere delim unit from_nth n;
+  there = tail_there delim unit from_nth n;
+}
 
 pub tail_placed : (delim : ℕ) (unit : Counted) (from_nth : Bool) (n : ℕ) → ArePlaced (tail_work delim unit from_nth n) (tail_spots delim unit from_nth n)
 tail_placed delim unit from_nth n = grind (arith, common_steps, tail_stretch, apart)

@@ -28,7 +28,9 @@ last_of-again delim unit n x = sym (ap (last_of delim unit n) (sym (append-nil x
 
 -- nothing stands before the last n of the last n
 pub but_last_of-last : (delim : ℕ) (unit : Counted) (n : ℕ) (x : List ℕ) → but_last_of delim unit n (last_of delim unit n x) ≡ []
-but_last_of-last delim unit n x = grind (arith, common_steps, append_cancel_right, last_of-again, ends_together)
+but_last_of-last delim unit n x =
+    append_cancel_right (but_last_of delim unit n (last_of delim unit n x)) [] (last_of delim unit n x)
+    (ap (λ last. but_last_of delim unit n (last_of delim unit n x) ++ last) (sym (last_of-again delim unit n x)) ∙ ends_together delim unit n (last_of delim unit n x))
 
 pub last_is_drop : (delim : ℕ) (unit : Counted) (n : ℕ) (x : List ℕ) → last_of delim unit n x ≡ drop (length (but_last_of delim unit n x)) x
 last_is_drop delim unit n x = sym (ap (drop (length (but_last_of delim unit n x))) (sym (ends_together delim unit n x)) ∙ drop_at (but_last_of delim unit n x) (last_of delim unit n x) (length (but_last_of delim unit n x)) refl)
@@ -43,7 +45,10 @@ after_is_drop delim unit n k x front = append_cancel_left (first_of delim unit n
 -- what came in after the first is counted
 pub front_past : (old : Front) {now : Front} {left : ℕ} (k : ℕ) (piece : List ℕ) → now ≡ record old { left = left } → take k piece ≡ first_of old.delim old.unit old.left piece
     → record now { past = now.past + (length piece - k) } ≡ record old { left = left; past = old.past + length (after_of old.delim old.unit old.left piece) }
-front_past old {left} k piece is front = grind (arith, common_steps, after_is_drop)
+front_past old {left} k piece is front =
+    ap (λ (those : Front). record those { past = those.past + (length piece - k) }) is
+    ∙ ap (λ n. record old { left = left; past = old.past + n })
+    (sym (length-drop k piece) ∙ ap length (after_is_drop old.delim old.unit old.left k piece front))
 
 -- there are no more among the last than were asked for
 pub last_is_few : (delim : ℕ) (unit : Counted) (n : ℕ) (x : List ℕ) → size delim unit (last_of delim unit n x) ≤ n
@@ -64,7 +69,7 @@ delimiters-replicate delim (suc k) =
 
 pub measure-delimiters : (delim : ℕ) (unit : Counted) {k : ℕ} → measure delim unit (replicate k delim) ≡ k
 measure-delimiters delim Lines {k} = delimiters-replicate delim k
-measure-delimiters delim Bytes {k} = cc
+measure-delimiters delim Bytes {k} = length-replicate k delim
 
 -- where more came than may wait, more stands before the last
 pub but_last_grows : (delim : ℕ) (unit : Counted) (n : ℕ) (x y : List ℕ) → n < measure delim unit y → but_last_of delim unit n (x ++ y) ≡ but_last_of delim unit n x → ⊥

@@ -51,8 +51,8 @@ always_well s delim unit n x = refl
 -- what is written with a piece is what the output gains by it
 went_out : (ends : Ends) {x : List ℕ} (piece : List ℕ) → Holds ends x → record ((work ends).settled x) { out = ((work ends).settled x).out ++ due ends piece } ≡ (work ends).settled (x ++ piece)
 went_out (First count front) {x} piece holds = grind (arith, common_steps, first_of-append)
-went_out (ButLast kept) {x} piece holds = search rules
-went_out (FromNth count front) {x} piece holds = grind (arith, common_steps)
+went_out (ButLast kept) {x} piece holds = grind (arith, common_steps, but_last_of-append)
+went_out (FromNth count front) {x} piece holds = cc
 went_out (Last kept) piece holds = refl
 
 -- and at the end
@@ -82,7 +82,7 @@ minus_both n a b = omega arith
 -- what waits after the piece
 waits_next : (ends : Ends) {x : List ℕ} (piece : List ℕ) → Holds ends x → left_waiting ends piece ≡ waiting ends (x ++ piece)
 waits_next (ButLast kept) {x} piece holds = grind (arith, common_steps, last_of-append)
-waits_next (Last kept) {x} piece holds = search rules
+waits_next (Last kept) {x} piece holds = grind (arith, common_steps, last_of-append)
 waits_next ends piece holds = refl
 
 waits_now : (ends : Ends) {next : Ends} {x : List ℕ} (piece : List ℕ) → SameAsked ends next → waiting_of next ≡ left_waiting ends piece → Holds ends x → waiting_of next ≡ waiting next (x ++ piece)
@@ -118,7 +118,7 @@ incomplete delim unit false n x byte short done =
     let same : x ++ 0 ∷ [] ≡ x = sym (first_of-more delim unit n x 0 few) ∙ done (0 ∷ []) (All-replicate (λ byte. byte < 256) 1 0 (lit< tt)) ∙ first_of-short delim unit n {x = x} few in
     let longer : length x + 1 ≡ length x = sym (length-append x (0 ∷ [])) ∙ ap length same in
     omega arith
-incomplete delim unit true n x byte short done = search rules
+incomplete delim unit true n x byte short done = search (rules, but_last_grows, measure-delimiters, All-replicate)
 
 head_exact : (delim : ℕ) (unit : Counted) (but_last : Bool) (n : ℕ) (x : List ℕ) (full : Bool) → delim < 256 → full ≡ (head_work delim unit but_last n).is_complete x → IsTrue full ↔ IsDone delim unit but_last n x
 head_exact delim unit but_last n x true byte is = grind (arith, common_steps)
@@ -146,7 +146,9 @@ met told ends piece bytes old new f can stops =
 
 pub end_met : (told : Bool) (ends : Ends) {bytes : List ℕ} {old new : List Slot} {f : Fault} → IsTrue (is_writable old 0)
     → Stops told false bytes old new f → IsMet (work ends).means (work ends).means.closing (Unit {0}) (EndsThere Holds work ends) old new f
-end_met told ends {old} {new} {f} can stops = grind (arith, common_steps, on_means, met, false≢true)
+end_met told ends {old} {new} {f} can stops =
+    subst (λ means. IsMet means means.closing (Unit {0}) (EndsThere Holds work ends) old new f) (sym (on_means (stretch_of ends) (delim_of ends) (unit_of ends) (count_of ends)))
+    (stop.met (on_output (keeps (stretch_of ends))) (on_output (keeps (stretch_of ends))).closing (Unit {0}) (EndsThere Holds work ends) told refl (λ never. absurd (false≢true never)) can stops)
 
 -- what a call owes for its result, from what the call within it gave
 

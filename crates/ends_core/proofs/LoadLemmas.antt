@@ -30,18 +30,29 @@ after-past delim Bytes n x past = drop_all n x (omega arith)
 
 -- where a text has more than the last n, what stands before it is not among them
 last_after : (delim : ℕ) (unit : Counted) (n : ℕ) (x y : List ℕ) → n < size delim unit y → last_of delim unit n (x ++ y) ≡ last_of delim unit n y
-last_after delim unit n x y many = search (rules, size-append, after_of-append, after-past)
+last_after delim unit n x y many =
+    let all : size delim unit (x ++ y) ≡ measure delim unit x + size delim unit y = size-append delim unit n x y many in
+    let past : measure delim unit x < size delim unit (x ++ y) - n = omega arith in
+    let rest : size delim unit (x ++ y) - n - measure delim unit x ≡ size delim unit y - n = omega arith in
+    after_of-append delim unit (size delim unit (x ++ y) - n) x y
+    ∙ ap (λ none. none ++ after_of delim unit (size delim unit (x ++ y) - n - measure delim unit x) y) (after-past delim unit (size delim unit (x ++ y) - n) x past)
+    ∙ ap (λ k. after_of delim unit k y) rest
 
 lengths : (delim n : ℕ) (y : List ℕ) → length (but_last_lines delim n y) + length (last_lines delim n y) ≡ length y
 lengths delim n y = sym (length-append (but_last_lines delim n y) (last_lines delim n y)) ∙ ap length (but_last_then_last delim n y)
 
 -- a text that is longer than its last n lines has more than n
 more_lines : (delim n : ℕ) (y : List ℕ) → length (last_lines delim n y) < length y → n < line_count delim y
-more_lines delim n y shorter = grind (arith, common_steps, lengths)
+more_lines delim n y shorter = by_count (line_count delim y - n) refl where
+  by_count : (k : ℕ) → line_count delim y - n ≡ k → n < line_count delim y
+  by_count zero is = let none : length (but_last_lines delim n y) ≡ 0 = ap (λ k. length (first_lines delim k y)) is in absurd (omega (arith, none, lengths delim n y, shorter))
+  by_count (suc k) is = omega (arith, is)
 
 -- and one that isn't longer is them
 same_lines : (delim n : ℕ) {y : List ℕ} → length y ≤ length (last_lines delim n y) → last_lines delim n y ≡ y
-same_lines delim n {y} long = grind (arith, common_steps, nil_from_length, lengths, but_last_then_last)
+same_lines delim n {y} long =
+    let none : but_last_lines delim n y ≡ [] = nil_from_length (but_last_lines delim n y) (omega (arith, lengths delim n y, long)) in
+    ap (λ those. those ++ last_lines delim n y) (sym none) ∙ but_last_then_last delim n y
 
 -- what stands before a place: the front of the text, where it is told, and else any bytes
 abbrev front_of : Bool → ℕ → List ℕ → List ℕ

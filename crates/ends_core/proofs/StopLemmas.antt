@@ -1,6 +1,6 @@
 -- How bytes are written to standard output one after another, and how that stops.
 use Rattle.std.proofs.lemmas.Grind.{common_steps}
-use Rattle.std.proofs.Common.{◌≡◌, ℕ, ◌+◌, ◌<◌, ◌≤◌, List, [], ◌++◌, length, take, Bool, true, false, Ok, Err, Result, IfErr, IsTrue, refl, sym, ◌∙◌, ap, subst, arith, length-append, rules}
+use Rattle.std.proofs.Common.{◌≡◌, ℕ, ◌+◌, ◌<◌, ◌≤◌, List, [], ◌++◌, length, take, Bool, true, false, Ok, Err, Result, IfErr, IsTrue, refl, sym, ◌∙◌, ap, subst, arith, length-append}
 use Rattle.std.proofs.lemmas.List.{take-append-le}
 use Rattle.std.proofs.Math.Seq.{take-append-add}
 use Rattle.ports_core.specs.Slot.{Slot, slot_at, is_writable, with_written, with_broken, told_of}
@@ -32,7 +32,17 @@ broke_later told old mid new first then past n one cut = grind (arith, common_st
 -- where a stop leaves the outputs
 pub between : (told : Bool) {lacks : Bool} {before : List Slot} {part : Part} {bytes : List ℕ} {old new : List Slot} {fault : Fault} → OutputsAt told before part old → Stops told lacks bytes old new fault → StoppedBetween told before part (record part { out = part.out ++ bytes }) fault new
 between told {before} {part} {bytes} {old} {new} at (broke n broken) = out_cut told before part old new bytes n at broken
-between told {before} {part} {bytes} {old} {new} at (no_room keeping wrote) = search (rules, begins_more, files_begin_themselves, part_begins_itself, still_in_order, out_more)
+between told {before} {part} {bytes} {old} {new} at (no_room keeping wrote) = record {
+  part = record part { out = part.out ++ bytes };
+  above = record { out = begins_more part.out bytes; files = files_begin_themselves part.files };
+  below = part_begins_itself _;
+  place = 0;
+  order = still_in_order part.files;
+  reached = new;
+  outputs = out_more told before part old new bytes at wrote;
+  marks = refl;
+  from = tt;
+}
 
 pub unjudged : (told : Bool) {lacks : Bool} {bytes : List ℕ} {old new : List Slot} {fault : Fault} → Stops told lacks bytes old new fault → is_verdict fault ≡ false
 unjudged told (broke n broken) = refl

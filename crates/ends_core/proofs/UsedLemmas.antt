@@ -89,28 +89,41 @@ needed_whole delim unit n (inr (before, piece, is, few, going)) = ap (first_of d
 
 pub written_used : (delim : ℕ) (unit : Counted) (n : ℕ) {used rest : List ℕ} → IsNeeded (head_work delim unit false n).is_complete 1 used → (rest ≡ []) ⊎ ((head_work delim unit false n).is_complete used ≡ true) → first_of delim unit n (used ++ rest) ≡ used
 written_used delim unit n {used} needed (inl none) = grind (arith, common_steps, append-nil, needed_whole)
-written_used delim unit n {used} {rest} needed (inr complete) = grind (arith, common_steps)
+written_used delim unit n {used} {rest} needed (inr complete) = search rules
 
 pub rest_left : (delim : ℕ) (unit : Counted) (n : ℕ) (used : List ℕ) {rest : List ℕ} → IsNeeded (head_work delim unit false n).is_complete 1 used → (rest ≡ []) ⊎ ((head_work delim unit false n).is_complete used ≡ true) → after_of delim unit n (used ++ rest) ≡ rest
 rest_left delim unit n used {rest} needed enough = grind (arith, common_steps, append_cancel_left, written_used, first_then_after)
 
 pub spare_here : (ends : Ends) {x : List ℕ} → Holds ends x → IsSpare (work ends) x (past_of ends)
 spare_here (First count front) {x} holds = grind (arith, common_steps, past_after, first_used)
-spare_here ends {x} holds = search rules
+spare_here ends {x} holds = all_used (work ends) x refl
 
 -- a text that goes on from x, cut in two where more stands before the cut than in x: the cut is after x, and what is before
 -- it and after x has no more delimiters than bytes
 
 goes_past : (delim : ℕ) (x piece used rest : List ℕ) → x ++ piece ≡ used ++ rest → delimiters delim x < delimiters delim used → length x < length used
-goes_past delim x piece used rest is more = search (rules, cases_lt, take_at, take-append-le, delimiters-take-le)
+goes_past delim x piece used rest is more = elim (cases_lt (length x) (length used)) [
+  | inl past ↦ past
+  | inr short ↦
+      let front : used ≡ take (length used) x = sym (take_at used rest (length used) refl) ∙ ap (take (length used)) (sym is)
+      ∙ take-append-le (length used) x piece short in
+      absurd (omega (arith, more, ap (delimiters delim) front, delimiters-take-le delim (length used) x))
+]
 
 few_between : (delim : ℕ) (x piece used rest : List ℕ) → x ++ piece ≡ used ++ rest → length x < length used → delimiters delim used + length x ≤ delimiters delim x + length used
-few_between delim x piece used rest is past = search (rules, take_at, delimiters-take-add, delimiters-le-length, length-take)
+few_between delim x piece used rest is past =
+    let between : length used - length x + length x ≡ length used = omega (arith, past) in
+    let all : take (length used) (x ++ piece) ≡ used = ap (take (length used)) is ∙ take_at used rest (length used) refl in
+    let front : take (length x) (x ++ piece) ≡ x = take_at x piece (length x) refl in
+    let cut = delimiters-take-add delim (length x) (length used - length x) (x ++ piece) in
+    let few = delimiters-le-length delim (take (length used - length x) (drop (length x) (x ++ piece))) in
+    let same : delimiters delim (take (length x + (length used - length x)) (x ++ piece)) ≡ delimiters delim used = ap (λ k. delimiters delim (take k (x ++ piece))) (omega (arith, past)) ∙ ap (delimiters delim) all in
+    omega (arith, cut, few, same, ap (delimiters delim) front, length-take (length used - length x) (drop (length x) (x ++ piece)), past)
 
 few_spare : (delim : ℕ) (unit : Counted) (count : ℕ) {left n : ℕ} (x piece : List ℕ) (spare : IsSpare (head_work delim unit false count) (x ++ piece) n) → left ≡ count - measure delim unit x → measure delim unit x < count → count ≤ measure delim unit spare.used
     → length piece ≤ piece_for unit left → n ≤ ahead_of unit
 few_spare delim Bytes count x piece spare is going enough within = grind (arith, common_steps)
-few_spare delim Lines count x piece spare is going enough within = grind (arith, common_steps, goes_past, few_between)
+few_spare delim Lines count x piece spare is going enough within = search (rules, goes_past, few_between)
 
 pub may_get : (ends : Ends) → MayGet Holds work ends (wanted_by ends)
 may_get (First count front) x piece after n holds going within same later spare = grind (arith, common_steps, few_spare, leb-false, leb-true)
