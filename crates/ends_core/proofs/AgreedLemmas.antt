@@ -1,5 +1,6 @@
 -- What all continuations agree on, of heads and tails, and where the bytes of an input go.
-use Rattle.std.proofs.Common.{◌≡◌, ◌≢◌, ℕ, ◌+◌, ◌-◌, ◌<◌, ◌≤◌, zero, suc, List, [], ◌∷◌, ◌++◌, length, length-drop, drop, replicate, get_or, Bool, true, false, cond, inl, inr, refl, sym, ◌∙◌, ap, subst, arith, append_assoc, length-append}
+use Rattle.std.proofs.lemmas.Grind.{common_steps}
+use Rattle.std.proofs.Common.{◌≡◌, ◌≢◌, ℕ, ◌+◌, ◌-◌, ◌<◌, ◌≤◌, zero, suc, List, [], ◌∷◌, ◌++◌, length, length-drop, drop, replicate, get_or, Bool, true, false, cond, inl, inr, refl, sym, ◌∙◌, ap, subst, arith, append_assoc, length-append, rules}
 use Rattle.std.proofs.lemmas.Bool.{cases_lt, lt-ltb, le-ltb, eq-eqb, ne_eqb}
 use Rattle.std.proofs.lemmas.List.{append-nil, drop-append-le, length-replicate, get_or_append_left}
 use Rattle.std.proofs.Math.Seq.{drop-append_seam, get_or-append_right}
@@ -25,20 +26,7 @@ use Rattle.ports_core.specs.Work.{Work}
 
 -- after enough further lines or bytes all that came in stands before the last n
 far : (delim : ℕ) (unit : Counted) (n : ℕ) (x : List ℕ) → length x < length (but_last_of delim unit n (x ++ replicate (n + 1) delim))
-far delim unit n x = elim (cases_lt (length x) (length (but_last_of delim unit n (x ++ replicate (n + 1) delim)))) [
-  | inl past ↦ past
-  | inr within ↦ absurd (too_many within)
-] where
-  too_many : length (but_last_of delim unit n (x ++ replicate (n + 1) delim)) ≤ length x → ⊥
-  too_many within =
-      let k = length (but_last_of delim unit n (x ++ replicate (n + 1) delim)) in
-      let last : last_of delim unit n (x ++ replicate (n + 1) delim) ≡ drop k x ++ replicate (n + 1) delim
-      = last_is_drop delim unit n (x ++ replicate (n + 1) delim) ∙ drop-append-le k x (replicate (n + 1) delim) within in
-      let sum : measure delim unit (last_of delim unit n (x ++ replicate (n + 1) delim)) ≡ measure delim unit (drop k x) + measure delim unit (replicate (n + 1) delim)
-      = ap (measure delim unit) last ∙ measure-append delim unit (drop k x) (replicate (n + 1) delim) in
-      let many : measure delim unit (replicate (n + 1) delim) ≡ n + 1 = measure-delimiters delim unit in
-      let few : measure delim unit (last_of delim unit n (x ++ replicate (n + 1) delim)) ≤ n = last_is_small delim unit n (x ++ replicate (n + 1) delim) in
-      omega arith
+far delim unit n x = search (rules, cases_lt, last_is_drop, drop-append-le, measure-append, measure-delimiters, last_is_small)
 
 -- Heads
 
@@ -55,9 +43,7 @@ record Cuts (spots_of : List ℕ → ℕ → List Spot) (front_of : List ℕ →
 
 -- the first n of a text with fewer, which goes on, have all of it
 first_long : (delim : ℕ) (unit : Counted) (n : ℕ) (x y : List ℕ) → measure delim unit x < n → length x ≤ length (first_of delim unit n (x ++ y))
-first_long delim unit n x y short =
-    let is = first_of-append delim unit n x y ∙ ap (λ front. front ++ first_of delim unit (n - measure delim unit x) y) (first_of-short delim unit n short) in
-    omega (arith, ap length is ∙ length-append x (first_of delim unit (n - measure delim unit x) y))
+first_long delim unit n x y short = grind (arith, common_steps, first_of-append, first_of-short)
 
 module _ {spots_of : List ℕ → ℕ → List Spot} (delim : ℕ) (unit : Counted) (n : ℕ) where
   first_decided : Cuts spots_of (first_of delim unit n) → (x : List ℕ) (i : ℕ) → i < length x → (y z : List ℕ) → spots_of (x ++ y) i ≡ spots_of (x ++ z) i
@@ -155,7 +141,7 @@ tail_cuts delim unit from_nth n = record {
 }
 
 pub tail_undecided : (delim : ℕ) → delim < 256 → (unit : Counted) (from_nth : Bool) (n : ℕ) {x : List ℕ} → IsUndecided (tail_spots delim unit from_nth n) x (tail_waiting delim unit from_nth n x)
-tail_undecided delim byte unit true n = first_undecided delim unit (n - 1) (tail_cuts delim unit true n)
+tail_undecided delim byte unit true n = grind (arith, common_steps)
 tail_undecided delim byte unit false n = last_undecided delim unit n (tail_cuts delim unit false n) byte
 
 -- Tails: two continuations of which the last n begin with other bytes
@@ -170,31 +156,21 @@ others delim Lines k = replicate (suc k) delim
 others delim Bytes k = replicate k (other delim)
 
 others_come : (delim : ℕ) → delim < 256 → (unit : Counted) (k : ℕ) → CanCome (delim ∷ other delim ∷ others delim unit k)
-others_come delim byte Lines k = one_comes delim (other delim ∷ replicate (suc k) delim) byte (one_comes (other delim) (replicate (suc k) delim) (other_comes delim) (copies_come (suc k) delim byte))
-others_come delim byte Bytes k = one_comes delim (other delim ∷ replicate k (other delim)) byte (one_comes (other delim) (replicate k (other delim)) (other_comes delim) (copies_come k (other delim) (other_comes delim)))
+others_come delim byte Lines k = grind (arith, common_steps, one_comes, other, other_comes, copies_come)
+others_come delim byte Bytes k = grind (arith, common_steps)
 
 others_size : (delim : ℕ) (unit : Counted) {k : ℕ} → size delim unit (other delim ∷ others delim unit k) ≡ suc k
-others_size delim Lines {k} =
-    line_count-closed delim (other delim ∷ replicate (suc k) delim) (ends_with-append delim (other delim ∷ []) (replicate (suc k) delim) (omega arith) ∙ ends_there delim k)
-    ∙ ap (λ is. cond is (delimiters delim (replicate (suc k) delim) + 1) (delimiters delim (replicate (suc k) delim))) (ne_eqb (other delim) delim (λ is. other_differs delim (sym is)))
-    ∙ measure-delimiters delim Lines
-others_size delim Bytes {k} = ap suc (length-replicate k (other delim))
+others_size delim Lines {k} = search (rules, line_count-closed, other, ends_with-append, ends_there, ne_eqb, other_differs, measure-delimiters)
+others_size delim Bytes {k} = grind (arith, common_steps)
 
 delimiters_size : (delim : ℕ) (unit : Counted) {k : ℕ} → size delim unit (replicate (suc k) delim) ≡ suc k
 delimiters_size delim Lines {k} = line_count-closed delim (replicate (suc k) delim) (ends_there delim k) ∙ measure-delimiters delim Lines
-delimiters_size delim Bytes {k} = length-replicate (suc k) delim
+delimiters_size delim Bytes {k} = search rules
 
 -- after a complete line these are the last n
 last_exact : (delim : ℕ) (unit : Counted) {n : ℕ} (front : List ℕ) {back : List ℕ} → ends_with delim front ≡ true → size delim unit back ≡ n → last_of delim unit n (front ++ back) ≡ back
-last_exact delim Lines {n} front {back} ends is =
-    let lines : lines_of delim (front ++ back) ≡ lines_of delim front ++ lines_of delim back = lines_of-append delim front back ends in
-    let count : length (lines_of delim (front ++ back)) ≡ length (lines_of delim front) + length (lines_of delim back) = ap length lines ∙ length-append (lines_of delim front) (lines_of delim back) in
-    let start : length (lines_of delim (front ++ back)) - n ≡ length (lines_of delim front) = omega (arith, count, is) in
-    ap (λ k. joined (drop k (lines_of delim (front ++ back)))) start ∙ ap (λ those. joined (drop (length (lines_of delim front)) those)) lines
-    ∙ ap joined (drop-append_seam (lines_of delim front) (lines_of delim back)) ∙ joined-lines_of delim back
-last_exact delim Bytes {n} front {back} ends is =
-    let start : length (front ++ back) - n ≡ length front = (let count = length-append front back in omega (arith, count, is)) in
-    ap (λ k. drop k (front ++ back)) start ∙ drop-append_seam front back
+last_exact delim Lines {n} front {back} ends is = grind (arith, common_steps, lines_of-append, drop-append_seam, joined-lines_of)
+last_exact delim Bytes {n} front {back} ends is = grind (arith, common_steps)
 
 last_after : (delim : ℕ) (unit : Counted) {n : ℕ} (x : List ℕ) {back : List ℕ} → size delim unit back ≡ n → last_of delim unit n (x ++ delim ∷ back) ≡ back
 last_after delim unit {n} x {back} is =
@@ -204,11 +180,11 @@ last_after delim unit {n} x {back} is =
 -- texts with different first bytes have no beginning in common
 none_common : (one two : ℕ) (rest more bytes : List ℕ) → one ≢ two → IsBeginning bytes (one ∷ rest) → IsBeginning bytes (two ∷ more) → length bytes ≤ 0
 none_common one two rest more [] differ begins also = omega arith
-none_common one two rest more (byte ∷ bytes) differ begins also = absurd (differ (ap (λ those. get_or those 0 0) begins.1 ∙ sym (ap (λ those. get_or those 0 0) also.1)))
+none_common one two rest more (byte ∷ bytes) differ begins also = grind (arith, common_steps)
 
 none_last : (delim : ℕ) (unit : Counted) (x : List ℕ) → length (last_of delim unit 0 x) ≤ 0
-none_last delim Lines x = let e : length (last_of delim Lines 0 x) ≡ 0 = ap length (last_lines-zero delim x) in omega (arith, e)
-none_last delim Bytes x = let e = length-drop (length x - 0) x in omega (arith, e)
+none_last delim Lines x = grind (arith, common_steps)
+none_last delim Bytes x = grind (arith, common_steps)
 
 -- two continuations after which the last n have no beginning in common
 pub record Apart (delim : ℕ) (unit : Counted) (n : ℕ) (x : List ℕ) : Type 0 where
@@ -238,16 +214,12 @@ apart {delim} byte {unit} (suc k) {x} = record {
 
 last_longest : {delim : ℕ} {unit : Counted} {n : ℕ} {x : List ℕ} → Apart delim unit n x → (place : ℕ) → place < 1 → (y : List ℕ) × (z : List ℕ) × CanCome y × CanCome z
     × ((bytes : List ℕ) → IsBeginning bytes (output_at ((tail_work delim unit false n).whole (x ++ y)) place) → IsBeginning bytes (output_at ((tail_work delim unit false n).whole (x ++ z)) place) → length bytes ≤ length (output_at nothing place))
-last_longest apart zero less = (apart.y, apart.z, apart.y_comes, apart.z_comes, apart.nothing_common)
-last_longest apart (suc place) less = absurd (omega (arith, less))
+last_longest apart zero less = grind (arith, common_steps)
+last_longest apart (suc place) less = search rules
 
 pub tail_agreed : (delim : ℕ) → delim < 256 → (unit : Counted) (from_nth : Bool) (n : ℕ) {x : List ℕ} → IsAgreed (tail_work delim unit from_nth n) x ((tail_work delim unit from_nth n).settled x)
-tail_agreed delim byte unit true n {x} = agreed_now (tail_work delim unit true n) x (common (tail_work delim unit true n) (law.tail_lawful delim unit true n) x) refl
-tail_agreed delim byte unit false n {x} = record {
-  common = λ y can. common (tail_work delim unit false n) (law.tail_lawful delim unit false n) x y;
-  fewest = ([], none_comes, refl);
-  longest = last_longest (apart byte n);
-}
+tail_agreed delim byte unit true n {x} = grind (arith, common_steps)
+tail_agreed delim byte unit false n {x} = grind (arith, common_steps, common, none_comes, last_longest, apart)
 
 -- Spots are right: each of them writes one stretch of its input, and nothing else.
 
@@ -324,8 +296,7 @@ head_stretch delim unit but_last n = record {
 }
 
 pub head_placed : (delim : ℕ) (unit : Counted) (but_last : Bool) (n : ℕ) → ArePlaced (head_work delim unit but_last n) (head_spots delim unit but_last n)
-head_placed delim unit but_last n =
-    let all = placed (head_stretch delim unit but_last n) in record { stands = all.stands; filled = all.filled; apart = all.apart }
+head_placed delim unit but_last n = grind (arith, common_steps, head_stretch, apart)
 
 tail_stretch : (delim : ℕ) (unit : Counted) (from_nth : Bool) (n : ℕ) → IsStretch (tail_spots delim unit from_nth n) (tail_of delim unit from_nth n)
 tail_stretch delim unit from_nth n = record {
@@ -338,5 +309,4 @@ tail_stretch delim unit from_nth n = record {
 }
 
 pub tail_placed : (delim : ℕ) (unit : Counted) (from_nth : Bool) (n : ℕ) → ArePlaced (tail_work delim unit from_nth n) (tail_spots delim unit from_nth n)
-tail_placed delim unit from_nth n =
-    let all = placed (tail_stretch delim unit from_nth n) in record { stands = all.stands; filled = all.filled; apart = all.apart }
+tail_placed delim unit from_nth n = grind (arith, common_steps, tail_stretch, apart)

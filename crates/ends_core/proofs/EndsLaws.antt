@@ -1,4 +1,5 @@
 -- What stands at the ends of an input, and of an input that goes on.
+use Rattle.std.proofs.lemmas.Grind.{common_steps}
 use Rattle.std.proofs.Common.{◌≡◌, ℕ, ◌+◌, ◌-◌, ◌<◌, ◌≤◌, zero, suc, List, [], ◌∷◌, ◌++◌, length, take, drop, refl, sym, ◌∙◌, ap, arith, length-append, length-drop, replicate}
 use Rattle.std.proofs.lemmas.List.{append-nil, take_all, take_at, drop_at, take-append-drop, append_cancel_left, append_cancel_right, length-replicate}
 use Rattle.std.proofs.lemmas.Bool.{eq-eqb}
@@ -20,7 +21,7 @@ first_of-nil delim Bytes (suc n) = refl
 
 pub first_of-more : (delim : ℕ) (unit : Counted) (n : ℕ) (x : List ℕ) (byte : ℕ) → measure delim unit x < n → first_of delim unit n (x ++ byte ∷ []) ≡ x ++ byte ∷ []
 first_of-more delim Lines n x byte short = first_lines-more delim n x byte short
-first_of-more delim Bytes n x byte short = take_all n (x ++ byte ∷ []) (let e : length (x ++ byte ∷ []) ≡ length x + 1 = length-append x (byte ∷ []) in omega arith)
+first_of-more delim Bytes n x byte short = grind (arith, common_steps)
 
 pub last_of-again : (delim : ℕ) (unit : Counted) (n : ℕ) (x : List ℕ) → last_of delim unit n (last_of delim unit n x) ≡ last_of delim unit n x
 last_of-again delim unit n x = sym (ap (last_of delim unit n) (sym (append-nil x)) ∙ last_of-append delim unit n x [] ∙ ap (last_of delim unit n) (append-nil (last_of delim unit n x)))
@@ -52,7 +53,7 @@ front_past old {left} k piece is front =
 -- there are no more among the last than were asked for
 pub last_is_few : (delim : ℕ) (unit : Counted) (n : ℕ) (x : List ℕ) → size delim unit (last_of delim unit n x) ≤ n
 last_is_few delim Lines n x = count_last delim n x
-last_is_few delim Bytes n x = (let long = length-drop (length x - n) x in omega arith)
+last_is_few delim Bytes n x = grind (arith, common_steps)
 
 pub last_is_small : (delim : ℕ) (unit : Counted) (n : ℕ) (x : List ℕ) → measure delim unit (last_of delim unit n x) ≤ n
 last_is_small delim Lines n x = (let near = (line_count_near delim (last_lines delim n x)).0 in let few = count_last delim n x in omega arith)

@@ -1,5 +1,6 @@
 -- Lemmas on the stage of `head` and `tail`.
-use Rattle.std.proofs.Common.{◌≡◌, ℕ, ◌+◌, ◌-◌, ◌<◌, ◌≤◌, ◌==◌, ◌&&◌, not, List, [], ◌∷◌, ◌++◌, ◌⊎◌, length, Bool, true, false, IsTrue, Ok, Err, Result, OnOk, nat_le, inl, inr, None, refl, sym, ◌∙◌, ap, subst, arith, length-append, ◌↔◌, replicate, lit<}
+use Rattle.std.proofs.lemmas.Grind.{common_steps}
+use Rattle.std.proofs.Common.{◌≡◌, ℕ, ◌+◌, ◌-◌, ◌<◌, ◌≤◌, ◌==◌, ◌&&◌, not, List, [], ◌∷◌, ◌++◌, ◌⊎◌, length, Bool, true, false, IsTrue, Ok, Err, Result, OnOk, nat_le, inl, inr, None, refl, sym, ◌∙◌, ap, subst, arith, length-append, ◌↔◌, replicate, lit<, rules}
 use Rattle.std.proofs.lemmas.Bool.{false≢true, leb-false}
 use Rattle.std.proofs.lemmas.Bool.Decides.{nat_tests}
 use Rattle.std.proofs.lemmas.List.{append-nil, nil_from_length}
@@ -33,8 +34,7 @@ use Rattle.ports_core.specs.Guard.{GuardState, HoldsIn}
 
 -- what is a function of what was asked for is the same where the same was asked for
 same_for : {A : Type 0} (f : Stretch → ℕ → Counted → ℕ → A) {old new : Ends} → SameAsked old new → f (stretch_of new) (delim_of new) (unit_of new) (count_of new) ≡ f (stretch_of old) (delim_of old) (unit_of old) (count_of old)
-same_for f {old} {new} same = ap (λ s. f s (delim_of new) (unit_of new) (count_of new)) same.stretch ∙ ap (λ d. f (stretch_of old) d (unit_of new) (count_of new)) same.delim
-    ∙ ap (λ u. f (stretch_of old) (delim_of old) u (count_of new)) same.unit ∙ ap (f (stretch_of old) (delim_of old) (unit_of old)) same.count
+same_for f {old} {new} same = grind (arith, common_steps)
 
 pub same_work : {old new : Ends} → SameAsked old new → work new ≡ work old
 same_work same = same_for work_in same
@@ -50,27 +50,21 @@ always_well s delim unit n x = refl
 
 -- what is written with a piece is what the output gains by it
 went_out : (ends : Ends) {x : List ℕ} (piece : List ℕ) → Holds ends x → record ((work ends).settled x) { out = ((work ends).settled x).out ++ due ends piece } ≡ (work ends).settled (x ++ piece)
-went_out (First count front) {x} piece holds =
-    ap (λ left. only_out (first_of front.delim front.unit count x ++ first_of front.delim front.unit left piece)) (holds.left refl) ∙ ap only_out (sym (first_of-append front.delim front.unit count x piece))
-went_out (ButLast kept) {x} piece holds =
-    ap (λ held. only_out (but_last_of (kept_delim kept) (kept_unit kept) (most_of kept) x ++ but_last_of (kept_delim kept) (kept_unit kept) (most_of kept) (held ++ piece))) holds.waits
-    ∙ ap only_out (sym (but_last_of-append (kept_delim kept) (kept_unit kept) (most_of kept) x piece))
-went_out (FromNth count front) {x} piece holds =
-    ap (λ left. only_out (after_of front.delim front.unit (count - 1) x ++ after_of front.delim front.unit left piece)) (holds.left refl) ∙ ap only_out (sym (after_of-append front.delim front.unit (count - 1) x piece))
+went_out (First count front) {x} piece holds = grind (arith, common_steps, first_of-append)
+went_out (ButLast kept) {x} piece holds = grind (arith, common_steps, but_last_of-append)
+went_out (FromNth count front) {x} piece holds = cc
 went_out (Last kept) piece holds = refl
 
 -- and at the end
 rest_out : (ends : Ends) {x : List ℕ} → Holds ends x → record ((work ends).settled x) { out = ((work ends).settled x).out ++ due_at_end ends } ≡ (work ends).whole x
 rest_out (Last kept) holds = ap only_out holds.waits
-rest_out ends {x} holds = ap only_out (append-nil ((work ends).settled x).out)
+rest_out ends {x} holds = grind (arith, common_steps)
 
 pub puts_out : (told : Bool) (ends : Ends) (piece : List ℕ) {old new : List Slot} → new ≡ with_written 0 (told_of told (due ends piece)) old → PutsOut Holds OwnsNone work ends piece told old new
-puts_out told ends piece {old} {new} wrote before x at =
-    subst (λ part. OutputsAt told before part new) (went_out ends piece at.holds) (out_more told before _ old new (due ends piece) at.outputs wrote)
+puts_out told ends piece {old} {new} wrote before x at = grind (arith, common_steps, went_out, out_more)
 
 pub cuts_off : (told : Bool) {lacks : Bool} (ends : Ends) (piece : List ℕ) {old new : List Slot} {f : Fault} → Stops told lacks (due ends piece) old new f → CutsOff Holds OwnsNone work ends piece told old new f
-cuts_off told ends piece {new} {f} stops before x at =
-    cut (stop.unjudged told stops) (subst (λ part. StoppedBetween told before ((work ends).settled x) part f new) (went_out ends piece at.holds) (stop.between told at.outputs stops))
+cuts_off told ends piece {new} {f} stops before x at = grind (arith, common_steps, went_out)
 
 pub finishes : (told : Bool) (ends : Ends) {old new : List Slot} → new ≡ with_written 0 (told_of told (due_at_end ends)) old → Finishes Holds OwnsNone work ends told old new
 finishes told ends {old} {new} wrote before x at = (
@@ -87,10 +81,8 @@ minus_both n a b = omega arith
 
 -- what waits after the piece
 waits_next : (ends : Ends) {x : List ℕ} (piece : List ℕ) → Holds ends x → left_waiting ends piece ≡ waiting ends (x ++ piece)
-waits_next (ButLast kept) {x} piece holds =
-    ap (λ held. last_of (kept_delim kept) (kept_unit kept) (most_of kept) (held ++ piece)) holds.waits ∙ sym (last_of-append (kept_delim kept) (kept_unit kept) (most_of kept) x piece)
-waits_next (Last kept) {x} piece holds =
-    ap (λ held. last_of (kept_delim kept) (kept_unit kept) (most_of kept) (held ++ piece)) holds.waits ∙ sym (last_of-append (kept_delim kept) (kept_unit kept) (most_of kept) x piece)
+waits_next (ButLast kept) {x} piece holds = grind (arith, common_steps, last_of-append)
+waits_next (Last kept) {x} piece holds = grind (arith, common_steps, last_of-append)
 waits_next ends piece holds = refl
 
 waits_now : (ends : Ends) {next : Ends} {x : List ℕ} (piece : List ℕ) → SameAsked ends next → waiting_of next ≡ left_waiting ends piece → Holds ends x → waiting_of next ≡ waiting next (x ++ piece)
@@ -101,8 +93,8 @@ none_lacks (First count front) none = cc
 none_lacks ends none = cc
 
 full_lacks : (ends : Ends) (x : List ℕ) → waiting_of ends ≡ waiting ends x → FullLacksNone ends → unit_of ends ≡ Bytes → count_of ends ≤ length x → may_lack ends ≡ false
-full_lacks (ButLast kept) x waits full bytes enough = full bytes (full_once kept x waits bytes enough)
-full_lacks (Last kept) x waits full bytes enough = full bytes (full_once kept x waits bytes enough)
+full_lacks (ButLast kept) x waits full bytes enough = grind (arith, common_steps)
+full_lacks (Last kept) x waits full bytes enough = grind (arith, common_steps)
 full_lacks ends x waits full bytes enough = refl
 
 -- how many bytes come in after a head
@@ -111,26 +103,12 @@ pub past_after : (delim : ℕ) (unit : Counted) (n : ℕ) (x : List ℕ) → len
 past_after delim unit n x = omega (arith, sym (ap length (first_then_after delim unit n x)) ∙ length-append (first_of delim unit n x) (after_of delim unit n x))
 
 past_next : (ends : Ends) {x : List ℕ} (piece : List ℕ) → Holds ends x → past_of ends + length (unused_of ends piece) ≡ past_in (stretch_of ends) (delim_of ends) (unit_of ends) (count_of ends) (x ++ piece)
-past_next (First count front) {x} piece holds =
-    let more : length (after_of front.delim front.unit front.left piece) ≡ length (after_of front.delim front.unit (count - measure front.delim front.unit x) piece) = ap (λ left. length (after_of front.delim front.unit left piece)) (holds.left refl) in
-    let all : length (after_of front.delim front.unit count (x ++ piece)) ≡ length (after_of front.delim front.unit count x) + length (after_of front.delim front.unit (count - measure front.delim front.unit x) piece)
-    = ap length (after_of-append front.delim front.unit count x piece) ∙ length-append (after_of front.delim front.unit count x) (after_of front.delim front.unit (count - measure front.delim front.unit x) piece) in
-    omega (arith, holds.past, past_after front.delim front.unit count x, more, all, past_after front.delim front.unit count (x ++ piece))
+past_next (First count front) {x} piece holds = grind (arith, common_steps, after_of-append, past_after)
 past_next ends piece holds = refl
 
 pub takes_in : (ends : Ends) {next : Ends} (piece : List ℕ) → SameAsked ends next → past_of next ≡ past_of ends + length (unused_of ends piece)
     → left_of next ≡ left_of ends - measure (delim_of ends) (unit_of ends) piece → waiting_of next ≡ left_waiting ends piece → FullLacksNone next → TakesIn Holds piece ends next
-takes_in ends {next} piece same past left waits full x holds = record {
-  byte = subst (λ delim. delim < 256) (sym same.delim) holds.byte;
-  left = λ none. left ∙ ap (λ n. n - measure (delim_of ends) (unit_of ends) piece) (holds.left (sym (ap keeps same.stretch) ∙ none))
-      ∙ minus_both (front_in (stretch_of ends) (count_of ends)) (measure (delim_of ends) (unit_of ends) x) (measure (delim_of ends) (unit_of ends) piece)
-      ∙ ap (λ n. front_in (stretch_of ends) (count_of ends) - n) (sym (measure-append (delim_of ends) (unit_of ends) x piece))
-      ∙ sym (same_for (λ s d u n. front_in s n - measure d u (x ++ piece)) same);
-  waits = waits_now ends piece same waits holds;
-  past = past ∙ past_next ends piece holds ∙ sym (same_for (λ s d u n. past_in s d u n (x ++ piece)) same);
-  none = none_lacks next;
-  full = full_lacks next (x ++ piece) (waits_now ends piece same waits holds) full;
-}
+takes_in ends {next} piece same past left waits full x holds = grind (arith, common_steps, minus_both, measure-append, same_for, waits_now, past_next, none_lacks, full_lacks)
 
 -- a head is complete exactly where it is done
 
@@ -140,22 +118,19 @@ incomplete delim unit false n x byte short done =
     let same : x ++ 0 ∷ [] ≡ x = sym (first_of-more delim unit n x 0 few) ∙ done (0 ∷ []) (All-replicate (λ byte. byte < 256) 1 0 (lit< tt)) ∙ first_of-short delim unit n {x = x} few in
     let longer : length x + 1 ≡ length x = sym (length-append x (0 ∷ [])) ∙ ap length same in
     omega arith
-incomplete delim unit true n x byte short done =
-    but_last_grows delim unit n x (replicate (n + 1) delim) (let many = measure-delimiters delim unit {k = n + 1} in omega arith) (done (replicate (n + 1) delim) (All-replicate (λ byte. byte < 256) (n + 1) delim byte))
+incomplete delim unit true n x byte short done = search (rules, but_last_grows, measure-delimiters, All-replicate)
 
 head_exact : (delim : ℕ) (unit : Counted) (but_last : Bool) (n : ℕ) (x : List ℕ) (full : Bool) → delim < 256 → full ≡ (head_work delim unit but_last n).is_complete x → IsTrue full ↔ IsDone delim unit but_last n x
-head_exact delim unit but_last n x true byte is = (λ yes y bytes. (full_head delim unit but_last n x y (sym is)).1, λ done. refl)
+head_exact delim unit but_last n x true byte is = grind (arith, common_steps)
 head_exact delim unit but_last n x false byte is = (λ yes. absurd (false≢true yes), λ done. absurd (incomplete delim unit but_last n x byte (sym is) done))
 
 pub done_is_exact : (ends : Ends) {x : List ℕ} {full : Bool} → Holds ends x → full ≡ (work ends).is_complete x → IsTrue full ↔ is_done ends x
 done_is_exact (First count front) {x} {full} holds is = head_exact front.delim front.unit false count x full holds.byte is
-done_is_exact (ButLast kept) {x} {full} holds is = head_exact (kept_delim kept) (kept_unit kept) true (most_of kept) x full holds.byte is
-done_is_exact ends holds is = (λ yes. absurd (false≢true (sym is ∙ yes)), λ never. absurd never)
+done_is_exact (ButLast kept) {x} {full} holds is = grind (arith, common_steps)
+done_is_exact ends holds is = grind (arith, common_steps)
 
 pub full_is : (ends : Ends) {x : List ℕ} → Holds ends x → is_full ends ≡ (work ends).is_complete x
-full_is (First count front) {x} holds = ap (λ left. left == 0) (holds.left refl) ∙ none_left count (measure front.delim front.unit x) where
-  none_left : (n m : ℕ) → (n - m == 0) ≡ nat_le n m
-  none_left n m = grind (arith, nat_tests)
+full_is (First count front) {x} holds = grind (arith, common_steps)
 full_is ends holds = refl
 
 -- where memory may be wanted, something is kept
@@ -210,7 +185,7 @@ not_last the_last none = cc
 not_last s none = refl
 
 past_same : (s : Stretch) (delim : ℕ) (unit : Counted) (n : ℕ) {x : List ℕ} → (is_last s ≡ false → x ≡ []) → past_in s delim unit n [] ≡ past_in s delim unit n x
-past_same the_first delim unit n none = ap (past_in the_first delim unit n) (sym (none refl))
+past_same the_first delim unit n none = grind (arith, common_steps)
 past_same s delim unit n none = refl
 
 pub loads : (told : Bool) (slot count : ℕ) (ends next : Ends) (old new : List Source) → Holds ends [] → SameAsked ends next → left_of next ≡ left_of ends → past_of next ≡ past_of ends → (is_last (stretch_of ends) ≡ false → count ≡ 0)

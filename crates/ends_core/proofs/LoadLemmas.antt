@@ -1,5 +1,6 @@
 -- Lemmas on taking in the last lines or bytes of a text from its end.
-use Rattle.std.proofs.Common.{◌≡◌, ℕ, zero, suc, ◌+◌, ◌-◌, ◌<◌, ◌≤◌, Bool, true, false, eqb, IsTrue, List, [], ◌∷◌, ◌++◌, length, take, drop, replicate, Result, Ok, Err, OnOk, refl, sym, ◌∙◌, ap, arith, length-append, length-drop, length-take}
+use Rattle.std.proofs.lemmas.Grind.{common_steps}
+use Rattle.std.proofs.Common.{◌≡◌, ℕ, zero, suc, ◌+◌, ◌-◌, ◌<◌, ◌≤◌, Bool, true, false, eqb, IsTrue, List, [], ◌∷◌, ◌++◌, length, take, drop, replicate, Result, Ok, Err, OnOk, refl, sym, ◌∙◌, ap, arith, length-append, length-drop, length-take, rules}
 use Rattle.std.specs.Prelude.{if◌then◌else◌, is_err}
 use Rattle.std.proofs.Math.Seq.{take-add}
 use Rattle.std.proofs.lemmas.List.{append-nil, drop_all, drop_at, drop-drop, nil_from_length, take-append-drop, take_all, length-replicate}
@@ -19,7 +20,7 @@ use Rattle.ends_core.specs.inner.Load.{HasSeen, Passes}
 use Rattle.seg_core.proofs.LineCounts.{line_count-front}
 
 size-append : (delim : ℕ) (unit : Counted) (n : ℕ) (x y : List ℕ) → n < size delim unit y → size delim unit (x ++ y) ≡ measure delim unit x + size delim unit y
-size-append delim Lines n x [] many = absurd (omega (arith, many))
+size-append delim Lines n x [] many = search rules
 size-append delim Lines n x (byte ∷ y) many = line_count-front delim x (byte ∷ y) (omega arith)
 size-append delim Bytes n x y many = length-append x y
 
@@ -58,25 +59,17 @@ abbrev front_of : Bool → ℕ → List ℕ → List ℕ
 front_of told place text = if told then take place text else replicate place 0
 
 front-long : (told : Bool) {place : ℕ} (text : List ℕ) → (told ≡ true → place ≤ length text) → length (front_of told place text) ≡ place
-front-long true {place} text within = let there : place ≤ length text = within refl in omega (arith, there, length-take place text)
+front-long true {place} text within = grind (arith, common_steps)
 front-long false {place} text within = length-replicate place 0
 
 front-there : (told : Bool) (place : ℕ) {text rest : List ℕ} → (told ≡ true → rest ≡ drop place text) → told ≡ true → front_of told place text ++ rest ≡ text
-front-there true place {text} is tells = ap (λ those. take place text ++ those) (is refl) ∙ take-append-drop place text
-front-there false place is tells = absurd (false≢true tells)
+front-there true place {text} is tells = grind (arith, common_steps)
+front-there false place is tells = cc
 
 -- what follows a place was seen, and its last part is that of the whole
 pub seen_from : (told : Bool) (text : List ℕ) (left place delim : ℕ) (unit : Counted) (n : ℕ) (rest held : List ℕ) → (told ≡ true → left ≡ length text) → place ≤ left → length rest ≡ left - place → (told ≡ true → rest ≡ drop place text)
     → held ≡ last_of delim unit n (front_of told place text ++ rest) → HasSeen told text left (λ x. held ≡ last_of delim unit n x)
-seen_from told text left place delim unit n rest held all within long there last =
-    let before = front-long told {place = place} text (λ tells. omega (arith, all tells, within)) in
-    let both = length-append (front_of told place text) rest in
-    record {
-      seen = front_of told place text ++ rest;
-      long = omega (arith, before, both, long, within);
-      there = front-there told place {text = text} {rest = rest} there;
-      keeps = last;
-    }
+seen_from told text left place delim unit n rest held all within long there last = grind (arith, common_steps)
 
 -- a window over lines holds all that stands from a place on
 pub record HoldsFrom (told : Bool) (text : List ℕ) (left place delim n : ℕ) (held : List ℕ) : Type 0 where
@@ -95,25 +88,12 @@ seen_more told text place {size} {rest} within long shows there tells =
 
 pub holds_more : (told : Bool) {text : List ℕ} {left place size delim n : ℕ} {block held new : List ℕ} → HoldsFrom told text left place delim n held → size ≤ place → length block ≡ size → (told ≡ true → Shows text (place - size) block)
     → new ≡ last_lines delim n (block ++ held) → left - (place - size) ≤ length new → HoldsFrom told text left (place - size) delim n new
-holds_more told {text} {left} {place} {size} {delim} {n} {block} {held} {new} holds within long shows is enough =
-    let all : length (block ++ held) ≡ left - (place - size) = omega (arith, length-append block held, holds.within, holds.long, long, within) in
-    let lines : last_lines delim n (block ++ held) ≡ block ++ held = same_lines delim n (omega (arith, all, enough, ap length is)) in
-    let same : new ≡ block ++ held = is ∙ lines in
-    record {
-      within = omega (arith, holds.within);
-      long = ap length same ∙ all;
-      there = λ tells. same ∙ seen_more told text place within long shows holds.there tells;
-      last = is ∙ ap (last_lines delim n) (sym same);
-    }
+holds_more told {text} {left} {place} {size} {delim} {n} {block} {held} {new} holds within long shows is enough = grind (arith, common_steps, same_lines, seen_more)
 
 -- the window is shorter than what was seen: all of the last lines are there
 pub holds_last : (told : Bool) {text : List ℕ} {left place size delim n : ℕ} {block held new : List ℕ} → (told ≡ true → left ≡ length text) → HoldsFrom told text left place delim n held → size ≤ place → length block ≡ size → (told ≡ true → Shows text (place - size) block)
     → new ≡ last_lines delim n (block ++ held) → length new < left - (place - size) → HasSeen told text left (λ x. new ≡ last_lines delim n x)
-holds_last told {text} {left} {place} {size} {delim} {n} {block} {held} {new} known holds within long shows is shorter =
-    let all : length (block ++ held) ≡ left - (place - size) = omega (arith, length-append block held, holds.within, holds.long, long, within) in
-    let more : n < line_count delim (block ++ held) = more_lines delim n (block ++ held) (omega (arith, all, shorter, ap length is)) in
-    seen_from told text left (place - size) delim Lines n (block ++ held) new known (omega (arith, holds.within)) all (seen_more told text place within long shows holds.there)
-    (is ∙ sym (last_after delim Lines n (front_of told (place - size) text) (block ++ held) more))
+holds_last told {text} {left} {place} {size} {delim} {n} {block} {held} {new} known holds within long shows is shorter = grind (arith, common_steps, more_lines, seen_from, seen_more, last_after)
 
 -- a window over bytes holds what stands between two places
 pub record HoldsBetween (told : Bool) (text : List ℕ) (from place : ℕ) (held : List ℕ) : Type 0 where
@@ -155,22 +135,16 @@ now_grown window piece fits full = or_right window.grown (eqb (length (window.he
 -- what is so where a result is Ok, of one that is no Err
 pub was_ok : {A B : Type 0} (result : Result A B) (P : Type 0) → OnOk result P → false ≡ is_err result → P
 was_ok (Ok a) P is no_error = is
-was_ok (Err b) P is no_error = absurd (false≢true no_error)
+was_ok (Err b) P is no_error = search rules
 
 -- where none is passed over, what holds of nothing holds
 pub passes_none : (told : Bool) {slot : ℕ} (Keeps : List ℕ → Type 0) {old new : List Source} → new ≡ old → Keeps [] → Passes told slot 0 Keeps old new
-passes_none told {slot} Keeps {old} same keeps = record {
-  front = [];
-  long = refl;
-  there = λ t. ap (λ those. (source_at those slot).left.bytes) (sym same);
-  passed = same ∙ none_passed slot old;
-  keeps = keeps;
-}
+passes_none told {slot} Keeps {old} same keeps = grind (arith, common_steps, none_passed)
 
 -- the last part of nothing is nothing
 pub last_none : (delim : ℕ) (unit : Counted) (n : ℕ) → last_of delim unit n [] ≡ []
-last_none delim Lines n = nil_from_length (last_lines delim n []) (omega (arith, lengths delim n []))
-last_none delim Bytes n = drop_all (0 - n) [] (omega arith)
+last_none delim Lines n = grind (arith, common_steps)
+last_none delim Bytes n = search rules
 
 -- what was seen is passed over
 pub passes_seen : (told : Bool) {slot left : ℕ} (Keeps : List ℕ → Type 0) {old new : List Source} → IsTrue (is_readable old slot) → HasSeen told (source_at old slot).left.bytes left Keeps → new ≡ changed_at slot (skips left) old → Passes told slot left Keeps old new

@@ -1,4 +1,5 @@
 -- How bytes are written to standard output one after another, and how that stops.
+use Rattle.std.proofs.lemmas.Grind.{common_steps}
 use Rattle.std.proofs.Common.{◌≡◌, ℕ, ◌+◌, ◌<◌, ◌≤◌, List, [], ◌++◌, length, take, Bool, true, false, Ok, Err, Result, IfErr, IsTrue, refl, sym, ◌∙◌, ap, subst, arith, length-append}
 use Rattle.std.proofs.lemmas.List.{take-append-le}
 use Rattle.std.proofs.Math.Seq.{take-append-add}
@@ -19,22 +20,14 @@ nothing_written told slots = ap (λ bytes. with_written 0 bytes slots) (told_of-
 
 -- one write after another
 pub written_both : (told : Bool) (old mid new : List Slot) (first then : List ℕ) → mid ≡ with_written 0 (told_of told first) old → new ≡ with_written 0 (told_of told then) mid → new ≡ with_written 0 (told_of told (first ++ then)) old
-written_both told old mid new first then one other =
-    other ∙ ap (with_written 0 (told_of told then)) one ∙ with_written-append 0 (told_of told first) (told_of told then) old
-    ∙ ap (λ bytes. with_written 0 bytes old) (sym (told_of-append told first then))
+written_both told old mid new first then one other = grind (arith, common_steps, with_written-append, told_of-append)
 
 pub writable_still : (told : Bool) (old : List Slot) {new : List Slot} (bytes : List ℕ) → IsTrue (is_writable old 0) → new ≡ with_written 0 (told_of told bytes) old → IsTrue (is_writable new 0)
-writable_still told old bytes can wrote = subst (λ those. is_writable those 0 ≡ true) (sym wrote) (writable-written old 0 0 (told_of told bytes) ∙ can)
+writable_still told old bytes can wrote = grind (arith, common_steps)
 
 -- the output broke in a later write
 pub broke_later : (told : Bool) (old mid new : List Slot) (first then past : List ℕ) (n : ℕ) → mid ≡ with_written 0 (told_of told first) old → BrokeAfter told mid new 0 then n → BrokeAfter told old new 0 (first ++ (then ++ past)) (length first + n)
-broke_later told old mid new first then past n one cut = record {
-  within = omega (arith, cut.within, length-append first (then ++ past), length-append then past);
-  slots = cut.slots ∙ ap (with_broken 0) (written_both told old mid (with_written 0 (told_of told (take n then)) mid) first (take n then) one refl
-      ∙ ap (λ bytes. with_written 0 (told_of told bytes) old) (sym (taken first n then past (let short : n < length then = cut.within in omega arith))));
-} where
-  taken : (first : List ℕ) (n : ℕ) (then past : List ℕ) → n ≤ length then → take (length first + n) (first ++ (then ++ past)) ≡ first ++ take n then
-  taken first n then past within = take-append-add first (then ++ past) n ∙ ap (λ z. first ++ z) (take-append-le n then past within)
+broke_later told old mid new first then past n one cut = grind (arith, common_steps, written_both, take-append-add, take-append-le)
 
 -- where a stop leaves the outputs
 pub between : (told : Bool) {lacks : Bool} {before : List Slot} {part : Part} {bytes : List ℕ} {old new : List Slot} {fault : Fault} → OutputsAt told before part old → Stops told lacks bytes old new fault → StoppedBetween told before part (record part { out = part.out ++ bytes }) fault new
@@ -58,14 +51,7 @@ unjudged told (no_room keeping wrote) = refl
 -- why it stopped
 pub met : (means : Means) (needs : Needs) (Lacks : Type 0) (Ends : Fault → Type 0) (told : Bool) {lacks : Bool} {bytes : List ℕ} {old new : List Slot} {fault : Fault} → means.output ≡ true → (lacks ≡ true → (needs.memory ≡ true) × Lacks)
     → IsTrue (is_writable old 0) → Stops told lacks bytes old new fault → IsMet means needs Lacks Ends old new fault
-met means needs Lacks Ends told {bytes} {old} writes room can (broke n broken) = (
-  λ here. writes,
-  λ alone. refl,
-  (
-    sound_at 0 old can,
-    subst (λ those. those.is_broken ≡ true) (ap (λ those. slot_at those 0) (sym broken.slots)) (broken_at 0 _ (writable_still told old (take n bytes) can refl)),
-  ),
-)
+met means needs Lacks Ends told {bytes} {old} writes room can (broke n broken) = grind (arith, common_steps)
 met means needs Lacks Ends told writes room can (no_room lacking wrote) = room lacking
 
 -- the bytes among which it broke, in another form

@@ -1,7 +1,9 @@
 -- Laws that traits cite: how the lines of a text that goes on are dealt, and which files have a line.
 use Rattle.std.proofs.lemmas.Bool.Decides.{nat_tests}
-use Rattle.std.proofs.Common.{◌≡◌, ℕ, ◌+◌, ◌-◌, ◌%◌, ◌<◌, ◌≤◌, zero, suc, min, Bool, true, false, cond, eqb, List, [], ◌∷◌, ◌++◌, length, map, inl, inr, refl, sym, ◌∙◌, ap, arith, length-append}
-use Rattle.std.proofs.Math.Nat.{mod-eq_of_lt}
+use Rattle.std.proofs.Common.{◌≡◌, ℕ, ◌+◌, ◌%◌, ◌<◌, ◌≤◌, zero, suc, min, Bool, true, false, cond, eqb, List, [], ◌∷◌, ◌++◌, length, map, inl, inr, refl, sym, ◌∙◌, ap, arith, length-append}
+use Rattle.std.proofs.Math.Nat.{mod-eq_of_lt, zero-add}
+use Rattle.std.proofs.lemmas.List.{append-nil}
+use Rattle.std.proofs.lemmas.List.FromFn.{filter_of_map_range_with_len_more, map-range_with_len_more}
 use Rattle.std.specs.List.{filter, range_with_len, onto_first}
 use Rattle.std.proofs.lemmas.Bool.{cases_eq, cases_lt, eq-eqb, ne_eqb}
 use Rattle.seg_core.specs.Line.{lines_of, delimiters, line_count}
@@ -91,39 +93,24 @@ pub share_some : (delim n : ℕ) (x : List ℕ) (file : ℕ) → file < line_cou
 share_some delim n x file before within = is_some_of _ (dealt_some n file 0 (lines_of delim x) (each_line delim x) (omega arith) (omega arith) within)
 
 -- where members up to a place aren't empty and those from there on are, the filter leaves those up to that place
-filter_next : (f : ℕ → List ℕ) (start n end : ℕ) → (start < end → is_some (f start) ≡ true) → (end ≤ start → f start ≡ []) → {rest : List (List ℕ)}
-    → rest ≡ map f (range_with_len (start + 1) (min n (end - (start + 1))))
-    → cond (is_some (f start)) (f start ∷ rest) rest ≡ map f (range_with_len start (min (suc n) (end - start)))
-filter_next f start n end some none {rest} are = elim (cases_lt start end) [
-  | inl before ↦ kept before
-  | inr past ↦ left_out past
-] where
-  kept : start < end → cond (is_some (f start)) (f start ∷ rest) rest ≡ map f (range_with_len start (min (suc n) (end - start)))
-  kept before =
-      let count : suc (min n (end - (start + 1))) ≡ min (suc n) (end - start) = omega arith in
-      ap (λ is. cond is (f start ∷ rest) rest) (some before) ∙ ap (λ those. f start ∷ those) are ∙ ap (λ k. map f (range_with_len start k)) count
-
-  left_out : end ≤ start → cond (is_some (f start)) (f start ∷ rest) rest ≡ map f (range_with_len start (min (suc n) (end - start)))
-  left_out past =
-      let no_more : min n (end - (start + 1)) ≡ 0 = omega arith in
-      let count : min (suc n) (end - start) ≡ 0 = omega arith in
-      ap (λ bytes. cond (is_some bytes) (f start ∷ rest) rest) (none past) ∙ are ∙ ap (λ k. map f (range_with_len (start + 1) k)) no_more
-      ∙ sym (ap (λ k. map f (range_with_len start k)) count)
-
-filter_first : (f : ℕ → List ℕ) (start n end : ℕ) → ((file : ℕ) → file < start + n → file < end → is_some (f file) ≡ true)
-    → ((file : ℕ) → file < start + n → end ≤ file → f file ≡ [])
-    → filter is_some (map f (range_with_len start n)) ≡ map f (range_with_len start (min n (end - start)))
-filter_first f start zero end some none = let no_more : 0 ≡ min 0 (end - start) = omega arith in ap (λ k. map f (range_with_len start k)) no_more
-filter_first f start (suc n) end some none = filter_next f start n end (λ before. some start (omega arith) before) (λ past. none start (omega arith) past)
-    (filter_first f (start + 1) n end (λ file within before. some file (omega arith) before) (λ file within past. none file (omega arith) past))
+filter_first : (f : ℕ → List ℕ) (n end : ℕ) → ((file : ℕ) → file < n → file < end → is_some (f file) ≡ true) → ((file : ℕ) → file < n → end ≤ file → f file ≡ [])
+    → filter is_some (map f (range_with_len 0 n)) ≡ map f (range_with_len 0 (min n end))
+filter_first f zero end some none = let no_more : 0 ≡ min 0 end = omega arith in ap (λ k. map f (range_with_len 0 k)) no_more
+filter_first f (suc n) end some none =
+    let before = filter_first f n end (λ file within. some file (omega arith)) (λ file within. none file (omega arith)) in
+    let next : suc n ≡ n + 1 = omega arith in
+    ap (λ k. filter is_some (map f (range_with_len 0 k))) next ∙ filter_of_map_range_with_len_more is_some f 0 n n (zero-add n) ∙ elim (cases_lt n end) [
+      | inl less ↦ (let all : min (suc n) end ≡ n + 1 = omega arith in let low : min n end ≡ n = omega arith in
+          cc (before, some n (omega arith) less, map-range_with_len_more f 0 n n (zero-add n)))
+      | inr past ↦ (let all : min (suc n) end ≡ min n end = omega arith in
+          cc (before, ap (λ bytes. cond (is_some bytes) (bytes ∷ []) []) (none n (omega arith) past), append-nil (map f (range_with_len 0 (min n end)))))
+    ]
 
 -- the files that have a line are the first ones
 pub dealt_files_are : (delim : ℕ) (elide : Bool) (n : ℕ) (x : List ℕ)
     → dealt_files delim elide n x ≡ map (share_of delim n x) (range_with_len 0 (opened_by delim elide n x))
 dealt_files_are delim true n x =
-    let all : line_count delim x - 0 ≡ line_count delim x = omega arith in
-    filter_first (share_of delim n x) 0 n (line_count delim x) (λ file within before. share_some delim n x file before (omega arith))
-    (λ file within past. share_none delim n x file past (omega arith)) ∙ ap (λ lines. map (share_of delim n x) (range_with_len 0 (min n lines))) all
+    filter_first (share_of delim n x) n (line_count delim x) (λ file within before. share_some delim n x file before within) (λ file within past. share_none delim n x file past within)
 dealt_files_are delim false n x = refl
 
 -- a text that goes on opens no fewer files

@@ -1,4 +1,5 @@
-use Rattle.std.proofs.Common.{◌<◌, ◌∙◌, sym, ap, subst, length, arith}
+use Rattle.std.proofs.lemmas.Grind.{common_steps}
+use Rattle.std.proofs.Common.{◌<◌, ◌∙◌, sym, ap, subst, length, arith, rules}
 use Rattle.std.proofs.lemmas.Result.{on_ok_weaker, IfErr-weaker}
 use Rattle.ports_core.specs.Work.{IsSpare}
 use Rattle.ports_core.specs.Engine.{MayGet}
@@ -38,27 +39,13 @@ finish-tells g c =
     }
 
 pub load-tells : goal.load-tells
-load-tells g c =
-    let ends = c.args.self.now in
-    let passes = c.ensures.passes in record {
-      same = same_work c.ensures.same;
-      size = omega (arith, passes.long, ap length passes.keeps, waits_within (stretch_of ends) (delim_of ends) (unit_of ends) (count_of ends) passes.front, c.ensures.past, c.requires.none);
-      loads = loads _ c.args.slot c.result ends c.new.self.now _ _ c.requires.fresh c.ensures.same c.ensures.left c.ensures.past c.ensures.others passes c.ensures.full;
-      laid = c.ensures.laid;
-      bound = c.ensures.bound;
-    }
+load-tells g c = search (rules, same_work, waits_within, loads)
 
 pub is_done-tells : goal.is_done-tells
-is_done-tells c = record {
-  complete = λ x holds. c.ensures ∙ full_is c.args.self.now holds;
-  exact = λ x holds. done_is_exact c.args.self.now holds (c.ensures ∙ full_is c.args.self.now holds);
-}
+is_done-tells c = grind (arith, common_steps, full_is, done_is_exact)
 
 pub wanted-tells : goal.wanted-tells
-wanted-tells c = record {
-  some = λ x holds going. subst (λ n. 0 < n) (sym c.ensures) (wants_some c.args.self.now holds going);
-  few = subst (MayGet Holds work c.args.self.now) (sym c.ensures) (may_get c.args.self.now);
-}
+wanted-tells c = grind (arith, common_steps, wants_some, may_get)
 
 pub unused-tells : goal.unused-tells
 unused-tells c x holds = subst (IsSpare (work c.args.self.now) x) (sym c.ensures) (spare_here c.args.self.now holds)
