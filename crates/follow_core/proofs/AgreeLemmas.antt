@@ -233,14 +233,12 @@ from_first start by_name name {world} groups sound seen None is = refines groups
 from_first start by_name name {world} groups sound seen (Some file) is =
     ap (λ x. start ((seen_in world).holds file) ++ x) (refines groups seen world (version_in (seen_in world) file) (record { sound = sound; leads = λ _. is; matches = refl }))
 
-no_world : Sound empty_world
-no_world = record { known = λ name file is. absurd (cc); one = λ name other file is also. absurd (cc) }
-
 text_of_singles : (start : List ℕ → List ℕ) (by_name : Bool) (name : List ℕ) (first : List Edit) (groups : List (List Edit)) → AllSeen groups → AreKept (entries_of by_name name (snapshots_of (first ∷ groups)))
     → name_text start (entries_of by_name name (snapshots_of (first ∷ groups))) ≡ gains_after start [] (entries_of by_name name (snapshots_of (first ∷ singles (all_edits groups))))
 text_of_singles start by_name name first groups seen kept =
     text_is_gains start (entries_of by_name name (snapshots_of (first ∷ groups))) kept
-    ∙ from_first start by_name name groups (sound_all empty_world first no_world) seen (led_to (edited_by first empty_world).links name) refl
+    ∙ from_first start by_name name groups (sound_all empty_world first
+    (record { known = λ name file is. absurd (cc); one = λ name other file is also. absurd (cc) })) seen (led_to (edited_by first empty_world).links name) refl
 
 -- Two placings of looks give the same text.
 pub agree : (start : List ℕ → List ℕ) (by_name : Bool) (name : List ℕ) (first : List Edit) (one other : List (List Edit)) → Agree start by_name name first one other
