@@ -179,10 +179,6 @@ stays_now {by_name} {name} last {world} sound = record {
   by true is = (look_leaves true name (file_of last) (seen_in world) last).file
   by false is = absurd (false≢true is)
 
--- one look, and then the others
-gained_first : (by_name : Bool) (name : List ℕ) (last : Entry) (snapshot : Snapshot) (looks : List Snapshot) → gained by_name name last (snapshot ∷ looks) ≡ gains_later last (entries_at_look by_name name (file_of last) snapshot) ++ gained by_name name (last_seen by_name name last snapshot) looks
-gained_first by_name name last snapshot looks = grind (arith, common_steps)
-
 same_first : (by_name : Bool) (name : List ℕ) (last : Entry) (snapshot : Snapshot) (looks others : List Snapshot) → gained by_name name (last_seen by_name name last snapshot) looks ≡ gained by_name name (last_seen by_name name last snapshot) others → gained by_name name last (snapshot ∷ looks) ≡ gained by_name name last (snapshot ∷ others)
 same_first by_name name last snapshot looks others same = grind (arith, common_steps)
 

@@ -2,9 +2,9 @@
 use Rattle.std.proofs.lemmas.Grind.{common_steps}
 use Rattle.std.proofs.Common.{subst₂, ◌≡◌, ℕ, Bool, List, [], ◌∷◌, ◌++◌, inl, inr, ◌∙◌, ap, subst, ◌+◌, ◌<◌, length, take, true, false, not, if◌then◌else◌, Some, None, Option, refl, sym, arith, append_assoc, length-append, ◌-◌, ◌≤◌, drop, min, bytes_eq, is_none, option_map, suc, nat_lt, Result, Ok, Err, ◌==◌, zero, nat_le, IsTrue, map, IfOk, is_some}
 use Rattle.ports_core.specs.Slot.{Slot, with_written, with_broken, told_of, is_open, changed_at}
-use Rattle.ports_core.specs.Message.{Prints, Says, PrintsOn, SaysOn}
+use Rattle.ports_core.specs.Message.{Prints, Says, PrintsOn}
 use Rattle.ports_core.specs.declared.tool.Tool.TheVariants.{Tail}
-use Rattle.ports_core.proofs.MessageLemmas.{printed_open, said_state}
+use Rattle.ports_core.proofs.MessageLemmas.{printed_open}
 use Rattle.follow_core.specs.Sharing.{CameTo, WroteBy, CanPrint}
 use Rattle.follow_core.specs.Telling.{IsFailure, Tells, TellsAll}
 use Rattle.std.proofs.lemmas.List.{append-nil, take-append-le, take-append-drop, drop-drop as drop_drop, map-append}
@@ -22,8 +22,7 @@ use Rattle.follow_core.specs.declared.visitor.Stop.{Stop}
 use Rattle.follow_core.specs.Share.{IsFront}
 use Rattle.watch_core.specs.Watched.{GaveFrom, Watched, breaks, no_name, Finds, Reopens, is_readable, is_watchable, open_contents, opens, watched_at}
 use Rattle.follow_core.specs.declared.visitor.Stop.TheVariants.{Broke, Over}
-use Rattle.std.proofs.lemmas.Bool.{and_from, le-leb, le-ltb, false≢true, lt-ltb, eqb-true, eq-eqb}
-use Rattle.ports_core.specs.declared.tool.Tool.{Tool}
+use Rattle.std.proofs.lemmas.Bool.{le-leb, le-ltb, false≢true, eqb-true, eq-eqb}
 use Rattle.ports_core.proofs.InputsLemmas.{changed_elsewhere}
 use Rattle.ports_core.proofs.SlotLemmas.{length-changed_at, changed_there}
 use Rattle.follow_core.specs.inner.Visits.{KeepsOthers}
@@ -155,9 +154,6 @@ shared_after {opened} {printer} {name} {first} {second} {lines} {more} {over} on
 
 -- what is given of what is due
 
-front_more : {X : Type 0} (front : List X) {all : List X} (more : List X) → IsFront front all → IsFront front (all ++ more)
-front_more front more (rest, is) = (rest ++ more, ap (λ x. x ++ more) is ∙ append_assoc front rest more)
-
 given_after : {X : Type 0} {done first : List X} (given due : List X) (stop : Option Stop) → done ≡ first → IsGiven stop given due → IsGiven stop (done ++ given) (first ++ due)
 given_after given due None same is = λ i. same i ++ is i
 given_after {done} given due (Some stop) same (rest, is) = (rest, (λ i. sym same i ++ is i) ∙ sym (append_assoc done given rest))
@@ -260,17 +256,6 @@ pub cut_short : {told_in told : Bool} {printer after : PrinterState} {name all :
     → Ends told_in told false printer name (take n all) [] old after new (Some stop) → Ends told_in told false printer name all [] old after new (Some stop)
 cut_short {all} n ends = due_as (λ t. (take-append-drop n all, refl)) (stops_early (drop n all) [] ends)
 
--- all was copied
-pub copy_done : {told_in told : Bool} {printer after : PrinterState} {name : List ℕ} (contents : List ℕ) (from at : ℕ) {old new : List Slot}
-    → Ends told_in told false printer name (take (at - from) (drop from contents)) [] old after new None → (told_in ≡ true → length contents ≤ at)
-    → Ends told_in told false printer name (drop from contents) [] old after new None
-copy_done contents from at ends past = grind (arith, common_steps)
-
--- a read that gives nothing stands at the file's end
-pub nothing_left : (buffer : List ℕ) {room : ℕ} {told_in : Bool} {contents now_contents read_new : List ℕ} {at len n : ℕ} → contents ≡ now_contents → at < len → 0 < length buffer → room ≡ min (len - at) (length buffer) → n ≡ 0
-    → (told_in ≡ true → GaveFrom now_contents at (take room buffer) read_new n) → told_in ≡ true → length contents ≤ at
-nothing_left buffer {room} {told_in} {contents} {now_contents} {read_new} {at} {len} {n} same inner some is none gave t = grind (arith, common_steps)
-
 -- how the outputs can be used after a call
 
 use_after : (told : Bool) (text : List ℕ) (output error : Slot) (others new : List Slot) (stop : Option Stop)
@@ -288,14 +273,6 @@ ends_can {told} {old = output ∷ error ∷ others} {stop} ends can =
     let (last, said, came) = ends.shared.slots output error others refl in
     use_after told _ _ _ _ _ stop came (can.0, ap is_open (tells_state told ends.lines error last said) ∙ can.1)
 
--- both streams can be used on, whatever was said
-pub said_can : {told : Bool} {tool : Tool} {text : List ℕ} (old : List Slot) {new : List Slot} → SaysOn told tool text old new → CanPrint old → CanPrint new
-said_can [] says can = absurd (false≢true can.0)
-said_can (output ∷ []) says can = absurd (false≢true can.1)
-said_can {told} {tool} {text} (output ∷ error ∷ others) says can =
-    let (after, said, is) = says output error others refl in
-    subst CanPrint (sym is) (can.0, ap is_open (said_state told tool text error after said) ∙ can.1)
-
 -- there was no memory for a line
 pub untold : {told_in told : Bool} {printer : PrinterState} {name due : List ℕ} {lines : List (List ℕ)} {slots : List Slot} {why : Fault}
     → why ≡ fault.Memory → Ends told_in told false printer name due lines slots printer slots (Some (Over why))
@@ -308,13 +285,6 @@ tells {line} is prints = record { bytes = []; lines = line ∷ []; are = λ t. (
 
 pub no_line : (name : List ℕ) {position len : ℕ} → position ≤ len → [] ≡ lines_past name position len
 no_line name {position} {len} few = sym (ap (λ t. if t then notice_of Truncated name ∷ [] else []) (le-ltb len position few))
-
-pub line_due : (name : List ℕ) {position len : ℕ} → len < position → notice_of Truncated name ∷ [] ≡ lines_past name position len
-line_due name {position} {len} less = ap (λ t. if t then notice_of Truncated name ∷ [] else []) (sym (lt-ltb len position less))
-
--- what is found is where the name leads
-pub found_led : (snapshot : Snapshot) {name : List ℕ} {found : Option Seen} → Finds snapshot name found → option_map (λ (file : Seen). file.id) found ≡ snapshot.leads name
-found_led snapshot {name} is = grind (arith, common_steps)
 
 pub opens_same : (names : List Watched) (place : ℕ) → changed_at place (opens (watched_at names place).opened) names ≡ names
 opens_same [] place = refl
@@ -409,9 +379,6 @@ caught name snapshot (version v) {file} stands long =
           × ((if test then notice_of Truncated name ∷ [] else []) ≡ map (λ notice. notice_of notice name) ((if not test then [] else Truncated ∷ []) ++ []))
       by true = (sym (append-nil _), refl)
       by false = (sym (append-nil _), refl)
-
-pub readable_open : (names : List Watched) (place : ℕ) {id : ℕ} → (watched_at names place).opened ≡ Some id → IsTrue (is_watchable names place) → IsTrue (is_readable names place)
-readable_open names place some can = and_from (is_some (watched_at names place).opened) (is_watchable names place) (ap is_some some) can
 
 module _ {told_in told : Bool} {name : List ℕ} {opened : Option ℕ} {position : ℕ} {printer : PrinterState} {slots : List Slot} where
   -- a call failed before anything was given

@@ -2,7 +2,7 @@
 use Rattle.std.proofs.lemmas.Grind.{common_steps}
 use Rattle.std.proofs.Common.{◌≡◌, ℕ, ◌+◌, ◌-◌, ◌<◌, ◌≤◌, List, [], ◌++◌, length, take, drop, Bool, true, refl, sym, ◌∙◌, ap, arith, ◌==◌, zero, suc, false, ◌∷◌, length-append, if◌then◌else◌, min}
 use Rattle.std.proofs.Math.Seq.{take-add, take-append-add}
-use Rattle.std.proofs.lemmas.List.{length-take, length-drop, append-nil, drop-drop, take-append-drop, take_all, take-take, drop_at, drop-append-le, drop-take}
+use Rattle.std.proofs.lemmas.List.{length-take, length-drop, drop-drop, take-append-drop, take-take, drop_at, drop-append-le, drop-take}
 use Rattle.std.proofs.lemmas.Slice.{take-put_mid}
 use borrow.Rule.Slice.PartMut.{put_mid}
 use Rattle.watch_core.specs.Snapshot.{Snapshot, latest}
@@ -48,14 +48,6 @@ pub fill_more : {told_in : Bool} {contents now_contents : List ℕ} {from filled
     → (told_in ≡ true → GaveFrom now_contents (from + filled) (take (length now - filled) (drop filled now)) read_new n) → seen_new ≡ seen_now → watched_new ≡ watched_now
     → Filling told_in contents from (filled + n) old (put_mid filled (length now - filled) now read_new) seen_old seen_new watched_old watched_new
 fill_more {contents} {from} {filled} {n} {now} {read_new} f same less long wide few gave seen watched = grind (arith, common_steps, room_of, more_bytes)
-
--- nothing stands after the first bytes, so that more are the same
-no_more : {filled size : ℕ} (x : List ℕ) → drop filled x ≡ [] → filled ≤ size → take filled x ≡ take size x
-no_more {filled} {size} x none few =
-    let all : take filled x ≡ x = sym (append-nil (take filled x)) ∙ ap (λ rest. take filled x ++ rest) (sym none) ∙ take-append-drop filled x in
-    let size_of : length (take filled x) ≡ min filled (length x) = length-take filled x in
-    let same : length (take filled x) ≡ length x = ap length all in
-    all ∙ sym (take_all size x (omega (arith, size_of, same, few)))
 
 -- a read that gives none stands at the file's end
 pub fill_ends : {told_in : Bool} {contents now_contents : List ℕ} {from filled : ℕ} {old now read_new : List ℕ} {seen_old seen_now : List Snapshot} {watched_old watched_now : List Watched}
