@@ -1,20 +1,21 @@
 -- That looks don't matter.
+use Rattle.std.proofs.lemmas.Grind.{common_steps}
 use Rattle.std.proofs.Math.Seq.{drop-append_seam as drop_front}
 use Rattle.std.proofs.Common.{◌≡◌, ℕ, ◌+◌, nat_le, Bool, true, false, ◌&&◌, List, [], ◌∷◌, ◌++◌, length, drop, Some, refl, sym, ◌∙◌, ap, arith, append_assoc, length-append, if◌then◌else◌, ◌⊎◌, inl, inr, ◌<◌, take, Option, None, subst, bytes_eq}
 use Rattle.std.proofs.lemmas.List.{append-nil, get_or_append_left}
 use Rattle.std.proofs.lemmas.Bool.{eq-eqb, le-leb, false≢true}
 use Rattle.ports_core.specs.Part.{IsBeginning}
 use Rattle.watch_core.specs.Snapshot.{Snapshot}
-use Rattle.follow_core.specs.Version.{Version, Entry, version, gap, version_in, entries_led, entries_later, is_file, entries_at_look, entries_of, open_after_look}
+use Rattle.follow_core.specs.Version.{Version, Entry, version, gap, version_in, entries_led, entries_later, is_file, entries_at_look, entries_of}
 use Rattle.follow_core.specs.Gain.{file_of, gain_between, gains_later, last_from, gains_after}
 use Rattle.std.proofs.lemmas.Slice.Eq.{bytes_eq-Decides}
 use Rattle.ports_core.proofs.InputsLemmas.{changed_elsewhere}
 use Rattle.ports_core.proofs.SlotLemmas.{length-changed_at}
 use Rattle.ports_core.proofs.PartLemmas.{begins_itself, begins_trans}
-use Rattle.watch_core.specs.Edits.{Edit, append, truncate, replace, remove, World, empty_world, led_to, with_file, edited, edited_by, seen_in, snapshots_from, snapshots_of}
+use Rattle.watch_core.specs.Edits.{Edit, append, truncate, replace, remove, World, led_to, with_file, edited, edited_by, seen_in, snapshots_from, snapshots_of}
 use Rattle.follow_core.specs.Run.{AreKept, name_text}
 use Rattle.follow_core.specs.Placing.{all_edits, IsUncut, AreSeen, AllSeen, Agree}
-use Rattle.follow_core.proofs.RunLemmas.{text_is_gains, later-append as gains-append}
+use Rattle.follow_core.proofs.RunLemmas.{text_is_gains}
 use Rattle.follow_core.proofs.LookLemmas.{look_leaves}
 use Rattle.watch_core.proofs.WorldLemmas.{append_leads, append_grows}
 
@@ -178,24 +179,14 @@ stays_now {by_name} {name} last {world} sound = record {
   by true is = (look_leaves true name (file_of last) (seen_in world) last).file
   by false is = absurd (false≢true is)
 
--- one look, and then the others
-gained_first : (by_name : Bool) (name : List ℕ) (last : Entry) (snapshot : Snapshot) (looks : List Snapshot) → gained by_name name last (snapshot ∷ looks) ≡ gains_later last (entries_at_look by_name name (file_of last) snapshot) ++ gained by_name name (last_seen by_name name last snapshot) looks
-gained_first by_name name last snapshot looks =
-    gains-append last (entries_at_look by_name name (file_of last) snapshot) (entries_later by_name name (open_after_look by_name name (file_of last) snapshot) looks)
-    ∙ ap (λ opened. gains_later last (entries_at_look by_name name (file_of last) snapshot) ++ gains_later (last_seen by_name name last snapshot) (entries_later by_name name opened looks)) (look_leaves by_name name (file_of last) snapshot last).file
-
 same_first : (by_name : Bool) (name : List ℕ) (last : Entry) (snapshot : Snapshot) (looks others : List Snapshot) → gained by_name name (last_seen by_name name last snapshot) looks ≡ gained by_name name (last_seen by_name name last snapshot) others → gained by_name name last (snapshot ∷ looks) ≡ gained by_name name last (snapshot ∷ others)
-same_first by_name name last snapshot looks others same =
-    gained_first by_name name last snapshot looks ∙ ap (λ x. gains_later last (entries_at_look by_name name (file_of last) snapshot) ++ x) same ∙ sym (gained_first by_name name last snapshot others)
+same_first by_name name last snapshot looks others same = grind (arith, common_steps)
 
 idle_look : (by_name : Bool) {name : List ℕ} (last : Entry) {world : World} (looks : List Snapshot) → Stays by_name name world last → gained by_name name last (seen_in world ∷ looks) ≡ gained by_name name last looks
 idle_look false gap looks stays = refl
-idle_look true {name} gap {world} looks stays = ap (λ led. gains_later gap (entries_led (seen_in world) None led ++ entries_later true name led looks)) (stays.leads refl)
+idle_look true {name} gap {world} looks stays = grind (arith, common_steps)
 idle_look false {name} (version v) {world} looks stays = still (seen_in world) (entries_later false name (Some v.file) looks) stays.matches
-idle_look true {name} (version v) {world} looks stays =
-    ap (λ led. gains_later (version v) ((version_in (seen_in world) v.file ∷ entries_led (seen_in world) (Some v.file) led) ++ entries_later true name led looks)) (stays.leads refl)
-    ∙ ap (λ entries. gains_later (version v) ((version_in (seen_in world) v.file ∷ entries) ++ entries_later true name (Some v.file) looks)) (led_same (seen_in world) v.file)
-    ∙ still (seen_in world) (entries_later true name (Some v.file) looks) stays.matches
+idle_look true {name} (version v) {world} looks stays = grind (arith, common_steps)
 
 -- a look after each edit
 abbrev singles : List Edit → List (List Edit)
@@ -207,8 +198,7 @@ Refines by_name name groups = (world : World) (last : Entry) → Stays by_name n
 
 one_group : {by_name : Bool} {name : List ℕ} (group : List Edit) (groups : List (List Edit)) → AreSeen group → Refines by_name name groups → Refines by_name name (group ∷ groups)
 one_group {by_name} [] groups seen rest world last stays = idle_look by_name last _ stays ∙ rest world last stays
-one_group {by_name} {name} (edit ∷ []) groups seen rest world last stays =
-    same_first by_name name last (seen_in (edited edit world)) _ _ (rest (edited edit world) _ (stays_now last (sound_edited edit stays.sound)))
+one_group {by_name} {name} (edit ∷ []) groups seen rest world last stays = grind (arith, common_steps, same_first, stays_now, sound_edited)
 one_group {by_name} {name} (append other bytes ∷ next ∷ edits) groups seen rest world last stays =
     sym (one_look_more by_name last (seen_in (edited (append other bytes) world)) (seen_in (edited_by (next ∷ edits) (edited (append other bytes) world))) (snapshots_from (edited_by (next ∷ edits) (edited (append other bytes) world)) groups) (λ is. append_leads world other bytes name ∙ stays.leads is) grows)
     ∙ same_first by_name name last (seen_in (edited (append other bytes) world)) (snapshots_from (edited (append other bytes) world) ((next ∷ edits) ∷ groups)) (snapshots_from (edited (append other bytes) world) (singles (all_edits ((next ∷ edits) ∷ groups)))) (one_group (next ∷ edits) groups seen.1 rest (edited (append other bytes) world) _ (stays_now last (sound_edited (append other bytes) stays.sound))) where
@@ -230,21 +220,12 @@ from_first : (start : List ℕ → List ℕ) (by_name : Bool) (name : List ℕ) 
     → gains_after start [] (entries_led (seen_in world) None led ++ entries_later by_name name led (snapshots_from world groups))
     ≡ gains_after start [] (entries_led (seen_in world) None led ++ entries_later by_name name led (snapshots_from world (singles (all_edits groups))))
 from_first start by_name name {world} groups sound seen None is = refines groups seen world gap (record { sound = sound; leads = λ _. is; matches = tt })
-from_first start by_name name {world} groups sound seen (Some file) is =
-    ap (λ x. start ((seen_in world).holds file) ++ x) (refines groups seen world (version_in (seen_in world) file) (record { sound = sound; leads = λ _. is; matches = refl }))
-
-no_world : Sound empty_world
-no_world = record { known = λ name file is. absurd (cc); one = λ name other file is also. absurd (cc) }
+from_first start by_name name {world} groups sound seen (Some file) is = grind (arith, common_steps, refines)
 
 text_of_singles : (start : List ℕ → List ℕ) (by_name : Bool) (name : List ℕ) (first : List Edit) (groups : List (List Edit)) → AllSeen groups → AreKept (entries_of by_name name (snapshots_of (first ∷ groups)))
     → name_text start (entries_of by_name name (snapshots_of (first ∷ groups))) ≡ gains_after start [] (entries_of by_name name (snapshots_of (first ∷ singles (all_edits groups))))
-text_of_singles start by_name name first groups seen kept =
-    text_is_gains start (entries_of by_name name (snapshots_of (first ∷ groups))) kept
-    ∙ from_first start by_name name groups (sound_all empty_world first no_world) seen (led_to (edited_by first empty_world).links name) refl
+text_of_singles start by_name name first groups seen kept = grind (arith, common_steps, text_is_gains, from_first, sound_all)
 
 -- Two placings of looks give the same text.
 pub agree : (start : List ℕ → List ℕ) (by_name : Bool) (name : List ℕ) (first : List Edit) (one other : List (List Edit)) → Agree start by_name name first one other
-agree start by_name name first one other seen_one seen_other same kept_one kept_other =
-    text_of_singles start by_name name first one seen_one kept_one
-    ∙ ap (λ edits. gains_after start [] (entries_of by_name name (snapshots_of (first ∷ singles edits)))) same
-    ∙ sym (text_of_singles start by_name name first other seen_other kept_other)
+agree start by_name name first one other seen_one seen_other same kept_one kept_other = grind (arith, common_steps, text_of_singles)

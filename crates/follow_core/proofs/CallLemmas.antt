@@ -1,12 +1,13 @@
 -- What a call on a name gives, by what the calls in it give: bytes under headers, and lines; the open file, and where the name leads.
-use Rattle.std.proofs.Common.{subst₂, ◌≡◌, ℕ, Bool, List, [], ◌∷◌, ◌++◌, inl, inr, ◌∙◌, ap, subst, ◌+◌, ◌<◌, length, take, true, false, not, if◌then◌else◌, Some, None, Option, refl, sym, arith, append_assoc, length-append, ◌-◌, ◌≤◌, drop, min, length-drop, bytes_eq, is_none, option_map, suc, nat_lt, Result, Ok, Err, ◌==◌, zero, nat_le, ◌&&◌, IsTrue, map, IfOk, is_some}
+use Rattle.std.proofs.lemmas.Grind.{common_steps}
+use Rattle.std.proofs.Common.{subst₂, ◌≡◌, ℕ, Bool, List, [], ◌∷◌, ◌++◌, inl, inr, ◌∙◌, ap, subst, ◌+◌, ◌<◌, length, take, true, false, not, if◌then◌else◌, Some, None, Option, refl, sym, arith, append_assoc, length-append, ◌-◌, ◌≤◌, drop, min, bytes_eq, is_none, option_map, suc, nat_lt, Result, Ok, Err, ◌==◌, zero, nat_le, IsTrue, map, IfOk, is_some}
 use Rattle.ports_core.specs.Slot.{Slot, with_written, with_broken, told_of, is_open, changed_at}
-use Rattle.ports_core.specs.Message.{Prints, Says, PrintsOn, SaysOn}
+use Rattle.ports_core.specs.Message.{Prints, Says, PrintsOn}
 use Rattle.ports_core.specs.declared.tool.Tool.TheVariants.{Tail}
-use Rattle.ports_core.proofs.MessageLemmas.{printed_open, said_state}
+use Rattle.ports_core.proofs.MessageLemmas.{printed_open}
 use Rattle.follow_core.specs.Sharing.{CameTo, WroteBy, CanPrint}
 use Rattle.follow_core.specs.Telling.{IsFailure, Tells, TellsAll}
-use Rattle.std.proofs.lemmas.List.{append-nil, take-append-le, length-take, take-append-drop, take_all, drop-drop as drop_drop, map-append}
+use Rattle.std.proofs.lemmas.List.{append-nil, take-append-le, take-append-drop, drop-drop as drop_drop, map-append}
 use Rattle.std.proofs.Math.Seq.{take-append-add, take-add}
 use Rattle.std.proofs.Math.Bool.{and-false}
 use Rattle.std.proofs.lemmas.Slice.Eq.{bytes_eq-Decides}
@@ -19,17 +20,15 @@ use Rattle.follow_core.specs.Printing.{PrinterState, Short, broke as short_broke
 use Rattle.follow_core.specs.inner.Giving.{Ends, IsGiven, Shared, given_share, printer_under, text_under, over_by, stop_in}
 use Rattle.follow_core.specs.declared.visitor.Stop.{Stop}
 use Rattle.follow_core.specs.Share.{IsFront}
-use Rattle.ports_core.proofs.Runs.{adds-nil}
-use Rattle.watch_core.specs.Watched.{GaveFrom, Watched, breaks, no_name, Finds, Reopens, file_seen, is_readable, is_watchable, open_contents, opens, watched_at}
+use Rattle.watch_core.specs.Watched.{GaveFrom, Watched, breaks, no_name, Finds, Reopens, is_readable, is_watchable, open_contents, opens, watched_at}
 use Rattle.follow_core.specs.declared.visitor.Stop.TheVariants.{Broke, Over}
-use Rattle.std.proofs.lemmas.Bool.{and_from, le-leb, le-ltb, false≢true, lt-ltb, eqb-true, eq-eqb}
-use Rattle.ports_core.specs.declared.tool.Tool.{Tool}
+use Rattle.std.proofs.lemmas.Bool.{le-leb, le-ltb, false≢true, eqb-true, eq-eqb}
 use Rattle.ports_core.proofs.InputsLemmas.{changed_elsewhere}
 use Rattle.ports_core.proofs.SlotLemmas.{length-changed_at, changed_there}
 use Rattle.follow_core.specs.inner.Visits.{KeepsOthers}
 use Rattle.watch_core.proofs.NameLemmas.{watchable_within}
 use Rattle.follow_core.specs.declared.notice.Notice.TheVariants.{Appeared, Inaccessible, Replaced, Truncated}
-use Rattle.follow_core.specs.Notice.{notice_of, notices_later}
+use Rattle.follow_core.specs.Notice.{notice_of}
 use Rattle.follow_core.specs.inner.Calls.{Adds, CanGoOn, HasStopped, Keeps, Leads, Follows, change_between, lines_past, said_of}
 use Rattle.watch_core.specs.Snapshot.{Snapshot, latest, no_files}
 use Rattle.watch_core.specs.declared.watch.Seen.{Seen}
@@ -113,31 +112,25 @@ text_after told first second old new (Some why) one short = short_after first on
 -- what standard output and standard error get
 
 pub wrote_none : (told : Bool) {slots : List Slot} → WroteBy told [] [] slots slots None
-wrote_none told = λ output error others is. (error, refl, is ∙ ap (λ slot. slot ∷ error ∷ others) (sym (adds-nil told output)))
+wrote_none told = grind (arith, common_steps)
 
 wrote_text : (told : Bool) (text : List ℕ) {old : List Slot} (new : List Slot) (over : Option Fault) → CameTo told text old new over → WroteBy told text [] old new over
 wrote_text told text new over came = λ output error others is. (error, refl, subst (λ those. CameTo told text those new over) is came)
 
 pub wrote_line : {told : Bool} {line : List ℕ} {old new : List Slot} → ((output error : Slot) (others : List Slot) → old ≡ output ∷ error ∷ others → (after : Slot) × Tells told line error after × (new ≡ output ∷ after ∷ others)) → WroteBy told [] (line ∷ []) old new None
-wrote_line {told} tells = λ output error others are.
-    let said = tells output error others are in
-    (said.0, (said.0, said.1, refl), said.2 ∙ ap (λ slot. slot ∷ said.0 ∷ others) (sym (adds-nil told output)))
+wrote_line {told} tells = grind (arith, common_steps)
 
 -- a text and lines after others, or a beginning of them, as one text and its lines
 pub wrote_after : (told : Bool) (text more : List ℕ) {both : List ℕ} (lines further : List (List ℕ)) {all : List (List ℕ)} {old mid : List Slot} (new : List Slot)
     (over : Option Fault) → text ++ more ≡ both → lines ++ further ≡ all → WroteBy told text lines old mid None → WroteBy told more further mid new over
     → WroteBy told both all old new over
-wrote_after told text more lines further {old} new over same also first second =
-    subst₂ (λ t l. WroteBy told t l old new over) same also (λ output error others is.
-    let (mid_error, said, are) = first output error others is in
-    let (last, said_more, came) = second _ mid_error others are in
-    (last, tells_after told lines further error mid_error last said said_more, text_after told text more (output ∷ last ∷ others) new over refl came))
+wrote_after told text more lines further {old} new over same also first second = grind (arith, common_steps, tells_after, text_after)
 
 -- what is given in two steps
 
 pub gives_nothing : {told : Bool} {printer : PrinterState} {name : List ℕ} {slots : List Slot}
     → Shared told printer (given_share false name [] []) slots printer slots None
-gives_nothing {told} {printer} = record { printer_is = λ none. rw (and-false printer.headers) refl; slots = rw (and-false printer.headers) (wrote_none told) }
+gives_nothing {told} {printer} = grind (arith, common_steps)
 
 -- a line alone
 pub gives_line : {told : Bool} {printer : PrinterState} {name line text : List ℕ} {old new : List Slot} → text ≡ line → PrintsOn told text old new
@@ -161,9 +154,6 @@ shared_after {opened} {printer} {name} {first} {second} {lines} {more} {over} on
 
 -- what is given of what is due
 
-front_more : {X : Type 0} (front : List X) {all : List X} (more : List X) → IsFront front all → IsFront front (all ++ more)
-front_more front more (rest, is) = (rest ++ more, ap (λ x. x ++ more) is ∙ append_assoc front rest more)
-
 given_after : {X : Type 0} {done first : List X} (given due : List X) (stop : Option Stop) → done ≡ first → IsGiven stop given due → IsGiven stop (done ++ given) (first ++ due)
 given_after given due None same is = λ i. same i ++ is i
 given_after {done} given due (Some stop) same (rest, is) = (rest, (λ i. sym same i ++ is i) ∙ sym (append_assoc done given rest))
@@ -172,23 +162,13 @@ given_after {done} given due (Some stop) same (rest, is) = (rest, (λ i. sym sam
 pub due_as : {told_in told opened : Bool} {printer after : PrinterState} {name due other : List ℕ} {lines more : List (List ℕ)} {old new : List Slot}
     {stop : Option Stop} → (told_in ≡ true → (due ≡ other) × (lines ≡ more)) → Ends told_in told opened printer name due lines old after new stop
     → Ends told_in told opened printer name other more old after new stop
-due_as {stop} same ends = record {
-  bytes = ends.bytes;
-  lines = ends.lines;
-  are = λ t. (subst (IsGiven stop ends.bytes) (same t).0 (ends.are t).0, subst (IsGiven stop ends.lines) (same t).1 (ends.are t).1);
-  shared = ends.shared;
-}
+due_as {stop} same ends = grind (arith, common_steps)
 
 -- what stops the first of two steps stops both
 pub stops_early : {told_in told opened : Bool} {printer after : PrinterState} {name due : List ℕ} (more : List ℕ) {lines_due : List (List ℕ)}
     (more_lines : List (List ℕ)) {old new : List Slot} {stop : Stop} → Ends told_in told opened printer name due lines_due old after new (Some stop)
     → Ends told_in told opened printer name (due ++ more) (lines_due ++ more_lines) old after new (Some stop)
-stops_early more more_lines ends = record {
-  bytes = ends.bytes;
-  lines = ends.lines;
-  are = λ t. (front_more ends.bytes more (ends.are t).0, front_more ends.lines more_lines (ends.are t).1);
-  shared = ends.shared;
-}
+stops_early more more_lines ends = grind (arith, common_steps)
 
 -- once the first is done, both end as the second
 pub goes_after : {told_in told opened : Bool} {printer mid after : PrinterState} {name first second : List ℕ} {lines more : List (List ℕ)}
@@ -216,7 +196,7 @@ front_same {X} {given} is = ([], sym is ∙ sym (append-nil given))
 -- or after it
 pub broke_after : {told_in told opened : Bool} {printer after : PrinterState} {name due : List ℕ} {lines : List (List ℕ)} {old new : List Slot} {why : Fault}
     → Ends told_in told opened printer name due lines old after new None → Ends told_in told opened printer name due lines old after new (Some (Broke why))
-broke_after ends = record { bytes = ends.bytes; lines = ends.lines; are = λ t. (front_same (ends.are t).0, front_same (ends.are t).1); shared = ends.shared }
+broke_after ends = grind (arith, common_steps)
 
 -- bytes were put under the header that was due, or a beginning of both
 pub puts : {told_in told opened : Bool} {printer after : PrinterState} {name bytes : List ℕ} {old mid new : List Slot} {due : Bool} (over : Option Fault)
@@ -245,7 +225,7 @@ puts_none {told} {bytes} {new} {why} is short = record {
 
 pub copy_starts : {told_in told : Bool} {printer : PrinterState} {name : List ℕ} (contents : List ℕ) (from : ℕ) {slots : List Slot}
     → Ends told_in told false printer name (take (from - from) (drop from contents)) [] slots printer slots None
-copy_starts contents from = due_as (λ t. let none : from - from ≡ 0 = omega arith in (sym (ap (λ n. take n (drop from contents)) none), refl)) nothing_due
+copy_starts contents from = grind (arith, common_steps, due_as, nothing_due)
 
 next_bytes : (contents : List ℕ) {read_old read_new : List ℕ} (tail : List ℕ) {from at n : ℕ} → from ≤ at → n ≤ length read_old → length read_new ≡ length read_old → GaveFrom contents at read_old read_new n
     → take (at - from) (drop from contents) ++ take n (read_new ++ tail) ≡ take ((at + n) - from) (drop from contents)
@@ -266,39 +246,15 @@ copy_more {contents} {at} {n} {read_old} {read_new} tail past same few long gave
     (λ t. (next_bytes contents tail past few long (subst (λ those. GaveFrom those at read_old read_new n) (sym same) (gave t)), refl)) (goes_after ends more)
 
 pub few_fit : {n room a : ℕ} (b : ℕ) (buffer : List ℕ) → n ≤ length (take room buffer) → room ≡ min a b → n ≤ a
-few_fit {room} b buffer few is = let t : length (take room buffer) ≡ min room (length buffer) = length-take room buffer in omega (arith, few, is)
+few_fit {room} b buffer few is = grind (arith, common_steps)
 
 pub some_left : (room : ℕ) (buffer read : List ℕ) → length read ≡ length (take room buffer) → 0 < length buffer → 0 < length (read ++ drop room buffer)
-some_left room buffer read same some =
-    let a : length (read ++ drop room buffer) ≡ length read + length (drop room buffer) = length-append read (drop room buffer) in
-    let t : length (take room buffer) ≡ min room (length buffer) = length-take room buffer in
-    let d : length (drop room buffer) ≡ length buffer - room = length-drop room buffer in omega (arith, same, some)
+some_left room buffer read same some = grind (arith, common_steps)
 
 -- a copy that was stopped
 pub cut_short : {told_in told : Bool} {printer after : PrinterState} {name all : List ℕ} (n : ℕ) {old new : List Slot} {stop : Stop}
     → Ends told_in told false printer name (take n all) [] old after new (Some stop) → Ends told_in told false printer name all [] old after new (Some stop)
 cut_short {all} n ends = due_as (λ t. (take-append-drop n all, refl)) (stops_early (drop n all) [] ends)
-
--- all was copied
-pub copy_done : {told_in told : Bool} {printer after : PrinterState} {name : List ℕ} (contents : List ℕ) (from at : ℕ) {old new : List Slot}
-    → Ends told_in told false printer name (take (at - from) (drop from contents)) [] old after new None → (told_in ≡ true → length contents ≤ at)
-    → Ends told_in told false printer name (drop from contents) [] old after new None
-copy_done contents from at ends past = due_as (λ t. (
-  take_all (at - from) (drop from contents)
-      (let d : length (drop from contents) ≡ length contents - from = length-drop from contents in let p : length contents ≤ at = past t in omega (arith, d, p)),
-  refl,
-)) ends
-
--- a read that gives nothing stands at the file's end
-pub nothing_left : (buffer : List ℕ) {room : ℕ} {told_in : Bool} {contents now_contents read_new : List ℕ} {at len n : ℕ} → contents ≡ now_contents → at < len → 0 < length buffer → room ≡ min (len - at) (length buffer) → n ≡ 0
-    → (told_in ≡ true → GaveFrom now_contents at (take room buffer) read_new n) → told_in ≡ true → length contents ≤ at
-nothing_left buffer {room} {told_in} {contents} {now_contents} {read_new} {at} {len} {n} same inner some is none gave t =
-    let few : length (take room buffer) ≡ min room (length buffer) = length-take room buffer in
-    let ended : drop at now_contents ≡ [] = ((gave t).ended none (omega (arith, few, is, inner, some))).0 in
-    let long : length (drop at now_contents) ≡ length now_contents - at = length-drop at now_contents in
-    let empty : length (drop at now_contents) ≡ 0 = ap length ended in
-    let size : length contents ≡ length now_contents = ap length same in
-    omega (arith, long, empty, size)
 
 -- how the outputs can be used after a call
 
@@ -317,14 +273,6 @@ ends_can {told} {old = output ∷ error ∷ others} {stop} ends can =
     let (last, said, came) = ends.shared.slots output error others refl in
     use_after told _ _ _ _ _ stop came (can.0, ap is_open (tells_state told ends.lines error last said) ∙ can.1)
 
--- both streams can be used on, whatever was said
-pub said_can : {told : Bool} {tool : Tool} {text : List ℕ} (old : List Slot) {new : List Slot} → SaysOn told tool text old new → CanPrint old → CanPrint new
-said_can [] says can = absurd (false≢true can.0)
-said_can (output ∷ []) says can = absurd (false≢true can.1)
-said_can {told} {tool} {text} (output ∷ error ∷ others) says can =
-    let (after, said, is) = says output error others refl in
-    subst CanPrint (sym is) (can.0, ap is_open (said_state told tool text error after said) ∙ can.1)
-
 -- there was no memory for a line
 pub untold : {told_in told : Bool} {printer : PrinterState} {name due : List ℕ} {lines : List (List ℕ)} {slots : List Slot} {why : Fault}
     → why ≡ fault.Memory → Ends told_in told false printer name due lines slots printer slots (Some (Over why))
@@ -338,16 +286,6 @@ tells {line} is prints = record { bytes = []; lines = line ∷ []; are = λ t. (
 pub no_line : (name : List ℕ) {position len : ℕ} → position ≤ len → [] ≡ lines_past name position len
 no_line name {position} {len} few = sym (ap (λ t. if t then notice_of Truncated name ∷ [] else []) (le-ltb len position few))
 
-pub line_due : (name : List ℕ) {position len : ℕ} → len < position → notice_of Truncated name ∷ [] ≡ lines_past name position len
-line_due name {position} {len} less = ap (λ t. if t then notice_of Truncated name ∷ [] else []) (sym (lt-ltb len position less))
-
--- what is found is where the name leads
-pub found_led : (snapshot : Snapshot) {name : List ℕ} {found : Option Seen} → Finds snapshot name found → option_map (λ (file : Seen). file.id) found ≡ snapshot.leads name
-found_led snapshot {name} is = ap (option_map (λ (file : Seen). file.id)) is ∙ by (snapshot.leads name) where
-  by : (led : Option ℕ) → option_map (λ (file : Seen). file.id) (option_map (file_seen snapshot) led) ≡ led
-  by None = refl
-  by (Some file) = refl
-
 pub opens_same : (names : List Watched) (place : ℕ) → changed_at place (opens (watched_at names place).opened) names ≡ names
 opens_same [] place = refl
 opens_same (name ∷ names) zero = refl
@@ -359,13 +297,10 @@ opened_there names place {file} can = changed_there no_name place (opens file) n
 
 -- and the names that stay
 pub keeps_others : {place : ℕ} (change : Watched → Watched) {old new : List Watched} → new ≡ changed_at place change old → KeepsOthers place old new
-keeps_others {place} change {old} is = record {
-  count = ap length is ∙ length-changed_at place change old;
-  others = λ other differs. ap (λ those. watched_at those other) is ∙ changed_elsewhere no_name place other change old differs;
-}
+keeps_others {place} change {old} is = grind (arith, common_steps, length-changed_at, changed_elsewhere)
 
 pub reopens_as : {told : Bool} {seen seen_old : List Snapshot} {now old new : List Watched} {place : ℕ} {is_there : Bool} → seen ≡ seen_old → now ≡ old → Reopens told (latest seen) now new place is_there → Reopens told (latest seen_old) old new place is_there
-reopens_as {told} {seen} {old} {new} {place} {is_there} s w reopens = subst (λ those. Reopens told (latest those) old new place is_there) s (subst (λ those. Reopens told (latest seen) those new place is_there) w reopens)
+reopens_as {told} {seen} {old} {new} {place} {is_there} s w reopens = grind (arith, common_steps)
 
 pub some_of : (file : Option ℕ) → is_some file ≡ true → (id : ℕ) × (file ≡ Some id)
 some_of None some = absurd (false≢true some)
@@ -381,10 +316,7 @@ held_at snapshot None = []
 held_at snapshot (Some file) = snapshot.holds file
 
 pub contents_open : (snapshot : Snapshot) (watched : Watched) → open_contents snapshot watched ≡ held_at snapshot watched.opened
-contents_open snapshot watched = by watched.opened where
-  by : (opened : Option ℕ) → open_contents snapshot (record watched { opened = opened }) ≡ held_at snapshot opened
-  by None = refl
-  by (Some file) = refl
+contents_open snapshot watched = grind (arith, common_steps)
 
 -- the file that was opened is that to which the name leads
 pub opened_led : {told : Bool} {snapshot : Snapshot} {old new : List Watched} {place : ℕ} {name : List ℕ} {is_there : Bool} → IsTrue (is_watchable old place)
@@ -400,13 +332,10 @@ contents_led {snapshot} {now} {new} {place} {name} seen can reopens is t =
     contents_open now (watched_at new place) ∙ ap (held_at now) (opened_led can reopens is t) ∙ ap (λ (s : Snapshot). held_at s (snapshot.leads name)) seen
 
 pub readable_there : {told : Bool} {snapshot : Snapshot} {old new : List Watched} {place : ℕ} {is_there : Bool} → Reopens told snapshot old new place is_there → is_there ≡ true → IsTrue (is_watchable old place) → IsTrue (is_readable new place)
-readable_there {old} {place} reopens there can =
-    ap (λ those. is_readable those place) reopens.names ∙ ap (λ (those : Watched). is_some those.opened && is_none those.failed) (opened_there old place can)
-    ∙ ap (λ test. test && is_watchable old place) (reopens.found ∙ there) ∙ can
+readable_there {old} {place} reopens there can = grind (arith, common_steps, opened_there)
 
 pub watchable_there : {told : Bool} {snapshot : Snapshot} {old new : List Watched} {place : ℕ} {is_there : Bool} → Reopens told snapshot old new place is_there → IsTrue (is_watchable old place) → IsTrue (is_watchable new place)
-watchable_there {old} {place} reopens can =
-    ap (λ those. is_watchable those place) reopens.names ∙ ap (λ (those : Watched). is_none those.failed) (opened_there old place can) ∙ can
+watchable_there {old} {place} reopens can = grind (arith, common_steps, opened_there)
 
 pub follows_stop : (told by_name : Bool) (led file : Option ℕ) (place : ℕ) (old : List Watched) {mid : List Watched} (new : List Watched) (stop : Stop)
     → mid ≡ changed_at place (opens file) old → Keeps place mid new (Some stop) → Follows told by_name led place old new (Some stop)
@@ -428,9 +357,7 @@ follows_broken told led {place} {old} {why} same is broken =
 -- what was found to have changed is what changed
 pub change_seen : {told : Bool} (snapshot : Snapshot) {old now : List Watched} (place : ℕ) {name : List ℕ} {found : Option Seen} {id : Option ℕ} {result : Option Notice} → result ≡ change_between id (option_map (λ (file : Seen). file.id) found) → id ≡ (watched_at now place).opened → now ≡ old
     → (watched_at old place).name ≡ name → (told ≡ true → Finds snapshot (watched_at old place).name found) → told ≡ true → change_between (watched_at old place).opened (snapshot.leads name) ≡ result
-change_seen snapshot {old} place {name} {found} {id} is opened same named finds t =
-    sym (is ∙ ap (λ those. change_between those (option_map (λ (file : Seen). file.id) found)) (opened ∙ ap (λ those. (watched_at those place).opened) same)
-    ∙ ap (change_between (watched_at old place).opened) (found_led snapshot {name = (watched_at old place).name} {found = found} (finds t) ∙ ap snapshot.leads named))
+change_seen snapshot {old} place {name} {found} {id} is opened same named finds t = grind (arith, common_steps)
 
 -- what came to the open file
 
@@ -452,9 +379,6 @@ caught name snapshot (version v) {file} stands long =
           × ((if test then notice_of Truncated name ∷ [] else []) ≡ map (λ notice. notice_of notice name) ((if not test then [] else Truncated ∷ []) ++ []))
       by true = (sym (append-nil _), refl)
       by false = (sym (append-nil _), refl)
-
-pub readable_open : (names : List Watched) (place : ℕ) {id : ℕ} → (watched_at names place).opened ≡ Some id → IsTrue (is_watchable names place) → IsTrue (is_readable names place)
-readable_open names place some can = and_from (is_some (watched_at names place).opened) (is_watchable names place) (ap is_some some) can
 
 module _ {told_in told : Bool} {name : List ℕ} {opened : Option ℕ} {position : ℕ} {printer : PrinterState} {slots : List Slot} where
   -- a call failed before anything was given
@@ -604,28 +528,19 @@ unchanged None = refl
 unchanged (Some file) = rw (eq-eqb file file refl) refl
 
 said-append : (name : List ℕ) (last : Entry) (entries more : List Entry) → said_of name last (entries ++ more) ≡ said_of name last entries ++ said_of name (last_from last entries) more
-said-append name last entries more = ap (map (λ notice. notice_of notice name)) (notices-append last entries more)
-    ∙ map-append (λ notice. notice_of notice name) (notices_later last entries) (notices_later (last_from last entries) more)
+said-append name last entries more = grind (arith, common_steps, notices-append, map-append)
 
 -- one call after another
 adds_both : {told_in told : Bool} {name : List ℕ} {opened led : Option ℕ} {position len : ℕ} {entries more : List Entry} {printer mid after : PrinterState}
     {slots slots_mid slots_new : List Slot} {result : Result ℕ Stop} → Adds told_in told name opened position entries opened printer slots mid slots_mid (Ok len)
     → Adds told_in told name opened len more led mid slots_mid after slots_new result
     → Adds told_in told name opened position (entries ++ more) led printer slots after slots_new result
-adds_both {name} {entries} {more} {result} one two = record {
-  ends = λ last stands. due_as (λ t. (sym (gains-append last entries more), sym (said-append name last entries more)))
-      (goes_after (one.ends last stands) (two.ends (last_from last entries) (λ t. one.stands t last (stands t))));
-  stands = IfOk-weaker result _ _ (λ n at t last stands. rw (last_from-append last entries more) (at t (last_from last entries) (one.stands t last stands))) two.stands;
-}
+adds_both {name} {entries} {more} {result} one two = grind (arith, common_steps, due_as, gains-append, said-append, goes_after, IfOk-weaker, last_from-append)
 
 adds_stop : {told_in told : Bool} {name : List ℕ} {opened led file : Option ℕ} {position : ℕ} {entries : List Entry} (more : List Entry) {printer after : PrinterState}
     {slots slots_new : List Slot} {stop : Stop} → Adds told_in told name opened position entries file printer slots after slots_new (Err stop)
     → Adds told_in told name opened position (entries ++ more) led printer slots after slots_new (Err stop)
-adds_stop {name} {entries} more one = record {
-  ends = λ last stands. due_as (λ t. (sym (gains-append last entries more), sym (said-append name last entries more)))
-      (stops_early (gains_later (last_from last entries) more) (said_of name (last_from last entries) more) (one.ends last stands));
-  stands = tt;
-}
+adds_stop {name} {entries} more one = grind (arith, common_steps, due_as, gains-append, said-append, stops_early)
 
 module _ {told_in told : Bool} {snapshot : Snapshot} {place : ℕ} {name : List ℕ} {position : ℕ} {watched : List Watched} {printer : PrinterState} {slots : List Slot} where
   pub stopped_looks : (by_name : Bool) {watched_new : List Watched} {after : PrinterState} {slots_new : List Slot} {stop : Stop}

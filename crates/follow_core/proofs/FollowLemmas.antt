@@ -521,14 +521,6 @@ makes_all {told} {slots} begins same = makes_none
     (λ ways headers names looks first holds. subst (AreBroken ways looks names) (sym same) (broken_are (begins.holds told ways headers names looks first slots holds)))
     (λ number other. ap (λ those. watched_at those number) same ∙ (begins.others number other).1)
 
-abbrev pub as_made : Result Bool Fault → Result (Unit {0}) Fault
-as_made (Ok failed) = Ok tt
-as_made (Err why) = Err why
-
-abbrev pub or_failed : Bool → Result Bool Fault → Bool
-or_failed before (Ok failed) = before || failed
-or_failed before (Err why) = before
-
 -- the names were looked at, once they were watched and the watch saw what the files hold
 pub makes_look : {told_in told : Bool} {shows shows_mid : ℕ → Snapshot} {seen seen_mid seen_turned seen_new : List Snapshot} {old inside mid : FollowState} {names names_new names_now : List NameState} {watched watched_mid watched_turned watched_new : List Watched} {printer : PrinterState} {slots slots_new : List Slot} {result : Result Bool Fault} → (old.stage ≡ Over → ⊥) → CanLook old watched slots → inside ≡ mid
     → Begins told_in old watched mid watched_mid → shows_mid ≡ shows → seen_mid ≡ seen → seen_turned ≡ seen_mid ++ shows_mid (length seen_mid) ∷ []
@@ -536,7 +528,7 @@ pub makes_look : {told_in told : Bool} {shows shows_mid : ℕ → Snapshot} {see
     → VisitsAll told_in told (latest seen_turned) inside.by_name inside.start inside.first names watched_turned inside.printer slots names_now watched_new printer
     slots_new result
     → MakesLook told_in told (shows (length seen)) seen old watched slots seen_new
-    (record inside { names = names_new; printer = printer; has_failed = or_failed inside.has_failed result }) watched_new slots_new (as_made result)
+    (record inside { names = names_new; printer = printer }) watched_new slots_new result
 makes_look {told_in} {told} {shows} {shows_mid} {seen} {seen_mid} {seen_turned} {seen_new} {old} {inside} {names_new} {watched} {watched_mid} {watched_turned} {watched_new} {printer} {slots} {slots_new} {result} live can view begin shows_same seen_same turned watched_same names_are names_now seen_is visits =
     by result made where
       begins : Begins told_in old watched inside watched_mid
@@ -564,7 +556,7 @@ makes_look {told_in} {told} {shows} {shows_mid} {seen} {seen_mid} {seen_turned} 
           let (others, same) = begins.others number other in visits.others number (not_own inside watched_mid begins.stage others) ∙ same
 
       by : (result : Result Bool Fault) → Seen result → MakesLook told_in told snapshot seen old watched slots seen_new
-          (record inside { names = names_new; printer = printer; has_failed = or_failed inside.has_failed result }) watched_new slots_new (as_made result)
+          (record inside { names = names_new; printer = printer }) watched_new slots_new result
       by (Ok failed) visits = record {
         looked = λ ways headers names looks first holds. look_made begins.stage visits ways headers names looks first (begins.holds told ways headers names looks first slots holds);
         stopped = tt;
@@ -617,17 +609,6 @@ made_more {told_in} {ways} {names} {shows} {looks} look is before alive = record
       ap (λ m. is_alive ways names (take m (looks ++ look ∷ []))) at ∙ ap (is_alive ways names) (take-append_seam looks (look ∷ [])) ∙ alive t (subst (λ m. 0 < m) at above)
 
 module _ {told_in told : Bool} {ways : Ways} {headers : Bool} {names : List (List ℕ)} {shows : ℕ → Snapshot} {first : List Slot} where
-  pub none_made : {follow : FollowState} {seen : List Snapshot} {watched : List Watched} {slots : List Slot} → seen ≡ []
-      → Holds told_in told ways headers names [] first follow watched slots → Progress told_in told ways headers names shows first 0 true follow seen watched slots
-  none_made unseen holds = record {
-    looks = [];
-    count = refl;
-    observed = unseen;
-    is_made = record { saw = refl; alive = λ t n above below. absurd (omega arith) };
-    alive = λ t above. absurd (omega arith);
-    holds = holds;
-  }
-
   -- the next look sees what the watch shows then
   next_is : {made : ℕ} {now : ℕ → Snapshot} {going : Bool} {follow : FollowState} {seen : List Snapshot} {watched : List Watched} {slots : List Slot} → now ≡ shows
       → (p : Progress told_in told ways headers names shows first made going follow seen watched slots) → now (length seen) ≡ shows (length p.looks)

@@ -1,7 +1,8 @@
 -- A look at a name: what it gives, from where the looks before left it, what is told of it, and how it stands then.
+use Rattle.std.proofs.lemmas.Grind.{common_steps}
 use Rattle.follow_core.specs.Standing.{BrokeIn, StandsAt, CanVisit, IsFollowed, IsLeft, IsMissed, NameState, Stands}
 use Rattle.follow_core.proofs.CallLemmas.{held_at, none_of, gives_nothing, failure_said, wrote_after, wrote_line, keeps_others, opened_there, opens_same, LooksAgain, some_of, nothing_due}
-use Rattle.std.proofs.Common.{◌≡◌, ℕ, ◌==◌, Bool, true, false, List, [], ◌∷◌, ◌++◌, length, Option, Some, None, refl, sym, ◌∙◌, ap, if◌then◌else◌, map, drop, subst, take, inl, inr, ◌⊎◌, append_assoc, ◌&&◌, eqb-true, Result, Ok, Err, ◌<◌, IsTrue, IfOk, subst₂, is_none, is_some, IfErr}
+use Rattle.std.proofs.Common.{◌≡◌, ℕ, ◌==◌, Bool, true, false, List, [], ◌∷◌, ◌++◌, length, Option, Some, None, refl, sym, ◌∙◌, ap, if◌then◌else◌, map, drop, subst, take, inl, inr, ◌⊎◌, append_assoc, ◌&&◌, eqb-true, Result, Ok, Err, ◌<◌, IsTrue, IfOk, subst₂, is_none, is_some, IfErr, arith}
 use Rattle.std.proofs.lemmas.List.{append-nil, map-append}
 use Rattle.watch_core.specs.Snapshot.{Snapshot}
 use Rattle.follow_core.specs.Version.{Entry, gap, version_in, entries_at_look, entries_led, entries_later, entries_of, entries_open, open_after, open_after_later, open_after_look, version}
@@ -683,11 +684,4 @@ left_visited {snapshot} {place} {name} looks left = elim left.why [
 
 pub visit_left : {told_in told : Bool} {ways : Ways} {snapshot : Snapshot} {place : ℕ} {name : NameState} {watched : List Watched} {printer : PrinterState} {slots : List Slot} → name.standing ≡ Left → CanVisit name (watched_at watched place)
     → Visits told_in told ways snapshot place name watched printer slots name watched printer slots (Ok false)
-visit_left left can = record {
-  visited = λ looks stands. rw left (left_visited looks (rw left at stands));
-  stopped = tt;
-  same = refl;
-  ready = can;
-  others = record { count = refl; others = λ other differs. refl };
-  halts = tt;
-}
+visit_left left can = grind (arith, common_steps, left_visited)

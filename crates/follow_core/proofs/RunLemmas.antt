@@ -1,12 +1,13 @@
 -- The text of a name goes on by what each entry adds, and all that is written by what one look more gives.
+use Rattle.std.proofs.lemmas.Grind.{common_steps}
 use Rattle.follow_core.specs.Notice.{notices_later, notices_between}
 use Rattle.std.proofs.Math.Seq.{drop-append_seam as drop_front}
-use Rattle.std.proofs.Common.{◌≡◌, ℕ, Bool, true, false, List, [], ◌∷◌, ◌++◌, length, drop, refl, sym, ◌∙◌, ap, append_assoc, if◌then◌else◌, append-nil, Option, None, ◌||◌}
+use Rattle.std.proofs.Common.{◌≡◌, ℕ, Bool, true, false, List, [], ◌∷◌, ◌++◌, length, drop, refl, sym, ◌∙◌, ap, append_assoc, if◌then◌else◌, append-nil, Option, None, ◌||◌, arith}
 use Rattle.std.specs.List.{onto_first}
 use Rattle.ports_core.specs.Part.{IsBeginning}
-use Rattle.follow_core.specs.Version.{Version, Entry, version, gap, entries_of, entries_later, entries_at_look, open_after_look, open_after_later, open_after, entries_led}
+use Rattle.follow_core.specs.Version.{Version, Entry, version, gap, entries_of, entries_later, entries_at_look, open_after_look, open_after_later, open_after}
 use Rattle.follow_core.specs.Run.{goes_on, runs_of, last_contents, whole_text, begun_text, name_text, KeptFrom, AreKept}
-use Rattle.follow_core.specs.Gain.{gain_between, gains_later, started, last_from, gains_after}
+use Rattle.follow_core.specs.Gain.{gain_between, gains_later, last_from, gains_after}
 use Rattle.std.proofs.Math.Bool.{or_assoc}
 use Rattle.watch_core.specs.Snapshot.{Snapshot}
 use Rattle.follow_core.specs.Look.{Ways, Look}
@@ -79,7 +80,7 @@ later-append last (entry ∷ entries) more = ap (λ x. gain_between last entry +
 pub gains-append : (start : List ℕ → List ℕ) (entries more : List Entry) → gains_after start [] (entries ++ more) ≡ gains_after start [] entries ++ gains_after start entries more
 gains-append start [] [] = refl
 gains-append start [] (entry ∷ more) = refl
-gains-append start (entry ∷ entries) more = ap (λ x. started start entry ++ x) (later-append entry entries more) ∙ sym (append_assoc (started start entry) (gains_later entry entries) _)
+gains-append start (entry ∷ entries) more = grind (arith, common_steps, later-append)
 
 pub kept_before : (entries more : List Entry) → AreKept (entries ++ more) → AreKept entries
 kept_before [] more all = tt
@@ -90,9 +91,7 @@ kept_before (version v ∷ version w ∷ entries) more all = (all.0, kept_before
 
 -- The text goes on: what more entries bring stands after what was there.
 pub text_goes_on : (start : List ℕ → List ℕ) (entries more : List Entry) → AreKept (entries ++ more) → name_text start (entries ++ more) ≡ name_text start entries ++ gains_after start entries more
-text_goes_on start entries more all =
-    text_is_gains start (entries ++ more) all ∙ gains-append start entries more
-    ∙ ap (λ x. x ++ gains_after start entries more) (sym (text_is_gains start entries (kept_before entries more all)))
+text_goes_on start entries more all = grind (arith, common_steps, text_is_gains, gains-append, kept_before)
 
 pub notices-append : (last : Entry) (entries more : List Entry) → notices_later last (entries ++ more) ≡ notices_later last entries ++ notices_later (last_from last entries) more
 notices-append last [] more = refl
@@ -103,7 +102,7 @@ last_from-append last [] more = refl
 last_from-append last (entry ∷ entries) more = last_from-append entry entries more
 
 shares_from-append : (ways : Ways) (names : List (List ℕ)) (before looks : List Look) (look : Look) → shares_from ways names before (looks ++ look ∷ []) ≡ shares_from ways names before looks ++ shares_at_look ways names (before ++ looks) look
-shares_from-append ways names before [] look = append-nil (shares_at_look ways names before look) ∙ ap (λ those. shares_at_look ways names those look) (sym (append-nil before))
+shares_from-append ways names before [] look = grind (arith, common_steps)
 shares_from-append ways names before (next ∷ looks) look =
     ap (λ x. shares_at_look ways names before next ++ x)
     (shares_from-append ways names (before ++ next ∷ []) looks look ∙ ap (λ those. shares_from ways names (before ++ next ∷ []) looks ++ shares_at_look ways names those look) (append_assoc before (next ∷ []) looks))
@@ -147,6 +146,4 @@ looks-append by_name name opened (next ∷ snaps) snapshot =
     ∙ sym (append_assoc (entries_at_look by_name name opened next) _ _)
 
 pub entries-append : (by_name : Bool) (name : List ℕ) (first : Snapshot) (snaps : List Snapshot) (snapshot : Snapshot) → entries_of by_name name ((first ∷ snaps) ++ snapshot ∷ []) ≡ entries_of by_name name (first ∷ snaps) ++ entries_at_look by_name name (open_after by_name name (first ∷ snaps)) snapshot
-entries-append by_name name first snaps snapshot =
-    ap (λ x. entries_led first None (first.leads name) ++ x) (looks-append by_name name (first.leads name) snaps snapshot)
-    ∙ sym (append_assoc (entries_led first None (first.leads name)) _ _)
+entries-append by_name name first snaps snapshot = grind (arith, common_steps, looks-append)

@@ -1,8 +1,9 @@
 -- Where the first look begins to write: blocks that are read, and the lines in them.
-use Rattle.std.proofs.Common.{◌≡◌, ℕ, ◌+◌, ◌-◌, ◌<◌, ◌≤◌, List, [], ◌++◌, length, take, drop, Bool, true, refl, sym, ◌∙◌, ap, subst, arith, ◌==◌, zero, suc, false, ◌∷◌, length-append, if◌then◌else◌, min}
+use Rattle.std.proofs.lemmas.Grind.{common_steps}
+use Rattle.std.proofs.Common.{◌≡◌, ℕ, ◌+◌, ◌-◌, ◌<◌, ◌≤◌, List, [], ◌++◌, length, take, drop, Bool, true, refl, sym, ◌∙◌, ap, arith, ◌==◌, zero, suc, false, ◌∷◌, length-append, if◌then◌else◌, min}
 use Rattle.std.proofs.Math.Seq.{take-add, take-append-add}
-use Rattle.std.proofs.lemmas.List.{length-take, length-drop, append-nil, drop-drop, take-append-drop, take_all, take-take, drop_at, drop-append-le, drop-take, take-append-le}
-use Rattle.std.proofs.lemmas.Slice.{take-put_mid, take-put_mid_below}
+use Rattle.std.proofs.lemmas.List.{length-take, length-drop, drop-drop, take-append-drop, take-take, drop_at, drop-append-le, drop-take}
+use Rattle.std.proofs.lemmas.Slice.{take-put_mid}
 use borrow.Rule.Slice.PartMut.{put_mid}
 use Rattle.watch_core.specs.Snapshot.{Snapshot, latest}
 use Rattle.watch_core.specs.Watched.{Watched, GaveFrom, open_contents, watched_at}
@@ -20,7 +21,7 @@ use Rattle.seg_core.specs.declared.unit.Unit.TheVariants.{Lines}
 
 -- what an open file holds, where nothing changed
 pub contents_same : {seen seen_old : List Snapshot} {names names_old : List Watched} (place : ℕ) → seen ≡ seen_old → names ≡ names_old → open_contents (latest seen) (watched_at names place) ≡ open_contents (latest seen_old) (watched_at names_old place)
-contents_same {seen_old} {names} place saw same = ap (λ those. open_contents (latest those) (watched_at names place)) saw ∙ ap (λ those. open_contents (latest seen_old) (watched_at those place)) same
+contents_same {seen_old} {names} place saw same = grind (arith, common_steps)
 
 -- so much of the block is filled with what the file has from a place on
 pub record Filling (told_in : Bool) (contents : List ℕ) (from filled : ℕ) (old now : List ℕ) (seen_old seen_now : List Snapshot) (watched_old watched_now : List Watched) : Type 0 where
@@ -31,57 +32,29 @@ pub record Filling (told_in : Bool) (contents : List ℕ) (from filled : ℕ) (o
 
 -- the front of a block of which a part was overwritten
 front_of : {a n : ℕ} (xs ys : List ℕ) → a ≤ length xs → length ys ≡ length xs - a → n ≤ length ys → take (a + n) (put_mid a (length xs - a) xs ys) ≡ take a xs ++ take n ys
-front_of {a} {n} xs ys fits long few =
-    let full : take (a + length ys) (put_mid a (length xs - a) xs ys) ≡ take a xs ++ ys = take-put_mid a (length xs - a) xs ys (a + length ys) refl fits in
-    let size : length (take a xs) ≡ a = omega (arith, length-take a xs, fits) in
-    let count : length (take a xs) + n ≡ a + n = omega (arith, size) in
-    sym (take-take (a + n) (a + length ys) _ (omega (arith, few))) ∙ ap (take (a + n)) full ∙ ap (λ k. take k (take a xs ++ ys)) (sym count)
-    ∙ take-append-add (take a xs) ys n
+front_of {a} {n} xs ys fits long few = grind (arith, common_steps, take-put_mid, length-take, take-take, take-append-add)
 
 more_bytes : (contents : List ℕ) {read_old read_new : List ℕ} (now : List ℕ) (from : ℕ) {filled n : ℕ} → filled ≤ length now → length read_new ≡ length now - filled → n ≤ length read_new → GaveFrom contents (from + filled) read_old read_new n
     → take filled now ≡ take filled (drop from contents) → take (filled + n) (put_mid filled (length now - filled) now read_new) ≡ take (filled + n) (drop from contents)
-more_bytes contents {read_new} now from {filled} {n} within long few gave are =
-    front_of now read_new within long few ∙ ap (λ front. front ++ take n read_new) are
-    ∙ ap (λ piece. take filled (drop from contents) ++ piece) (gave.front ∙ ap (take n) (sym (drop-drop filled from contents)))
-    ∙ sym (take-add filled n (drop from contents))
+more_bytes contents {read_new} now from {filled} {n} within long few gave are = grind (arith, common_steps, front_of, drop-drop, take-add)
 
 -- the part of the block that is still to be filled
 room_of : (filled : ℕ) (now : List ℕ) → length (take (length now - filled) (drop filled now)) ≡ length now - filled
-room_of filled now = let size : length (take (length now - filled) (drop filled now)) ≡ min (length now - filled) (length (drop filled now)) = length-take (length now - filled) (drop filled now) in
-    let rest = length-drop filled now in omega (arith, size, rest)
+room_of filled now = grind (arith, common_steps)
 
 pub fill_more : {told_in : Bool} {contents now_contents : List ℕ} {from filled n : ℕ} {old now read_new : List ℕ} {seen_old seen_now seen_new : List Snapshot} {watched_old watched_now watched_new : List Watched}
     → Filling told_in contents from filled old now seen_old seen_now watched_old watched_now
     → now_contents ≡ contents → filled < length now → length now ≡ length old → length read_new ≡ length (take (length now - filled) (drop filled now)) → n ≤ length (take (length now - filled) (drop filled now))
     → (told_in ≡ true → GaveFrom now_contents (from + filled) (take (length now - filled) (drop filled now)) read_new n) → seen_new ≡ seen_now → watched_new ≡ watched_now
     → Filling told_in contents from (filled + n) old (put_mid filled (length now - filled) now read_new) seen_old seen_new watched_old watched_new
-fill_more {contents} {from} {filled} {n} {now} {read_new} f same less long wide few gave seen watched =
-    let room = room_of filled now in record {
-      are = λ is. more_bytes contents now from (omega (arith, less)) (wide ∙ room) (omega (arith, few, wide)) (subst (λ those. GaveFrom those (from + filled) (take (length now - filled) (drop filled now)) read_new n) same (gave is)) (f.are is);
-      within = omega (arith, less, long, few, room);
-      seen_same = seen ∙ f.seen_same;
-      watched_same = watched ∙ f.watched_same;
-    }
-
--- nothing stands after the first bytes, so that more are the same
-no_more : {filled size : ℕ} (x : List ℕ) → drop filled x ≡ [] → filled ≤ size → take filled x ≡ take size x
-no_more {filled} {size} x none few =
-    let all : take filled x ≡ x = sym (append-nil (take filled x)) ∙ ap (λ rest. take filled x ++ rest) (sym none) ∙ take-append-drop filled x in
-    let size_of : length (take filled x) ≡ min filled (length x) = length-take filled x in
-    let same : length (take filled x) ≡ length x = ap length all in
-    all ∙ sym (take_all size x (omega (arith, size_of, same, few)))
+fill_more {contents} {from} {filled} {n} {now} {read_new} f same less long wide few gave seen watched = grind (arith, common_steps, room_of, more_bytes)
 
 -- a read that gives none stands at the file's end
 pub fill_ends : {told_in : Bool} {contents now_contents : List ℕ} {from filled : ℕ} {old now read_new : List ℕ} {seen_old seen_now : List Snapshot} {watched_old watched_now : List Watched}
     → Filling told_in contents from filled old now seen_old seen_now watched_old watched_now
     → now_contents ≡ contents → filled < length now → (told_in ≡ true → GaveFrom now_contents (from + filled) (take (length now - filled) (drop filled now)) read_new 0)
     → told_in ≡ true → take filled (put_mid filled (length now - filled) now read_new) ≡ take (length old) (drop from contents)
-fill_ends {contents} {now_contents} {from} {filled} {now} {read_new} f same less gave is =
-    let room = room_of filled now in
-    let ended : drop (from + filled) now_contents ≡ [] = ((gave is).ended refl (omega (arith, room, less))).0 in
-    let none : drop filled (drop from contents) ≡ [] = drop-drop filled from contents ∙ ap (drop (from + filled)) (sym same) ∙ ended in
-    take-put_mid_below filled (length now - filled) now read_new filled (omega arith) (omega (arith, less))
-    ∙ f.are is ∙ no_more (drop from contents) none f.within
+fill_ends {contents} {now_contents} {from} {filled} {now} {read_new} f same less gave is = grind (arith, common_steps)
 
 -- where the last lines of a text begin, and those after the first n
 
@@ -112,18 +85,14 @@ one_left : (x : List ℕ) → 0 < length x → length (drop (length x - 1) x) �
 one_left x some = let rest = length-drop (length x - 1) x in omega (arith, rest, some)
 
 but_one_shorter : (x : List ℕ) → 0 < length x → length (but_one x) ≡ length x - 1
-but_one_shorter x some = let size : length (but_one x) ≡ min (length x - 1) (length x) = length-take (length x - 1) x in omega (arith, size, some)
+but_one_shorter x some = grind (arith, common_steps)
 
 all_lines : (delim : ℕ) (x : List ℕ) → 0 < length x → line_count delim x ≡ delimiters delim (but_one x) + 1
 all_lines delim x some = ap (line_count delim) (sym (take-append-drop (length x - 1) x)) ∙ lines_and_one delim (but_one x) (drop (length x - 1) x) (one_left x some)
 
 -- a text of so many lines after a complete one is the last lines
 last_are : (delim : ℕ) {n : ℕ} (front : List ℕ) {y : List ℕ} → ends_with delim front ≡ true → line_count delim y ≡ n → y ≡ last_lines delim n (front ++ y)
-last_are delim {n} front {y} closed count =
-    let cut : lines_of delim (front ++ y) ≡ lines_of delim front ++ lines_of delim y = lines_of-append delim front y closed in
-    let size : line_count delim (front ++ y) ≡ line_count delim front + line_count delim y = ap length cut ∙ length-append (lines_of delim front) (lines_of delim y) in
-    let place : line_count delim (front ++ y) - n ≡ line_count delim front = omega (arith, size, count) in
-    sym (ap (λ k. after_lines delim k (front ++ y)) place ∙ ap (λ lines. joined (drop (line_count delim front) lines)) cut ∙ ap joined (drop_at (lines_of delim front) (lines_of delim y) (line_count delim front) refl) ∙ joined-lines_of delim y)
+last_are delim {n} front {y} closed count = grind (arith, common_steps, lines_of-append, drop_at, joined-lines_of)
 
 -- they begin after the delimiter that is the n-th from the end, where the last byte isn't counted
 pub begins_last : {delim n at : ℕ} (x : List ℕ) → 0 < length x → BeginsAt delim n (but_one x) at → drop at x ≡ last_lines delim n x
@@ -192,9 +161,7 @@ begins_in {delim} {end} from size {at} x {block} is place within are begins =
 
 -- the walk came to the front
 pub all_wanted : (delim : ℕ) {count wanted : ℕ} (end : ℕ) {x : List ℕ} → IsWanted delim count wanted end x → end ≡ 0 → 0 < wanted → x ≡ last_lines delim count x
-all_wanted delim {count} end {x} is front some =
-    let all : delimiters delim (drop end (but_one x)) ≡ delimiters delim (but_one x) = ap (λ k. delimiters delim (drop k (but_one x))) front in
-    few_last delim x (omega (arith, all, is, some))
+all_wanted delim {count} end {x} is front some = grind (arith, common_steps, few_last)
 
 -- after the first lines of a block
 pub passed_in : {delim left : ℕ} (at size : ℕ) {end : ℕ} (x : List ℕ) {block rest : List ℕ} → block ≡ take size (drop at x) → EndsAt delim left block end → rest ≡ after_lines delim left (drop at x) → drop (at + end) x ≡ rest
@@ -216,13 +183,8 @@ passed_by {delim} {left} at size x {block} are short is =
 -- a block that was read into the front of the buffer
 pub block_read : {contents now_contents : List ℕ} (buffer new : List ℕ) (from : ℕ) {size n : ℕ} (most : ℕ) → size ≡ min most (length buffer) → n ≤ length (take size buffer) → length new ≡ length (take size buffer) → now_contents ≡ contents
     → take n new ≡ take (length (take size buffer)) (drop from now_contents) → take n (new ++ drop size buffer) ≡ take size (drop from contents)
-block_read {now_contents} buffer new from {size} {n} most is few long same are =
-    let room : length (take size buffer) ≡ min size (length buffer) = length-take size buffer in
-    let all : length (take size buffer) ≡ size = omega (arith, room, is) in
-    take-append-le n new (drop size buffer) (omega (arith, few, long)) ∙ are ∙ ap (λ k. take k (drop from now_contents)) all ∙ ap (λ those. take size (drop from those)) same
+block_read {now_contents} buffer new from {size} {n} most is few long same are = grind (arith, common_steps)
 
 -- the buffer keeps its room
 pub room_kept : (buffer new : List ℕ) {size most : ℕ} → size ≡ min most (length buffer) → 0 < most → length new ≡ length (take size buffer) → 0 < length buffer → 0 < length (new ++ drop size buffer)
-room_kept buffer new {size} is other long some =
-    let room : length (take size buffer) ≡ min size (length buffer) = length-take size buffer in
-    let all : length (new ++ drop size buffer) ≡ length new + length (drop size buffer) = length-append new (drop size buffer) in omega (arith, room, is, other, all, long, some)
+room_kept buffer new {size} is other long some = grind (arith, common_steps)

@@ -111,7 +111,10 @@ impl Follow {
         match self.stage {
             Stage::Over => Err(Fault::Failed),
             Stage::Fresh | Stage::Looking => match self.make_look(watch, outs) {
-                Ok(()) => Ok(()),
+                Ok(failed) => {
+                    self.has_failed |= failed;
+                    Ok(())
+                }
                 Err(fault) => {
                     self.stage = Stage::Over;
                     self.has_failed = true;
@@ -136,12 +139,13 @@ impl Follow {
         self.has_failed
     }
 
-    /// Makes a look, and leaves it to the caller to end following after a fault.
+    /// Makes a look, and returns whether a name was missing or a call on one failed. Leaves it to the caller to keep that, and to end
+    /// following after a fault.
     ///
     /// # Errors
     ///
     /// As `look`.
-    fn make_look<W: Watch, O: Outs>(&mut self, watch: &mut W, outs: &mut O) -> Result<(), Fault>
+    fn make_look<W: Watch, O: Outs>(&mut self, watch: &mut W, outs: &mut O) -> Result<bool, Fault>
         requires live { self.old.stage ≡ Stage.Over → ⊥ }
         requires can { CanLook self.old (W.watched watch.old) (O.slots outs.old) }
         ensures makes { MakesLook W.told O.told (W.shows watch.old (length (W.seen watch.old))) (W.seen watch.old) self.old (W.watched watch.old) (O.slots outs.old) (W.seen watch.new) self.new (W.watched watch.new) (O.slots outs.new) result }
@@ -153,7 +157,7 @@ impl Follow {
         if let Err(fault) = watch.turn() {
             return Err(fault);
         }
-        match visit_all(
+        visit_all(
             self.by_name,
             self.start,
             &mut self.names,
@@ -161,13 +165,7 @@ impl Follow {
             &mut self.visitor,
             watch,
             outs,
-        ) {
-            Ok(failed) => {
-                self.has_failed |= failed;
-                Ok(())
-            }
-            Err(fault) => Err(fault),
-        }
+        )
     }
 
     /// Adds the names to what is watched, before the first look; does nothing before a later one.

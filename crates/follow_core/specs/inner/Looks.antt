@@ -1,5 +1,5 @@
 -- What a look at all names leaves, and what all looks of a run do.
-use Rattle.std.specs.Prelude.{◌≡◌, ◌∷◌, ◌++◌, ℕ, Bool, List, [], Result, IfErr, OnOk, ◌<◌, ◌≤◌, true, false, length, map}
+use Rattle.std.specs.Prelude.{◌≡◌, ◌∷◌, ◌++◌, ℕ, Bool, List, [], Result, IfErr, IfOk, OnOk, ◌||◌, ◌<◌, ◌≤◌, true, false, length, map}
 use Rattle.ports_core.specs.Slot.{Slot}
 use Rattle.ports_core.specs.declared.fault.Fault.{Fault}
 use Rattle.watch_core.specs.Snapshot.{Snapshot}
@@ -36,12 +36,13 @@ pub record Begins (told_in : Bool) (old : FollowState) (watched : List Watched) 
       → Holds told_in told ways headers names looks first old watched slots
       → Holds told_in told ways headers names looks first new watched_new slots
 
--- one more look was made, which saw this; or it was stopped
+-- one more look was made, which saw this, but for whether it failed; or it was stopped
 pub record MakesLook (told_in told : Bool) (snapshot : Snapshot) (seen : List Snapshot) (old : FollowState)
     (watched : List Watched) (slots : List Slot)
     (seen_new : List Snapshot) (new : FollowState) (watched_new : List Watched) (slots_new : List Slot)
-    (result : Result (Unit {0}) Fault) : Type 0 where
-  pub looked : OnOk result (LooksOn told_in told snapshot old watched slots new watched_new slots_new)
+    (result : Result Bool Fault) : Type 0 where
+  pub looked : IfOk result (λ failed. LooksOn told_in told snapshot old watched slots
+      (record new { has_failed = new.has_failed || failed }) watched_new slots_new)
   pub stopped : IfErr result (StopsOn told_in told snapshot old watched slots watched_new slots_new)
   pub seen_is : OnOk result (seen_new ≡ seen ++ snapshot ∷ [])
   pub saw : IfErr result (λ why. SawOrNot seen snapshot seen_new)

@@ -14,15 +14,7 @@ returns-in-Err-turn-clause-makes g c = makes_all c.in_default.ensures.begins c.t
 pub invariant_of-self : goal.invariant_of-self
 invariant_of-self g c = grind (arith, common_steps)
 
-pub returns-in-Ok-clause-makes : goal.returns-in-Ok-clause-makes
-returns-in-Ok-clause-makes g c = makes_look c.requires.live c.requires.can c.self.view_is c.in_default.ensures.begins
+pub returns-clause-makes : goal.returns-clause-makes
+returns-clause-makes g c = makes_look c.requires.live c.requires.can c.self.view_is c.in_default.ensures.begins
     c.begin.ensures.shows c.begin.ensures.seen c.in_default-turn.ensures.ok c.turn.ensures.watched c.deref_mut.ensures.value
-    (sym (with_items_is c.self.inside.names c.visit_all.new.names (c.visit_all.auto.names ∙ c.deref_mut.ensures.len))) c.visit_all.ensures.seen c.in-Ok.ensures.visits
-
-pub invariant_of-self-in-Err-visit_all : goal.invariant_of-self-in-Err-visit_all
-invariant_of-self-in-Err-visit_all g c = grind (arith, common_steps)
-
-pub returns-in-Err-visit_all-clause-makes : goal.returns-in-Err-visit_all-clause-makes
-returns-in-Err-visit_all-clause-makes g c = makes_look c.requires.live c.requires.can c.self.view_is c.in_default.ensures.begins
-    c.begin.ensures.shows c.begin.ensures.seen c.in_default-turn.ensures.ok c.turn.ensures.watched c.deref_mut.ensures.value
-    (sym (with_items_is c.self.inside.names c.visit_all.new.names (c.visit_all.auto.names ∙ c.deref_mut.ensures.len))) c.visit_all.ensures.seen c.in-Err-visit_all.ensures.visits
+    (sym (with_items_is c.self.inside.names c.visit_all.new.names (c.visit_all.auto.names ∙ c.deref_mut.ensures.len))) c.visit_all.ensures.seen c.visit_all.ensures.visits
