@@ -14,7 +14,7 @@ use Rattle.ports_core.specs.declared.fault.Fault.TheVariants.{Memory, Write, Ope
 use Rattle.run_core.specs.declared.feeding.Fed.{Fed}
 use Rattle.run_core.specs.declared.feeding.Fed.TheVariants.{Whole, Enough, Broken}
 use Rattle.ports_core.specs.Inputs.{empty, KeepsOthers, OfContent}
-use Rattle.run_core.specs.Feeding.{Stops, HasAll, to_end, enough, call_of, feeds, closes, FedAs, whole, had_enough, broke_off, judged, stopped, IsUnread, Uses}
+use Rattle.run_core.specs.Feeding.{is_enough, Stops, HasAll, to_end, enough, call_of, feeds, closes, FedAs, whole, had_enough, broke_off, judged, stopped, IsUnread, Uses}
 use Rattle.run_core.specs.inner.Feeding.{EndsSo, finished, fell_short}
 use Rattle.ports_core.proofs.LoadLemmas.{passed_at}
 use Rattle.ports_core.proofs.InputsLemmas.{HasRead, keeps_others, changed_source}
@@ -79,30 +79,6 @@ got_all Whole got = to_end got.0 got.2
 got_all Enough got = enough got.1.0 got.1.1 got.0
 got_all Broken got = absurd got
 
-whole_at : {work : Work} {x : List ℕ} (rest : List ℕ) → IsLawful work → work.is_complete x ≡ true → work.whole (x ++ rest) ≡ work.whole x
-whole_at {work} {x} rest lawful done =
-    let here : IsComplete work x [] = lawful.stays x [] done in
-    let there : IsComplete work x rest = lawful.stays x rest done in
-    there.whole_stays ∙ sym here.whole_stays ∙ ap work.whole (append-nil x)
-
-fed_all : {told : Bool} {opening : Needs} {most : ℕ} {work : Work} {content : Content} (WasRead : List ℕ → Type 0) {x : List ℕ} {new before : List Slot} (fed : Fed) → IsLawful work → HasGot work content x fed → work.verdict x ≡ None → OutputsAt told before (work.whole x) new → FedAs told before work opening most content WasRead new (Ok fed)
-fed_all {told} {work} WasRead {new} {before} Whole lawful got well at =
-    whole got.0 (ap work.is_complete got.2 ∙ got.1) (ap work.verdict got.2 ∙ well) (rw got.2 at)
-fed_all {told} {work} WasRead {x} {new} {before} Enough lawful got well at =
-    let stays : IsComplete work x got.1.0 = lawful.stays x got.1.0 got.0 in
-    had_enough (ap work.is_complete got.1.1 ∙ stays.still) (ap work.verdict got.1.1 ∙ stays.verdict_stays ∙ well)
-    (rw (ap work.whole got.1.1 ∙ whole_at got.1.0 lawful got.0) at)
-fed_all WasRead Broken lawful got well at = absurd got
-
-judged_all : {told : Bool} {opening : Needs} {most : ℕ} {work : Work} {content : Content} (WasRead : List ℕ → Type 0) {x : List ℕ} {reached new before : List Slot} (fed : Fed) {fault : Fault} → is_verdict fault ≡ true → IsLawful work → HasGot work content x fed → Judges work x fault → OutputsAt told before (work.whole x) reached → Swept work.clears (length before) reached new → FedAs told before work opening most content WasRead new (Err fault)
-judged_all {told} {work} WasRead {reached} {before} Whole {fault} judging lawful got verdict at swept =
-    judged fault judging (or_left _ _ (ap not got.0)) (ap work.verdict got.2 ∙ verdict) reached (rw got.2 at) swept
-judged_all {told} {work} WasRead {x} {reached} {before} Enough {fault} judging lawful got verdict at swept =
-    let stays : IsComplete work x got.1.0 = lawful.stays x got.1.0 got.0 in
-    judged fault judging (or_right _ _ (ap work.is_complete got.1.1 ∙ stays.still)) (ap work.verdict got.1.1 ∙ stays.verdict_stays ∙ verdict) reached
-    (rw (ap work.whole got.1.1 ∙ whole_at got.1.0 lawful got.0) at) swept
-judged_all WasRead Broken judging lawful got verdict at swept = absurd got
-
 -- the engine makes of x what it makes of z
 pub record MadeAlike (work : Work) (x z : List ℕ) : Type 0 where
   pub settled : work.settled x ≡ work.settled z
@@ -112,14 +88,28 @@ pub record MadeAlike (work : Work) (x z : List ℕ) : Type 0 where
 pub alike_itself : {work : Work} {x : List ℕ} → MadeAlike work x x
 alike_itself = record { settled = refl; whole = refl; verdict = refl }
 
--- what is spare changes nothing
-pub alike_used : {work : Work} {x : List ℕ} {n : ℕ} (spare : IsSpare work x n) → IsLawful work → work.is_complete spare.used ≡ true → MadeAlike work x spare.used
-alike_used {work} spare lawful done =
-    let stays : IsComplete work spare.used spare.rest = lawful.stays spare.used spare.rest done in record {
-      settled = ap work.settled spare.joined ∙ stays.settled_stays;
-      whole = ap work.whole spare.joined ∙ whole_at spare.rest lawful done;
-      verdict = ap work.verdict spare.joined ∙ stays.verdict_stays;
-    }
+-- what comes once the output is complete changes nothing
+pub alike_after : {work : Work} {x y : List ℕ} (rest : List ℕ) → IsLawful work → work.is_complete x ≡ true → y ≡ x ++ rest → MadeAlike work y x
+alike_after {work} {x} rest lawful done is =
+    let here : IsComplete work x [] = lawful.stays x [] done in
+    let there : IsComplete work x rest = lawful.stays x rest done in
+    rw is (record { settled = there.settled_stays; whole = there.whole_stays ∙ sym here.whole_stays ∙ ap work.whole (append-nil x); verdict = there.verdict_stays })
+
+got_alike : {work : Work} (content : Content) {x : List ℕ} (fed : Fed) → IsLawful work → HasGot work content x fed → MadeAlike work content.bytes x
+got_alike content Whole lawful got = rw got.2 alike_itself
+got_alike content Enough lawful got = alike_after got.1.0 lawful got.0 got.1.1
+got_alike content Broken lawful got = absurd got
+
+got_enough : {work : Work} (content : Content) (x : List ℕ) (fed : Fed) → IsLawful work → HasGot work content x fed → is_enough work content ≡ true
+got_enough content x Whole lawful got = or_left _ _ (ap not got.0)
+got_enough {work} content x Enough lawful got = or_right _ _ (ap work.is_complete got.1.1 ∙ (lawful.stays x got.1.0 got.0).still)
+got_enough content x Broken lawful got = absurd got
+
+fed_all : {told : Bool} {opening : Needs} {most : ℕ} {work : Work} {content : Content} (WasRead : List ℕ → Type 0) {x : List ℕ} {new before : List Slot} (fed : Fed) → IsLawful work → HasGot work content x fed → work.verdict x ≡ None → OutputsAt told before (work.whole x) new → FedAs told before work opening most content WasRead new (Ok fed)
+fed_all WasRead Whole lawful got well at = whole got.0 (rw got.2 got.1) (rw got.2 well) (rw got.2 at)
+fed_all {work = work} WasRead {x} Enough lawful got well at =
+    let alike = alike_after got.1.0 lawful got.0 got.1.1 in had_enough (ap work.is_complete got.1.1 ∙ (lawful.stays x got.1.0 got.0).still) (alike.verdict ∙ well) (rw alike.whole at)
+fed_all WasRead Broken lawful got well at = absurd got
 
 -- What a fault left at the end, and what was made of its files then. The engine was fed x, of which z was used.
 short_of_end : {told : Bool} {opening : Needs} {most : ℕ} {work : Work} {content : Content} (WasRead : List ℕ → Type 0) {x z : List ℕ} {reached new before : List Slot} (fed : Fed) {fault : Fault} → IsLawful work → HasGot work content x fed → HasAll work content z → MadeAlike work x z → IsNeeded work.is_complete most z → WasRead z
@@ -130,8 +120,8 @@ short_of_end {told} {work} WasRead {x} {z} {reached} {before} fed {fault} lawful
     stopped fault unjudged _ (closes z all needed) read reached (why unjudged)
     (rw alike.settled at (rw alike.whole at stop))
     (swept unjudged)
-short_of_end {work} WasRead {before} fed lawful got all alike needed read (engine.judged judging first at cleared) why verdict kept swept =
-    judged_all WasRead fed judging lawful got (verdict judging) at (rw (kept judging) cleared)
+short_of_end WasRead fed {fault} lawful got all alike needed read (engine.judged judging first at cleared) why verdict kept swept =
+    let same = got_alike _ fed lawful got in judged fault judging (got_enough _ _ fed lawful got) (same.verdict ∙ verdict judging) first (rw same.whole at) (rw (kept judging) cleared)
 
 module _ {S : Type 0} (Holds : S → List ℕ → Type 0) (Owns : S → ℕ → List Slot → Type 0) (work : S → Work) where
   -- the loop has fed the engine x
