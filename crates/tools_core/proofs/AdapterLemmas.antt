@@ -131,4 +131,4 @@ head_asked {those} is signed =
 
 pub tail_asked : {those asked : EndsAsked} {plus : Bool} → those ≡ asked → plus ≡ is_plus those.count.sign → (tail_work those.delim those.unit plus those.count.amount ≡ (tail_task asked).work) × (plus ≡ false → (tail_task asked).opening.memory ≡ true)
 tail_asked {those} is signed =
-    (ap (λ b. tail_work those.delim those.unit b those.count.amount) signed ∙ ap (λ (asked : EndsAsked). (tail_task asked).work) is, λ may. ap not (sym (ap (λ (asked : EndsAsked). is_plus asked.count.sign) is) ∙ sym signed ∙ may))
+    (ap (λ b. tail_work those.delim those.unit b those.count.amount) signed ∙ ap (λ (asked : EndsAsked). (tail_task asked).work) is, λ may. ap not (rw (is, signed, may)))

@@ -82,7 +82,7 @@ pub marked_at : (IsDue : List ℕ → Type 0) (fault : Fault) (before after : Li
 marked_at IsDue (Write slot) before after place (within, is) = elim (cases_eq place slot) [
   | inl here ↦ let there : place < length before = omega (arith, here, within) in
       inr (here, there, ap (λ slots. slot_at slots place) is ∙ ap (λ which. slot_at (changed_at which breaks before) place) (sym here) ∙ slot_at-changed place breaks before there)
-  | inr differs ↦ inl (ap (λ slots. slot_at slots place) is ∙ slot_at-elsewhere slot place breaks before differs)
+  | inr differs ↦ inl (rw (is, slot_at-elsewhere slot place breaks before differs))
 ]
 marked_at IsDue (Open slot) before after place (number, (name, kept, due, is, slots)) = elim (unopened_at kept place before) [
   | inl same ↦ inl (ap (λ those. slot_at those place) slots ∙ same)

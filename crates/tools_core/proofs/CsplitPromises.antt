@@ -181,7 +181,7 @@ files_joined style place (section ∷ sections) kept =
     let both = bytes_then section.lines (lines_in sections) in
     cond_both (makes_file style (contents_in section)) _ _ (λ files. written_in files ≡ bytes_of (lines_in (section ∷ sections)))
     (λ made. ap (λ rest. bytes_of section.lines ++ rest) (files_joined style (place + 1) sections kept.1) ∙ sym both)
-    (λ none. files_joined style place sections kept.1 ∙ sym (both ∙ ap (λ front. front ++ bytes_of (lines_in sections)) (left_empty style.elide section.is_kept (bytes_of section.lines) kept.0 none)))
+    (λ none. files_joined style place sections kept.1 ∙ sym (rw (both, left_empty style.elide section.is_kept (bytes_of section.lines) kept.0 none)))
 
 -- Their names
 
@@ -274,7 +274,7 @@ none_missing suppress operands {lines} live =
     let plan' = plan suppress operands lines in
     let runs = plan_runs suppress operands lines in
     let some = (are_within suppress lines (start operands) _ _ _ runs (omega arith)).1 in
-    ap (in_turn suppress lines plan'.steps) (ap (λ end. lines_between plan'.last.current end lines) (ends_after_all (length lines) plan'.ending live) ∙ rest_is_all lines some)
+    ap (in_turn suppress lines plan'.steps) (rw (ends_after_all (length lines) plan'.ending live, rest_is_all lines some))
     ∙ all_in_turn runs (omega arith)
 
 pub are_sections : (run : Run) (asked : CsplitAsked) (input : List ℕ) → Does run (Csplit asked) → HasInput run input → (operands : List Operand) × Asks asked.operands operands × AreSections asked.style operands input (contents_of run)

@@ -69,7 +69,7 @@ versions_kept shows start (suc zero) within grows = (tt, tt)
 versions_kept shows {name} {file} {count} start (suc (suc n)) within grows = ((λ goes. grows.1 start (omega (arith, within))), versions_kept shows (suc start) (suc n) (omega (arith, within)) grows)
 
 pub kept_in : (by_name : Bool) {name : List ℕ} (shows : ℕ → Snapshot) {file count : ℕ} → OnlyGrows count shows name file → AreKept (entries_of by_name name (seen_first shows count))
-kept_in by_name {name} shows {file} {count} grows = rw (ap (entries_of by_name name) (seen_are shows count) ∙ entries_are by_name shows count (omega arith) grows) (versions_kept shows 0 count (omega arith) grows)
+kept_in by_name {name} shows {file} {count} grows = rw (rw (seen_are shows count, entries_are by_name shows count (omega arith) grows)) (versions_kept shows 0 count (omega arith) grows)
 
 -- what they gain is what came
 holds_later : (shows : ℕ → Snapshot) {name : List ℕ} {file count : ℕ} (start n : ℕ) → start + n < count → OnlyGrows count shows name file

@@ -139,7 +139,7 @@ tee_runs {told = told} {mode = mode} {names} old mode_is names_is (content, ther
     input = refl;
     ends = rw (mode_is, names_is) at ends;
     breaks = breaks;
-    whole = λ t well. rw (mode_is, names_is) at (whole t well ∙ ap (λ (those : Content). all_copied told mode names those.bytes) (sym (there t)));
+    whole = λ t well. rw (mode_is, names_is) at (rw (whole t well, there t));
   },
 )
 
@@ -260,13 +260,13 @@ module _ (told_in told : Bool) (words : List (List ℕ)) (looks : ℕ) (shows : 
 pub program_follows : (told_in told_watched told : Bool) (words : List (List ℕ)) {settings : Settings} (laid : ℕ → List ℕ → Option Content) (sources : List Source) (shows : ℕ → Snapshot) (seen : List Snapshot) (watched : List Watched) (new : List Slot) (status : ℕ) → settings_of words ≡ Ok settings → follows settings ≡ true
     → FollowingEndsAt told_watched told words (looks settings) shows seen watched new status (Ok settings) → ProgramEnds told_in told_watched told words laid sources sources shows seen watched new status
 program_follows told_in told_watched told words {settings} laid sources shows seen watched new status is asked ends =
-    rw (ap looks_at is ∙ ap (λ b. if b then Some (looks settings) else None) asked) (refl, rw is ends)
+    rw (rw (is, asked)) (refl, rw is ends)
 
 -- their tool ran over its inputs
 pub program_runs : {told_in : Bool} (told_watched told : Bool) (words : List (List ℕ)) {settings : Settings} {laid : ℕ → List ℕ → Option Content} (sources sources_new : List Source) (shows : ℕ → Snapshot) {seen : List Snapshot} {watched : List Watched} (new : List Slot) (status : ℕ) → settings_of words ≡ Ok settings → follows settings ≡ false → seen ≡ [] → watched ≡ []
     → RunsOver told_in (world_of laid sources) (names_of settings) (λ found. DoesAsked told_in told settings found sources_new new status) → ProgramEnds told_in told_watched told words laid sources sources_new shows seen watched new status
 program_runs told_watched told words {settings} sources sources_new shows new status is asked unseen unwatched does =
-    rw (ap looks_at is ∙ ap (λ b. if b then Some (looks settings) else None) asked) (unseen, unwatched, tool_runs told words sources sources_new new status is does)
+    rw (rw (is, asked)) (unseen, unwatched, tool_runs told words sources sources_new new status is does)
 
 -- what words leave that are refused, whichever run they ask for
 pub program_refuses : (told_in told_watched : Bool) {told : Bool} (words : List (List ℕ)) (laid : ℕ → List ℕ → Option Content) {sources : List Source} (shows : ℕ → Snapshot) {seen : List Snapshot} {watched : List Watched} {fault : Fault} {new : List Slot} {status : ℕ} → IsFresh sources → seen ≡ [] → watched ≡ [] → IsRefused HasBadOperands (settings_of words) fault → RefusesFor told words fault new status

@@ -57,7 +57,7 @@ bytes_written (file ∷ files) = ap (λ those. file.bytes ∷ those) (bytes_writ
 
 all_named : (names : Naming) {pieces : List (List ℕ)} → are_named names (length (map (share Closed) pieces)) ≡ true
     → map (λ (file : Slot). file.written) (map slot_of (named names 0 (map (share Closed) pieces))) ≡ pieces
-all_named names {pieces} are = rw (bytes_written (named names 0 (map (share Closed) pieces)), bytes_named names 0 (map (share Closed) pieces), bytes_of_shares Closed pieces, each_named names pieces (ap (are_named names) (sym (length-map pieces (share Closed))) ∙ are))
+all_named names {pieces} are = rw (bytes_written (named names 0 (map (share Closed) pieces)), bytes_named names 0 (map (share Closed) pieces), bytes_of_shares Closed pieces, each_named names pieces (rw (length-map pieces (share Closed), are)))
 
 -- Their names
 
@@ -175,7 +175,7 @@ byte_pieces {n} {x} some = run_pieces length some (joined_parts (limit.Bytes n) 
 
 ends_line : (delim : ℕ) {n : ℕ} (bytes : List ℕ) → length bytes ≡ n → EndsLine delim n (whole_lines delim bytes)
 ends_line delim {n} bytes long = elim (cases_lt 0 (delimiters delim bytes)) [
-  | inl lines ↦ inl (ap (ends_with delim) (whole_of_lines delim bytes lines) ∙ lines_end delim bytes _ lines (omega arith) refl)
+  | inl lines ↦ inl (rw (whole_of_lines delim bytes lines, lines_end delim bytes _ lines (omega arith) refl))
   | inr few ↦ let none : delimiters delim bytes ≡ 0 = omega (arith, few) in
       inr (rw (whole_of_none delim bytes none) (long, none))
 ]
@@ -232,7 +232,7 @@ filled_by delim {n} part rest enough filled =
     let count : delimiters delim next ≡ delimiters delim (take n rest) = whole_count delim (take n rest) in
     let whole : next ++ drop (length next) rest ≡ rest = first_then_after (limit.LineBytes n delim) rest in
     elim (cases_lt 0 (delimiters delim (take n rest))) [
-      | inl lines ↦ rw (ap (λ text. first_lines delim 1 (text ++ delim ∷ [])) (sym whole) ∙ same_line delim next (drop (length next) rest) (omega (arith, lines, count))) at filled
+      | inl lines ↦ rw (rw (whole, same_line delim next (drop (length next) rest) (omega (arith, lines, count)))) at filled
       | inr few ↦
           let none : delimiters delim (take n rest) ≡ 0 = omega (arith, few) in
           open_next delim part next (ap length (whole_of_none delim (take n rest) none) ∙ length-take-le n rest enough) (count ∙ none)
@@ -306,4 +306,4 @@ dealt_lines {delim} {n} {elide} {x} some = record {
 pub by_cut : {run : Run} {asked : SplitAsked} {cut : Cut} {input : List ℕ} (P : List (List ℕ) → Type 0) → (IsInLimits cut → P (pieces_of asked.delim cut asked.elide input)) → Does run (Split asked) → HasInput run input → asked.cut ≡ cut → P (contents_of run)
 by_cut {asked} {cut} {input} P holds does has is =
     let split = is_split does has in
-    rw (split.contents ∙ ap (λ those. pieces_of asked.delim those asked.elide input) is) (holds (subst IsInLimits is split.can.cut))
+    rw (rw (split.contents, is)) (holds (subst IsInLimits is split.can.cut))

@@ -64,7 +64,7 @@ stops_run run asked IsDue step clears place count before reached (Open slot) lon
   λ one. omega (arith, number, two, one),
   inl refl,
   (swept_kept clears reached run.outputs swept slot).still
-      (ap (λ (output : Slot). output.is_broken) (ap (λ those. slot_at those slot) slots ∙ get_or_push before (unopened kept) no_slot slot (sym number))),
+      (ap (λ (output : Slot). output.is_broken) (rw (slots, get_or_push before (unopened kept) no_slot slot (sym number)))),
 )
 stops_run run asked IsDue step clears place count before reached Memory long two from stops marks swept = tt
 stops_run run asked IsDue step clears place count before reached TooLong long two from stops marks swept = long stops
@@ -94,7 +94,7 @@ streams_sound (suc zero) error differs = absurd (differs refl)
 streams_sound place error differs = refl
 
 still_sound : {A : Type 0} {before after : List Slot} (place : ℕ) → after ≡ before → (slot_at before place).is_broken ≡ false → (slot_at after place).is_broken ≡ true → A
-still_sound place same sound broken = absurd (false≢true (sym sound ∙ sym (ap (λ slots. (slot_at slots place).is_broken) same) ∙ broken))
+still_sound place same sound broken = absurd (false≢true (rw (sound, same, broken)))
 
 stop_early : {which : Tool} {clears : Bool} {run : Run} {asked : Settings} (fault : Fault) (name : List ℕ) {error : Slot} → StopsRun run asked name fault → SaysAll true which (message_of which fault name ∷ []) standard_error error → run.outputs ≡ streams_with error → run.status ≡ 1
     → IsStop which clears run asked
@@ -147,9 +147,9 @@ stopped_broke {which} {clears} {error} {high = high} {fault} {reached} new lines
     elim (cases_Bool (slot_at reached place).is_broken) [
       | inr was ↦ let (is, closed) = kept.broke was broken in inr (is, closed, swept_gone clears reached new is swept)
       | inl was ↦ elim (marked_at (IsNext between.part high) fault between.reached reached place between.marks) [
-        | inl same ↦ absurd (false≢true (sym sound.0 ∙ sym (ap (λ (output : Slot). output.is_broken) same) ∙ was))
+        | inl same ↦ absurd (false≢true (rw (sound.0, same, was)))
         | inr marked ↦ let why = blamed fault place between.reached sound marked in
-            inl ((slot_at new place).name, inl refl, (lines, [], rw (ap (λ what. message_of which what (slot_at new place).name) (kept.fails place ∙ why.is) ∙ ap (message_of which fault) (why.named new)) says))
+            inl ((slot_at new place).name, inl refl, (lines, [], rw (rw (kept.fails place, why.is, why.named new)) says))
       ]
     ]
 
@@ -206,7 +206,7 @@ tee_by {run} {asked} Leaves {output = output} {error} {files} fault false sound 
     (failing_stops run asked (slot_at (output ∷ error ∷ files) place).state (rw slots (differs, called, broken))) line)
 tee_by Leaves {pieces = pieces} {names} {first} {broke} {error = error} fault true sound long vain reads left rest says slots is = elim (read_or Leaves (vain (sound_first first (are_sound broke) sound).0) reads) [
   | inl all ↦ inl (sound, all)
-  | inr (met, many) ↦ inr (tee_stop fault left rest says slots (is ∙ ap (λ flag. cond (flag && is_none fault) 0 1) sound ∙ ap (λ why. cond (is_none why) 0 1) met) TooLong (codes "standard input") (long many)
+  | inr (met, many) ↦ inr (tee_stop fault left rest says slots (rw (is, sound, met)) TooLong (codes "standard input") (long many)
       (says_line (has_before (said_in (suc (length pieces)) (output_names names) (first ∷ broke)) (has_after (said_before (suc (length pieces)) (output_names names) (first ∷ broke)) ([], [], refl)))
       (tee_lines names (first ∷ broke) (length pieces) (Some TooLong) (rw met at says))))
 ]

@@ -28,7 +28,7 @@ returns-in-Ok g c = record {
   opened = counts_by (map (λ word. word.now) c.args.words.now) c.in-Ok.ensures.ok c.run_tool.ensures.opened;
   asked = c.run_tool.ensures.asked;
   unopened = λ none. absurd (asked_or_none (map (λ word. word.now) c.args.words.now) c.in-Ok.ensures.ok none.1);
-  untouched = λ none. c.run_tool.ensures.untouched (sym (ap (λ (meant : Result Settings Fault). has_dash (names_at meant)) c.in-Ok.ensures.ok) ∙ none);
+  untouched = λ none. c.run_tool.ensures.untouched (rw (c.in-Ok.ensures.ok, none));
 }
 
 -- words that are refused
