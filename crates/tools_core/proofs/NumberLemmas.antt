@@ -36,7 +36,8 @@ digits_in_order (suc width) {low} {high} less small =
       | inr reached ↦
           let same : high / 10 ≡ low / 10 = omega (arith, reached, one, two, less, first, second) in
           let last : 48 + low % 10 < 48 + high % 10 = omega (arith, same, one, two, less) in
-          rw (ap (digits_in width) same) (same_front (digits_in width (low / 10)) ((48 + low % 10) ∷ []) ((48 + high % 10) ∷ []) (first_less (48 + low % 10) (48 + high % 10) [] [] last))
+          subst (λ front. IsBelow (digits_in width (low / 10) ++ (48 + low % 10) ∷ []) (front ++ (48 + high % 10) ∷ [])) (sym (ap (digits_in width) same))
+          (same_front (digits_in width (low / 10)) ((48 + low % 10) ∷ []) ((48 + high % 10) ∷ []) (first_less (48 + low % 10) (48 + high % 10) [] [] last))
     ]
 
 one_more : {byte : ℕ} (count : ℕ) → byte ∷ replicate count byte ≡ replicate count byte ++ byte ∷ []
@@ -45,7 +46,7 @@ one_more {byte} (suc count) = ap (λ rest. byte ∷ rest) (one_more count)
 
 zeros : (width : ℕ) → replicate width 48 ≡ digits_in width 0
 zeros zero = refl
-zeros (suc width) = rw (one_more width, zeros width)
+zeros (suc width) = one_more width ∙ ap (λ front. front ++ 48 ∷ []) (zeros width)
 
 -- a number in decimal, filled with zeros, is its last digits
 
@@ -72,7 +73,12 @@ number_digits width {n} small least = decimal_by_steps Fills fills_one fills_mor
 
 names_below : (prefix : List ℕ) (digits : ℕ) {low high : ℕ} → low < high → high < 10 ^ digits → high < 2 ^ 64 → slice_cmp nat_cmp (numbered_name prefix digits low) (numbered_name prefix digits high) ≡ Less
 names_below prefix zero less small least = let one : 10 ^ 0 ≡ 1 = pow-zero 10 in absurd (omega (arith, one, small, less))
-names_below prefix (suc width) {low} {high} less small least = rw (number_digits width (omega (arith, less, small)) (omega (arith, less, least)), number_digits width small least, append-nil (prefix ++ digits_in (suc width) low), append-nil (prefix ++ digits_in (suc width) high), same_front prefix (digits_in (suc width) low) (digits_in (suc width) high) (digits_in_order (suc width) less small) [] [])
+names_below prefix (suc width) {low} {high} less small least =
+    ap (λ text. slice_cmp nat_cmp (prefix ++ text) (numbered_name prefix (suc width) high)) (number_digits width (omega (arith, less, small)) (omega (arith, less, least)))
+    ∙ ap (λ text. slice_cmp nat_cmp (prefix ++ digits_in (suc width) low) (prefix ++ text)) (number_digits width small least)
+    ∙ sym (ap (λ text. slice_cmp nat_cmp text ((prefix ++ digits_in (suc width) high) ++ [])) (append-nil (prefix ++ digits_in (suc width) low))
+    ∙ ap (slice_cmp nat_cmp (prefix ++ digits_in (suc width) low)) (append-nil (prefix ++ digits_in (suc width) high)))
+    ∙ same_front prefix (digits_in (suc width) low) (digits_in (suc width) high) (digits_in_order (suc width) less small) [] []
 
 by_places : (names : List (List ℕ)) → ((k : ℕ) → k + 1 < length names → slice_cmp nat_cmp (text_at names k) (text_at names (suc k)) ≡ Less) → AreInOrder names
 by_places (name ∷ next ∷ names) each = (each 0 (omega arith), by_places (next ∷ names) (λ k within. each (suc k) (omega (arith, within))))

@@ -19,7 +19,7 @@ use Rattle.words_core.proofs.ValueLemmas.{value_after_letter}
 -- a count, and a size, as values
 
 pub counts_so : (text : List ℕ) {count : Count} → count_of text ≡ Ok count → value_in kind.Count text ≡ Ok (Counted count)
-counts_so text {count} is = rw is
+counts_so text is = rw is
 
 pub sizes_so : (text : List ℕ) {size : ℕ} → size_in text ≡ Ok size → value_in kind.Size text ≡ Ok (Size size)
 sizes_so text {size} is = ap (as_value (λ size. Size size)) is

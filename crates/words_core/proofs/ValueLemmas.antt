@@ -53,7 +53,7 @@ value_attached rows letter choice kind (byte ∷ value) meant words place is som
 awaited : (rows : List OptionRow) {choice : Choice} (kind : Kind) (word value : List ℕ) {meant : Meant} (words : List (List ℕ)) {place : ℕ}
     → mixed rows place word ≡ awaiting choice kind place → value_in kind value ≡ Ok meant
     → Gives rows (word ∷ value ∷ words) place choice meant (spelled rows words (place + 1 + 1) Reading)
-awaited rows {choice} kind word value words {place} awaits reads = rw (awaits, reads, given_before-nothing refl)
+awaited rows kind word value words awaits reads = rw (awaits, reads, given_before-nothing refl)
 
 pub value_after_letter : (rows : List OptionRow) (letter : ℕ) (choice : Choice) (kind : Kind) (value : List ℕ) (meant : Meant) (words : List (List ℕ)) (place : ℕ)
     → IsLetter rows letter choice kind → value_in kind value ≡ Ok meant
@@ -91,7 +91,7 @@ all_name front none = rw (no_place front none, take-length front)
 
 by_its_name : (rows : List OptionRow) (place : ℕ) (word : List ℕ) {name : List ℕ} {option : Option (Choice × Takes)} {value : Option (List ℕ)} → before_first is_equals word ≡ name → after_equals word ≡ value → option_named rows name ≡ option
     → long rows place word ≡ named place option value
-by_its_name rows place word {value} front rest is = rw (rest, front, is)
+by_its_name rows place word front rest is = rw (rest, front, is)
 
 long_value : {rows : List OptionRow} (name : List ℕ) {choice : Choice} {kind : Kind} (value : List ℕ) (place : ℕ) → IsName rows name choice kind
     → mixed rows place (45 ∷ 45 ∷ name ++ 61 ∷ value) ≡ named place (Some (choice, takes.Value kind)) (Some value)

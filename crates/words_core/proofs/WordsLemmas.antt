@@ -25,7 +25,7 @@ names_none words none = ap settings_of (none_left words none)
 asked : (words : List (Bor (List ℕ))) (none : Bor (List ℕ)) {rows : List ToolRow} {row : ToolRow}
     → 1 ≤ length words → rows ≡ tools → Some row ≡ row_named rows (get_or words 0 none).now
     → settings_of (texts words) ≡ then_check (given_by row (after_first words)) (settings_for row.tool)
-asked words none {rows} some are named = cc (front_and_rest none words some, are, named)
+asked words none some are named = cc (front_and_rest none words some, are, named)
 
 pub refused : (words : List (Bor (List ℕ))) (none : Bor (List ℕ)) {rows : List ToolRow} {row : ToolRow} {fault : Fault}
     → 1 ≤ length words → rows ≡ tools → Some row ≡ row_named rows (get_or words 0 none).now

@@ -10,7 +10,7 @@ use Rattle.tools_core.proofs.run.run.Goals as goal
 
 pub returns-in-Ok : goal.returns-in-Ok
 returns-in-Ok g c = record {
-  untouched = λ none. c.run_tool.ensures.untouched (rw (c.in-Ok.ensures.ok, none));
+  untouched = λ none. c.run_tool.ensures.untouched (sym (ap (λ (meant : Result Settings Fault). has_dash (names_at meant)) c.in-Ok.ensures.ok) ∙ none);
   unopened = λ none. absurd (asked_or_none (map (λ word. word.now) c.args.words.now) c.in-Ok.ensures.ok none.1);
   ends = tool_runs _ _ _ _ _ _ c.in-Ok.ensures.ok c.run_tool.ensures.ends;
   opened = counts_by (map (λ word. word.now) c.args.words.now) c.in-Ok.ensures.ok c.run_tool.ensures.opened;
