@@ -14,7 +14,7 @@ use Rattle.ports_core.specs.declared.fault.Fault.TheVariants.{Memory, Write, Ope
 use Rattle.run_core.specs.declared.feeding.Fed.{Fed}
 use Rattle.run_core.specs.declared.feeding.Fed.TheVariants.{Whole, Enough, Broken}
 use Rattle.ports_core.specs.Inputs.{empty, KeepsOthers, OfContent}
-use Rattle.run_core.specs.Feeding.{Stops, HasAll, to_end, enough, call_of, feeds, closes, FedAs, whole, had_enough, broke_off, judged, stopped, IsUnread, Uses}
+use Rattle.run_core.specs.Feeding.{is_enough, Stops, HasAll, to_end, enough, call_of, feeds, closes, FedAs, whole, had_enough, broke_off, judged, stopped, IsUnread, Uses}
 use Rattle.run_core.specs.inner.Feeding.{EndsSo, finished, fell_short}
 use Rattle.ports_core.proofs.LoadLemmas.{passed_at}
 use Rattle.ports_core.proofs.InputsLemmas.{HasRead, keeps_others, changed_source}
@@ -62,7 +62,7 @@ short_of_piece : {told : Bool} {opening : Needs} {most : ℕ} {work : Work} {con
     → (is_verdict fault ≡ true → new ≡ reached) → (is_verdict fault ≡ false → Swept work.clears (length before) reached new) → FedAs told before work opening most content WasRead new (Err fault)
 short_of_piece WasRead {x} piece rest {reached} {fault} lawful is within going read (engine.cut unjudged stop) why settles kept swept =
     stopped fault unjudged _ (feeds x piece rest is within going) read reached (why unjudged) stop (swept unjudged)
-short_of_piece {told} {work} WasRead {x} piece rest {before} {fault} lawful is within going read (engine.judged judging first at cleared) why settles kept swept =
+short_of_piece {work} WasRead {x} piece rest {fault} lawful is within going read (engine.judged judging first at cleared) why settles kept swept =
     let stays : IsComplete work (x ++ piece) rest = lawful.stays (x ++ piece) rest (settles judging).0 in
     judged fault judging (or_right _ _ (ap work.is_complete is ∙ stays.still)) (ap work.verdict is ∙ stays.verdict_stays ∙ (settles judging).1) first
     (rw (sym stays.whole_stays ∙ ap work.whole (sym is)) at at)
@@ -79,30 +79,6 @@ got_all Whole got = to_end got.0 got.2
 got_all Enough got = enough got.1.0 got.1.1 got.0
 got_all Broken got = absurd got
 
-whole_at : {work : Work} {x : List ℕ} (rest : List ℕ) → IsLawful work → work.is_complete x ≡ true → work.whole (x ++ rest) ≡ work.whole x
-whole_at {work} {x} rest lawful done =
-    let here : IsComplete work x [] = lawful.stays x [] done in
-    let there : IsComplete work x rest = lawful.stays x rest done in
-    there.whole_stays ∙ sym here.whole_stays ∙ ap work.whole (append-nil x)
-
-fed_all : {told : Bool} {opening : Needs} {most : ℕ} {work : Work} {content : Content} (WasRead : List ℕ → Type 0) {x : List ℕ} {new before : List Slot} (fed : Fed) → IsLawful work → HasGot work content x fed → work.verdict x ≡ None → OutputsAt told before (work.whole x) new → FedAs told before work opening most content WasRead new (Ok fed)
-fed_all {told} {work} WasRead {new} {before} Whole lawful got well at =
-    whole got.0 (ap work.is_complete got.2 ∙ got.1) (ap work.verdict got.2 ∙ well) (rw got.2 at)
-fed_all {told} {work} WasRead {x} {new} {before} Enough lawful got well at =
-    let stays : IsComplete work x got.1.0 = lawful.stays x got.1.0 got.0 in
-    had_enough (ap work.is_complete got.1.1 ∙ stays.still) (ap work.verdict got.1.1 ∙ stays.verdict_stays ∙ well)
-    (rw (ap work.whole got.1.1 ∙ whole_at got.1.0 lawful got.0) at)
-fed_all WasRead Broken lawful got well at = absurd got
-
-judged_all : {told : Bool} {opening : Needs} {most : ℕ} {work : Work} {content : Content} (WasRead : List ℕ → Type 0) {x : List ℕ} {reached new before : List Slot} (fed : Fed) {fault : Fault} → is_verdict fault ≡ true → IsLawful work → HasGot work content x fed → Judges work x fault → OutputsAt told before (work.whole x) reached → Swept work.clears (length before) reached new → FedAs told before work opening most content WasRead new (Err fault)
-judged_all {told} {work} WasRead {reached} {before} Whole {fault} judging lawful got verdict at swept =
-    judged fault judging (or_left _ _ (ap not got.0)) (ap work.verdict got.2 ∙ verdict) reached (rw got.2 at) swept
-judged_all {told} {work} WasRead {x} {reached} {before} Enough {fault} judging lawful got verdict at swept =
-    let stays : IsComplete work x got.1.0 = lawful.stays x got.1.0 got.0 in
-    judged fault judging (or_right _ _ (ap work.is_complete got.1.1 ∙ stays.still)) (ap work.verdict got.1.1 ∙ stays.verdict_stays ∙ verdict) reached
-    (rw (ap work.whole got.1.1 ∙ whole_at got.1.0 lawful got.0) at) swept
-judged_all WasRead Broken judging lawful got verdict at swept = absurd got
-
 -- the engine makes of x what it makes of z
 pub record MadeAlike (work : Work) (x z : List ℕ) : Type 0 where
   pub settled : work.settled x ≡ work.settled z
@@ -112,26 +88,40 @@ pub record MadeAlike (work : Work) (x z : List ℕ) : Type 0 where
 pub alike_itself : {work : Work} {x : List ℕ} → MadeAlike work x x
 alike_itself = record { settled = refl; whole = refl; verdict = refl }
 
--- what is spare changes nothing
-pub alike_used : {work : Work} {x : List ℕ} {n : ℕ} (spare : IsSpare work x n) → IsLawful work → work.is_complete spare.used ≡ true → MadeAlike work x spare.used
-alike_used {work} spare lawful done =
-    let stays : IsComplete work spare.used spare.rest = lawful.stays spare.used spare.rest done in record {
-      settled = ap work.settled spare.joined ∙ stays.settled_stays;
-      whole = ap work.whole spare.joined ∙ whole_at spare.rest lawful done;
-      verdict = ap work.verdict spare.joined ∙ stays.verdict_stays;
-    }
+-- what comes once the output is complete changes nothing
+pub alike_after : {work : Work} {x y : List ℕ} (rest : List ℕ) → IsLawful work → work.is_complete x ≡ true → y ≡ x ++ rest → MadeAlike work y x
+alike_after {work} {x} rest lawful done is =
+    let here : IsComplete work x [] = lawful.stays x [] done in
+    let there : IsComplete work x rest = lawful.stays x rest done in
+    rw is (record { settled = there.settled_stays; whole = there.whole_stays ∙ sym here.whole_stays ∙ ap work.whole (append-nil x); verdict = there.verdict_stays })
+
+got_alike : {work : Work} (content : Content) {x : List ℕ} (fed : Fed) → IsLawful work → HasGot work content x fed → MadeAlike work content.bytes x
+got_alike content Whole lawful got = rw got.2 alike_itself
+got_alike content Enough lawful got = alike_after got.1.0 lawful got.0 got.1.1
+got_alike content Broken lawful got = absurd got
+
+got_enough : {work : Work} (content : Content) (x : List ℕ) (fed : Fed) → IsLawful work → HasGot work content x fed → is_enough work content ≡ true
+got_enough content x Whole lawful got = or_left _ _ (ap not got.0)
+got_enough {work} content x Enough lawful got = or_right _ _ (ap work.is_complete got.1.1 ∙ (lawful.stays x got.1.0 got.0).still)
+got_enough content x Broken lawful got = absurd got
+
+fed_all : {told : Bool} {opening : Needs} {most : ℕ} {work : Work} {content : Content} (WasRead : List ℕ → Type 0) {x : List ℕ} {new before : List Slot} (fed : Fed) → IsLawful work → HasGot work content x fed → work.verdict x ≡ None → OutputsAt told before (work.whole x) new → FedAs told before work opening most content WasRead new (Ok fed)
+fed_all WasRead Whole lawful got well at = whole got.0 (rw got.2 got.1) (rw got.2 well) (rw got.2 at)
+fed_all {work} WasRead {x} Enough lawful got well at =
+    let alike = alike_after got.1.0 lawful got.0 got.1.1 in had_enough (ap work.is_complete got.1.1 ∙ (lawful.stays x got.1.0 got.0).still) (alike.verdict ∙ well) (rw alike.whole at)
+fed_all WasRead Broken lawful got well at = absurd got
 
 -- What a fault left at the end, and what was made of its files then. The engine was fed x, of which z was used.
 short_of_end : {told : Bool} {opening : Needs} {most : ℕ} {work : Work} {content : Content} (WasRead : List ℕ → Type 0) {x z : List ℕ} {reached new before : List Slot} (fed : Fed) {fault : Fault} → IsLawful work → HasGot work content x fed → HasAll work content z → MadeAlike work x z → IsNeeded work.is_complete most z → WasRead z
     → Ended told before (work.settled x) (work.whole x) work.clears fault reached
     → (is_verdict fault ≡ false → Stops (call_of work work.means.closing z (work.settled z) (work.whole z)) reached fault) → (is_verdict fault ≡ true → Judges work x fault)
     → (is_verdict fault ≡ true → new ≡ reached) → (is_verdict fault ≡ false → Swept work.clears (length before) reached new) → FedAs told before work opening most content WasRead new (Err fault)
-short_of_end {told} {work} WasRead {x} {z} {reached} {before} fed {fault} lawful got all alike needed read (engine.cut unjudged stop) why verdict kept swept =
+short_of_end WasRead {z} {reached} fed {fault} lawful got all alike needed read (engine.cut unjudged stop) why verdict kept swept =
     stopped fault unjudged _ (closes z all needed) read reached (why unjudged)
     (rw alike.settled at (rw alike.whole at stop))
     (swept unjudged)
-short_of_end {work} WasRead {before} fed lawful got all alike needed read (engine.judged judging first at cleared) why verdict kept swept =
-    judged_all WasRead fed judging lawful got (verdict judging) at (rw (kept judging) cleared)
+short_of_end WasRead fed {fault} lawful got all alike needed read (engine.judged judging first at cleared) why verdict kept swept =
+    let same = got_alike _ fed lawful got in judged fault judging (got_enough _ _ fed lawful got) (same.verdict ∙ verdict judging) first (rw same.whole at) (rw (kept judging) cleared)
 
 module _ {S : Type 0} (Holds : S → List ℕ → Type 0) (Owns : S → ℕ → List Slot → Type 0) (work : S → Work) where
   -- the loop has fed the engine x
@@ -150,7 +140,7 @@ module _ {S : Type 0} (Holds : S → List ℕ → Type 0) (Owns : S → ℕ → 
   stands told {before} so_far own at = record { holds = so_far.holds.within; owns = so_far.owns (length before) own; outputs = so_far.outputs before own at }
 
   pub goes_on : (told : Bool) {start now next : GuardState S} {x : List ℕ} (piece : List ℕ) {old mid new : List Slot} → Feeds told start now x old mid → work next.stage ≡ work now.stage → TakesIn (HoldsIn Holds) piece now next → PutsOut Holds Owns work now.stage piece told mid new → KeepsOwn Owns now.stage next.stage mid new → next.fed < 2 ^ 63 → Feeds told start next (x ++ piece) old new
-  goes_on told {x} piece {new} so_far same takes puts keeps bound = record {
+  goes_on told {x} piece so_far same takes puts keeps bound = record {
     same = same ∙ so_far.same;
     holds = takes x so_far.holds;
     owns = λ first own. keeps first (so_far.owns first own);
@@ -164,7 +154,7 @@ module _ {S : Type 0} (Holds : S → List ℕ → Type 0) (Owns : S → ℕ → 
       → IsCaused (IsMet (work now.stage).means (work now.stage).means.feeding lack (EndsWith Holds work now.stage piece) mid reached) now.is_over now.fed (length piece) mid reached fault
       → work next.stage ≡ work now.stage → (is_verdict fault ≡ false → KeepsOwn Owns now.stage next.stage mid reached) → (is_verdict fault ≡ true → new ≡ reached) → (is_verdict fault ≡ false → Clears Owns work next.stage reached new)
       → FedAs told before (work start.stage) opening most content WasRead new (Err fault)
-  stopped_feeding laws told {opening} {most} {lack} {now} next {content} WasRead {x} piece rest {mid} {reached} {new} {before} {fault} so_far own at is within going read cuts caused same owned kept cleared =
+  stopped_feeding laws told {lack} {now} next WasRead {x} piece rest {before} so_far own at is within going read cuts caused same owned kept cleared =
       let why = rw so_far.holds.count at (rw so_far.holds.live at caused) in
       rw (← so_far.same) (short_of_piece WasRead piece rest (laws now.stage) is within going read (cuts before x (stands told so_far own at))
       (λ unjudged. stops (work now.stage) (x ++ piece) ((work now.stage).settled x) ((work now.stage).settled (x ++ piece)) lack (EndsWith Holds work now.stage piece) unjudged (λ long. let size : length (x ++ piece) ≡ length x + length piece = length-append x piece in omega (arith, long)) why)
@@ -175,10 +165,10 @@ module _ {S : Type 0} (Holds : S → List ℕ → Type 0) (Owns : S → ℕ → 
   -- the loop ended with the input, or where nothing more can follow
   pub ended : (laws : (s : S) → IsLawful (work s)) (told : Bool) {opening : Needs} {most : ℕ} {start now : GuardState S} {content : Content} (WasRead : List ℕ → Type 0) {x z : List ℕ} {old mid new before : List Slot} {fed : Fed} {result : Result Fed Fault} → Feeds told start now x old mid → Owns start.stage (length before) old → OutputsAt told before ((work start.stage).settled []) old → HasGot (work now.stage) content x fed → HasAll (work now.stage) content z → MadeAlike (work now.stage) x z → IsNeeded (work now.stage).is_complete most z → WasRead z
       → EndsSo Holds Owns work told now fed mid new result → FedAs told before (work start.stage) opening most content WasRead new result
-  ended laws told {opening} {most} {now} {content} WasRead {x} {new} {before} {fed} so_far own at got all alike needed read (finished finishes) =
+  ended laws told {now} WasRead {x} {before} {fed} so_far own at got all alike needed read (finished finishes) =
       let done = finishes before x (stands told so_far own at) in
       rw (← so_far.same) (fed_all WasRead fed (laws now.stage) got done.0 done.1)
-  ended laws told {opening} {most} {now} {content} WasRead {x} {z} {mid} {new} {before} {fed} so_far own at got all alike needed read (fell_short fault reached short caused kept cleared) =
+  ended laws told {now} WasRead {x} {z} {before} {fed} so_far own at got all alike needed read (fell_short fault reached short caused kept cleared) =
       let why = rw so_far.holds.live at caused in
       rw (← so_far.same) (short_of_end WasRead fed (laws now.stage) got all alike needed read (short before x (stands told so_far own at))
       (λ unjudged. stops (work now.stage) z ((work now.stage).settled z) ((work now.stage).whole z) (Unit {0}) (EndsThere Holds work now.stage) unjudged (λ long. absurd (let bound : now.fed < 2 ^ 63 = so_far.bound in omega (arith, bound, long))) why)
@@ -188,7 +178,7 @@ module _ {S : Type 0} (Holds : S → List ℕ → Type 0) (Owns : S → ℕ → 
   -- the loop ended where the input broke off
   pub broken_off : (told : Bool) {opening : Needs} {most : ℕ} {start now : GuardState S} {content : Content} (WasRead : List ℕ → Type 0) {x : List ℕ} {old slots new before : List Slot} → Feeds told start now x old slots → Owns start.stage (length before) old → OutputsAt told before ((work start.stage).settled []) old → content.bytes ≡ x → content.breaks_off ≡ true → (work now.stage).is_complete x ≡ false
       → Clears Owns work now.stage slots new → FedAs told before (work start.stage) opening most content WasRead new (Ok Broken)
-  broken_off told {opening} {most} {now} {content} WasRead {slots} {new} {before} so_far own at all breaks going cleared =
+  broken_off told {now} WasRead {slots} {before} so_far own at all breaks going cleared =
       rw (← so_far.same) (broke_off breaks (ap (work now.stage).is_complete all ∙ going) slots
       (rw all (so_far.outputs before own at))
       (cleared (length before) (so_far.owns (length before) own)))
@@ -209,7 +199,7 @@ module _ {S : Type 0} (Holds : S → List ℕ → Type 0) (Owns : S → ℕ → 
       → IsCaused (IsMet (work engine.stage).means (work engine.stage).means.closing (Unit {0}) (EndsThere Holds work engine.stage) old reached) engine.is_over engine.fed 0 old reached fault
       → work mid.stage ≡ work engine.stage → (is_verdict fault ≡ false → KeepsOwn Owns engine.stage mid.stage old reached) → (is_verdict fault ≡ true → new ≡ reached) → (is_verdict fault ≡ false → Clears Owns work mid.stage reached new)
       → EndsSo Holds Owns work told engine fed old new (Err fault)
-  close_short told mid {reached} {new} {fault} short caused same owned kept cleared =
+  close_short told mid {reached} {fault} short caused same owned kept cleared =
       fell_short fault reached short caused kept (λ unjudged first own. rw same at (cleared unjudged first (owned unjudged first own)))
 
 -- what was read was needed
@@ -234,7 +224,7 @@ of_more false there x rest is_broken P all holds = (record { bytes = x; breaks_o
 
 -- the same of the fault that is handed on
 pub given_so : {told : Bool} {before new : List Slot} {work : Work} {opening : Needs} {most : ℕ} {content : Content} (WasRead : List ℕ → Type 0) {given fault : Fault} → given ≡ fault → FedAs told before work opening most content WasRead new (Err fault) → FedAs told before work opening most content WasRead new (Err given)
-given_so {told} {before} {new} {work} {opening} {most} {content} WasRead is fed = rw is fed
+given_so WasRead is fed = rw is fed
 
 -- Lemmas on an engine that took in a front of its input without a read: the loop that feeds it goes on from there.
 
@@ -244,7 +234,7 @@ needed_front {x} (inr going) = inr (x, [], sym (append-nil x), omega arith, goin
 
 module _ {S : Type 0} (Holds : S → List ℕ → Type 0) (Ready : S → List Slot → Type 0) (Owns : S → ℕ → List Slot → Type 0) (work : S → Work) (told : Bool) (slot count : ℕ) (start now : GuardState S) (old new : List Source) (loads : Loads Holds Ready Owns work told slot count start.stage now.stage old new) where
   pub loaded_feeds : {told_out : Bool} {slots : List Slot} → work now.stage ≡ work start.stage → now.fed ≡ count → now.is_over ≡ false → count < 2 ^ 63 → Feeds Holds Owns work told_out start now loads.front slots slots
-  loaded_feeds {told_out} {slots} same fed live bound = record {
+  loaded_feeds {slots} same fed live bound = record {
     same = same;
     holds = record { live = live; count = fed ∙ loads.long; within = loads.holds };
     owns = λ first own. loads.owns first slots own;
@@ -268,7 +258,7 @@ module _ {S : Type 0} (Holds : S → List ℕ → Type 0) (Ready : S → List Sl
   loaded_needed = needed_front loads.going
 
   pub loaded_asked : {most : ℕ} → IsTrue (is_readable old slot) → (source_at old slot).asked ≤ most → (source_at new slot).asked ≤ most
-  loaded_asked {most} can few = rw (ap (λ (source : Source). source.asked) (passed_at slot count old new can loads.passed)) few
+  loaded_asked can few = rw (ap (λ (source : Source). source.asked) (passed_at slot count old new can loads.passed)) few
 
 -- Lemmas on what an engine uses of its input, and what is given back of it.
 
@@ -306,7 +296,7 @@ last_given slot size {n} sources {new} can gave is = rw (changed_source slot (gi
 
 -- a read that failed took nothing
 pub takes_none : {x : List ℕ} {slot : ℕ} (size : ℕ) {start sources new : List Source} → HasTaken x slot start sources → IsTrue (is_readable sources slot) → new ≡ changed_at slot (fails size) sources → HasTaken x slot start new
-takes_none {x} {slot} size {sources} {new} took can is =
+takes_none {slot} size {sources} {new} took can is =
     let after = changed_source slot (fails size) sources new can is in record {
       taken = ap (λ (source : Source). source.taken) after ∙ took.taken;
       far = λ unread. rw (ap (λ (source : Source). source.reached) after) (took.far unread);

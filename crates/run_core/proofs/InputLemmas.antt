@@ -44,7 +44,7 @@ use Rattle.ports_core.specs.Source as from
 -- headers
 
 pub broken_header : {told : Bool} {text said : List ℕ} {old new : List Slot} {n : ℕ} → said ≡ text → BrokeAfter told old new 0 said n → HeaderFails told text old new (Write 0)
-broken_header {told} {old} {new} {n} is cut = broke n (rw is at cut)
+broken_header {n} is cut = broke n (rw is at cut)
 
 -- the streams
 
@@ -105,7 +105,7 @@ module _ (told_in told : Bool) (task : Task) (most : ℕ) (is_first failed was_r
 
   part_after : (error_now : Slot) (part : Part) {reached : List Slot} → OutputsAt told (streams_with error_now) (after_part (after_part so_far (only_out (header_text task.with_header is_first name))) part) reached
       → OutputsAt told (streams_with error_now) (after_part so_far (after_part (only_out (header_text task.with_header is_first name)) part)) reached
-  part_after error_now part {reached} there = rw (after_assoc so_far (only_out (header_text task.with_header is_first name)) part) at there
+  part_after error_now part there = rw (after_assoc so_far (only_out (header_text task.with_header is_first name)) part) at there
 
   -- it went well
   went_well : (content : Content) (new : List Slot) → IsDone told_in task.work most source (Some content) sources → is_enough task.work content ≡ true → task.work.verdict content.bytes ≡ None → OutputsAt told mid (task.work.whole content.bytes) new → TookSo content new (Ok (record { was_read = was_read; is_first = false; failed = failed }))
@@ -141,14 +141,14 @@ module _ (told_in told : Bool) (task : Task) (most : ℕ) (is_first failed was_r
 
   pub took_stopped : {content : Content} {new : List Slot} {fault : Fault} → is_verdict fault ≡ false → FedAs told mid task.work task.opening most content (Leaves told_in content source sources) new (Err fault) → TookSo content new (Err fault)
   took_stopped unjudged (judged _ is enough judges reached there swept) = absurd (false≢true (sym unjudged ∙ is))
-  took_stopped {content} {new} {fault} unjudged (stopped _ is call is_call read reached why stop swept) =
+  took_stopped {content} {fault} unjudged (stopped _ is call is_call read reached why stop swept) =
       cut_off fault (step_after (after_part so_far (only_out (header_text task.with_header is_first name))) call) reached (calling content call is_call read)
       why (stop_after at stop) (rw counted at swept)
 
 -- standard error is open after an input was fed
 
 pub swept_open : (clears : Bool) (reached new : List Slot) {first : ℕ} → 2 ≤ first → is_open (slot_at reached 1).state ≡ true → Swept clears first reached new → is_open (slot_at new 1).state ≡ true
-swept_open clears reached new {first} past opened swept = rw (swept_error clears reached new past swept, opened)
+swept_open clears reached new past opened swept = rw (swept_error clears reached new past swept, opened)
 
 pub fed_open : {told : Bool} {work : Work} {opening : Needs} {most : ℕ} {error : Slot} {part : Part} {mid new : List Slot} {content : Content} (WasRead : List ℕ → Type 0) {fed : Fed} → fed ≡ Broken → is_open error.state ≡ true → OutputsAt told (streams_with error) part mid → FedAs told mid work opening most content WasRead new (Ok fed) → is_open (slot_at new 1).state ≡ true
 fed_open {work} {new} WasRead is opened at (broke_off breaks going reached there swept) =
@@ -169,14 +169,14 @@ pub fed_as : {S : Type 0} (Holds : S → List ℕ → Type 0) (Owns : S → ℕ 
     → ((before : List Slot) (opening : Needs) → Owns engine.stage (length before) mid → OutputsAt told before ((work engine.stage).settled []) mid → OfContent told_in (source_at sources slot).left (λ content. FedAs told before (work engine.stage) opening most content (LeavesOf told_in content (source_at left slot)) new result × BreaksOnly told_in content (source_at left slot)))
     → (told_in ≡ true → is_stop result ≡ false → Uses (work engine.stage) most slot (source_at sources slot).left (source_at left slot))
     → OfSource told_in source sources (λ content. FedAs told old asked opening most content (Leaves told_in content source left) new result × (is_stop result ≡ false → IsDone told_in asked most source (Some content) left))
-fed_as Holds Owns Ready opening {old = old} sources left is had within feeds uses =
+fed_as Holds Owns Ready opening {old} sources left is had within feeds uses =
     rw (is, ← had.does) (left_of left _ within uses (feeds old opening had.owns (rw (← had.does) at had.outputs)))
 
 pub fed_none : {S : Type 0} (Holds : S → List ℕ → Type 0) (Owns : S → ℕ → List Slot → Type 0) {work : S → Work} (Ready : S → List Slot → Type 0) {asked : Work} (opening : Needs) {told : Bool} (told_in : Bool) {old mid new : List Slot} {engine : GuardState S} {source : Option ℕ} (sources left : List Source) (most : ℕ) {result : Result Fed Fault}
     → source ≡ None → Opens Holds Owns work Ready asked told old mid engine
     → ((before : List Slot) (opening : Needs) (room : ℕ) → Owns engine.stage (length before) mid → OutputsAt told before ((work engine.stage).settled []) mid → FedAs told before (work engine.stage) opening room empty (λ read. Unit {0}) new result)
     → OfSource told_in source sources (λ content. FedAs told old asked opening most content (Leaves told_in content source left) new result × (is_stop result ≡ false → IsDone told_in asked most source (Some content) left))
-fed_none Holds Owns Ready opening told_in {old = old} sources left most is had feeds = rw (is, ← had.does) (feeds old opening most had.owns (rw (← had.does) at had.outputs), λ ends. tt)
+fed_none Holds Owns Ready opening told_in {old} sources left most is had feeds = rw (is, ← had.does) (feeds old opening most had.owns (rw (← had.does) at had.outputs), λ ends. tt)
 
 -- no input but that of the source was touched
 
@@ -267,7 +267,7 @@ dash_at false laid sources slot name P dash (content, there, holds) = (
 pub took_opened : {told_in told : Bool} {task : Task} {most : ℕ} {is_first failed was_read : Bool} {laid : ℕ → List ℕ → Option Content} {name : List ℕ} {old mid : List Source} {slot : ℕ} {so_far : Part} {error : Slot} {first : ℕ} {sources : List Source} {new : List Slot} {result : Result Progress Fault} → is_dash name ≡ false → OpensFile told_in laid old mid name slot
     → OfSource told_in (Some slot) mid (λ content. TookInput told_in told task most (input_from name (Some slot) content) (of_content task is_first name (Some content)) is_first failed was_read so_far error first sources new result)
     → OfName told_in (world_of laid old) was_read (length old) name (λ input. TookInput told_in told task most input (of_input task is_first input) is_first failed (was_read || is_dash name) so_far error first sources new result)
-took_opened {told_in} {told} {task} {most} {is_first} {failed} {was_read} {laid} {name} {old} {slot = slot} {so_far} {error} {first} {sources} {new} {result} differs opened_it (content, there, one) =
+took_opened {was_read} {laid} {name} {old} {slot} {sources} differs opened_it (content, there, one) =
     of_file (world_of laid old) was_read _ differs (λ t. ap (λ n. laid n name) (sym opened_it.number) ∙ opened_it.lies t
     ∙ ap Some (sym (there t ∙ ap (λ (source : Source). source.left) (ap (λ those. source_at those slot) opened_it.sources ∙ ap (source_at (old ++ source_of opened_it.content ∷ [])) opened_it.number ∙ last_source old))))
     (rw (ap (λ (b : Bool). was_read || b) differs ∙ or-false was_read) (rw opened_it.number at one))
@@ -275,7 +275,7 @@ took_opened {told_in} {told} {task} {most} {is_first} {failed} {was_read} {laid}
 took_missing : {told_in told : Bool} {task : Task} {most : ℕ} {is_first failed was_read : Bool} (name : List ℕ) (sources : List Source) {after : List Source} (slot : ℕ) {so_far : Part} {error : Slot} {old new : List Slot} → is_dash name ≡ false → after ≡ sources ++ missing ∷ [] → OutputsAt told (streams_with error) so_far old
     → SaysOn told task.tool (message_of task.tool (Open slot) name) old new
     → TookInput told_in told task most (file_input name (length sources) None) (of_input task is_first (file_input name (length sources) None)) is_first failed (was_read || is_dash name) so_far error (length old) after new (Ok (record { was_read = was_read; is_first = is_first; failed = true }))
-took_missing {told_in} {told} {task} {most} {is_first} {was_read = was_read} name sources slot {so_far} {new = new} differs are at says =
+took_missing {told_in} {told} {task} {most} {is_first} {was_read} name sources slot {new} differs are at says =
     let said = said_at at says in
     took (record { was_read = was_read; is_first = is_first; failed = true }) said.0 new (simp (differs, or-false, and-true, or-true)) (missing_done told_in task.work most sources are)
     (said.0, said.1, refl) (subst (λ part. OutputsAt told (streams_with said.0) part new) (sym nothing_after) said.2) refl
@@ -294,7 +294,7 @@ took_standard {told_in} {told} {task} {most} {is_first} {failed} was_read laid n
 pub of_missing : {told_in told : Bool} {task : Task} {most : ℕ} {is_first failed was_read : Bool} {laid : ℕ → List ℕ → Option Content} {name : List ℕ} {sources after : List Source} {fault : Fault} {so_far : Part} {error : Slot} {old new : List Slot} → is_dash name ≡ false → OpensNothing told_in laid sources after name fault → is_unopened fault ≡ true → OutputsAt told (streams_with error) so_far old
     → SaysOn told task.tool (message_of task.tool fault name) old new → OfName told_in (world_of laid sources) was_read (length sources) name
     (λ input. TookInput told_in told task most input (of_input task is_first input) is_first failed (was_read || is_dash name) so_far error (length old) after new (Ok (record { was_read = was_read; is_first = is_first; failed = true })))
-of_missing {was_read = was_read} {laid} {name} {sources} differs (from.broke slot number lies are) cannot at says =
+of_missing {was_read} {laid} {name} {sources} differs (from.broke slot number lies are) cannot at says =
     of_file (world_of laid sources) was_read _ differs (λ t. ap (λ n. laid n name) (sym number) ∙ lies t)
     (took_missing name sources slot differs are at says)
 of_missing differs (from.no_room are) cannot at says = absurd (false≢true cannot)
@@ -303,7 +303,7 @@ of_missing differs (from.no_room are) cannot at says = absurd (false≢true cann
 pub of_no_room : {told_in told : Bool} {task : Task} {most : ℕ} {is_first failed : Bool} (was_read : Bool) {laid : ℕ → List ℕ → Option Content} {name : List ℕ} {sources after : List Source} {fault : Fault} {so_far : Part} {error : Slot} {old : List Slot} → is_dash name ≡ false → OpensNothing told_in laid sources after name fault → is_unopened fault ≡ false → OutputsAt told (streams_with error) so_far old
     → OfName told_in (world_of laid sources) was_read (length sources) name (λ input. TookInput told_in told task most input (of_input task is_first input) is_first failed (was_read || is_dash name) so_far error (length old) after old (Err fault))
 of_no_room was_read differs (from.broke slot number lies are) other at = absurd (false≢true (sym other))
-of_no_room {told = told} {task} was_read {laid} {name} {sources} {so_far} {error} {old} differs (from.no_room are) other at =
+of_no_room {told} {task} was_read {laid} {name} {sources} {so_far} {error} {old} differs (from.no_room are) other at =
     of_file (world_of laid sources) was_read _ differs (λ t. refl)
     (cut_off Memory _ old (unopened (laid (length sources) name) (length sources) refl (omega (arith, ap length are))) refl
     (stopped_here told (streams_with error) so_far so_far Memory old old at (part_begins_itself so_far) refl tt) (none_to_sweep task.work.clears old (omega arith)))
@@ -377,7 +377,7 @@ walk_begins {told} {names} {laid} {sources} {slots} fresh are alone =
 -- where names are left, no file was removed
 slots_at : {told_in told : Bool} {task : Task} {world : World} {names left : List (List ℕ)} {progress : Progress} {laid : ℕ → List ℕ → Option Content} {sources : List Source} {slots : List Slot} → 1 ≤ length left
     → (walked : Walked told_in told task world names left progress laid sources slots) → OutputsAt told (streams_with walked.error) walked.made.part slots
-slots_at {told} {slots} some walked =
+slots_at {slots} some walked =
     let same : slots ≡ walked.reached = rw (walked.unswept some) at walked.swept in
     rw same walked.at
 
@@ -414,7 +414,7 @@ Takes told_in told task most progress laid sources new_sources name so_far error
 
 -- no read asked for more
 pub asks_on : {most : ℕ} {was_read : Bool} {name : List ℕ} {sources new_sources : List Source} → most ≡ largest_piece → TakesOne most was_read name sources new_sources → AsksAtMost largest_piece sources → AsksAtMost largest_piece new_sources
-asks_on {sources} {new_sources} at_most leaves = rw at_most at leaves.asked
+asks_on at_most leaves = rw at_most at leaves.asked
 
 -- one more name was taken
 pub walk_goes_on : {told_in told : Bool} {task : Task} {most : ℕ} {world : World} {names : List (List ℕ)} {name : List ℕ} {left : List (List ℕ)} {progress next : Progress} {laid new_laid : ℕ → List ℕ → Option Content} {sources new_sources : List Source} {slots new : List Slot}
@@ -501,7 +501,7 @@ walk_within told {name} {left} {sources} {new_sources} walked leaves =
 pub walk_ends : {told_in told : Bool} {task : Task} {world : World} {names left : List (List ℕ)} {progress : Progress} {laid : ℕ → List ℕ → Option Content} {sources : List Source} {slots : List Slot} → left ≡ []
     → Walked told_in told task world names left progress laid sources slots
     → RunsOver told_in world names (λ found. TookAll told_in told task found sources slots (Ok progress.failed))
-walk_ends {told_in} {told} {task} {world} {progress} {sources} {slots} none walked =
+walk_ends {told_in} {task} {world} {progress} {sources} none walked =
     let made : made_by task (walked.done ++ []) ≡ walked.made = walked.rest_made [] ∙ joined_nothing in (
       walked.done ++ [],
       record {
@@ -522,7 +522,7 @@ walk_counts {left} {sources} none walked = let all_taken : count_after (length s
 -- the words that a loop has left are the first of them and the rest
 pub walked_at : {told_in : Bool} (told : Bool) {task : Task} {world : World} {names : List (List ℕ)} (none : Bor (List ℕ)) (left : List (Bor (List ℕ))) {progress : Progress} {laid : ℕ → List ℕ → Option Content} {sources : List Source} {slots : List Slot} → 1 ≤ length left
     → Walked told_in told task world names (map (λ word. word.now) left) progress laid sources slots → Walked told_in told task world names ((get_or left 0 none).now ∷ map (λ word. word.now) (take (length left - 1) (drop 1 left))) progress laid sources slots
-walked_at {told_in} told {task} {world} {names} none left {progress} {laid} {sources} {slots} some walked = rw (front_and_rest none left some) at walked
+walked_at told none left some walked = rw (front_and_rest none left some) at walked
 
 -- a run that touched no input
 pub none_touched : {told_in : Bool} {laid : ℕ → List ℕ → Option Content} {sources : List Source} {names : List (List ℕ)} → IsFresh sources → RunsOver told_in (world_of laid sources) names (λ found. AreUntouched found sources)

@@ -35,7 +35,7 @@ asks_more (first ∷ sources) source little asked zero = asked 0
 asks_more (first ∷ sources) source little asked (suc place) = asks_more sources source little (λ those. asked (suc those)) place
 
 pub asks_there : {most slot : ℕ} {old new : List Source} → KeepsOthers slot old new → ((source_at old slot).asked ≤ most → (source_at new slot).asked ≤ most) → AsksAtMost most old → AsksAtMost most new
-asks_there {most} {slot} {new} keeps there asked place =
+asks_there {slot} keeps there asked place =
     dite (ℕ_discrete place slot) (λ is. rw is (there (asked slot)))
     (λ differs. rw (keeps.others place differs) (asked place))
 
@@ -57,7 +57,7 @@ still_within {slot} {old} is can keeps =
 -- an input that was fed to an engine, unless a fault stopped it
 pub left_of : {told : Bool} {work : Work} {most slot : ℕ} {there : Content} (sources : List Source) (P : Content → Type 0) {stops : Bool} → slot < length sources → (told ≡ true → stops ≡ false → Uses work most slot there (source_at sources slot))
     → OfContent told there (λ content. P content × BreaksOnly told content (source_at sources slot)) → OfContent told there (λ content. P content × (stops ≡ false → IsDone told work most (Some slot) (Some content) sources))
-left_of {work} {most} {slot} sources P within uses (content, is, holds) =
+left_of sources P within uses (content, is, holds) =
     (content, is, (holds.0, λ ends. (within, (λ t. rw (is t) (uses t ends), holds.1))))
 
 -- nothing was taken of an input that was just opened
@@ -98,7 +98,7 @@ takes_dash false {name} {old} dash keeps asked = record {
 
 -- another source stands after those that were there
 takes_more : {most : ℕ} {was_read : Bool} {name : List ℕ} {old mid new : List Source} (source : Source) → is_dash name ≡ false → 0 < length old → source.asked ≤ most → mid ≡ old ++ source ∷ [] → KeepsOthers (length old) mid new → (AsksAtMost most mid → AsksAtMost most new) → TakesOne most was_read name old new
-takes_more {most} {name} {old} {new} source differs some little is keeps asked =
+takes_more {name} {old} {new} source differs some little is keeps asked =
     let count : length new ≡ length old + 1 = keeps.count ∙ ap length is ∙ one_more old source in
     let here : next_slot (length old) name ≡ length old + 1 = ap (λ (b : Bool). if b then length old else length old + 1) differs in
     let front : (place : ℕ) → place < length old → source_at new place ≡ source_at old place
@@ -113,7 +113,7 @@ takes_more {most} {name} {old} {new} source differs some little is keeps asked =
 
 pub takes_file : {told : Bool} {laid : ℕ → List ℕ → Option Content} {most : ℕ} {was_read : Bool} {name : List ℕ} {old mid new : List Source} {slot : ℕ} → is_dash name ≡ false → 0 < length old → Opens told laid old mid name slot → KeepsOthers slot mid new → (AsksAtMost most mid → AsksAtMost most new)
     → TakesOne most was_read name old new
-takes_file {mid} {new} differs some opens keeps asked =
+takes_file differs some opens keeps asked =
     takes_more (source_of opens.content) differs some (omega arith) opens.sources (rw opens.number at keeps) asked
 
 pub takes_missing : {told : Bool} {laid : ℕ → List ℕ → Option Content} {most : ℕ} {was_read : Bool} {name : List ℕ} {old new : List Source} {fault : Fault} → is_dash name ≡ false → 0 < length old → OpensNothing told laid old new name fault → TakesOne most was_read name old new
@@ -178,7 +178,7 @@ done_for told work most world was_read name false sources some done = (λ is. ab
 
 pub done_with : (told : Bool) (work : Work) (most : ℕ) (was_read : Bool) {count : ℕ} (name : List ℕ) {input : Input} (sources : List Source) → IsFor was_read count name input → 0 < count
     → IsDone told work most input.slot input.content sources → StaysDone told work most (was_read || is_dash name) input.slot input.content sources
-done_with told work most was_read {count} name sources (world, is) some done =
+done_with told work most was_read name sources (world, is) some done =
     rw is (done_for told work most world was_read name (is_dash name) sources some (rw is at done))
 
 -- the inputs after the place where a run was stopped were not touched

@@ -124,7 +124,7 @@ marked_error IsName (Open slot) output error since opened marks = shape_of opene
 marked_error IsName fault output error since opened marks = shape_of opened marks
 
 pub stop_error : {told : Bool} {output error : Slot} {low high : Part} {fault : Fault} {now : List Slot} → is_open error.state ≡ true → StoppedBetween told (output ∷ error ∷ []) low high fault now → HasError now
-stop_error {told} {output} {error} {high} {fault} {now} opened stop =
+stop_error {told} {output} {error} {high} {fault} opened stop =
     marked_error (IsNext stop.part high) fault (adds (told_of told stop.part.out) output) error stop.outputs.since opened
     (rw stop.outputs.slots at stop.marks)
 
@@ -154,7 +154,7 @@ module _ (told : Bool) (tool : Tool) (text : List ℕ) where
 
   stop_said : {output error : Slot} {low high : Part} {fault : Fault} {mid new : List Slot} → StoppedBetween told (output ∷ error ∷ []) low high fault mid → SaysOn told tool text mid new
       → (after : Slot) × Says told tool text error after × StoppedBetween told (output ∷ after ∷ []) low high fault new
-  stop_said {output} {high = high} {fault} {mid} {new} stop says =
+  stop_said {output} {high} {fault} {new} stop says =
       let first = adds (told_of told stop.part.out) output in
       let marked = told_marked (IsNext stop.part high) fault stop.place _ first stop.outputs.since new stop.from (rw stop.outputs.slots at stop.marks) says in (
         marked.0,
@@ -222,12 +222,12 @@ module _ (told : Bool) (tool : Tool) (text : List ℕ) where
     pub named : (fault : Fault) → output_named new fault ≡ output_named mid fault
 
   said_named : {output error : Slot} {since mid new : List Slot} {after : Slot} → mid ≡ output ∷ error ∷ since → Says told tool text error after → new ≡ output ∷ after ∷ since → (fault : Fault) → output_named new fault ≡ output_named mid fault
-  said_named {output} {error} {since} {after = after} was says is fault = rw (is, named_same fault output error after since (printed_named says.printed), was)
+  said_named {output} {error} {since} {after} was says is fault = rw (is, named_same fault output error after since (printed_named says.printed), was)
 
   pub said_swept : (clears : Bool) {output error : Slot} {since : List Slot} (mid new : List Slot) (first : ℕ) → 2 ≤ first → Swept clears first (output ∷ error ∷ since) mid → SaysOn told tool text mid new → SaidSwept clears first output error since mid new
   said_swept false {output} {error} {since} mid new first past same says =
       let said = says output error since same in record { after = said.0; says = said.1; swept = said.2; named = said_named same said.1 said.2 }
-  said_swept true {output} {error} {since} mid new first past swept says =
+  said_swept true {output} {error} mid new first past swept says =
       let left = streams_left mid past swept in
       let said = says output error left.0 left.1 in record {
         after = said.0;
@@ -255,7 +255,7 @@ module _ (told : Bool) (tool : Tool) (text : List ℕ) where
 
   pub stop_swept : (step : Step) (clears : Bool) {output error : Slot} {low high : Part} {fault : Fault} {reached mid new : List Slot} {first : ℕ} → 2 ≤ first → is_open error.state ≡ true → StoppedBetween told (output ∷ error ∷ []) low high fault reached
       → Stops step reached fault → Swept clears first reached mid → SaysOn told tool text mid new → ToldStop step output error low high fault clears first mid new
-  stop_swept step clears {fault = fault} {mid = mid} {new} {first} past opened stop why swept says =
+  stop_swept step clears {fault} {mid} {new} {first} past opened stop why swept says =
       let has = stop_error opened stop in
       let said = said_swept clears mid new first past (rw has.are at swept) says in
       let too = said_too has.are said.says in

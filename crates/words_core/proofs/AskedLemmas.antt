@@ -19,7 +19,7 @@ use Rattle.words_core.proofs.ValueLemmas.{value_after_letter}
 -- a count, and a size, as values
 
 pub counts_so : (text : List ℕ) {count : Count} → count_of text ≡ Ok count → value_in kind.Count text ≡ Ok (Counted count)
-counts_so text {count} is = ap (λ those. as_value (λ count. Counted count) (counted those)) is
+counts_so text is = rw is
 
 pub sizes_so : (text : List ℕ) {size : ℕ} → size_in text ≡ Ok size → value_in kind.Size text ≡ Ok (Size size)
 sizes_so text {size} is = ap (as_value (λ size. Size size)) is
@@ -29,10 +29,7 @@ pub one_given : (which : Tool) (rows : List OptionRow) (letter : ℕ) {choice : 
     → option_named rows (codes "-" ++ letter ∷ []) ≡ Some (choice, takes.Value kind) → nat_lt letter 128 ≡ true → (letter == 45) ≡ false → is_number (letter ∷ []) ≡ false
     → value_in kind value ≡ Ok meant
     → then_check (spelled rows ((45 ∷ letter ∷ []) ∷ value ∷ []) 1 (First number of_number)) (settings_for which) ≡ settings_for which (one_option choice meant 1)
-one_given which rows letter {choice} number kind of_number value {meant} named low other is reads =
-    ap (λ given. then_check given (settings_for which)) (
-    ap (λ test. onward (spelled rows (value ∷ []) 2) (if test then valued number of_number 1 1 (letter ∷ []) else mixed rows 1 (45 ∷ letter ∷ []))) is
-    ∙ value_after_letter rows letter choice kind value meant [] 1 (record { named = named; ascii = grind (arith, nat_tests); no_hyphen = grind (arith, nat_tests) }) reads)
+one_given which rows letter {choice} number kind of_number value {meant} named low other is reads = rw (is, value_after_letter rows letter choice kind value meant [] 1 (record { named = named; ascii = grind (arith, nat_tests); no_hyphen = grind (arith, nat_tests) }) reads)
 
 -- a hyphen and digits, as the only word after a tool's name, ask for the same
 pub same_number : (which : Tool) (rows : List OptionRow) (letter : ℕ) {choice : Choice} (kind : Kind) (digits : List ℕ) {meant : Meant}
@@ -40,8 +37,4 @@ pub same_number : (which : Tool) (rows : List OptionRow) (letter : ℕ) {choice 
     → is_number (letter ∷ []) ≡ false → is_number digits ≡ true → value_in kind digits ≡ Ok meant
     → then_check (spelled rows ((45 ∷ digits) ∷ []) 1 (First choice kind)) (settings_for which)
     ≡ then_check (spelled rows ((45 ∷ letter ∷ []) ∷ digits ∷ []) 1 (First choice kind)) (settings_for which)
-same_number which rows letter {choice} kind digits named low other no_digit is reads =
-    ap (λ given. then_check given (settings_for which)) (
-    ap (λ test. onward (spelled rows [] 2) (if test then valued choice kind 1 1 digits else mixed rows 1 (45 ∷ digits))) is
-    ∙ ap (λ value. onward (spelled rows [] 2) (said choice 1 1 value)) reads)
-    ∙ sym (one_given which rows letter choice kind kind digits named low other no_digit reads)
+same_number which rows letter {choice} kind digits named low other no_digit is reads = rw (is, reads, one_given which rows letter choice kind kind digits named low other no_digit reads)

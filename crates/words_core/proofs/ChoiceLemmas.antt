@@ -44,9 +44,7 @@ module _ {A C : Type 0} (by : A → Choice → Meant → A) (part : A → C) (te
 
   pub decided : (asked other : A) (before after : List GivenOption) (option : GivenOption) → passes test option ≡ true → list_any (passes test) after ≡ false
       → part (asked_by by asked (before ++ option ∷ after)) ≡ part (by other option.choice option.value)
-  decided asked other [] after option is none =
-      kept (by asked option.choice option.value) after none ∙ sets asked other option.choice option.value
-      ∙ ap (λ test. if test then part (by other option.choice option.value) else part asked) is
+  decided asked other [] after option is none = rw (kept (by asked option.choice option.value) after none, sets asked other option.choice option.value, is)
   decided asked other (first ∷ before) after option is none = decided (by asked first.choice first.value) other before after option is none
 
 -- What the options of each tool set. One without a value sets the same wherever it stands.
@@ -104,10 +102,7 @@ pub given_anywhere : {A C : Type 0} (by : A → Choice → Meant → A) (part : 
     → ((asked : A) (choice : Choice) (value : Meant) → part (by asked choice value) ≡ (if test choice then fixed else part asked))
     → (asked : A) (options : List GivenOption) → part (asked_by by asked options) ≡ (if has test options then fixed else part asked)
 given_anywhere by part test fixed sets asked [] = refl
-given_anywhere by part test fixed sets asked (option ∷ options) =
-    given_anywhere by part test fixed sets (by asked option.choice option.value) options
-    ∙ ap (λ those. if has test options then fixed else those) (sets asked option.choice option.value)
-    ∙ either_fixed (test option.choice) (has test options) fixed (part asked)
+given_anywhere by part test fixed sets asked (option ∷ options) = rw (given_anywhere by part test fixed sets (by asked option.choice option.value) options, sets asked option.choice option.value, either_fixed (test option.choice) (has test options) fixed (part asked))
 
 pub so_where_given : {A : Type 0} (by : A → Choice → Meant → A) (part : A → Bool) (test : Choice → Bool)
     → ((asked : A) (choice : Choice) (value : Meant) → part (by asked choice value) ≡ (if test choice then true else part asked))
@@ -130,9 +125,7 @@ few_ways ways = (λ is. omega arith, λ few. refl)
 -- the ways among options, of which one is a way
 ways_around : (before after : List GivenOption) (option : GivenOption) → is_way option ≡ true
     → filter is_way (before ++ option ∷ after) ≡ filter is_way before ++ option ∷ filter is_way after
-ways_around before after option is =
-    filter-append is_way before (option ∷ after)
-    ∙ ap (λ test. filter is_way before ++ (if test then option ∷ filter is_way after else filter is_way after)) is
+ways_around before after option is = rw (filter-append is_way before (option ∷ after), is)
 
 way_among : (front rest : List GivenOption) (option : GivenOption) (cut : Cut) → only_way (front ++ option ∷ rest) ≡ Ok cut → cut ≡ way_in option.value option.choice
 way_among [] [] option cut is = cc

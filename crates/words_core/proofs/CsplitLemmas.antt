@@ -21,7 +21,7 @@ file_first : (style : Style) (none : Operand) (all : List Operand) → 1 ≤ len
     → asked_of style (map operand_seen all) ≡ Ok (asked_first style none all)
 file_first style none [] some more = absurd (omega arith)
 file_first style none (file ∷ []) some more = absurd (omega arith)
-file_first style none (file ∷ operand ∷ operands) some more = ap (λ rest. Ok (asked_with style file.text.now (map operand_seen rest))) (sym (take_rest (file ∷ operand ∷ operands) 1))
+file_first style none (file ∷ operand ∷ operands) some more = rw (take_rest (file ∷ operand ∷ operands) 1)
 
 refused : {meant : Result CsplitAsked Fault} (one : CsplitAsked) (result : Result CsplitAsked Fault) → meant ≡ Ok one
     → IfErr result (λ fault. (fault ≡ Memory) ⊎ HasBadOperand one fault) → IfErr result (IsRefused HasBadOperand meant)

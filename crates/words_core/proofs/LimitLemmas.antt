@@ -40,10 +40,10 @@ before-among : {place : ℕ} {word : List ℕ} (words : List (List ℕ)) (front 
     → AreSound front.options × ((front.operands ≡ []) ⊎ (front.operands ≡ record { text = word; word = place } ∷ [])) → GivesAmong (place + 1) words rest → GivesAmong place (word ∷ words) (given_before front rest)
 before-among {place} {word} words front (Ok more) (sound, inl is) among =
     let P : List GivenOperand → Type 0 = λ operands. AreAmong (operands ++ more.operands) place (word ∷ words) in
-    (sound-append front.options more.options sound among.0, subst P (sym is) (passed more.operands place word words among.1))
+    (sound-append front.options more.options sound among.0, rw is (passed more.operands place word words among.1))
 before-among {place} {word} words front (Ok more) (sound, inr is) among =
     let P : List GivenOperand → Type 0 = λ operands. AreAmong (operands ++ more.operands) place (word ∷ words) in
-    (sound-append front.options more.options sound among.0, subst P (sym is) (taken more.operands place word words among.1))
+    (sound-append front.options more.options sound among.0, rw is (taken more.operands place word words among.1))
 before-among words front (Err fault) is among = tt
 
 onward-among : (place : ℕ) (word : List ℕ) (words : List (List ℕ)) (rest : State → Result Given Fault) (meant : Result Meaning Fault)
@@ -59,7 +59,7 @@ spelled-gives rows (word ∷ words) place state =
 
 pub gives : (rows : List OptionRow) (words : List (List ℕ)) (place : ℕ) (state : State) (given : Given) → spelled rows words place state ≡ Ok given
     → AreSound given.options × AreAmong given.operands place words
-gives rows words place state given is = subst (GivesAmong place words) is (spelled-gives rows words place state)
+gives rows words place state given is = rw is at (spelled-gives rows words place state)
 
 -- what each option keeps, all keep
 asked-keeps : {A : Type 0} (by : A → Choice → Meant → A) (P : A → Type 0)
@@ -163,5 +163,5 @@ settled-can which given sound = tt
 -- what was read of words can be done
 pub read-can : (row : ToolRow) (words : List (List ℕ)) (given : Given) (which : Tool) (result : Result Settings Fault) → given_by row words ≡ Ok given → IfOk result (λ settings. settings_for which given ≡ Ok settings) → IfOk result CanRun
 read-can row words given which (Ok settings) read is =
-    subst (λ r. IfOk r CanRun) is (settled-can which given (gives row.options words 1 (start_of row.number) given read).0)
+    rw is at (settled-can which given (gives row.options words 1 (start_of row.number) given read).0)
 read-can row words given which (Err fault) read is = tt

@@ -38,7 +38,7 @@ went_on front rest meant is = given_before-onward front rest meant ∙ ap (onwar
 
 pub front_and_rest : (none : Bor (List ℕ)) (left : List (Bor (List ℕ))) → 1 ≤ length left → map (λ word. word.now) left ≡ (get_or left 0 none).now ∷ map (λ word. word.now) (take (length left - 1) (drop 1 left))
 front_and_rest none [] some = absurd (omega arith)
-front_and_rest none (word ∷ words) some = ap (λ (rest : List (Bor (List ℕ))). word.now ∷ map (λ word. word.now) rest) (sym (take_rest (word ∷ words) 1))
+front_and_rest none (word ∷ words) some = rw (take_rest (word ∷ words) 1)
 
 pub none_left : (left : List (Bor (List ℕ))) → length left < 1 → map (λ word. word.now) left ≡ []
 none_left [] none = refl
@@ -81,8 +81,7 @@ at_the_end state more rows place word is other = absurd (cc)
 still_told : (first more : List (List ℕ)) (rows : List OptionRow) (place : ℕ) (meant : Result Meaning Fault) (kind : UsageKind) (word : ℕ)
     → ((state : State) → spelled rows first (place + 1) state ≡ Err (Usage kind word) → spelled rows (first ++ more) (place + 1) state ≡ Err (Usage kind word))
     → onward (spelled rows first (place + 1)) meant ≡ Err (Usage kind word) → onward (spelled rows (first ++ more) (place + 1)) meant ≡ Err (Usage kind word)
-still_told first more rows place (Ok meaning) kind word rest is =
-    ap (given_before meaning.given) (rest meaning.next (of_more meaning.given (spelled rows first (place + 1) meaning.next) is))
+still_told first more rows place (Ok meaning) kind word rest is = rw (rest meaning.next (of_more meaning.given (spelled rows first (place + 1) meaning.next) is))
 still_told first more rows place (Err fault) kind word rest is = is
 
 pub told_whatever_follows : (first more : List (List ℕ)) (rows : List OptionRow) (place : ℕ) (state : State) {kind : UsageKind} (word : ℕ) → (kind ≡ MissingValue → ⊥)

@@ -22,9 +22,7 @@ use Rattle.words_core.proofs.SpellingLemmas.{given_before-nothing, given_before-
 by_its_letter : (rows : List OptionRow) (letter : ℕ) {choice : Choice} {takes : Takes} (value : List ℕ) (place : ℕ)
     → letter < 128 → letter ≢ 45 → option_named rows (45 ∷ letter ∷ []) ≡ Some (choice, takes)
     → mixed rows place (45 ∷ letter ∷ value) ≡ lettered place value (cluster rows place value) (Some (choice, takes))
-by_its_letter rows letter value place ascii no_hyphen found =
-    cond-false (letter == 45) (dashed rows place value) (cluster rows place (letter ∷ value)) (ne_eqb letter 45 no_hyphen)
-    ∙ ap (lettered place value (cluster rows place value)) (cond-true (nat_lt letter 128) (option_named rows (45 ∷ letter ∷ [])) None (lt-ltb letter 128 ascii) ∙ found)
+by_its_letter rows letter value place ascii no_hyphen found = rw (cond-false (letter == 45) (dashed rows place value) (cluster rows place (letter ∷ value)) (ne_eqb letter 45 no_hyphen), cond-true (nat_lt letter 128) (option_named rows (45 ∷ letter ∷ [])) None (lt-ltb letter 128 ascii), found)
 
 -- one that takes no value
 
@@ -38,32 +36,24 @@ by_its_switch {rows} {letter} {choice} rest place is =
 
 pub switch_together : (rows : List OptionRow) (letter next : ℕ) (choice : Choice) (rest : List ℕ) (words : List (List ℕ)) (place : ℕ) → IsSwitch rows letter choice → next ≢ 45
     → spelled rows ((45 ∷ letter ∷ next ∷ rest) ∷ words) place Reading ≡ given_before (bare choice place) (spelled rows ((45 ∷ next ∷ rest) ∷ words) place Reading)
-switch_together rows letter next choice rest words place is differs =
-    ap (onward (spelled rows words (place + 1))) (by_its_switch (next ∷ rest) place is)
-    ∙ sym (given_before-onward (bare choice place) (spelled rows words (place + 1)) (cluster rows place (next ∷ rest)))
-    ∙ ap (λ those. given_before (bare choice place) (onward (spelled rows words (place + 1)) those)) (sym (cond-false (next == 45) (dashed rows place rest) (cluster rows place (next ∷ rest)) (ne_eqb next 45 differs)))
+switch_together rows letter next choice rest words place is differs = cc (by_its_switch (next ∷ rest) place is, given_before-onward (bare choice place) (spelled rows words (place + 1)) (cluster rows place (next ∷ rest)), cond-false (next == 45) (dashed rows place rest) (cluster rows place (next ∷ rest)) (ne_eqb next 45 differs))
 
 pub switch_apart : (rows : List OptionRow) (letter : ℕ) (choice : Choice) (words : List (List ℕ)) (place : ℕ) → IsSwitch rows letter choice
     → spelled rows ((45 ∷ letter ∷ []) ∷ words) place Reading ≡ given_before (bare choice place) (spelled rows words (place + 1) Reading)
-switch_apart rows letter choice words place is = ap (onward (spelled rows words (place + 1))) (by_its_switch [] place is)
+switch_apart rows letter choice words place is = rw (by_its_switch [] place is)
 
 pub value_attached : (rows : List OptionRow) (letter : ℕ) (choice : Choice) (kind : Kind) (value : List ℕ) (meant : Meant) (words : List (List ℕ)) (place : ℕ)
     → IsLetter rows letter choice kind → value ≢ [] → value_in kind value ≡ Ok meant
     → Gives rows ((45 ∷ letter ∷ value) ∷ words) place choice meant (spelled rows words (place + 1) Reading)
 value_attached rows letter choice kind [] meant words place is some reads = absurd (some refl)
-value_attached rows letter choice kind (byte ∷ value) meant words place is some reads =
-    ap (onward (spelled rows words (place + 1)))
-    (by_its_letter rows letter (byte ∷ value) place is.ascii is.no_hyphen is.named ∙ ap (said choice place place) reads)
+value_attached rows letter choice kind (byte ∷ value) meant words place is some reads = rw (by_its_letter rows letter (byte ∷ value) place is.ascii is.no_hyphen is.named, reads)
 
 -- the next word
 
 awaited : (rows : List OptionRow) {choice : Choice} (kind : Kind) (word value : List ℕ) {meant : Meant} (words : List (List ℕ)) {place : ℕ}
     → mixed rows place word ≡ awaiting choice kind place → value_in kind value ≡ Ok meant
     → Gives rows (word ∷ value ∷ words) place choice meant (spelled rows words (place + 1 + 1) Reading)
-awaited rows {choice} kind word value words {place} awaits reads =
-    ap (onward (spelled rows (value ∷ words) (place + 1))) awaits
-    ∙ ap (λ those. given_before nothing (onward (spelled rows words (place + 1 + 1)) those)) (ap (said choice place (place + 1)) reads)
-    ∙ given_before-nothing refl
+awaited rows kind word value words awaits reads = rw (awaits, reads, given_before-nothing refl)
 
 pub value_after_letter : (rows : List OptionRow) (letter : ℕ) (choice : Choice) (kind : Kind) (value : List ℕ) (meant : Meant) (words : List (List ℕ)) (place : ℕ)
     → IsLetter rows letter choice kind → value_in kind value ≡ Ok meant
@@ -81,7 +71,7 @@ place_of_equals (byte ∷ front) rest none here =
     ap (λ test. cond (not test) (1 + position_or_len is_equals (front ++ rest)) 0) both.0 ∙ omega (arith, past)
 
 no_place : (front : List ℕ) → list_any is_equals front ≡ false → position_or_len is_equals front ≡ length front
-no_place front none = ap (position_or_len is_equals) (sym (append-nil front)) ∙ place_of_equals front [] none refl
+no_place front none = cc (append-nil front, place_of_equals front [] none refl)
 
 equals_in : (front : List ℕ) {value : List ℕ} → list_any is_equals front ≡ false → after_equals (front ++ 61 ∷ value) ≡ Some value
 equals_in front {value} none =
@@ -91,19 +81,17 @@ equals_in front {value} none =
     ∙ ap (λ those. Some those) (ap (λ n. drop (n + 1) (front ++ 61 ∷ value)) place ∙ drop-append-add front (61 ∷ value) 1)
 
 name_in : (front value : List ℕ) → list_any is_equals front ≡ false → before_first is_equals (front ++ 61 ∷ value) ≡ front
-name_in front value none = ap (λ n. take n (front ++ 61 ∷ value)) (place_of_equals front (61 ∷ value) none refl) ∙ take-append_seam front (61 ∷ value)
+name_in front value none = rw (place_of_equals front (61 ∷ value) none refl, take-append_seam front (61 ∷ value))
 
 no_equals_in : (front : List ℕ) → list_any is_equals front ≡ false → after_equals front ≡ None
 no_equals_in front none = cond-true (position_or_len is_equals front == length front) None (Some (after_first is_equals front)) (eq-eqb _ _ (no_place front none))
 
 all_name : (front : List ℕ) → list_any is_equals front ≡ false → before_first is_equals front ≡ front
-all_name front none = ap (λ n. take n front) (no_place front none) ∙ take-length front
+all_name front none = rw (no_place front none, take-length front)
 
 by_its_name : (rows : List OptionRow) (place : ℕ) (word : List ℕ) {name : List ℕ} {option : Option (Choice × Takes)} {value : Option (List ℕ)} → before_first is_equals word ≡ name → after_equals word ≡ value → option_named rows name ≡ option
     → long rows place word ≡ named place option value
-by_its_name rows place word {value} front rest is =
-    ap (named place (option_named rows (before_first is_equals word))) rest
-    ∙ ap (λ those. named place (option_named rows those) value) front ∙ ap (λ those. named place those value) is
+by_its_name rows place word front rest is = rw (rest, front, is)
 
 long_value : {rows : List OptionRow} (name : List ℕ) {choice : Choice} {kind : Kind} (value : List ℕ) (place : ℕ) → IsName rows name choice kind
     → mixed rows place (45 ∷ 45 ∷ name ++ 61 ∷ value) ≡ named place (Some (choice, takes.Value kind)) (Some value)
@@ -122,8 +110,7 @@ long_name {rows} (byte ∷ name) place is =
 pub value_after_equals : (rows : List OptionRow) (name : List ℕ) (choice : Choice) (kind : Kind) (value : List ℕ) (meant : Meant) (words : List (List ℕ)) (place : ℕ)
     → IsName rows name choice kind → value_in kind value ≡ Ok meant
     → Gives rows ((45 ∷ 45 ∷ name ++ 61 ∷ value) ∷ words) place choice meant (spelled rows words (place + 1) Reading)
-value_after_equals rows name choice kind value meant words place is reads =
-    ap (onward (spelled rows words (place + 1))) (long_value name value place is ∙ ap (said choice place place) reads)
+value_after_equals rows name choice kind value meant words place is reads = rw (long_value name value place is, reads)
 
 pub value_after_name : (rows : List OptionRow) (name : List ℕ) (choice : Choice) (kind : Kind) (value : List ℕ) (meant : Meant) (words : List (List ℕ)) (place : ℕ)
     → IsName rows name choice kind → value_in kind value ≡ Ok meant

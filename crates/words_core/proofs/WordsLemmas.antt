@@ -25,9 +25,7 @@ names_none words none = ap settings_of (none_left words none)
 asked : (words : List (Bor (List ℕ))) (none : Bor (List ℕ)) {rows : List ToolRow} {row : ToolRow}
     → 1 ≤ length words → rows ≡ tools → Some row ≡ row_named rows (get_or words 0 none).now
     → settings_of (texts words) ≡ then_check (given_by row (after_first words)) (settings_for row.tool)
-asked words none {rows} some are named =
-    ap settings_of (front_and_rest none words some) ∙ ap (tool_settings (after_first words))
-    (ap (λ rows. row_named rows (get_or words 0 none).now) (sym are) ∙ sym named)
+asked words none some are named = cc (front_and_rest none words some, are, named)
 
 pub refused : (words : List (Bor (List ℕ))) (none : Bor (List ℕ)) {rows : List ToolRow} {row : ToolRow} {fault : Fault}
     → 1 ≤ length words → rows ≡ tools → Some row ≡ row_named rows (get_or words 0 none).now
@@ -42,4 +40,4 @@ pub returned : (words : List (Bor (List ℕ))) (none : Bor (List ℕ)) {rows : L
 returned words none {row} {given} result some are named read is bad =
     let same : settings_for row.tool given ≡ settings_of (texts words)
     = sym (asked words none some are named ∙ ap (λ given. then_check given (settings_for row.tool)) read) in
-    (subst (λ meant. IfOk result (λ settings. meant ≡ Ok settings)) same is, subst (λ meant. IfErr result (IsRefused HasBadOperands meant)) same bad)
+    (rw same at is, rw same at bad)

@@ -6,7 +6,7 @@ use Rattle.ports_core.specs.Work.{Work, IsNeeded, IsSettled, IsSpare}
 use Rattle.ports_core.specs.Engine.{EndsWith}
 use Rattle.ports_core.proofs.SpareLemmas.{complete_used, spare_within}
 use Rattle.run_core.specs.Feeding.{Uses, enough, to_end}
-use Rattle.run_core.proofs.FeedingLemmas.{of_more, of_read, alike_itself, alike_used, judges, judging_of, broken_off, goes_on, stopped_feeding, ended, needed_more, piece_within, ends_sound, given_so, loaded_feeds, loaded_readable, loaded_others, loaded_read, loaded_needed, loaded_asked, last_given, loaded_few, loaded_taken, needed_within, read_used, takes_more, takes_none, uses_all, uses_judged, uses_part}
+use Rattle.run_core.proofs.FeedingLemmas.{of_more, of_read, alike_after, alike_itself, judges, judging_of, broken_off, goes_on, stopped_feeding, ended, needed_more, piece_within, ends_sound, given_so, loaded_feeds, loaded_readable, loaded_others, loaded_read, loaded_needed, loaded_asked, last_given, loaded_few, loaded_taken, needed_within, read_used, takes_more, takes_none, uses_all, uses_judged, uses_part}
 use Rattle.ports_core.proofs.InputsLemmas.{changed_source, sound_at, read_none_more, keeps_again, keeps_others, read_broken, still_readable, read_more, read_failed, read_to_end, asked_again, asked_at_end, broken_now}
 use Rattle.run_core.proofs.feeding.feed_input.Goals as goal
 
@@ -189,7 +189,7 @@ returns g c =
           in
           of_more g.I.Inputs.told _ so_far.fed _ _ _ (λ told. (so_far.read told).bytes)
           (λ content is rest bytes. ended _ _ _ g.met.S.Stage.lawful _ _ so_far.feeds own at (done, (rest, bytes))
-          (enough (spare.rest ++ rest) (bytes ∙ ap (λ those. those ++ rest) spare.joined ∙ append_assoc spare.used spare.rest rest) used) (alike_used spare (g.met.S.Stage.lawful _) used)
+          (enough (spare.rest ++ rest) (bytes ∙ ap (λ those. those ++ rest) spare.joined ∙ append_assoc spare.used spare.rest rest) used) (alike_after spare.rest (g.met.S.Stage.lawful _) used spare.joined)
           (needed_within c.requires.room spare.needed) (sound, λ told. is told ∙ read_used spare (so_far.read told) (so_far.took told) so_far.readable back) c.end-2.ensures);
       reads = λ told. (
         spare.used,

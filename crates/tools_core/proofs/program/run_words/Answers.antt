@@ -14,7 +14,7 @@ pub returns-then-follows-clause-ends : goal.returns-then-follows-clause-ends
 returns-then-follows-clause-ends g c =
     program_follows g.I.Inputs.told g.W.Watch.told g.O.Outs.told (map (λ word. word.now) c.args.words.now) (g.I.Inputs.laid c.args.inputs.now) (g.I.Inputs.sources c.args.inputs.now) (g.W.Watch.shows c.args.watch.now) (g.W.Watch.seen c.follow_asked.new.watch) (g.W.Watch.watched c.follow_asked.new.watch) (g.O.Outs.slots c.follow_asked.new.outs) c.follow_asked.result
     c.in-Ok.ensures.ok (sym c.follows.ensures ∙ c.if-follows.true)
-    (rw c.looks.ensures at c.follow_asked.ensures)
+    (subst (λ n. FollowingEndsAt g.W.Watch.told g.O.Outs.told (map (λ word. word.now) c.args.words.now) n (g.W.Watch.shows c.args.watch.now) (g.W.Watch.seen c.follow_asked.new.watch) (g.W.Watch.watched c.follow_asked.new.watch) (g.O.Outs.slots c.follow_asked.new.outs) c.follow_asked.result (Ok c.in-Ok.settings)) c.looks.ensures c.follow_asked.ensures)
 
 pub returns-then-follows-clause-opened : goal.returns-then-follows-clause-opened
 returns-then-follows-clause-opened g c = fresh_counts (names_read (map (λ word. word.now) c.args.words.now)) c.requires.inputs

@@ -8,7 +8,7 @@ use Rattle.words_core.proofs.laws.operands_follow_the_end.Goals as goal
 
 only_operands : (rows : List OptionRow) (words : List (List ℕ)) (place : ℕ) → spelled rows words place OnlyOperands ≡ Ok (record { options = []; operands = as_operands place words })
 only_operands rows [] place = refl
-only_operands rows (word ∷ words) place = ap (given_before (one_operand word place)) (only_operands rows words (place + 1))
+only_operands rows (word ∷ words) place = rw (only_operands rows words (place + 1))
 
 pub returns : goal.returns
-returns c rows words place = ap (given_before nothing) (only_operands rows words (place + 1))
+returns c rows words place = rw (only_operands rows words (place + 1))

@@ -5,7 +5,5 @@ use Rattle.words_core.specs.Spelling.{cluster, dashed, onward, reading, spelled}
 use Rattle.words_core.proofs.laws.operands_may_mix.Goals as goal
 
 pub returns : goal.returns
-returns c rows (byte ∷ next ∷ rest) words place is =
-    ap (λ test. onward (spelled rows words (place + 1)) (if test then (if next == 45 then dashed rows place rest else cluster rows place (next ∷ rest)) else reading (one_operand (byte ∷ next ∷ rest) place)))
-    (not-true (byte == 45) is)
+returns c rows (byte ∷ next ∷ rest) words place is = rw (not-true (byte == 45) is)
 returns c rows word words place is = refl

@@ -19,6 +19,5 @@ returns c = record {
   leave_out = so_where_given split_by (λ asked. asked.elide) elides_files (λ a c v. (split-sets a a c v).4) no_options refl;
   zero = given_anywhere ends_by (λ asked. asked.delim) ends_with_zero 0 (λ a c v. (ends-sets a a c v).2) ten_lines;
   append = λ given.
-      subst (λ (mode : Mode). (mode ≡ Append) ↔ (has appends given.options ≡ true))
-      (sym (given_anywhere mode_by (λ mode. mode) appends Append append-sets Fresh given.options)) (append_is (has appends given.options));
+      rw (given_anywhere mode_by (λ mode. mode) appends Append append-sets Fresh given.options) (append_is (has appends given.options));
 }
