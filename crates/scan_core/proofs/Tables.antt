@@ -10,7 +10,7 @@ use Rattle.scan_core.specs.declared.node.Node.TheVariants.{Take}
 use Rattle.scan_core.specs.declared.table.State.{State}
 use Rattle.scan_core.specs.declared.table.Table.{Table}
 use Rattle.scan_core.specs.inner.Base.{IsBase}
-use Rattle.scan_core.specs.inner.Built.{AreAlike, Built, IsFilling, IsOpen, LeadsTo, Led}
+use Rattle.scan_core.specs.inner.Built.{AreAlike, Built, IsBuilding, IsOpen, LeadsTo, Led}
 use Rattle.scan_core.specs.inner.Each.{AreEach}
 use Rattle.scan_core.specs.Code.{At}
 use Rattle.scan_core.specs.Counted.{set_at}
@@ -51,10 +51,6 @@ tells_at : {code : List Node} {sets : List (List Bool)} {place state byte read :
     → Tells code sets state byte read ≡ Tells code sets (place / 256) (place % 256) read
 tells_at {code} {sets} {place} {state} {byte} {read} e h = search rules
 
-pub told_of : {code : List Node} {entries : ℕ} {sets : List (List Bool)} {rows : List ℕ} (state byte : ℕ) → Built code entries sets rows → byte < 256 → state * 256 + byte < entries
-    → Tells code sets state byte (entry rows state byte)
-told_of state byte b h l = subst (λ t. t) (sym (tells_at refl h)) (b.told.each (state * 256 + byte) l)
-
 next_by : (code : List Node) {byte : ℕ} (One Other : ℕ → Type 0) → ((n : ℕ) → One n → Other n) → (number : ℕ) → Next code byte One number → Next code byte Other number
 next_by code One Other there number h = (h.0, elim h.1 [ inl s ↦ inl (s.0, there s.0 s.1, s.2) | inr e ↦ inr e ], h.2)
 
@@ -62,43 +58,38 @@ next_by code One Other there number h = (h.0, elim h.1 [ inl s ↦ inl (s.0, the
 next_alike : (code : List Node) (one other : ℕ) (Set : ℕ → Type 0) (number : ℕ) → AreAlike code one other → Next code one Set number → Next code other Set number
 next_alike code one other Set number a n = (n.0, elim n.1 [ inl s ↦ inl (s.0, s.1, (s.2.0, s.2.1, sym (a s.0 s.2.0 s.2.1) ∙ s.2.2, s.2.3)) | inr e ↦ inr e ], n.2)
 
-alike_back : (code : List Node) (one other : ℕ) → AreAlike code one other → AreAlike code other one
-alike_back code one other a = λ number bytes h. sym (a number bytes h)
-
 -- the entry of a byte's twin is the byte's
-pub twin_entry : {code : List Node} {most state byte twin read : ℕ} (d : ℕ) {building : Building} → IsFilling code most state byte building → AreAlike code byte twin → twin < byte
-    → byte < 256 → read ≡ get_or building.rows.items (state * 256 + twin) d → Tells code building.sets.items state byte read
-twin_entry {code} {state} {byte} {twin} {read} d {building} f a less small e = record {
-  next = λ s. let n = t.next s in (n.0, λ number. (λ i. there number ((n.1 number).0 i), λ i. (n.1 number).1 (next_alike code byte twin Set number a i)));
+pub twin_entry : {code : List Node} {most place twin read : ℕ} (d : ℕ) {building : Building} → IsBuilding code most place building → AreAlike code (place % 256) twin → twin < place % 256
+    → read ≡ get_or building.rows.items (place / 256 * 256 + twin) d → Tells code building.sets.items (place / 256) (place % 256) read
+twin_entry {code} {place} {twin} {read} d {building} f a less e = record {
+  next = λ s. let n = t.next s in (n.0, λ number. (λ i. there number ((n.1 number).0 i), λ i. (n.1 number).1 (next_alike code (place % 256) twin (InSets building.sets.items (place / 256)) number a i)));
   stop = λ s. there (length code) (t.stop s);
 }
   where
-    Set : ℕ → Type 0
-    Set = InSets building.sets.items state
+    there : (number : ℕ) → Next code twin (InSets building.sets.items (place / 256)) number → Next code (place % 256) (InSets building.sets.items (place / 256)) number
+    there number n = next_alike code twin (place % 256) (InSets building.sets.items (place / 256)) number (λ number bytes h. sym (a number bytes h)) n
 
-    there : (number : ℕ) → Next code twin (InSets building.sets.items state) number → Next code byte (InSets building.sets.items state) number
-    there number n = next_alike code twin byte Set number (alike_back code byte twin a) n
-
-    here : state * 256 + twin < length building.rows.items
-    here = let l = f.so_far.built.told.size in omega (arith, l, less)
-
-    t : Tells code building.sets.items state twin read
-    t = subst (Tells code building.sets.items state twin) (sym (e ∙ get_or_default building.rows.items (state * 256 + twin) d 0 here))
-        (told_of state twin f.so_far.built (omega (arith, less, small)) (omega (arith, less)))
+    t : Tells code building.sets.items (place / 256) twin read
+    t =
+        let here : place / 256 * 256 + twin < place = omega (arith, less) in
+        subst (Tells code building.sets.items (place / 256) twin) (sym (e ∙ get_or_default building.rows.items (place / 256 * 256 + twin) d 0 (omega (arith, here, f.built.told.size))))
+        (subst (λ t. t) (sym (tells_at refl (omega (arith, less)))) (f.built.told.each (place / 256 * 256 + twin) here))
 
 -- the sets stay, or one is added
-record Grown (code : List Node) (state entries : ℕ) (sets sets' : List (List Bool)) (rows : List ℕ) : Type 0 where
-  built : Built code entries sets' rows
-  known : state < length sets'
-  same : set_at sets' state ≡ set_at sets state
+record Grown (code : List Node) (place : ℕ) (sets sets' : List (List Bool)) (rows : List ℕ) : Type 0 where
+  built : Built code place sets' rows
+  order : place ≤ length sets' * 256
+  known : place / 256 < length sets'
+  same : set_at sets' (place / 256) ≡ set_at sets (place / 256)
 
-grown : {code : List Node} {state entries : ℕ} {sets sets' : List (List Bool)} {rows : List ℕ} {set : List Bool} → Built code entries sets rows → entries ≤ length sets * 256
-    → state < length sets → (sets' ≡ sets) ⊎ ((sets' ≡ sets ++ set ∷ []) × IsOpen code set) → Grown code state entries sets sets' rows
-grown {code} {state} {entries} {sets} {sets'} {rows} b r k (inl e) = subst (λ t. Grown code state entries sets t rows) (sym e) (record { built = b; known = k; same = refl })
-grown {code} {state} {entries} {sets} {sets'} {rows} {set} b r k (inr e) = subst (λ t. Grown code state entries sets t rows) (sym e.0) (record {
+grown : {code : List Node} {place : ℕ} {sets sets' : List (List Bool)} {rows : List ℕ} {set : List Bool} → Built code place sets rows → place ≤ length sets * 256
+    → place / 256 < length sets → (sets' ≡ sets) ⊎ ((sets' ≡ sets ++ set ∷ []) × IsOpen code set) → Grown code place sets sets' rows
+grown {code} {place} {sets} {rows} b r k (inl e) = subst (λ t. Grown code place sets t rows) (sym e) (record { built = b; order = r; known = k; same = refl })
+grown {code} {place} {sets} {rows} {set} b r k (inr e) = let l = length-append sets (set ∷ []) in subst (λ t. Grown code place sets t rows) (sym e.0) (record {
   built = built_set b r e.1;
-  known = let l = length-append sets (set ∷ []) in omega (arith, k, l);
-  same = get_or_append_left sets (set ∷ []) [] state k;
+  order = omega (arith, r, l);
+  known = omega (arith, k, l);
+  same = get_or_append_left sets (set ∷ []) [] (place / 256) k;
 })
 
 -- a set has as many words as the code asks for
@@ -106,16 +97,14 @@ pub set_size : {code : List Node} {sets : List (List Bool)} {state : ℕ} (words
     → flags_of words ≡ set_at sets state → length words ≡ width code
 set_size words are h e = let l = flags_length words in let m = ap length e in let s = (are.each _ h).size in omega (arith, l, m, s)
 
-pub led_on : {code : List Node} {most state byte read : ℕ} {old new : Building} (before : List ℕ) {words : List ℕ} → IsFilling code most state byte old → byte < 256
-    → flags_of before ≡ set_at old.sets.items state → length words ≡ width code → ((number : ℕ) → IsIn words number ↔ Next code byte (IsIn before) number)
-    → LeadsTo (length code) most words old.sets.items new.sets.items read → new.rows ≡ old.rows → new.words.items ≡ words → Led code most state byte new read
-led_on {code} {most} {state} {byte} {read} {old} {new} before {words} f small is size advanced l er ew = record {
-  filling = record {
-    so_far = record { built = subst (λ rows. Built code (state * 256 + byte) new.sets.items rows.items) (sym er) g.built; room = l.room; size = ap length ew ∙ size };
-    known = g.known;
-  };
+pub led_on : {code : List Node} {most place read : ℕ} {old new : Building} (before : List ℕ) {words : List ℕ} → IsBuilding code most place old → place / 256 < length old.sets.items
+    → flags_of before ≡ set_at old.sets.items (place / 256) → length words ≡ width code → ((number : ℕ) → IsIn words number ↔ Next code (place % 256) (IsIn before) number)
+    → LeadsTo (length code) most words old.sets.items new.sets.items read → new.rows ≡ old.rows → new.words.items ≡ words → Led code most place new read
+led_on {code} {most} {place} {read} {old} {new} before {words} f k is size advanced l er ew = record {
+  so_far = record { built = subst (λ rows. Built code place new.sets.items rows.items) (sym er) g.built; room = l.room; size = ap length ew ∙ size; order = g.order };
+  known = g.known;
   tells = record {
-    next = λ s. let k = l.next s in (k.0, λ number. subst (λ t. IsMarked t number ↔ Next code byte (InSets new.sets.items state) number) (sym k.1) (exact number));
+    next = λ s. let k = l.next s in (k.0, λ number. subst (λ t. IsMarked t number ↔ Next code (place % 256) (InSets new.sets.items (place / 256)) number) (sym k.1) (exact number));
     stop = λ e. (exact (length code)).0 ((flags_are words (length code)).1 (l.stop e));
   };
 }
@@ -126,26 +115,23 @@ led_on {code} {most} {state} {byte} {read} {old} {new} before {words} f small is
       | inr e ↦ inr (e.0, record { size = flags_length words ∙ ap (λ n. 64 * n) size; going = λ m. e.1 ((flags_are words (length code)).0 m) })
     ]
 
-    g : Grown code state (state * 256 + byte) old.sets.items new.sets.items old.rows.items
-    g = grown f.so_far.built (let k = f.known in omega (arith, k, small)) f.known set
+    g : Grown code place old.sets.items new.sets.items old.rows.items
+    g = grown f.built f.order k set
 
-    exact : (number : ℕ) → IsMarked (flags_of words) number ↔ Next code byte (InSets new.sets.items state) number
-    exact number = subst (λ s. IsMarked (flags_of words) number ↔ Next code byte (IsMarked s) number) (is ∙ sym g.same) (
+    exact : (number : ℕ) → IsMarked (flags_of words) number ↔ Next code (place % 256) (InSets new.sets.items (place / 256)) number
+    exact number = subst (λ s. IsMarked (flags_of words) number ↔ Next code (place % 256) (IsMarked s) number) (is ∙ sym g.same) (
       λ m. next_by code (IsIn before) (IsMarked (flags_of before)) (λ n. (flags_are before n).1) number ((advanced number).0 ((flags_are words number).0 m)),
       λ n. (flags_are words number).1 ((advanced number).1 (next_by code (IsMarked (flags_of before)) (IsIn before) (λ n. (flags_are before n).0) number n)),
     )
 
 -- one entry more
-pub filled_more : {code : List Node} {most state byte read : ℕ} {old new : Building} → IsFilling code most state byte old → byte < 256 → Tells code old.sets.items state byte read
-    → new.sets ≡ old.sets → new.words ≡ old.words → new.rows.items ≡ old.rows.items ++ read ∷ [] → IsFilling code most state (byte + 1) new
-filled_more {code} {most} {state} {byte} {read} {old} {new} f h t es ew er =
-    let b = f.so_far.built in
-    let told = each_to (each_more b.told (subst (λ t. t) (tells_at refl h) t) er) (omega arith) in
-    let built : Built code (state * 256 + (byte + 1)) old.sets.items new.rows.items = record { some = b.some; front = b.front; going = b.going; told = told } in
-    subst (λ sets. IsFilling code most state (byte + 1) (record { sets = sets; rows = new.rows; words = new.words })) (sym es) (record {
-      so_far = record { built = built; room = f.so_far.room; size = ap (λ w. length w.items) ew ∙ f.so_far.size };
-      known = f.known;
-    })
+pub building_more : {code : List Node} {most place read : ℕ} {old new : Building} → Led code most place old read → new.sets ≡ old.sets → new.words ≡ old.words → new.rows.items ≡ old.rows.items ++ read ∷ []
+    → IsBuilding code most (place + 1) new
+building_more {code} {most} {place} {old} {new} l es ew er =
+    let b = l.so_far.built in
+    let built : Built code (place + 1) old.sets.items new.rows.items = record { some = b.some; front = b.front; going = b.going; told = each_more b.told l.tells er } in
+    subst (λ sets. IsBuilding code most (place + 1) (record { sets = sets; rows = new.rows; words = new.words })) (sym es)
+    (record { built = built; room = l.so_far.room; size = ap (λ w. length w.items) ew ∙ l.so_far.size; order = omega (arith, l.known) })
 
 -- a set that a line's front has
 pub front_built : {code : List Node} (words : List ℕ) {sets : List (List Bool)} → length words ≡ width code → ((number : ℕ) → IsIn words number ↔ FlowsOn code true false 0 number)

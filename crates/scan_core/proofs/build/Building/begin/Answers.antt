@@ -18,4 +18,5 @@ returns-clause-ok c =
       built = subst (Built c.args.nodes.now 0 c.push.new.self.items) (sym c.new.ensures.items) (front_built c.begin.new.words size c.begin.ensures.exact none sets);
       room = let l = ap length sets in omega (arith, l, c.requires.most);
       size = ap length whole ∙ size;
+      order = omega arith;
     }
