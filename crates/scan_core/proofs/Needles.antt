@@ -17,9 +17,8 @@ use Rattle.scan_core.specs.Clear.{IsClear}
 use Rattle.scan_core.specs.Code.{At, Leads, Walks, code_of, IsOrdered}
 use Rattle.scan_core.specs.Counted.{EndsIn}
 use Rattle.scan_core.specs.inner.Needles.{is_among, AreBytes, IsNeedle, LacksBefore, IsPassed, TakesOnly, IsLiteral}
-use Rattle.scan_core.proofs.Codes.{contained}
+use Rattle.scan_core.proofs.Codes.{contained, at_at}
 use Rattle.scan_core.proofs.Enterings.{at_once, at_least}
-use Rattle.scan_core.proofs.Walks.{at_at}
 use Rattle.std.proofs.lemmas.Grind.{common_steps}
 
 -- Each walk to the end comes by a node beyond which no choice leads.

@@ -3,7 +3,7 @@ use Rattle.std.proofs.lemmas.Grind.{common_steps}
 use Rattle.scan_core.specs.inner.Built.{Built, IsOpen}
 use Rattle.scan_core.specs.inner.Each.{AreEach}
 use Rattle.scan_core.specs.inner.Table.{IsState, no_state}
-use Rattle.scan_core.proofs.Tables.{building_more, table_is}
+use Rattle.scan_core.proofs.Searchings.{building_more, table_is}
 use Rattle.scan_core.proofs.build.build.Goals as goal
 use Rattle.scan_core.proofs.build.build.Goals.{else-loop-place-test, then-loop-place-test+then-place-len}
 

@@ -6,7 +6,7 @@ use Rattle.scan_core.specs.Counted.{set_at}
 use Rattle.scan_core.specs.declared.build.Building.{Building}
 use Rattle.scan_core.specs.inner.Built.{LeadsTo, Led}
 use Rattle.scan_core.specs.inner.Words.{flags_of}
-use Rattle.scan_core.proofs.Tables.{twin_entry, led_on, set_size}
+use Rattle.scan_core.proofs.Searchings.{twin_entry, led_on, set_size}
 use Rattle.scan_core.proofs.build.Building.entry_of.Goals as goal
 
 pub returns-then-twin-byte-clause-ok : goal.returns-then-twin-byte-clause-ok
