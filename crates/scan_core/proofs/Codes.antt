@@ -10,7 +10,7 @@ use Rattle.scan_core.proofs.Enterings.{at_least}
 use Rattle.bre_core.specs.Match.{Parts, IsAtMost, Matches, MatchesItem, Contains}
 use Rattle.std.proofs.lemmas.Grind.{common_steps}
 use Rattle.bre_core.specs.Pattern.{Pattern, nothing, append, Item, set, front, end, group, repeat, repeated, positions_in, positions_in_item, positions_of}
-use Rattle.bre_core.proofs.Matching.{stays}
+use Rattle.bre_core.proofs.Searching.{stays}
 use Rattle.std.proofs.Math.Nat.{suc-mul, add-mul}
 use Rattle.bre_core.specs.Search.{contains}
 use Rattle.bre_core.proofs.Searching.{contains_tells, one_truth}
