@@ -49,10 +49,7 @@ hopped_more hops at word count {on} f g = search rules
 
 -- a number by its word and bit
 pub entered_is : (words : List ℕ) (number : ℕ) {word bit : ℕ} → word ≡ number / 64 → bit ≡ 1 * 2 ^ (number % 64) % 2 ^ 64 → get_or words word 0 < 2 ^ 64 → (bit_and (get_or words word 0) bit ≡ 0 → ⊥) → IsIn words number
-entered_is words number {word} {bit} ew eb fits some =
-    let one = one_of (get_or words word 0) bit fits some in
-    let same : number ≡ word * 64 + one.0 = (bit_is number one.0 (sym ew) one.1).0 (ap (λ x. bit_at x one.0) (sym eb) ∙ one.3) in
-    subst (IsIn words) (sym same) ((is_in_word words word one.0 one.1).0 one.2)
+entered_is words number {word} {bit} ew eb fits some = search (rules, one_of, bit_is, is_in_word)
 
 pub absent_is : (words : List ℕ) (number : ℕ) {word bit : ℕ} → word ≡ number / 64 → bit ≡ 1 * 2 ^ (number % 64) % 2 ^ 64 → bit_and (get_or words word 0) bit ≡ 0 → IsIn words number → ⊥
 absent_is words number {word} {bit} ew eb none h =
@@ -64,10 +61,7 @@ absent_is words number {word} {bit} ew eb none h =
 pub follow_new : {old new : List ℕ} (hop : Hop) (numbers : ℕ) {before on : ℕ} → hop.to < 64 * length old → hop.word ≡ hop.to / 64 → hop.bit ≡ 1 * 2 ^ (hop.to % 64) % 2 ^ 64
     → get_or old hop.word 0 < 2 ^ 64 → (bit_and numbers hop.from ≡ 0 → ⊥) → bit_and (get_or old hop.word 0) hop.bit ≡ 0 → new ≡ set old hop.word (bit_or (get_or old hop.word 0) hop.bit)
     → on ≡ min before hop.word → Grows (HoppedBy hop numbers) old new before on
-follow_new {old} hop numbers {before} h ew eb fits some none en eo =
-    grows_by (λ other. other ≡ hop.to) (HoppedBy hop numbers) (grows_one hop.to h (absent_is old hop.to ew eb none) (ap (λ k. get_or old k 0) ew) fits
-    (en ∙ ap (λ k. set old k (bit_or (get_or old hop.word 0) hop.bit)) ew ∙ ap (λ x. set old (hop.to / 64) (bit_or (get_or old hop.word 0) x)) eb) (eo ∙ ap (min before) ew))
-    (λ n e. (some, e)) (λ n led. led.1)
+follow_new {old} hop numbers {before} h ew eb fits some none en eo = search (rules, grows_by, grows_one, absent_is)
 
 -- Entering what the numbers of a word lead to, by closures and then by those that lead out of it.
 
@@ -268,13 +262,7 @@ pub enters_if : (words : List ℕ) {new : List ℕ} (number : ℕ) (holds : Bool
 enters_if words number true h en other =
     let e = entered_one words number h refl en other in
     (λ k. elim (e.0 k) [ inl was ↦ inl was | inr same ↦ inr (refl, same) ], λ k. e.1 (elim k [ inl was ↦ inl was | inr q ↦ inr q.1 ]))
-enters_if words number false h en other =
-    let none : 0 * 2 ^ (number % 64) % 2 ^ 64 ≡ 0 = omega arith in
-    let before : ℕ = get_or words (number / 64) 0 in
-    let unchanged = en ∙ ap (set words (number / 64)) (ap (bit_or before) none ∙ or_zero_r before) ∙ set-get_or words (number / 64) 0 in (
-      λ k. inl (subst (λ l. IsIn l other) unchanged k),
-      λ k. elim k [ inl was ↦ subst (λ l. IsIn l other) (sym unchanged) was | inr q ↦ absurd (false≢true q.0) ],
-    )
+enters_if words number false h en other = search (rules, or_zero_r, set-get_or)
 
 -- the last landings were followed
 pub record Landing_on (code : List Node) (landings : List Landing) (old now : List ℕ) (count : ℕ) : Type 0 where

@@ -74,10 +74,7 @@ pub fits_led : (code : List Node) (line : List ℕ) (at place : ℕ) {at' : ℕ}
 fits_led code line at place place' (Take bytes) c here h = let l = at_least code at (Take bytes) here in omega (arith, l, h.0)
 fits_led code line at place place' First c here h = let l = at_least code at First here in omega (arith, l, h.0)
 fits_led code line at place place' Last c here h = let l = at_least code at Last here in omega (arith, l, h.0)
-fits_led code line at place place' (Choose skip) c here h =
-    let l = at_least code at (Choose skip) here in
-    let f : at + skip ≤ length code = c.fits at (Choose skip) here in
-    elim h.0 [ inl e ↦ omega (arith, l, e) | inr e ↦ omega (arith, f, e) ]
+fits_led code line at place place' (Choose skip) c here h = search (rules, at_least)
 fits_led code line at place place' (Back by) c here h = let l = at_least code at (Back by) here in omega (arith, l, h.0)
 
 -- a code's walks from its front to its end are those of a kind
@@ -415,11 +412,7 @@ weighs_up_to (suc count) {code} {n} w =
     record { exact = f; most = omega (arith, b.most, t) }
 
 weighs_starred : {code : List Node} {n : ℕ} → Weighs code n → Weighs (starred code) (n + 1)
-weighs_starred {code} {n} w =
-    let e = weight-append code (Back (length code + 1) ∷ []) in
-    let l = length-append code (Back (length code + 1) ∷ []) in
-    let f : 1 + weight (code ++ Back (length code + 1) ∷ []) ≡ n + 1 = omega (arith, e, w.exact) in
-    record { exact = f; most = omega (arith, l, w.most) }
+weighs_starred {code} {n} w = search (rules, weight-append, length-append)
 
 weighs_repeated : {code : List Node} {n : ℕ} (low : ℕ) (high : Option ℕ) → IsAtMost high low → Weighs code n → Weighs (copies low code ++ tail_of code low high) (repeated n low high)
 weighs_repeated {n} low None o w =

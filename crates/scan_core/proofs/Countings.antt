@@ -71,20 +71,7 @@ shifted_high kept carry bit h small =
 -- a bit of a word that the byte is taken from
 kept_bit : (code : List Node) (words : List ℕ) (byte at bit takes : ℕ) → IsMask code (Takes byte) at takes → bit < 64
     → (bit_at (bit_and (get_or words at 0) takes) bit ≡ 1) ↔ Led code byte words (at * 64 + bit + 1)
-kept_bit code words byte at bit takes m small = (
-  λ h.
-      let one : bit_at (get_or words at 0) bit ≡ 1 = omega (arith, both, h) in
-      let two : bit_at takes bit ≡ 1 = omega (arith, both, h) in
-      (at * 64 + bit, (is_in_word words at bit small).0 one, (m bit small).0 two),
-  λ l.
-      let same : l.0 ≡ at * 64 + bit = (let e = l.2.3 in omega (arith, e)) in
-      let one = (is_in_word words at bit small).1 (subst (IsIn words) same l.1) in
-      let two = (m bit small).1 (subst (λ n. Passes code byte n (at * 64 + bit + 1)) same l.2) in
-      omega (arith, both, one, two),
-)
-  where
-    both : bit_at (bit_and (get_or words at 0) takes) bit ≡ min (bit_at (get_or words at 0) bit) (bit_at takes bit)
-    both = bit_at_and (get_or words at 0) takes bit
+kept_bit code words byte at bit takes m small = search (rules, is_in_word, bit_at_and)
 
 pub set_elsewhere : (words : List ℕ) {at : ℕ} (word number : ℕ) → (number / 64 ≡ at → ⊥) → IsIn (set words at word) number ↔ IsIn words number
 unfolding IsIn
@@ -253,19 +240,7 @@ counted_most (node ∷ code) zero = weight_most node
 counted_most (node ∷ code) (suc n) = counted_most code n
 
 pub positions_are : (code : List Node) (words counts : List ℕ) → length words ≡ width code → AreEach 0 (IsMask code Counts) (width code) counts → ((n : ℕ) → n < length words → get_or words n 0 < 2 ^ 64) → ones_below words counts (length words) ≡ positions_among code (flags_of words)
-positions_are code words counts size m fits = ones_sum (counted_at code) words counts (m.size ∙ sym size) fits exact ∙ sym (among_sum code (flags_of words))
-  where
-    exact : (n bit : ℕ) → n < length words → bit < 64 → bit_at (get_or counts n 0) bit ≡ counted_at code (64 * n + bit)
-    exact n bit h l =
-        let e : n * 64 + bit ≡ 64 * n + bit = omega arith in
-        let i = m.each n (omega (arith, h, size)) bit l in
-        equal (bit_at (get_or counts n 0) bit) (counted_at code (n * 64 + bit)) (bit_at-lt (get_or counts n 0) bit) (counted_most code (n * 64 + bit)) i.0 i.1 ∙ ap (counted_at code) e
-      where
-        equal : (a b : ℕ) → a < 2 → b ≤ 1 → (a ≡ 1 → b ≡ 1) → (b ≡ 1 → a ≡ 1) → a ≡ b
-        equal a b f g there back = elim (cases_eq a 1) [
-          | inl one ↦ one ∙ sym (there one)
-          | inr other ↦ elim (cases_eq b 1) [ inl one ↦ back one ∙ sym one | inr none ↦ omega (arith, f, g, other, none) ]
-        ]
+positions_are code words counts size m fits = search (rules, ones_sum, among_sum, bit_at-lt, counted_most)
 
 bits_front : (count word n : ℕ) (rest : List Bool) → n < count → get_or (bits count word ++ rest) n false ≡ (bit_at word n == 1)
 unfolding bits
@@ -311,7 +286,4 @@ flag_is (word ∷ words) n = elim (cases_lt n 64) [
 -- the flags are those of the numbers of the set
 pub flags_are : (words : List ℕ) (n : ℕ) → IsMarked (flags_of words) n ↔ IsIn words n
 unfolding IsIn
-flags_are words n = (
-  λ h. eqb-true (bit_at (get_or words (n / 64) 0) (n % 64)) 1 (sym (flag_is words n) ∙ h),
-  λ h. flag_is words n ∙ eq-eqb (bit_at (get_or words (n / 64) 0) (n % 64)) 1 h,
-)
+flags_are words n = search (rules, eqb-true, flag_is, eq-eqb)

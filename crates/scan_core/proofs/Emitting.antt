@@ -1,4 +1,5 @@
 -- An item that stands last, written out as often as a duplication asks for.
+use Rattle.std.proofs.Common.{rules}
 use Rattle.std.proofs.Common.{◌≡◌, ℕ, zero, suc, ◌+◌, ◌≤◌, List, ◌++◌, length, reverse, refl, sym, ap, ◌∙◌, arith, append_assoc, append-nil, ◌-◌, ◌<◌, [], ◌∷◌, set, length-append}
 use Rattle.std.proofs.lemmas.List.{reverse-append, length-reverse}
 use Rattle.scan_core.specs.declared.node.Node.{Node}
@@ -102,11 +103,7 @@ optional_more {now} {middle} more before code {start} count b n s g w m e = grin
 -- the copies that are always there, before the optional ones
 pub bounded_out : {nodes now new : List Node} (more before code : List Node) {start size : ℕ} (low high : ℕ) {count : ℕ} → length before ≡ start → nodes ≡ before ++ reverse code → size ≡ length nodes - start → now ≡ nodes ++ more
     → now ≡ before ++ reverse (up_to count code) → count ≡ high - low → new ≡ now ++ copies low (stretch start size now) → new ≡ before ++ reverse (copies low code ++ up_to (high - low) code)
-bounded_out {now} more before code low high {count} b n s g w k e =
-    e ∙ ap (λ l. now ++ copies low l) (item_here more before code b n s g) ∙ ap (λ l. l ++ copies low (reverse code)) w
-    ∙ append_assoc before (reverse (up_to count code)) (copies low (reverse code))
-    ∙ ap (λ l. before ++ (reverse (up_to count code) ++ l)) (sym (reverse-copies low code))
-    ∙ ap (λ l. before ++ l) (sym (reverse-append (copies low code) (up_to count code))) ∙ ap (λ m. before ++ reverse (copies low code ++ up_to m code)) k
+bounded_out {now} more before code low high {count} b n s g w k e = search (rules, item_here, append_assoc, reverse-copies, reverse-append)
 
 -- what was written stays at the front
 pub grown_on : (nodes : List Node) {now middle new : List Node} (more first second : List Node) → now ≡ nodes ++ more → middle ≡ now ++ first → new ≡ middle ++ second → (all : List Node) × (new ≡ nodes ++ all)

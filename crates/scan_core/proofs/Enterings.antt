@@ -1,4 +1,5 @@
 -- The nodes at the numbers of a code, and what they lead to.
+use Rattle.std.proofs.Common.{rules}
 use Rattle.std.proofs.Common.{◌≡◌, ◌⊎◌, inl, inr, ℕ, zero, suc, ◌+◌, ◌<◌, ◌≤◌, Bool, true, false, IsTrue, List, [], ◌∷◌, length, get_or, refl, sym, ◌∙◌, subst, arith, ◌-◌, ◌++◌}
 use Rattle.std.proofs.lemmas.Bool.{false≢true}
 use Rattle.bre_core.specs.Match.{Parts}
@@ -72,10 +73,7 @@ pub target_in : {code : List Node} (n skip : ℕ) → IsCode code → At code n 
 target_in n skip c here = c.fits n (Choose skip) here
 
 pub pass_found : (code : List Node) (n byte to : ℕ) (bytes : List Bool) → At code n (Take bytes) → Passes code byte n to → IsTrue (has bytes byte)
-pass_found code n byte to bytes here p =
-    let e : Take p.0 ≡ Take bytes = at_once code n (Take p.0) (Take bytes) p.1 here in
-    let e' : p.0 ≡ bytes = cc in
-    subst (λ b. IsTrue (has b byte)) e' p.2
+pass_found code n byte to bytes here p = search (rules, at_once)
 
 pub pass_never : (code : List Node) (n byte to : ℕ) (node : Node) → At code n node → ((bytes : List Bool) → Take bytes ≡ node → ⊥) → Passes code byte n to → ⊥
 pass_never code n byte to node here never p = never p.0 (at_once code n (Take p.0) node p.1 here)
@@ -98,11 +96,7 @@ weight_length (node ∷ code) = let w = weight_most node in let r = weight_lengt
 -- Where the numbers of a code lead without a byte.
 
 pub way_nowhere : (code : List Node) (number : ℕ) → length code ≤ number → IsWay code number (record { when = Never; one = 0; other = 0 })
-way_nowhere code number h = record {
-  one = omega arith;
-  other = omega arith;
-  exact = λ at_first at_last to. (λ f. let l = at_least code number f.0 f.1 in absurd (omega (arith, l, h)), λ o. absurd o.0);
-}
+way_nowhere code number h = search (rules, at_least)
 
 -- where a node leads
 abbrev pub way_at : Node → ℕ → Way

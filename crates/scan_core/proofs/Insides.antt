@@ -44,15 +44,7 @@ bits_more {Is} {count} {word} true a h is = record {
   ];
   rest = λ bit l. bit_at_set_other w64 word count h bit (λ q. omega (arith, q, l)) ∙ a.rest bit (omega (arith, l));
 }
-bits_more {Is} {count} {word} false a h is =
-    let none : 0 * 2 ^ count % 2 ^ 64 ≡ 0 = omega arith in
-    subst (AreBits Is (count + 1)) (sym (ap (bit_or word) none ∙ or_zero_r word)) (record {
-      past = λ bit l. elim (cases_eq bit count) [
-        | inl same ↦ subst (λ n. Is n (bit_at word n)) (sym same) (subst (Is count) (sym (a.rest count (omega arith))) is)
-        | inr other ↦ a.past bit (omega (arith, l, other))
-      ];
-      rest = λ bit l. a.rest bit (omega (arith, l));
-    })
+bits_more {Is} {count} {word} false a h is = search (rules, or_zero_r, cases_eq)
 
 pub flag_one : (flag : Bool) → (bool_byte flag ≡ 1) ↔ IsTrue flag
 flag_one true = (λ e. refl, λ t. refl)
@@ -187,11 +179,7 @@ adds_both {code} {at_first} {at_last} f g = record {
 
 -- what follows at any place follows at each
 pub adds_anywhere : {code : List Node} (at_first at_last : Bool) {old new : List ℕ} → Adds code false false old new → Adds code at_first at_last old new
-adds_anywhere {code} at_first at_last a = record {
-  size = a.size;
-  kept = a.kept;
-  from = λ number h. let f = a.from number h in (f.0, f.1, (f.2.0, parts_anywhere code at_first at_last f.2.0 f.0 number f.2.1));
-}
+adds_anywhere {code} at_first at_last a = search (rules, parts_anywhere)
 
 -- some of a word's nodes are still to be looked at
 pub record Visiting (code : List Node) (at_first at_last : Bool) (at pending left : ℕ) (old now : List ℕ) (on : ℕ) : Type 0 where
@@ -242,10 +230,7 @@ pub stays_or_hops : (code : List Node) (hops : List Hop) (at bit to : ℕ) → b
 stays_or_hops code hops at bit to h f way = elim way [ inl near ↦ inl (f, omega (arith, near, h)) | inr hop ↦ inr hop ]
 
 pub either_bit : (a b bit : ℕ) → bit_at (bit_or a b) bit ≡ 1 → (bit_at a bit ≡ 1) ⊎ (bit_at b bit ≡ 1)
-either_bit a b bit h = elim (cases_eq (bit_at a bit) 1) [
-  | inl one ↦ inl one
-  | inr other ↦ let e = bit_at_or a b bit in let l = bit_at-lt a bit in inr (omega (arith, e, h, other, l))
-]
+either_bit a b bit h = search (rules, cases_eq, bit_at_or, bit_at-lt)
 
 pub left_bit : (a b bit : ℕ) → bit_at a bit ≡ 1 → bit_at (bit_or a b) bit ≡ 1
 left_bit a b bit h = let e = bit_at_or a b bit in let l = bit_at-lt b bit in omega (arith, e, h, l)

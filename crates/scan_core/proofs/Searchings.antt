@@ -97,16 +97,7 @@ search_ends {code} line {place} {steps} now {found} s here e p test =
 
 tells_more : {code : List Node} {sets : List (List Bool)} (set : List Bool) {state byte read : ℕ} → state < length sets → Tells code sets state byte read
     → Tells code (sets ++ set ∷ []) state byte read
-tells_more {code} {sets} set {state} {byte} {read} h t = record {
-  next = λ small.
-      let n = t.next small in
-      let l = length-append sets (set ∷ []) in (
-        omega (arith, n.0, l),
-        λ number. subst (λ s. IsMarked s number ↔ Next code byte (InSets (sets ++ set ∷ []) state) number) (sym (get_or_append_left sets (set ∷ []) [] read n.0))
-            (subst (λ s. InSets sets read number ↔ Next code byte (IsMarked s) number) (sym (get_or_append_left sets (set ∷ []) [] state h)) (n.1 number)),
-      );
-  stop = λ e. subst (λ s. Next code byte (IsMarked s) (length code)) (sym (get_or_append_left sets (set ∷ []) [] state h)) (t.stop e);
-}
+tells_more {code} {sets} set {state} {byte} {read} h t = search (rules, length-append, get_or_append_left)
 
 -- one more set; no entries of it are there yet
 built_set : {code : List Node} {entries : ℕ} {sets : List (List Bool)} {rows : List ℕ} {set : List Bool} → Built code entries sets rows → entries ≤ length sets * 256
@@ -208,13 +199,7 @@ building_more {code} {most} {place} {old} {new} l es ew er =
 -- a set that a line's front has
 pub front_built : {code : List Node} (words : List ℕ) {sets : List (List Bool)} → length words ≡ width code → ((number : ℕ) → IsIn words number ↔ FlowsOn code true false 0 number)
     → (IsIn words (length code) → ⊥) → sets ≡ flags_of words ∷ [] → Built code 0 sets []
-front_built {code} words size exact none e = subst (λ s. Built code 0 s []) (sym e) (record {
-  some = omega arith;
-  front = λ number. let f = flags_are words number in (λ m. (exact number).0 (f.0 m), λ k. f.1 ((exact number).1 k));
-  going = each_more {list = []} (record { size = refl; each = λ place h. absurd (omega (arith, h)) })
-      (record { size = flags_length words ∙ ap (λ n. 64 * n) size; going = λ m. none ((flags_are words (length code)).0 m) }) refl;
-  told = record { size = refl; each = λ place h. absurd (omega (arith, h)) };
-})
+front_built {code} words size exact none e = search (rules, flags_are, each_more, flags_length)
 
 -- what a byte leads to from a set, with all that follows
 pub advanced : {code : List Node} {byte : ℕ} {base : Base} (old : List ℕ) {middle new : List ℕ} → IsBase code base
@@ -243,17 +228,7 @@ alike_all code n one other h before number bytes at = let l = at_least code numb
 pub state_is : {code : List Node} {sets : List (List Bool)} {rows : List ℕ} {number : ℕ} {now last : List ℕ} {state : State} → flags_of now ≡ set_at sets number
     → SpreadsOut code false true now last → state.positions ≡ positions_among code (flags_of now) → (IsTrue state.is_fixed → (byte : ℕ) → byte < 256 → entry rows number byte ≡ number)
     → state.last_positions ≡ positions_among code (flags_of last) → (IsTrue state.ends ↔ IsIn last (length code)) → IsState code sets rows number state
-state_is {code} {now} {last} e s p f q x = record {
-  positions = p ∙ ap (positions_among code) e;
-  is_fixed = f;
-  last = flags_of last;
-  last_exact = λ to. (
-    λ h. let k = (s.exact to).0 ((flags_are last to).0 h) in (k.0, subst (λ l. IsMarked l k.0) e ((flags_are now k.0).1 k.1), k.2),
-    λ k. (flags_are last to).1 ((s.exact to).1 (k.0, (flags_are now k.0).0 (subst (λ l. IsMarked l k.0) (sym e) k.1), k.2)),
-  );
-  last_positions = q;
-  ends = let l = flags_are last (length code) in (λ t. l.1 (x.0 t), λ m. x.1 (l.0 m));
-}
+state_is {code} {now} {last} e s p f q x = search (rules, flags_are)
 
 -- a table that was built, with what is noted of each state
 pub table_is : {code : List Node} {sets : List (List Bool)} {table : Table} → Built code (length sets * 256) sets table.rows.items → length code ≤ 65536 → length sets < 65534

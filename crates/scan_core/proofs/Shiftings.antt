@@ -182,9 +182,7 @@ walked_starts {code} line t = search rules
 -- what is entered where the state's set is, and before
 walked_here : {code : List Node} {sets : List (List Bool)} (line : List ℕ) {place state steps : ℕ} → Walked code sets line place state steps
     → place < length line → (number : ℕ) → InSets sets state number ↔ Entered code line number place
-walked_here {code} line {place} w h number =
-    let i = inner_entered code line place h number in
-    (λ m. i.0 ((w.exact number).0 m), λ f. (w.exact number).1 (i.1 f))
+walked_here {code} line {place} w h number = search (rules, inner_entered)
 
 -- what a byte leads to from the state's set
 next_inner : {code : List Node} {sets : List (List Bool)} (line : List ℕ) {place state steps : ℕ} → Walked code sets line place state steps → place < length line
@@ -295,11 +293,7 @@ walk_ends {code} table line (suc place) state steps {noted} d w h some e =
     )
 
 pub bound_fits : (code : List Node) (places steps : ℕ) → length code ≤ 65536 → steps ≤ places * (weight code + 1) → places ≤ 18446744073709551617 → steps < 340282366920938463463374607431768211456
-bound_fits code places steps few h p =
-    let w = weight_length code in
-    let most : weight code + 1 ≤ 65537 = omega (arith, w, few) in
-    let b : places * (weight code + 1) ≤ 18446744073709551617 * 65537 = mul-le-mul p most in
-    omega (arith, h, b)
+bound_fits code places steps few h p = search (rules, weight_length, mul-le-mul)
 
 pub walk_fits : (code : List Node) (table : Table) (line : List ℕ) (place state : ℕ) {steps : ℕ} → WalkedOf code table line place state steps → place ≤ 18446744073709551616 → steps < 340282366920938463463374607431768211456
 walk_fits code table line place state {steps} w p = bound_fits code place steps w.1.few w.2.so_far.bound (omega (arith, p))
@@ -352,13 +346,7 @@ word_fits {done} b h =
     omega (arith, p, s)
 
 pub states_are_light : (code : List Node) (table : Table) → IsTable code table → AreLight table.states.items
-states_are_light code table t state h =
-    let n = t.1.noted state (let s = t.1.states in omega (arith, s, h)) in
-    let m = positions_most code (set_at t.0 state) in
-    let w = weight_length code in
-    let f = t.1.few in
-    let p = n.positions in
-    omega (arith, m, w, f, p)
+states_are_light code table t state h = search (rules, positions_most, weight_length)
 
 -- what was made of the table's rows and states
 pub shifted_is : {table : Table} {shifts : ShiftTable} {rows : List ℕ} {noted : List State} → rows ≡ table.rows.items → noted ≡ table.states.items → length noted ≤ 9 → IsComplete rows → AreEach 0 (IsWord rows (length noted)) 256 shifts.words.items
@@ -385,12 +373,7 @@ at_starts line t = (
 
 -- the positions of a state, as the words have them
 weight_read : {table : Table} {shifts : ShiftTable} (word : ℕ) {added : ℕ} (e : ℕ) → IsShifted table shifts → added ≡ get_or shifts.weights.items (word % 256) e → IsWeight table.states.items (word % 64) added
-weight_read {table} {shifts} word {added} e i g =
-    let s = i.weights.size in
-    let low : word % 256 < 256 = omega arith in
-    let same : word % 256 % 64 ≡ word % 64 = omega arith in
-    subst (λ n. IsWeight table.states.items n added) same
-    (subst (IsWeight table.states.items (word % 256 % 64)) (get_or_default shifts.weights.items (word % 256) 0 e (omega (arith, s, low)) ∙ sym g) (i.weights.each (word % 256) low))
+weight_read {table} {shifts} word {added} e i g = search (rules, get_or_default)
 
 weight_small : (code : List Node) (table : Table) (state : ℕ) {low added : ℕ} → IsTable code table → IsWeight table.states.items low added → low ≡ 6 * state → state < length table.states.items → added ≤ weight code + 1
 weight_small code table state t w l h =
