@@ -1,17 +1,5 @@
 pub mod Chains
-pub mod Counts
 pub mod Existence
-pub mod Intervals
-pub mod Lists
-pub mod Matching
-pub mod Members
-pub mod Names
-pub mod Numbers
-pub mod Refusals
 pub mod Searching
-pub mod Sets
-pub mod SoFar
 pub mod Spelled
 pub mod Tokens
-pub mod Trees
-pub mod Flat

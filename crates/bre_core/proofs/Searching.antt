@@ -1,11 +1,37 @@
 -- The truth value says what is contained.
-use Rattle.std.proofs.Common.{rules, ◌≡◌, ◌⊎◌, ◌↔◌, inl, inr, ℕ, zero, suc, ◌+◌, ◌<◌, ◌≤◌, Bool, true, false, leb, ◌&&◌, List, length, Option, Some, None, refl, sym, ap, ◌∙◌, subst, arith}
+use Rattle.std.proofs.Common.{ℕ, zero, suc, ◌≤◌, List, length, arith, rules, ◌≡◌, ◌⊎◌, ◌↔◌, inl, inr, ◌+◌, ◌<◌, Bool, true, false, leb, ◌&&◌, Option, Some, None, refl, sym, ap, ◌∙◌, subst}
+use Rattle.bre_core.specs.Match.{Parts, Matches, MatchesItem, IsAtMost, Contains}
+use Rattle.bre_core.specs.Pattern.{Pattern, nothing, append, Item, set, front, end, group, repeat}
 use Rattle.std.specs.Prelude.{IsTrue}
 use Rattle.std.proofs.lemmas.Bool.{cases_eq, cases_lt, false≢true, or_cases, or_left, or_right, and_parts, and_from, eqb-true, eq-eqb, leb-true, le-leb, lt-ltb}
 use borrow.Author.Tests.{ltb-true}
-use Rattle.bre_core.specs.Match.{Parts, IsAtMost, Matches, MatchesItem, Contains}
-use Rattle.bre_core.specs.Pattern.{Pattern, nothing, append, Item, set, front, end, group, repeat}
 use Rattle.bre_core.specs.Search.{any_below, has_parts, is_at_most, matches, matches_item, contains}
+
+-- What a pattern matches stands on the line.
+
+-- what matches ends on the line, and not before it begins
+pub parts_stay : (Part : ℕ → ℕ → Type 0) (places : ℕ) → ((from to : ℕ) → from ≤ places → Part from to → (from ≤ to) × (to ≤ places)) → (count from to : ℕ) → from ≤ places → Parts Part count from to → (from ≤ to) × (to ≤ places)
+parts_stay Part places stay zero from to h p = (omega (arith, p), omega (arith, p, h))
+parts_stay Part places stay (suc count) from to h p =
+    let one = parts_stay Part places stay count from p.0 h p.1 in
+    let other = stay p.0 to one.1 p.2 in
+    (omega (arith, one.0, other.0), other.1)
+
+mutual
+  pub stays : (pattern : Pattern) (line : List ℕ) (from to : ℕ) → from ≤ length line → Matches pattern line from to → (from ≤ to) × (to ≤ length line)
+  stays nothing line from to h m = (omega (arith, m), omega (arith, m, h))
+  stays (append pattern item) line from to h m =
+      let one = stays pattern line from m.0 h m.1 in
+      let other = item_stays item line m.0 to one.1 m.2 in
+      (omega (arith, one.0, other.0), other.1)
+
+  pub item_stays : (item : Item) (line : List ℕ) (from to : ℕ) → from ≤ length line → MatchesItem item line from to → (from ≤ to) × (to ≤ length line)
+  item_stays (set bytes) line from to h m = (omega (arith, m.0), omega (arith, m.0, m.1))
+  item_stays front line from to h m = (omega (arith, m.0), omega (arith, m.1))
+  item_stays end line from to h m = (omega (arith, m.0, m.1), omega (arith, m.1))
+  item_stays (group pattern) line from to h m = stays pattern line from to h m
+  item_stays (repeat item low high) line from to h m =
+      parts_stay (MatchesItem item line) (length line) (λ f t k p. item_stays item line f t k p) m.0 from to h m.3
 
 any_found : (bound : ℕ) (test : ℕ → Bool) → any_below bound test ≡ true → (number : ℕ) × (number < bound) × (test number ≡ true)
 any_found zero test e = absurd (false≢true e)

@@ -1,21 +1,192 @@
 -- The stretches that are found are those that the tree matches.
-use Rattle.std.proofs.Common.{◌≡◌, ◌↔◌, inl, inr, ℕ, zero, suc, ◌+◌, ◌<◌, ◌≤◌, Bool, true, false, List, [], ◌∷◌, ◌++◌, length, drop, get_or, Option, Some, None, refl, sym, ap, ◌∙◌, subst, arith}
+use Rattle.std.proofs.Common.{◌≡◌, ◌⊎◌, ◌↔◌, ℕ, zero, suc, ◌<◌, ◌≤◌, Bool, List, [], ◌∷◌, length, sym, ◌∙◌, arith, inl, inr, ◌+◌, ◌-◌, Option, Some, None, refl, subst, false, get_or, true, ◌++◌, drop, ap}
+use Rattle.std.proofs.lemmas.Bool.{false≢true, cases_lt, cases_eq}
+use Rattle.plain_core.specs.inner.Spans.{EndsAt, ends_from, IsSpan, AreSpans, Run, EndsAfter, StandAfter, AreRepeated, LeafEnds, GoesOn, AreLeaf}
+use Rattle.plain_core.specs.declared.ends.Times.TheVariants.{Once, AtMostOnce, AnyTimes}
+use Rattle.bre_core.specs.Match.{IsAtMost, Parts, Matches, MatchesItem, Contains}
+use Rattle.plain_core.specs.declared.ends.Times.{Times}
 use Rattle.std.specs.Prelude.{IsTrue}
 use Rattle.std.specs.Bool.{MatchBool}
-use Rattle.std.proofs.lemmas.Bool.{false≢true}
 use Rattle.std.proofs.lemmas.List.{at_drop_more, at_drop_all}
 use Rattle.std.specs.Option.{MatchOption}
-use Rattle.bre_core.proofs.Lists.{no_end, same_end}
-use Rattle.plain_core.specs.declared.ends.Times.TheVariants.{Once}
+use Rattle.bre_core.proofs.Existence.{no_end, same_end}
 use Rattle.bre_core.specs.declared.token.Token.{Token}
 use Rattle.bre_core.specs.declared.token.Token.TheVariants.{Set, Front, End, Open, Close, Repeat}
 use Rattle.bre_core.specs.Flat.{read_on, tree_of, current_after, around_after, AreBounded}
-use Rattle.bre_core.specs.Match.{Parts, Matches, MatchesItem, Contains}
 use Rattle.bre_core.specs.Pattern.{Pattern, nothing, append, Item, repeat}
 use Rattle.plain_core.specs.inner.Plain.{State, IsSettled, TookLeaf, TookRepeat, Advances}
-use Rattle.plain_core.specs.inner.Spans.{IsSpan, LeafEnds, GoesOn, Run, StandAfter, AreLeaf, AreRepeated, ends_from}
-use Rattle.bre_core.proofs.Matching.{parts_stay, stays, item_stays}
-use Rattle.plain_core.proofs.Places.{spans_within}
+use Rattle.bre_core.proofs.Searching.{parts_stay, stays, item_stays}
+
+-- Sets of places, place by place.
+
+pub spans_within : (spans : List (List Bool)) (from to : ℕ) → IsSpan spans from to → from < length spans
+spans_within [] from to h = absurd (false≢true h)
+spans_within (ends ∷ spans) zero to h = omega arith
+spans_within (ends ∷ spans) (suc from) to h = omega (arith, spans_within spans from to h)
+
+-- the places of another set below a place were added
+abbrev pub Absorbed : List Bool → List Bool → ℕ → List Bool → Type 0
+Absorbed old other below new = (to : ℕ) → (EndsAt new to → EndsAt old to ⊎ ((to < below) × EndsAt other to)) × (EndsAt old to ⊎ ((to < below) × EndsAt other to) → EndsAt new to)
+
+-- the sets for the first places: each is over that number of places, and is where P says
+pub record RowsAre (places : ℕ) (P : ℕ → ℕ → Type 0) (rows : List (List Bool)) : Type 0 where
+  pub each : (from : ℕ) → from < length rows → length (ends_from rows from) ≡ places
+  pub exact : (from to : ℕ) → from < length rows → (IsSpan rows from to ↔ P from to)
+
+-- whole, they are stretches
+pub rows_whole : {places : ℕ} (P : ℕ → ℕ → Type 0) {rows : List (List Bool)} → RowsAre places P rows → length rows ≡ places → ((from to : ℕ) → from < places → P from to → from ≤ to) → AreSpans rows
+rows_whole P {rows} r e f = record {
+  square = λ from h. r.each from h ∙ sym e;
+  forward = λ from to s. let h = spans_within rows from to s in f from to (omega (arith, h, e)) ((r.exact from to h).0 s);
+}
+
+-- The stretches of a repeated item.
+
+-- from low to high times
+abbrev pub RunsBetween : List (List Bool) → ℕ → ℕ → ℕ → ℕ → Type 0
+RunsBetween item low high from to = (count : ℕ) × (low ≤ count) × (count ≤ high) × Run item count from to
+
+pub record RunsAre (item : List (List Bool)) (low high : ℕ) (all : List (List Bool)) : Type 0 where
+  pub places : length all ≡ length item
+  pub exact : (from to : ℕ) → from < length item → (IsSpan all from to ↔ RunsBetween item low high from to)
+
+run_last : (item : List (List Bool)) {count : ℕ} (below from to : ℕ) → count ≡ suc below → Run item count from to → (middle : ℕ) × Run item below from middle × IsSpan item middle to
+run_last item below from to e r = subst (λ c. Run item c from to) e r
+
+pub runs_once : {item : List (List Bool)} (all : List (List Bool)) {all' : List (List Bool)} {count count' : ℕ} → RunsAre item count count all → StandAfter Once all item all' → count' ≡ count + 1 → RunsAre item count' count' all'
+runs_once {item} all {count} {count'} r b e = record {
+  places = b.places ∙ r.places;
+  exact = λ from to h. (λ s. there from to h ((b.exact from to).0 s), λ s. (b.exact from to).1 (back from to h s));
+}
+  where
+    there : (from to : ℕ) → from < length item → EndsAfter Once (ends_from all from) item to → RunsBetween item count' count' from to
+    there from to h g = let run = (r.exact from g.0 h).0 g.1 in (suc run.0, omega (arith, run.1, e), omega (arith, run.2, e), (g.0, run.3, g.2))
+
+    back : (from to : ℕ) → from < length item → RunsBetween item count' count' from to → EndsAfter Once (ends_from all from) item to
+    back from to h run =
+        let last = run_last item count from to (omega (arith, run.1, run.2, e)) run.3 in
+        (last.0, (r.exact from last.0 h).1 (count, omega arith, omega arith, last.1), last.2)
+
+pub runs_more : {item : List (List Bool)} (all : List (List Bool)) {all' : List (List Bool)} {low high high' : ℕ} → low ≤ high → RunsAre item low high all → StandAfter AtMostOnce all item all' → high' ≡ high + 1 → RunsAre item low high' all'
+runs_more {item} all {low} {high} {high'} order r b e = record {
+  places = b.places ∙ r.places;
+  exact = λ from to h. (λ s. there from to h ((b.exact from to).0 s), λ s. (b.exact from to).1 (back from to h s));
+}
+  where
+    there : (from to : ℕ) → from < length item → EndsAfter AtMostOnce (ends_from all from) item to → RunsBetween item low high' from to
+    there from to h (inl s) = let run = (r.exact from to h).0 s in (run.0, run.1, omega (arith, run.2, e), run.3)
+    there from to h (inr g) = let run = (r.exact from g.0 h).0 g.1 in (suc run.0, omega (arith, run.1), omega (arith, run.2, e), (g.0, run.3, g.2))
+
+    back : (from to : ℕ) → from < length item → RunsBetween item low high' from to → EndsAfter AtMostOnce (ends_from all from) item to
+    back from to h run = elim (cases_lt run.0 high') [
+      | inl less ↦ inl ((r.exact from to h).1 (run.0, run.1, omega (arith, less, e), run.3))
+      | inr more ↦
+          let last = run_last item high from to (omega (arith, more, run.2, e)) run.3 in
+          inr (last.0, (r.exact from last.0 h).1 (high, order, omega arith, last.1), last.2)
+    ]
+
+run_join : (item : List (List Bool)) (first second from middle to : ℕ) → Run item first from middle → Run item second middle to → Run item (first + second) from to
+run_join item first zero from middle to r s =
+    let e : first ≡ first + zero = omega arith in
+    subst (λ c. Run item c from to) e (subst (λ m. Run item first from m) s r)
+run_join item first (suc second) from middle to r s =
+    let e : suc (first + second) ≡ first + suc second = omega arith in
+    let longer : Run item (suc (first + second)) from to = (s.0, run_join item first second from middle s.0 r s.1, s.2) in
+    subst (λ c. Run item c from to) e longer
+
+-- the first parts of a number of parts
+run_split : (item : List (List Bool)) (first second from to : ℕ) → Run item (first + second) from to → (middle : ℕ) × Run item first from middle × Run item second middle to
+run_split item first zero from to r = let e : first + zero ≡ first = omega arith in (to, subst (λ c. Run item c from to) e r, refl)
+run_split item first (suc second) from to r =
+    let last = run_last item (first + second) from to (omega arith) r in
+    let split = run_split item first second from last.0 last.1 in
+    (split.0, split.1, (last.0, split.2, last.2))
+
+pub runs_unbounded : {item : List (List Bool)} (all : List (List Bool)) {all' : List (List Bool)} {low : ℕ} → RunsAre item low low all → StandAfter AnyTimes all item all' → AreRepeated item low None all'
+runs_unbounded {item} all {low} r b = record {
+  places = b.places ∙ r.places;
+  exact = λ from to h. (λ s. there from to h ((b.exact from to).0 s), λ s. (b.exact from to).1 (back from to h s));
+}
+  where
+    there : (from to : ℕ) → from < length item → EndsAfter AnyTimes (ends_from all from) item to → (count : ℕ) × (low ≤ count) × IsAtMost None count × Run item count from to
+    there from to h g =
+        let run = (r.exact from g.0 h).0 g.2 in
+        (run.0 + g.1, omega (arith, run.1), tt, run_join item run.0 g.1 from g.0 to run.3 g.3)
+
+    back : (from to : ℕ) → from < length item → ((count : ℕ) × (low ≤ count) × IsAtMost None count × Run item count from to) → EndsAfter AnyTimes (ends_from all from) item to
+    back from to h run =
+        let e : run.0 ≡ low + (run.0 - low) = omega (arith, run.1) in
+        let split = run_split item low (run.0 - low) from to (subst (λ c. Run item c from to) e run.3) in
+        (split.0, run.0 - low, (r.exact from split.0 h).1 (low, omega arith, omega arith, split.1), split.2)
+
+pub no_bound : (high : Option ℕ) → ((x : ℕ) → high ≡ Some x → ⊥) → None ≡ high
+no_bound None h = refl
+no_bound (Some x) h = absurd (h x refl)
+
+-- The places that an item leads to, found place by place.
+
+-- the item leads to the end from one of the first places of the set
+abbrev pub LedFrom : List Bool → List (List Bool) → ℕ → ℕ → Type 0
+LedFrom ends item below to = (middle : ℕ) × (middle < below) × EndsAt ends middle × IsSpan item middle to
+
+abbrev pub Reached : List Bool → List (List Bool) → ℕ → List Bool → Type 0
+Reached ends item below new = (to : ℕ) → (EndsAt new to → LedFrom ends item below to) × (LedFrom ends item below to → EndsAt new to)
+
+-- any number of times: what was found is led to, and from the first places no step leads out of it
+pub record Again (ends : List Bool) (item : List (List Bool)) (below : ℕ) (new : List Bool) : Type 0 where
+  pub kept : (to : ℕ) → EndsAt ends to → EndsAt new to
+  pub sound : (to : ℕ) → EndsAt new to → EndsAfter AnyTimes ends item to
+  pub closed : (middle to : ℕ) → middle < below → EndsAt new middle → IsSpan item middle to → EndsAt new to
+
+pub again_more : (ends : List Bool) {item : List (List Bool)} (below : ℕ) {new new' : List Bool} {row : List Bool} → Again ends item below new → EndsAt new below → row ≡ ends_from item below
+    → ((to : ℕ) → EndsAt row to → below ≤ to) → ((to : ℕ) → EndsAt new' to ↔ (EndsAt new to ⊎ EndsAt row to)) → Again ends item (below + 1) new'
+again_more ends {item} below {new} {new'} {row} a here e forward absorbed = record {
+  kept = λ to h. (absorbed to).1 (inl (a.kept to h));
+  sound = λ to h. sound to ((absorbed to).0 h);
+  closed = λ middle to h g s. closed middle to h ((absorbed middle).0 g) s;
+}
+  where
+    sound : (to : ℕ) → EndsAt new to ⊎ EndsAt row to → EndsAfter AnyTimes ends item to
+    sound to (inl h) = a.sound to h
+    sound to (inr h) = let led = a.sound below here in (led.0, suc led.1, led.2, (below, led.3, subst (λ ends'. EndsAt ends' to) e h))
+
+    closed : (middle to : ℕ) → middle < below + 1 → EndsAt new middle ⊎ EndsAt row middle → IsSpan item middle to → EndsAt new' to
+    closed middle to h g s = elim (cases_eq middle below) [
+      | inl same ↦ (absorbed to).1 (inr (subst (λ ends'. EndsAt ends' to) (sym e) (subst (λ m. IsSpan item m to) same s)))
+      | inr other ↦ before (omega (arith, h, other)) g
+    ]
+      where
+        before : middle < below → EndsAt new middle ⊎ EndsAt row middle → EndsAt new' to
+        before less (inl f) = (absorbed to).1 (inl (a.closed middle to less f s))
+        before less (inr f) = absurd (omega (arith, less, forward middle f))
+
+pub again_skip : (ends : List Bool) {item : List (List Bool)} (below : ℕ) {new : List Bool} → Again ends item below new → get_or new below false ≡ false → Again ends item (below + 1) new
+again_skip ends below {new} a absent = record {
+  kept = a.kept;
+  sound = a.sound;
+  closed = λ middle to h g s. elim (cases_eq middle below) [
+    | inl same ↦ absurd (false≢true (sym absent ∙ subst (EndsAt new) same g))
+    | inr other ↦ a.closed middle to (omega (arith, h, other)) g s
+  ];
+}
+
+pub again_ends : (ends : List Bool) {item : List (List Bool)} (below : ℕ) {new : List Bool} → Again ends item below new → length item ≤ below → (to : ℕ) → EndsAt new to ↔ EndsAfter AnyTimes ends item to
+again_ends ends {item} below {new} a h to = (a.sound to, λ led. follow led.1 to led.0 led.2 led.3)
+  where
+    follow : (count to start : ℕ) → EndsAt ends start → Run item count start to → EndsAt new to
+    follow zero to start g run = a.kept to (subst (EndsAt ends) run g)
+    follow (suc count) to start g run = a.closed run.0 to (omega (arith, spans_within item run.0 to run.2, h)) (follow count run.0 start g run.1) run.2
+
+run_forward : {item : List (List Bool)} → AreSpans item → (count : ℕ) {from to : ℕ} → Run item count from to → from ≤ to
+run_forward a zero r = omega (arith, r)
+run_forward a (suc count) {to} r = omega (arith, run_forward a count r.1, a.forward r.0 to r.2)
+
+-- no stretch ends before it begins
+pub after_forward : (times : Times) {first item : List (List Bool)} (from to : ℕ) → AreSpans first → AreSpans item → EndsAfter times (ends_from first from) item to → from ≤ to
+after_forward Once from to a b h = omega (arith, a.forward from h.0 h.1, b.forward h.0 to h.2)
+after_forward AtMostOnce from to a b (inl h) = a.forward from to h
+after_forward AtMostOnce from to a b (inr h) = omega (arith, a.forward from h.0 h.1, b.forward h.0 to h.2)
+after_forward AnyTimes from to a b h = omega (arith, a.forward from h.0 h.2, run_forward b h.1 h.3)
 
 -- the stretches are those of a kind
 pub record Exact (line : List ℕ) (Kind : ℕ → ℕ → Type 0) (spans : List (List Bool)) : Type 0 where

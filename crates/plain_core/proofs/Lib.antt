@@ -1,4 +1,1 @@
-pub mod Places
-pub mod Reach
-pub mod Repeats
 pub mod Exactness

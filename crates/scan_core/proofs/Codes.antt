@@ -1,14 +1,307 @@
--- The code of a pattern: it is walked through just where the pattern matches.
-use Rattle.std.proofs.Common.{◌≡◌, ◌⊎◌, ◌↔◌, inl, inr, ℕ, zero, suc, ◌+◌, ◌-◌, ◌≤◌, List, ◌++◌, length, Option, Some, None, refl, sym, ◌∙◌, subst, arith}
-use Rattle.bre_core.specs.Match.{Parts, IsAtMost, Matches, MatchesItem, Contains}
-use Rattle.bre_core.specs.Pattern.{Pattern, nothing, append, Item, set, front, end, group, repeat}
+-- Walks over the nodes of a pattern.
+use Rattle.std.proofs.Common.{rules, ◌≡◌, ◌⊎◌, inl, inr, ℕ, zero, suc, ◌+◌, ◌-◌, ◌≤◌, List, [], ◌∷◌, ◌++◌, length, refl, ap, subst, arith, sym, ◌∙◌, ◌↔◌, Option, Some, None, ◌*◌, ◌<◌, Bool, IsTrue}
+use Rattle.std.proofs.lemmas.Bool.{cases_eq}
+use Rattle.std.proofs.lemmas.List.{length-append}
 use Rattle.scan_core.specs.declared.node.Node.{Node}
-use Rattle.scan_core.specs.declared.node.Node.TheVariants.{Take, First, Last}
-use Rattle.scan_core.specs.Code.{up_to, copies, tail_of, code_of, code_of_item, Entered, IsOrdered, IsOrderedItem}
-use Rattle.scan_core.proofs.Walks.{Exact}
-use Rattle.scan_core.proofs.Composed.{exact_by, exact_none, exact_one, exact_both, exact_maybe, exact_starred, parts_first, parts_next, Often}
-use Rattle.bre_core.proofs.Matching.{stays}
+use Rattle.scan_core.specs.declared.node.Node.TheVariants.{Take, First, Last, Choose, Back}
+use Rattle.scan_core.specs.Code.{At, Leads, Goes, Walks, Path, maybe, starred, up_to, copies, tail_of, code_of, code_of_item, Entered, IsOrdered, IsOrderedItem, weight}
+use Rattle.scan_core.specs.inner.Sets.{FitsIn, IsCode}
+use Rattle.scan_core.proofs.Enterings.{at_least}
+use Rattle.bre_core.specs.Match.{Parts, IsAtMost, Matches, MatchesItem, Contains}
 use Rattle.std.proofs.lemmas.Grind.{common_steps}
+use Rattle.bre_core.specs.Pattern.{Pattern, nothing, append, Item, set, front, end, group, repeat, repeated, positions_in, positions_in_item, positions_of}
+use Rattle.bre_core.proofs.Searching.{stays}
+use Rattle.std.proofs.Math.Nat.{suc-mul, add-mul}
+use Rattle.bre_core.specs.Search.{contains}
+use Rattle.bre_core.proofs.Searching.{contains_tells, one_truth}
+use Rattle.scan_core.specs.Counted.{EndsIn}
+
+pub at-left : (a b : List Node) (n : ℕ) (node : Node) → At a n node → At (a ++ b) n node
+at-left [] b n node h = absurd h
+at-left (x ∷ a) b zero node h = h
+at-left (x ∷ a) b (suc n) node h = at-left a b n node h
+
+pub at_at : (code : List Node) {n m : ℕ} (node : Node) → n ≡ m → At code n node → At code m node
+at_at code node e h = subst (λ k. At code k node) e h
+
+pub at-right : (a b : List Node) (n : ℕ) (node : Node) → At b n node → At (a ++ b) (length a + n) node
+at-right [] b n node h = at_at b node (omega arith) h
+at-right (x ∷ a) b n node h =
+    let e : suc (length a + n) ≡ suc (length a) + n = omega arith in
+    at_at (x ∷ (a ++ b)) node e (at-right a b n node h)
+
+-- a node of two parts is one of the first's or of the second's
+pub at-split : (a b : List Node) (n : ℕ) (node : Node) → At (a ++ b) n node → (At a n node) ⊎ ((k : ℕ) × (n ≡ length a + k) × At b k node)
+at-split [] b n node h = inr (n, omega arith, h)
+at-split (x ∷ a) b zero node h = inl h
+at-split (x ∷ a) b (suc n) node h = elim (at-split a b n node h) [ inl g ↦ inl g | inr g ↦ inr (g.0, omega (arith, g.1), g.2) ]
+
+-- the same step further on in a longer code
+pub leads_shift : (node : Node) (line : List ℕ) (base at place at' place' : ℕ) → Leads node line at place at' place' → Leads node line (base + at) place (base + at') place'
+leads_shift (Take bytes) line base at place at' place' h = (omega (arith, h.0), h.1, h.2, h.3)
+leads_shift First line base at place at' place' h = (omega (arith, h.0), h.1, h.2)
+leads_shift Last line base at place at' place' h = (omega (arith, h.0), h.1, h.2)
+leads_shift (Choose skip) line base at place at' place' h = (elim h.0 [ inl e ↦ inl (omega (arith, e)) | inr e ↦ inr (omega (arith, e)) ], h.1)
+leads_shift (Back by) line base at place at' place' h = (omega (arith, h.0), h.1)
+
+pub walk-left : (a b : List Node) (line : List ℕ) (count at place to stop : ℕ) → Walks a line count at place to stop → Walks (a ++ b) line count at place to stop
+walk-left a b line zero at place to stop w = w
+walk-left a b line (suc count) at place to stop w = (w.0, w.1, (w.2.0, at-left a b at w.2.0 w.2.1, w.2.2), walk-left a b line count w.0 w.1 to stop w.3)
+
+pub walk-right : (a b : List Node) (line : List ℕ) (count at place to stop : ℕ) → Walks b line count at place to stop → Walks (a ++ b) line count (length a + at) place (length a + to) stop
+walk-right a b line zero at place to stop w = (ap (λ n. length a + n) w.0, w.1)
+walk-right a b line (suc count) at place to stop w =
+    (length a + w.0, w.1, (w.2.0, at-right a b at w.2.0 w.2.1, leads_shift w.2.0 line (length a) at place w.0 w.1 w.2.2), walk-right a b line count w.0 w.1 to stop w.3)
+
+pub walk_on : (code : List Node) (line : List ℕ) (first second at place at' place' to stop : ℕ) → Walks code line first at place at' place' → Walks code line second at' place' to stop → Path code line at place to stop
+walk_on code line zero second at place at' place' to stop v w = search rules
+walk_on code line (suc first) second at place at' place' to stop v w =
+    let rest = walk_on code line first second v.0 v.1 at' place' to stop v.3 w in
+    (suc rest.0, (v.0, v.1, v.2, rest.1))
+
+pub path_on : (code : List Node) (line : List ℕ) (at place at' place' to stop : ℕ) → Path code line at place at' place' → Path code line at' place' to stop → Path code line at place to stop
+path_on code line at place at' place' to stop p q = walk_on code line p.0 q.0 at place at' place' to stop p.1 q.1
+
+-- a node that fits also fits further on in a longer code, and leads to one of the code or to its end
+pub fits_moved : (node : Node) (base size number : ℕ) {more moved : ℕ} → FitsIn size number node → base + size ≤ more → moved ≡ base + number → FitsIn more moved node
+fits_moved (Take bytes) base size number f l e = tt
+fits_moved First base size number f l e = tt
+fits_moved Last base size number f l e = tt
+fits_moved (Choose skip) base size number f l e = omega (arith, f, l, e)
+fits_moved (Back by) base size number f l e = omega (arith, f, e)
+
+pub fits_led : (code : List Node) (line : List ℕ) (at place : ℕ) {at' : ℕ} (place' : ℕ) (node : Node) → IsCode code → At code at node → Leads node line at place at' place' → at' ≤ length code
+fits_led code line at place place' (Take bytes) c here h = let l = at_least code at (Take bytes) here in omega (arith, l, h.0)
+fits_led code line at place place' First c here h = let l = at_least code at First here in omega (arith, l, h.0)
+fits_led code line at place place' Last c here h = let l = at_least code at Last here in omega (arith, l, h.0)
+fits_led code line at place place' (Choose skip) c here h = search (rules, at_least)
+fits_led code line at place place' (Back by) c here h = let l = at_least code at (Back by) here in omega (arith, l, h.0)
+
+-- a code's walks from its front to its end are those of a kind
+pub record Exact (code : List Node) (line : List ℕ) (Kind : ℕ → ℕ → Type 0) : Type 0 where
+  pub fits : IsCode code
+  pub sound : (from to : ℕ) → Path code line 0 from (length code) to → Kind from to
+  pub complete : (from to : ℕ) → Kind from to → Path code line 0 from (length code) to
+
+pub leads_unshift : (node : Node) (line : List ℕ) (base size at place : ℕ) {at' : ℕ} (place' : ℕ) → FitsIn size at node → Leads node line (base + at) place at' place' → (k : ℕ) × (at' ≡ base + k) × Leads node line at place k place'
+leads_unshift (Take bytes) line base size at place place' b h = (at + 1, omega (arith, h.0), (refl, h.1, h.2, h.3))
+leads_unshift First line base size at place place' b h = (at + 1, omega (arith, h.0), (refl, h.1, h.2))
+leads_unshift Last line base size at place place' b h = (at + 1, omega (arith, h.0), (refl, h.1, h.2))
+leads_unshift (Choose skip) line base size at place place' b h =
+    elim h.0 [ inl e ↦ (at + 1, omega (arith, e), (inl refl, h.1)) | inr e ↦ (at + skip, omega (arith, e), (inr refl, h.1)) ]
+leads_unshift (Back by) line base size at place place' b h = (at - by, omega (arith, h.0, b), (omega (arith, b), h.1))
+
+-- a walk that begins in the second of two parts stays there
+pub in_second : (a : List Node) {b : List Node} (line : List ℕ) → IsCode b → (count : ℕ) {at : ℕ} (k place stop : ℕ) → at ≡ length a + k → Walks (a ++ b) line count at place (length (a ++ b)) stop → Walks b line count k place (length b) stop
+in_second a {b} line f zero k place stop e w = let l = length-append a b in (omega (arith, l, e, w.0), w.1)
+in_second a {b} line f (suc count) {at} k place stop e w = elim (at-split a b at w.2.0 w.2.1) [
+  | inl h ↦ let l = at_least a at w.2.0 h in absurd (omega (arith, l, e))
+  | inr h ↦
+      let same : h.0 ≡ k = omega (arith, e, h.1) in
+      let here : At b k w.2.0 = at_at b w.2.0 same h.2 in
+      let led : Leads w.2.0 line (length a + k) place w.0 w.1 = subst (λ n. Leads w.2.0 line n place w.0 w.1) e w.2.2 in
+      let moved = leads_unshift w.2.0 line (length a) (length b) k place w.1 (f.fits k w.2.0 here) led in
+      (moved.0, w.1, (w.2.0, here, moved.2), in_second a line f count moved.0 w.1 stop moved.1 w.3)
+]
+
+-- a walk through two parts goes through the first and then through the second
+pub through : {a b : List Node} (line : List ℕ) → IsCode a → IsCode b → (count at place stop : ℕ) → at ≤ length a → Walks (a ++ b) line count at place (length (a ++ b)) stop
+    → (middle : ℕ) × Path a line at place (length a) middle × Path b line 0 middle (length b) stop
+through {a} {b} line f g zero at place stop h w =
+    let l = length-append a b in
+    (place, (zero, (omega (arith, l, w.0, h), refl)), (zero, (omega (arith, l, w.0, h), w.1)))
+through {a} {b} line f g (suc count) at place stop h w = elim (cases_eq at (length a)) [
+  | inl same ↦ (place, (zero, (same, refl)), (suc count, in_second a line g (suc count) 0 place stop (omega (arith, same)) w))
+  | inr other ↦ elim (at-split a b at w.2.0 w.2.1) [
+    | inl here ↦
+        let step : Goes a line at place w.0 w.1 = (w.2.0, here, w.2.2) in
+        let rest = through line f g count w.0 w.1 stop (fits_led a line at place w.1 w.2.0 f here w.2.2) w.3 in
+        (rest.0, (suc rest.1.0, (w.0, w.1, step, rest.1.1)), rest.2)
+    | inr far ↦ absurd (other (omega (arith, far.1, h)))
+  ]
+]
+
+pub ended : (code : List Node) (line : List ℕ) (count : ℕ) {at place : ℕ} (to : ℕ) {stop : ℕ} → at ≡ length code → Walks code line count at place to stop → place ≡ stop
+ended code line zero to e w = w.1
+ended code line (suc count) {at} to e w = let l = at_least code at w.2.0 w.2.1 in absurd (omega (arith, l, e))
+
+-- The walks of a pattern's code are what it matches: each way of putting codes together.
+
+pub exact_by : {code : List Node} (line : List ℕ) (Kind Other : ℕ → ℕ → Type 0) → Exact code line Kind → ((from to : ℕ) → Kind from to → Other from to) → ((from to : ℕ) → Other from to → Kind from to) → Exact code line Other
+exact_by line Kind Other e there here = search rules
+
+pub exact_none : (line : List ℕ) → Exact [] line (λ from to. from ≡ to)
+exact_none line = search rules
+
+-- a code of one node that leads to its end
+pub exact_one : {node : Node} (line : List ℕ) (Kind : ℕ → ℕ → Type 0)
+    → ((at place at' place' : ℕ) → Leads node line at place at' place' → (at' ≡ at + 1) × Kind place place')
+    → ((place place' : ℕ) → Kind place place' → Leads node line 0 place 1 place') → FitsIn 1 0 node → Exact (node ∷ []) line Kind
+exact_one {node} line Kind out there here = record {
+  fits = record { fits = λ n node h. fits n node h };
+  sound = λ from to p. sound from to p.0 p.1;
+  complete = λ from to k. (1, (1, to, (node, refl, there from to k), (refl, refl)));
+}
+  where
+    fits : (n : ℕ) (other : Node) → At (node ∷ []) n other → FitsIn 1 n other
+    fits zero other h = subst (FitsIn 1 0) (sym h) here
+    fits (suc n) other h = absurd h
+
+    sound : (from to count : ℕ) → Walks (node ∷ []) line count 0 from 1 to → Kind from to
+    sound from to zero w = absurd (omega (arith, w.0))
+    sound from to (suc count) w =
+        let o = out 0 from w.0 w.1 (subst (λ m. Leads m line 0 from w.0 w.1) w.2.1 w.2.2) in
+        subst (λ p. Kind from p) (ended (node ∷ []) line count 1 (omega (arith, o.0)) w.3) o.1
+
+-- one code after another
+pub exact_both : {a b : List Node} (line : List ℕ) (Kind Other : ℕ → ℕ → Type 0) → Exact a line Kind → Exact b line Other → Exact (a ++ b) line (λ from to. (middle : ℕ) × Kind from middle × Other middle to)
+exact_both {a} {b} line Kind Other e f = record {
+  fits = record {
+    fits = λ n node h. let l = length-append a b in elim (at-split a b n node h) [
+      | inl k ↦ fits_moved node 0 _ _ (e.fits.fits n node k) (omega (arith, l)) (omega arith)
+      | inr k ↦ fits_moved node (length a) _ _ (f.fits.fits k.0 node k.2) (omega (arith, l)) k.1
+    ];
+  };
+  sound = λ from to p. let t = through line e.fits f.fits p.0 0 from to (omega arith) p.1 in (t.0, e.sound from t.0 t.1, f.sound t.0 to t.2);
+  complete = λ from to k. complete from to k.0 (e.complete from k.0 k.1) (f.complete k.0 to k.2);
+}
+  where
+    complete : (from to middle : ℕ) → Path a line 0 from (length a) middle → Path b line 0 middle (length b) to → Path (a ++ b) line 0 from (length (a ++ b)) to
+    complete from to middle p q =
+        let e1 : length a + length b ≡ length (a ++ b) = sym (length-append a b) in
+        let e2 : length a + 0 ≡ length a = omega arith in
+        let second : Walks (a ++ b) line q.0 (length a) middle (length (a ++ b)) to =
+        subst (λ n. Walks (a ++ b) line q.0 n middle (length (a ++ b)) to) e2 (subst (λ n. Walks (a ++ b) line q.0 (length a + 0) middle n to) e1 (walk-right a b line q.0 0 middle (length b) to q.1)) in
+        walk_on (a ++ b) line p.0 q.0 0 from (length a) middle (length (a ++ b)) to (walk-left a b line p.0 0 from (length a) middle p.1) second
+
+-- a code that may be passed by
+pub exact_maybe : {code : List Node} (line : List ℕ) (Kind : ℕ → ℕ → Type 0) → Exact code line Kind → Exact (maybe code) line (λ from to. (from ≡ to) ⊎ Kind from to)
+exact_maybe {code} line Kind e = record {
+  fits = record { fits = λ n node h. fits n node h };
+  sound = λ from to p. sound from to p.0 p.1;
+  complete = λ from to k. complete from to k;
+}
+  where
+    fits : (n : ℕ) (node : Node) → At (maybe code) n node → FitsIn (suc (length code)) n node
+    fits zero node h = subst (FitsIn (suc (length code)) 0) (sym h) (omega arith)
+    fits (suc n) node h = fits_moved node 1 _ _ (e.fits.fits n node h) (omega arith) (omega arith)
+
+    sound : (from to count : ℕ) → Walks (maybe code) line count 0 from (suc (length code)) to → (from ≡ to) ⊎ Kind from to
+    sound from to zero w = absurd (omega (arith, w.0))
+    sound from to (suc count) w =
+        let led : ((w.0 ≡ 0 + 1) ⊎ (w.0 ≡ 0 + (length code + 1))) × (w.1 ≡ from) = subst (λ m. Leads m line 0 from w.0 w.1) w.2.1 w.2.2 in
+        elim led.0 [
+          | inl q ↦
+              let inside = in_second (Choose (length code + 1) ∷ []) line e.fits count 0 w.1 to (omega (arith, q)) w.3 in
+              inr (e.sound from to (count, subst (λ place. Walks code line count 0 place (length code) to) led.1 inside))
+          | inr q ↦ inl (sym led.1 ∙ ended (maybe code) line count (suc (length code)) (omega (arith, q)) w.3)
+        ]
+
+    complete : (from to : ℕ) → (from ≡ to) ⊎ Kind from to → Path (maybe code) line 0 from (suc (length code)) to
+    complete from to (inl q) = (1, (suc (length code), from, (Choose (length code + 1), refl, (inr (omega arith), refl)), (refl, q)))
+    complete from to (inr k) =
+        let p = e.complete from to k in
+        let right = walk-right (Choose (length code + 1) ∷ []) code line p.0 0 from (length code) to p.1 in
+        let e1 : 1 + length code ≡ suc (length code) = omega arith in
+        (suc p.0, (1 + 0, from, (Choose (length code + 1), refl, (inl refl, refl)), subst (λ n. Walks (maybe code) line p.0 (1 + 0) from n to) e1 right))
+
+pub parts_first : (Kind : ℕ → ℕ → Type 0) (count from middle to : ℕ) → Kind from middle → Parts Kind count middle to → Parts Kind (suc count) from to
+parts_first Kind zero from middle to k p = (from, refl, subst (λ n. Kind from n) p k)
+parts_first Kind (suc count) from middle to k p = (p.0, parts_first Kind count from middle p.0 k p.1, p.2)
+
+pub parts_next : (Kind : ℕ → ℕ → Type 0) (count from to : ℕ) → Parts Kind (suc count) from to → (middle : ℕ) × Kind from middle × Parts Kind count middle to
+parts_next Kind zero from to p = (to, subst (λ n. Kind n to) (sym p.1) p.2, refl)
+parts_next Kind (suc count) from to p = let q = parts_next Kind count from p.0 p.1 in (q.0, q.1, (p.0, q.2, p.2))
+
+-- any number of times
+abbrev pub Often : (ℕ → ℕ → Type 0) → ℕ → ℕ → Type 0
+Often Kind from to = (count : ℕ) × Parts Kind count from to
+
+-- what walks of a given number of steps are, from the front of the code and from within it
+record StarHolds (code : List Node) (line : List ℕ) (Kind : ℕ → ℕ → Type 0) (count : ℕ) : Type 0 where
+  whole : (place stop : ℕ) → Walks (starred code) line count 0 place (length code + 2) stop → Often Kind place stop
+  within : (at k place stop : ℕ) → at ≡ suc k → k ≤ length code → Walks (starred code) line count at place (length code + 2) stop → (middle : ℕ) × Path code line k place (length code) middle × Often Kind middle stop
+
+star_begun : {code : List Node} (line : List ℕ) (Kind : ℕ → ℕ → Type 0) → Exact code line Kind → {count at' place' place : ℕ} (stop : ℕ) → StarHolds code line Kind count → (at' ≡ 0 + 1) ⊎ (at' ≡ 0 + (length code + 2)) → place' ≡ place
+    → Walks (starred code) line count at' place' (length code + 2) stop → Often Kind place stop
+star_begun {code} line Kind e {at'} {place'} {place} stop ih (inl q) same w =
+    let inside = ih.within at' 0 place' stop (omega (arith, q)) (omega arith) w in
+    let rest : Often Kind inside.0 stop = inside.2 in
+    (suc rest.0, parts_first Kind rest.0 place inside.0 stop (e.sound place inside.0 (subst (λ n. Path code line 0 n (length code) inside.0) same inside.1)) rest.1)
+star_begun {code} line Kind e {count} stop ih (inr q) same w =
+    let l = length-append code (Back (length code + 1) ∷ []) in
+    (0, sym same ∙ ended (starred code) line count (length code + 2) (omega (arith, q, l)) w)
+
+star_at : {code : List Node} (line : List ℕ) (Kind : ℕ → ℕ → Type 0) → Exact code line Kind → {count k place : ℕ} (stop : ℕ) → StarHolds code line Kind count → k ≤ length code → (at' place' : ℕ) {node : Node}
+    → (At code k node) ⊎ ((j : ℕ) × (k ≡ length code + j) × At (Back (length code + 1) ∷ []) j node) → Leads node line (suc k) place at' place' → Walks (starred code) line count at' place' (length code + 2) stop
+    → (middle : ℕ) × Path code line k place (length code) middle × Often Kind middle stop
+star_at {code} line Kind e {k} {place} stop ih h at' place' {node} (inl here) led w =
+    let n1 : suc k ≡ 1 + k = omega arith in
+    let moved = leads_unshift node line 1 (length code) k place place' (e.fits.fits k node here) (subst (λ n. Leads node line n place at' place') n1 led) in
+    let fits = fits_led code line k place place' node e.fits here moved.2 in
+    let rest = ih.within at' moved.0 place' stop (omega (arith, moved.1)) fits w in
+    (rest.0, (suc rest.1.0, (moved.0, place', (node, here, moved.2), rest.1.1)), rest.2)
+star_at {code} line Kind e {count} {k} {place} stop ih h at' place' (inr (zero, far, last)) led w =
+    let back_led : Leads (Back (length code + 1)) line (suc k) place at' place' = subst (λ n. Leads n line (suc k) place at' place') last led in
+    let at0 : at' ≡ 0 = omega (arith, back_led.0, far) in
+    let rest = ih.whole place' stop (subst (λ n. Walks (starred code) line count n place' (length code + 2) stop) at0 w) in
+    (place', (zero, (omega (arith, far), sym back_led.1)), rest)
+star_at line Kind e stop ih h at' place' (inr (suc j, far, last)) led w = absurd last
+
+star_holds : {code : List Node} (line : List ℕ) (Kind : ℕ → ℕ → Type 0) → Exact code line Kind → (count : ℕ) → StarHolds code line Kind count
+star_holds line Kind e zero = grind (arith, common_steps)
+star_holds {code} line Kind e (suc count) = let ih = star_holds line Kind e count in record {
+  whole = λ place stop w. let led : ((w.0 ≡ 0 + 1) ⊎ (w.0 ≡ 0 + (length code + 2))) × (w.1 ≡ place) = subst (λ m. Leads m line 0 place w.0 w.1) w.2.1 w.2.2 in
+      star_begun line Kind e stop ih led.0 led.1 w.3;
+  within = λ at k place stop q h w.
+      star_at line Kind e stop ih h w.0 w.1 (at-split code (Back (length code + 1) ∷ []) k w.2.0 (at_at (starred code) w.2.0 q w.2.1)) (subst (λ n. Leads w.2.0 line n place w.0 w.1) q w.2.2) w.3;
+}
+
+-- a code any number of times
+pub exact_starred : {code : List Node} (line : List ℕ) (Kind : ℕ → ℕ → Type 0) → Exact code line Kind → Exact (starred code) line (Often Kind)
+exact_starred {code} line Kind e = record {
+  fits = record { fits = λ n node h. fits n node h };
+  sound = λ from to p. (star_holds line Kind e p.0).whole from to (subst (λ n. Walks (starred code) line p.0 0 from n to) (sym size) p.1);
+  complete = λ from to k. complete k.0 from to k.1;
+}
+  where
+    size : length code + 2 ≡ length (starred code)
+    size = let l = length-append code (Back (length code + 1) ∷ []) in omega (arith, l)
+
+    fits : (n : ℕ) (node : Node) → At (starred code) n node → FitsIn (length (starred code)) n node
+    fits zero node h = subst (FitsIn (length (starred code)) 0) (sym h) (let l = size in omega (arith, l))
+    fits (suc n) node h = there (at-split code (Back (length code + 1) ∷ []) n node h)
+      where
+        there : (At code n node) ⊎ ((j : ℕ) × (n ≡ length code + j) × At (Back (length code + 1) ∷ []) j node) → FitsIn (length (starred code)) (suc n) node
+        there (inl k) = fits_moved node 1 _ _ (e.fits.fits n node k) (let l = size in omega (arith, l)) (omega arith)
+        there (inr (zero, far, last)) = subst (FitsIn (length (starred code)) (suc n)) (sym last) (omega (arith, far))
+        there (inr (suc j, far, last)) = absurd last
+
+    around : (from to : ℕ) → Kind from to → Path (starred code) line 0 from 0 to
+    around from to k =
+        let p = e.complete from to k in
+        let inside = walk-left code (Back (length code + 1) ∷ []) line p.0 0 from (length code) to p.1 in
+        let shifted = walk-right (Choose (length code + 2) ∷ []) (code ++ Back (length code + 1) ∷ []) line p.0 0 from (length code) to inside in
+        let last : At (starred code) (1 + length code) (Back (length code + 1)) =
+        at-right (Choose (length code + 2) ∷ []) (code ++ Back (length code + 1) ∷ []) (length code) (Back (length code + 1))
+        (at_at (code ++ Back (length code + 1) ∷ []) (Back (length code + 1)) (omega arith) (at-right code (Back (length code + 1) ∷ []) 0 (Back (length code + 1)) refl)) in
+        let home : Path (starred code) line (1 + length code) to 0 to = (1, (0, to, (Back (length code + 1), last, (omega arith, refl)), (refl, refl))) in
+        path_on (starred code) line 0 from (1 + 0) from 0 to (1, (1 + 0, from, (Choose (length code + 2), refl, (inl refl, refl)), (refl, refl)))
+        (path_on (starred code) line (1 + 0) from (1 + length code) to 0 to (p.0, shifted) home)
+
+    loops : (count from to : ℕ) → Parts Kind count from to → Path (starred code) line 0 from 0 to
+    loops zero from to q = (0, (refl, q))
+    loops (suc count) from to q = path_on (starred code) line 0 from 0 q.0 0 to (loops count from q.0 q.1) (around q.0 to q.2)
+
+    complete : (count from to : ℕ) → Parts Kind count from to → Path (starred code) line 0 from (length (starred code)) to
+    complete count from to q =
+        path_on (starred code) line 0 from 0 to (length (starred code)) to (loops count from to q)
+        (1, (length (starred code), to, (Choose (length code + 2), refl, (inr (sym size ∙ out), refl)), (refl, refl)))
+      where
+        out : length code + 2 ≡ 0 + (length code + 2)
+        out = omega arith
+
+-- The code of a pattern: it is walked through just where the pattern matches.
 
 abbrev pub AtMost : (ℕ → ℕ → Type 0) → ℕ → ℕ → ℕ → Type 0
 AtMost Kind most from to = (count : ℕ) × (count ≤ most) × Parts Kind count from to
@@ -91,3 +384,72 @@ contained pattern line o = (
       let within = stays pattern line entered.0 c.0 entered.1 m in
       (entered.0, c.0, within.0, within.1, m),
 )
+
+-- A pattern's code has its positions.
+
+-- a code of so many positions has at most two nodes for each: each step back has its choice
+pub record Weighs (code : List Node) (positions : ℕ) : Type 0 where
+  pub exact : weight code ≡ positions
+  pub most : length code ≤ 2 * positions
+
+weight-append : (a b : List Node) → weight (a ++ b) ≡ weight a + weight b
+weight-append [] b = let e : weight b ≡ 0 + weight b = omega arith in e
+weight-append (node ∷ a) b = let e = weight-append a b in omega (arith, e)
+
+weighs_both : {a b : List Node} {m n : ℕ} → Weighs a m → Weighs b n → Weighs (a ++ b) (m + n)
+weighs_both {a} {b} v w = let e = weight-append a b in let l = length-append a b in record { exact = omega (arith, e, v.exact, w.exact); most = omega (arith, l, v.most, w.most) }
+
+weighs_copies : (count : ℕ) {code : List Node} {n : ℕ} → Weighs code n → Weighs (copies count code) (count * n)
+weighs_copies zero {n} w = let z : 0 ≡ 0 * n = grind arith in record { exact = z; most = omega (arith, z) }
+weighs_copies (suc count) {n} w = let t : suc count * n ≡ count * n + n = grind (arith, suc-mul count n) in subst (Weighs _) (omega (arith, t)) (weighs_both (weighs_copies count w) w)
+
+weighs_up_to : (count : ℕ) {code : List Node} {n : ℕ} → Weighs code n → Weighs (up_to count code) (count * n + count)
+weighs_up_to zero {n} w = let z : 0 ≡ 0 * n + 0 = grind arith in record { exact = z; most = omega (arith, z) }
+weighs_up_to (suc count) {code} {n} w =
+    let b = weighs_both w (weighs_up_to count w) in
+    let t = suc-mul count n in
+    let f : 1 + weight (code ++ up_to count code) ≡ suc count * n + suc count = omega (arith, b.exact, t) in
+    record { exact = f; most = omega (arith, b.most, t) }
+
+weighs_starred : {code : List Node} {n : ℕ} → Weighs code n → Weighs (starred code) (n + 1)
+weighs_starred {code} {n} w = search (rules, weight-append, length-append)
+
+weighs_repeated : {code : List Node} {n : ℕ} (low : ℕ) (high : Option ℕ) → IsAtMost high low → Weighs code n → Weighs (copies low code ++ tail_of code low high) (repeated n low high)
+weighs_repeated {n} low None o w =
+    let one : 1 * n ≡ n = grind arith in
+    let t = add-mul low 1 n in
+    subst (Weighs _) (omega (arith, t, one)) (weighs_both (weighs_copies low w) (weighs_starred w))
+weighs_repeated {n} low (Some high) o w =
+    let t = add-mul low (high - low) n in
+    let e : low + (high - low) ≡ high = omega (arith, o) in
+    let f = ap (λ k. k * n) e in
+    subst (Weighs _) (omega (arith, t, f)) (weighs_both (weighs_copies low w) (weighs_up_to (high - low) w))
+
+mutual
+  pub weighs : (pattern : Pattern) → IsOrdered pattern → Weighs (code_of pattern) (positions_in pattern)
+  weighs nothing o = record { exact = refl; most = omega arith }
+  weighs (append pattern item) o = weighs_both (weighs pattern o.0) (weighs_item item o.1)
+
+  weighs_item : (item : Item) → IsOrderedItem item → Weighs (code_of_item item) (positions_in_item item)
+  weighs_item (set bytes) o = record { exact = refl; most = omega arith }
+  weighs_item front o = record { exact = refl; most = omega arith }
+  weighs_item end o = record { exact = refl; most = omega arith }
+  weighs_item (group pattern) o = weighs pattern o
+  weighs_item (repeat item low high) o = weighs_repeated low high o.1 (weighs_item item o.0)
+
+-- The code of a pattern and the search for its end, together.
+
+pub is_code : (pattern : Pattern) → IsOrdered pattern → IsCode (code_of pattern)
+is_code pattern o = (code_exact pattern [] o).fits
+
+-- what the search finds is what the line contains
+pub found_contains : (pattern : Pattern) (line : List ℕ) {found : Bool} → IsOrdered pattern → (IsTrue found ↔ EndsIn (code_of pattern) line) → found ≡ contains pattern line
+found_contains pattern line {found} o f =
+    one_truth found (contains pattern line) (Contains pattern line) ((λ t. (contained pattern line o).1 (f.0 t), λ c. f.1 ((contained pattern line o).0 c))) (contains_tells pattern line)
+
+-- twice the positions are room enough
+pub enough_room : (pattern : Pattern) → IsOrdered pattern → length (code_of pattern) < 2 * positions_of pattern
+enough_room pattern o = let w = weighs pattern o in omega (arith, w.most)
+
+pub bound_of : (pattern : Pattern) (places steps : ℕ) → IsOrdered pattern → steps ≤ places * (weight (code_of pattern) + 1) → steps ≤ places * positions_of pattern
+bound_of pattern places steps o h = let e = ap (λ n. places * (n + 1)) (weighs pattern o).exact in omega (arith, h, e)

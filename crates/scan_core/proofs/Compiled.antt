@@ -1,22 +1,65 @@
 -- The code that is written is the pattern's.
 use Rattle.std.proofs.lemmas.Grind.{common_steps}
-use Rattle.std.proofs.Common.{rules, ◌≡◌, ◌⊎◌, inl, inr, ℕ, zero, suc, ◌+◌, ◌-◌, ◌<◌, ◌≤◌, List, [], ◌∷◌, ◌++◌, length, drop, get_or, reverse, Option, Some, None, refl, sym, ap, ◌∙◌, subst, arith, append_assoc, append-nil}
+use Rattle.std.proofs.Common.{rules, arith, ◌≡◌, ℕ, ◌≤◌, Option, Some, length, List, [], ◌∷◌, ◌++◌, reverse, None, sym, ap, ◌∙◌, subst, ◌⊎◌, inl, inr, zero, suc, ◌+◌, ◌-◌, ◌<◌, drop, get_or, refl, append_assoc, append-nil}
 use Rattle.std.proofs.lemmas.List.{reverse-append, reverse-reverse, at_drop_more}
-use Rattle.bre_core.specs.Flat.{IsBounded, AreBounded}
-use Rattle.bre_core.specs.Match.{IsAtMost}
-use Rattle.bre_core.specs.Pattern.{Pattern, nothing, append, Item, set, front, end, group, repeat, written, written_item}
-use Rattle.bre_core.specs.declared.token.Token.{Token}
-use Rattle.bre_core.specs.declared.token.Token.TheVariants.{Set, Front, End, Open, Close, Repeat}
+use Rattle.std.specs.List.{All}
+use Rattle.std.proofs.lemmas.List.Elements.{All-pop}
 use Rattle.scan_core.specs.declared.compile.Compiling.{Compiling}
 use Rattle.scan_core.specs.declared.compile.Pending.{Pending}
 use Rattle.scan_core.specs.declared.compile.Pending.TheVariants.{Group, Repeated}
 use Rattle.scan_core.specs.declared.emit.Duplication.{Duplication}
 use Rattle.scan_core.specs.declared.node.Node.{Node}
+use Rattle.scan_core.specs.inner.Backwards.{IsBegun, Repeats, begun}
+use Rattle.scan_core.specs.inner.Compiling.{AreBegun, Pops, Waits, IsNow, FinishesBy, Finishes, PopsNone, Begins, Closes, Writes, Passes, PassesLeaf, TakesIn, Takes, TakesAll}
+use Rattle.bre_core.specs.Flat.{IsBounded, AreBounded}
+use Rattle.bre_core.specs.Match.{IsAtMost}
+use Rattle.bre_core.specs.Pattern.{Pattern, nothing, append, Item, set, front, end, group, repeat, written, written_item}
+use Rattle.bre_core.specs.declared.token.Token.{Token}
+use Rattle.bre_core.specs.declared.token.Token.TheVariants.{Set, Front, End, Open, Close, Repeat}
 use Rattle.scan_core.specs.declared.node.Node.TheVariants.{Back}
-use Rattle.scan_core.specs.inner.Backwards.{begun}
 use Rattle.scan_core.specs.Code.{code_of, code_of_item, IsOrdered, IsOrderedItem, copies, tail_of, up_to}
-use Rattle.scan_core.specs.inner.Compiling.{IsNow, Finishes, Begins, Closes, Writes, Passes, PassesLeaf, TakesIn, Takes, TakesAll}
-use Rattle.scan_core.proofs.Finishing.{finished_group, finished_all}
+
+-- Items that are complete, and what waits for them.
+
+-- what waits where there are more nodes
+waits_wider : (high : Option ℕ) (low start : ℕ) {size wider : ℕ} → size ≤ wider → IsBegun high low start size → IsBegun high low start wider
+waits_wider None low start h w = omega (arith, h, w)
+waits_wider (Some high) low start h w = (omega (arith, h, w.0), w.1, w.2)
+
+pub begun_wider : (pending : List Pending) {size wider : ℕ} → size ≤ wider → All (Waits size) pending → All (Waits wider) pending
+begun_wider pending {size} {wider} h = search rules
+
+pub popped_begun : (old new : Compiling) (d : Duplication) → Pops old (Some d) new → AreBegun old → IsBegun d.high d.low d.start (length new.nodes.items) × AreBegun new
+popped_begun old new d p b =
+    let parts = All-pop (Waits (length new.nodes.items)) old.pending.items new.pending.items (Some (Repeated d)) p.2 (subst (λ n. All (Waits (length n)) old.pending.items) (sym p.0) b) in
+    (parts.1, parts.0)
+
+turned : {pending : List Pending} (around : List Pending) (last : Pending) → pending ≡ around ++ last ∷ [] → reverse pending ≡ last ∷ reverse around
+turned around last e = ap reverse e ∙ reverse-append around (last ∷ [])
+
+-- the last duplication that waits is written out
+pub finish_more : (nodes written : List Node) {pending : List Pending} (around : List Pending) (d : Duplication) (final : Compiling) → pending ≡ around ++ Repeated d ∷ [] → Repeats d nodes written → Finishes written around final → Finishes nodes pending final
+finish_more nodes written around d final e r f = subst (λ stack. FinishesBy stack nodes final) (sym (turned around (Repeated d) e)) (written, r, f)
+
+-- no duplication waits
+ends_by : (stack : List Pending) {nodes : List Node} {pending : List Pending} (final : Compiling) → pending ≡ reverse stack → PopsNone pending → IsNow nodes pending None final → FinishesBy stack nodes final
+ends_by (Repeated d ∷ stack) final s none n = absurd (none (reverse stack) d (s ∙ reverse-append (Repeated d ∷ []) stack))
+ends_by [] final s none n = record { nodes = n.nodes; pending = n.pending ∙ s; passing = n.passing }
+ends_by (Group ∷ stack) final s none n = record { nodes = n.nodes; pending = n.pending ∙ s; passing = n.passing }
+
+pub finish_ends : {nodes : List Node} {pending : List Pending} (final : Compiling) → PopsNone pending → IsNow nodes pending None final → Finishes nodes pending final
+finish_ends {pending} final none n = ends_by (reverse pending) final (sym (reverse-reverse pending)) none n
+
+-- what follows from an item that is complete
+pub finished_group : {nodes : List Node} {pending : List Pending} (around : List Pending) {new : Compiling} → Finishes nodes pending new → pending ≡ around ++ Group ∷ [] → IsNow nodes pending None new
+finished_group {nodes} {pending} around {new} f e = grind (arith, common_steps)
+
+pub finished_all : {nodes : List Node} {pending : List Pending} {new : Compiling} → Finishes nodes pending new → pending ≡ [] → IsNow nodes [] None new
+finished_all {nodes} {new} f e = subst (λ p. FinishesBy (reverse p) nodes new) e f
+
+pub finished_repeated : (nodes : List Node) {pending : List Pending} (around : List Pending) (d : Duplication) (new : Compiling) → Finishes nodes pending new → pending ≡ around ++ Repeated d ∷ []
+    → (written : List Node) × Repeats d nodes written × Finishes written around new
+finished_repeated nodes around d new f e = subst (λ stack. FinishesBy stack nodes new) (turned around (Repeated d) e) f
 
 parted : (one other : List Token) (old new : Compiling) → TakesAll old (one ++ other) new → (now : Compiling) × TakesAll old other now × TakesAll now one new
 parted [] other old new s = (new, s, refl)

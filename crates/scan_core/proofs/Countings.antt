@@ -1,18 +1,172 @@
 -- The positions of a set of words are its bits that are positions.
-use Rattle.std.proofs.Common.{◌≡◌, ◌↔◌, inl, inr, ℕ, zero, suc, ◌+◌, ◌*◌, ◌-◌, ◌/◌, ◌%◌, ◌^◌, ◌<◌, ◌≤◌, Bool, true, false, List, [], ◌∷◌, ◌++◌, length, length-append, get_or, refl, sym, ap, ◌∙◌, arith, eqb-true, eq-eqb}
-use Rattle.std.proofs.lemmas.Bool.{cases_lt, cases_eq}
-use Rattle.std.specs.Prelude.{◌==◌, bit_and, count_ones}
-use Rattle.std.specs.Int.Count.{ones_step}
-use Rattle.std.specs.Int.{bit_at}
-use Rattle.std.proofs.lemmas.Nat.{and_shr}
-use Rattle.std.proofs.lemmas.Nat.Bits.{bit_at_and, bit_at_lowest, bit_at-suc, bit_at-lt, bit_at-zero}
-use Rattle.scan_core.specs.declared.masks.Kind.TheVariants.{Counts}
+use Rattle.std.proofs.Common.{◌≡◌, ◌↔◌, ℕ, zero, suc, ◌+◌, ◌*◌, ◌/◌, ◌<◌, ◌≤◌, List, [], ◌∷◌, length, get_or, refl, sym, ap, subst, arith, rules, ◌⊎◌, inl, inr, ◌%◌, ◌^◌, set, min, ◌∙◌, ◌-◌, Bool, true, false, ◌++◌, length-append, eqb-true, eq-eqb}
+use Rattle.std.proofs.lemmas.Nat.{div-mul-add, mod-mul-add, mul-add-lt, and_shr}
+use Rattle.scan_core.specs.declared.masks.Kind.TheVariants.{Takes, Counts}
 use Rattle.scan_core.specs.declared.node.Node.{Node}
+use Rattle.scan_core.specs.Code.{At, weight_of}
+use Rattle.scan_core.specs.inner.Words.{AreTakes, IsMask, counted_at, width, IsIn, bits, flags_of}
+use Rattle.std.proofs.lemmas.Bool.{cases_lt, cases_eq}
+use Rattle.std.proofs.lemmas.List.{get_or-set_same, get_or-set_other, length-set}
+use Rattle.std.proofs.lemmas.Nat.Bits.{bit_at_and, bit_at_or, bit_at_lowest, bit_at-suc, bit_at-zero, bit_at_above, bit_at_cat_low, bit_at-lt}
+use Rattle.std.specs.Prelude.{bit_and, bit_or, ◌==◌, count_ones}
+use Rattle.std.specs.Int.{bit_at}
+use Rattle.scan_core.specs.inner.Sets.{Passes}
+use Rattle.scan_core.proofs.Enterings.{pass_least, weight_most}
+use Rattle.scan_core.proofs.Insides.{left_bit, right_bit, either_bit, is_in_word, is_within}
+use Rattle.std.specs.Int.Count.{ones_step}
 use Rattle.scan_core.specs.Sets.{IsMarked, weight_if, positions_among}
-use Rattle.scan_core.proofs.Enterings.{weight_most}
 use Rattle.scan_core.specs.inner.Each.{AreEach}
-use Rattle.scan_core.specs.inner.Words.{IsIn, IsMask, bits, counted_at, flags_of, width}
 use Rattle.std.proofs.lemmas.Grind.{common_steps}
+
+-- The words of the numbers of a kind.
+
+-- the word of a byte
+pub takes_word : (code : List Node) (takes : List ℕ) {size : ℕ} (byte at : ℕ) → AreTakes code takes → size ≡ width code → byte < 256 → at < width code → IsMask code (Takes byte) at (get_or takes (byte * size + at) 0)
+takes_word code takes byte at t e small within =
+    let place : ℕ = byte * width code + at in
+    subst (λ n. IsMask code (Takes byte) at (get_or takes (byte * n + at) 0)) (sym e) (subst (λ b. IsMask code (Takes b) at (get_or takes place 0)) (div-mul-add byte (width code) at within)
+    (subst (λ n. IsMask code (Takes (place / width code)) n (get_or takes place 0)) (mod-mul-add byte (width code) at within)
+    (t.each place (omega (arith, mul-add-lt byte (width code) at 256 small within)))))
+
+pub counted_in : (code : List Node) (number : ℕ) (node : Node) → At code number node → weight_of node ≡ counted_at code number
+counted_in [] number node here = absurd here
+counted_in (head ∷ code) zero node here = ap weight_of here
+counted_in (head ∷ code) (suc number) node here = counted_in code number node here
+
+pub counted_out : (code : List Node) (number : ℕ) → length code ≤ number → (number ≡ length code) ↔ (counted_at code number ≡ 1)
+counted_out [] zero h = (λ e. refl, λ e. refl)
+counted_out [] (suc number) h = (λ e. absurd (omega (arith, e)), λ e. absurd (omega (arith, e)))
+counted_out (node ∷ code) zero h = absurd (omega (arith, h))
+counted_out (node ∷ code) (suc number) h = let r = counted_out code number (omega (arith, h)) in (λ e. r.0 (omega (arith, e)), λ e. let q = r.1 e in omega (arith, q))
+
+-- A step of a set of words over a byte, word by word.
+
+-- what a byte leads to from a set
+abbrev pub Led : List Node → ℕ → List ℕ → ℕ → Type 0
+Led code byte words number = (before : ℕ) × IsIn words before × Passes code byte before number
+
+-- the same, with what is in each set
+abbrev pub LedOrBase : List Node → ℕ → List ℕ → List ℕ → ℕ → Type 0
+LedOrBase code byte base words number = Led code byte words number ⊎ IsIn base number
+
+-- the bits of a word that is shifted up by one, and of what comes in below
+shifted_low : (kept : ℕ) {carry : ℕ} → carry < 2 → bit_at (bit_or (kept * 2 ^ 1 % 2 ^ 64) carry) 0 ≡ carry
+shifted_low kept {carry} h =
+    let e = bit_at_or (kept * 2 ^ 1 % 2 ^ 64) carry 0 in
+    let a = bit_at_lowest (kept * 2 ^ 1 % 2 ^ 64) in
+    let b = bit_at_lowest carry in
+    omega (arith, e, a, b, h)
+
+shifted_high : (kept carry bit : ℕ) → carry < 2 → bit + 1 < 64 → bit_at (bit_or (kept * 2 ^ 1 % 2 ^ 64) carry) (suc bit) ≡ bit_at kept bit
+shifted_high kept carry bit h small =
+    let e = bit_at_or (kept * 2 ^ 1 % 2 ^ 64) carry (suc bit) in
+    let none = bit_at_above carry 1 (suc bit) h (omega arith) in
+    let half : kept * 2 ^ 1 % 2 ^ 64 / 2 ≡ kept % 2 ^ 63 = omega arith in
+    let a = bit_at-suc (kept * 2 ^ 1 % 2 ^ 64) bit ∙ ap (λ x. bit_at x bit) half in
+    let whole : kept / 2 ^ 63 * 2 ^ 63 + kept % 2 ^ 63 ≡ kept = omega arith in
+    let b = bit_at_cat_low (kept / 2 ^ 63) 63 (kept % 2 ^ 63) bit (omega (arith, small)) in
+    let c = ap (λ x. bit_at x bit) whole in
+    omega (arith, e, none, a, b, c)
+
+-- a bit of a word that the byte is taken from
+kept_bit : (code : List Node) (words : List ℕ) (byte at bit takes : ℕ) → IsMask code (Takes byte) at takes → bit < 64
+    → (bit_at (bit_and (get_or words at 0) takes) bit ≡ 1) ↔ Led code byte words (at * 64 + bit + 1)
+kept_bit code words byte at bit takes m small = search (rules, is_in_word, bit_at_and)
+
+pub set_elsewhere : (words : List ℕ) {at : ℕ} (word number : ℕ) → (number / 64 ≡ at → ⊥) → IsIn (set words at word) number ↔ IsIn words number
+unfolding IsIn
+set_elsewhere words {at} word number differs = search rules
+
+-- the first words hold what the byte leads to
+pub record Passing (code : List Node) (byte : ℕ) (base old now : List ℕ) (at carry : ℕ) : Type 0 where
+  pub size : length now ≡ length old
+  pub past : (number : ℕ) → number < 64 * at → IsIn now number ↔ LedOrBase code byte base old number
+  pub rest : (n : ℕ) → at ≤ n → get_or now n 0 ≡ get_or old n 0
+  pub bit : carry < 2
+  pub over : (carry ≡ 1) ↔ Led code byte old (at * 64)
+
+pub passing_more : {code : List Node} {byte : ℕ} {base old now new : List ℕ} {at carry kept : ℕ} (takes : ℕ) → Passing code byte base old now at carry → IsMask code (Takes byte) at takes → at < length old
+    → kept ≡ bit_and (get_or now at 0) takes → kept < 2 ^ 64 → new ≡ set now at (bit_or (bit_or (kept * 2 ^ 1 % 2 ^ 64) carry) (get_or base at 0)) → Passing code byte base old new (at + 1) (kept / 2 ^ 63)
+passing_more {code} {byte} {base} {old} {now} {new} {at} {carry} {kept} takes p m h ek fits en = record {
+  size = ap length en ∙ length-set now at (bit_or (bit_or (kept * 2 ^ 1 % 2 ^ 64) carry) (get_or base at 0)) ∙ p.size;
+  past = λ number l. elim (cases_lt number (64 * at)) [
+    | inl before ↦ subst (λ w. IsIn w number ↔ LedOrBase code byte base old number) (sym en) (earlier number before (p.past number before))
+    | inr here ↦
+        let same : number ≡ at * 64 + number % 64 = omega (arith, l, here) in
+        subst (λ n. IsIn new n ↔ LedOrBase code byte base old n) (sym same) (joined (number % 64) (omega arith) (inside (number % 64) (omega arith)))
+  ];
+  rest = λ n l. ap (λ w. get_or w n 0) en ∙ get_or-set_other now at n (bit_or (bit_or (kept * 2 ^ 1 % 2 ^ 64) carry) (get_or base at 0)) 0 (λ e. omega (arith, e, l)) ∙ p.rest n (omega (arith, l));
+  bit = omega (arith, fits);
+  over =
+      let k = kept_is 63 (omega arith) in
+      let e : at * 64 + 63 + 1 ≡ (at + 1) * 64 = omega arith in
+      let top : bit_at kept 63 ≡ kept / 2 ^ 63 = omega (arith, fits) in (
+        λ c. subst (Led code byte old) e (k.0 (top ∙ c)),
+        λ led. sym top ∙ k.1 (subst (Led code byte old) (sym e) led),
+      );
+}
+  where
+    kept_is : (bit : ℕ) → bit < 64 → (bit_at kept bit ≡ 1) ↔ Led code byte old (at * 64 + bit + 1)
+    kept_is bit small =
+        let e : kept ≡ bit_and (get_or old at 0) takes = ek ∙ ap (λ w. bit_and w takes) (p.rest at (omega arith)) in
+        subst (λ w. (bit_at w bit ≡ 1) ↔ Led code byte old (at * 64 + bit + 1)) (sym e) (kept_bit code old byte at bit takes m small)
+
+    read : get_or new at 0 ≡ bit_or (bit_or (kept * 2 ^ 1 % 2 ^ 64) carry) (get_or base at 0)
+    read = let s = p.size in ap (λ w. get_or w at 0) en ∙ get_or-set_same now at (bit_or (bit_or (kept * 2 ^ 1 % 2 ^ 64) carry) (get_or base at 0)) 0 (omega (arith, h, s))
+
+    earlier : (number : ℕ) → number < 64 * at → IsIn now number ↔ LedOrBase code byte base old number → IsIn (set now at (bit_or (bit_or (kept * 2 ^ 1 % 2 ^ 64) carry) (get_or base at 0))) number ↔ LedOrBase code byte base old number
+    earlier number l i =
+        let e = set_elsewhere now (bit_or (bit_or (kept * 2 ^ 1 % 2 ^ 64) carry) (get_or base at 0)) number (λ q. omega (arith, q, l)) in
+        (λ k. i.0 (e.0 k), λ k. e.1 (i.1 k))
+
+    joined : (bit : ℕ) → bit < 64 → ((bit_at (bit_or (kept * 2 ^ 1 % 2 ^ 64) carry) bit ≡ 1) ↔ Led code byte old (at * 64 + bit)) → IsIn new (at * 64 + bit) ↔ LedOrBase code byte base old (at * 64 + bit)
+    joined bit small i =
+        let w = is_in_word new at bit small in
+        let b = is_in_word base at bit small in
+        let e = ap (λ x. bit_at x bit) read in (
+          λ k. elim (either_bit (bit_or (kept * 2 ^ 1 % 2 ^ 64) carry) (get_or base at 0) bit (sym e ∙ w.1 k)) [ inl led ↦ inl (i.0 led) | inr front ↦ inr (b.0 front) ],
+          λ l. elim l [
+            | inl led ↦ w.0 (e ∙ left_bit (bit_or (kept * 2 ^ 1 % 2 ^ 64) carry) (get_or base at 0) bit (i.1 led))
+            | inr front ↦ w.0 (e ∙ right_bit (bit_or (kept * 2 ^ 1 % 2 ^ 64) carry) (get_or base at 0) bit (b.1 front))
+          ],
+        )
+
+    inside : (bit : ℕ) → bit < 64 → (bit_at (bit_or (kept * 2 ^ 1 % 2 ^ 64) carry) bit ≡ 1) ↔ Led code byte old (at * 64 + bit)
+    inside zero small =
+        let e = shifted_low kept p.bit in
+        let z : at * 64 + 0 ≡ at * 64 = omega arith in (
+          λ k. subst (Led code byte old) (sym z) (p.over.0 (sym e ∙ k)),
+          λ k. e ∙ p.over.1 (subst (Led code byte old) z k),
+        )
+    inside (suc bit) small =
+        let e = shifted_high kept carry bit p.bit (omega (arith, small)) in
+        let k = kept_is bit (omega (arith, small)) in
+        let z : at * 64 + bit + 1 ≡ at * 64 + suc bit = omega arith in (
+          λ i. subst (Led code byte old) z (k.0 (sym e ∙ i)),
+          λ led. e ∙ k.1 (subst (Led code byte old) (sym z) led),
+        )
+
+pub passing_ends : {code : List Node} {byte : ℕ} {base old now : List ℕ} {at carry : ℕ} → Passing code byte base old now at carry → length old ≤ at → length old ≡ width code → length base ≡ width code → (number : ℕ) → IsIn now number ↔ LedOrBase code byte base old number
+passing_ends {code} {byte} {base} {old} {now} {at} p h size same number = (
+  λ k. let l = is_within now number k in let s = p.size in (p.past number (omega (arith, l, s, h))).0 k,
+  λ k. (p.past number (within k)).1 k,
+)
+  where
+    within : LedOrBase code byte base old number → number < 64 * at
+    within (inl k) =
+        let l = pass_least code k.2 in
+        let e = k.2.3 in
+        omega (arith, l, e, size, h)
+    within (inr front) = let l = is_within base number front in omega (arith, l, same, size, h)
+
+-- no bit of words that are 0
+pub none_in : (words : List ℕ) (at : ℕ) → ((n : ℕ) → n < at → get_or words n 0 ≡ 0) → length words ≤ at → (number : ℕ) → IsIn words number → ⊥
+none_in words at zeros h number k =
+    let l = is_within words number k in
+    let same : number ≡ number / 64 * 64 + number % 64 = omega arith in
+    let b = (is_in_word words (number / 64) (number % 64) (omega arith)).1 (subst (IsIn words) same k) in
+    let z = ap (λ x. bit_at x (number % 64)) (zeros (number / 64) (omega (arith, l, h))) ∙ bit_at-zero (number % 64) in
+    omega (arith, b, z)
 
 -- the weights of the marked numbers
 abbrev sum_of : (ℕ → ℕ) → List Bool → ℕ
@@ -86,19 +240,7 @@ counted_most (node ∷ code) zero = weight_most node
 counted_most (node ∷ code) (suc n) = counted_most code n
 
 pub positions_are : (code : List Node) (words counts : List ℕ) → length words ≡ width code → AreEach 0 (IsMask code Counts) (width code) counts → ((n : ℕ) → n < length words → get_or words n 0 < 2 ^ 64) → ones_below words counts (length words) ≡ positions_among code (flags_of words)
-positions_are code words counts size m fits = ones_sum (counted_at code) words counts (m.size ∙ sym size) fits exact ∙ sym (among_sum code (flags_of words))
-  where
-    exact : (n bit : ℕ) → n < length words → bit < 64 → bit_at (get_or counts n 0) bit ≡ counted_at code (64 * n + bit)
-    exact n bit h l =
-        let e : n * 64 + bit ≡ 64 * n + bit = omega arith in
-        let i = m.each n (omega (arith, h, size)) bit l in
-        equal (bit_at (get_or counts n 0) bit) (counted_at code (n * 64 + bit)) (bit_at-lt (get_or counts n 0) bit) (counted_most code (n * 64 + bit)) i.0 i.1 ∙ ap (counted_at code) e
-      where
-        equal : (a b : ℕ) → a < 2 → b ≤ 1 → (a ≡ 1 → b ≡ 1) → (b ≡ 1 → a ≡ 1) → a ≡ b
-        equal a b f g there back = elim (cases_eq a 1) [
-          | inl one ↦ one ∙ sym (there one)
-          | inr other ↦ elim (cases_eq b 1) [ inl one ↦ back one ∙ sym one | inr none ↦ omega (arith, f, g, other, none) ]
-        ]
+positions_are code words counts size m fits = search (rules, ones_sum, among_sum, bit_at-lt, counted_most)
 
 bits_front : (count word n : ℕ) (rest : List Bool) → n < count → get_or (bits count word ++ rest) n false ≡ (bit_at word n == 1)
 unfolding bits
@@ -144,7 +286,4 @@ flag_is (word ∷ words) n = elim (cases_lt n 64) [
 -- the flags are those of the numbers of the set
 pub flags_are : (words : List ℕ) (n : ℕ) → IsMarked (flags_of words) n ↔ IsIn words n
 unfolding IsIn
-flags_are words n = (
-  λ h. eqb-true (bit_at (get_or words (n / 64) 0) (n % 64)) 1 (sym (flag_is words n) ∙ h),
-  λ h. flag_is words n ∙ eq-eqb (bit_at (get_or words (n / 64) 0) (n % 64)) 1 h,
-)
+flags_are words n = search (rules, eqb-true, flag_is, eq-eqb)

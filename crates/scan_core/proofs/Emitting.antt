@@ -1,13 +1,33 @@
 -- An item that stands last, written out as often as a duplication asks for.
-use Rattle.std.proofs.Common.{◌≡◌, ℕ, suc, ◌+◌, ◌-◌, ◌<◌, List, [], ◌∷◌, ◌++◌, length, set, reverse, sym, ap, ◌∙◌, arith, append_assoc, append-nil, length-append}
+use Rattle.std.proofs.Common.{rules}
+use Rattle.std.proofs.Common.{◌≡◌, ℕ, zero, suc, ◌+◌, ◌≤◌, List, ◌++◌, length, reverse, refl, sym, ap, ◌∙◌, arith, append_assoc, append-nil, ◌-◌, ◌<◌, [], ◌∷◌, set, length-append}
 use Rattle.std.proofs.lemmas.List.{reverse-append, length-reverse}
-use Rattle.std.proofs.Math.Seq.{set-append_seam}
 use Rattle.scan_core.specs.declared.node.Node.{Node}
-use Rattle.scan_core.specs.declared.node.Node.TheVariants.{Choose, Back}
 use Rattle.scan_core.specs.Code.{copies, up_to, starred}
 use Rattle.scan_core.specs.inner.Backwards.{stretch}
-use Rattle.scan_core.proofs.Stretches.{stretch_after, reverse-copies, copies_turn}
 use Rattle.std.proofs.lemmas.Grind.{common_steps}
+use Rattle.std.proofs.Math.Seq.{set-append_seam}
+use Rattle.scan_core.specs.declared.node.Node.TheVariants.{Choose, Back}
+
+-- Stretches of nodes, and their copies.
+
+-- one copy more
+pub copies_more : (old : List Node) {now new : List Node} (from size count : ℕ) → now ≡ old ++ copies count (stretch from size old) → from + size ≤ length old → new ≡ now ++ stretch from size now
+    → new ≡ old ++ copies (count + 1) (stretch from size old)
+copies_more old from size count e h m = grind (arith, common_steps)
+
+-- a copy may stand on either side of the others
+pub copies_turn : (count : ℕ) (code : List Node) → code ++ copies count code ≡ copies count code ++ code
+copies_turn zero code = append-nil code
+copies_turn (suc count) code = sym (append_assoc code (copies count code) code) ∙ ap (λ l. l ++ code) (copies_turn count code)
+
+pub reverse-copies : (count : ℕ) (code : List Node) → reverse (copies count code) ≡ copies count (reverse code)
+reverse-copies zero code = refl
+reverse-copies (suc count) code = reverse-append (copies count code) code ∙ ap (λ l. reverse code ++ l) (reverse-copies count code) ∙ copies_turn count (reverse code)
+
+-- the stretch after a front
+pub stretch_after : (before : List Node) {code : List Node} (more : List Node) {from size : ℕ} → length before ≡ from → length code ≡ size → stretch from size (before ++ (code ++ more)) ≡ code
+stretch_after before {code} more {size} e f = grind (arith, common_steps)
 
 reverse-starred : (code : List Node) → reverse (starred code) ≡ (Back (length code + 1) ∷ reverse code) ++ Choose (length code + 2) ∷ []
 reverse-starred code = grind (arith, common_steps)
@@ -83,11 +103,7 @@ optional_more {now} {middle} more before code {start} count b n s g w m e = grin
 -- the copies that are always there, before the optional ones
 pub bounded_out : {nodes now new : List Node} (more before code : List Node) {start size : ℕ} (low high : ℕ) {count : ℕ} → length before ≡ start → nodes ≡ before ++ reverse code → size ≡ length nodes - start → now ≡ nodes ++ more
     → now ≡ before ++ reverse (up_to count code) → count ≡ high - low → new ≡ now ++ copies low (stretch start size now) → new ≡ before ++ reverse (copies low code ++ up_to (high - low) code)
-bounded_out {now} more before code low high {count} b n s g w k e =
-    e ∙ ap (λ l. now ++ copies low l) (item_here more before code b n s g) ∙ ap (λ l. l ++ copies low (reverse code)) w
-    ∙ append_assoc before (reverse (up_to count code)) (copies low (reverse code))
-    ∙ ap (λ l. before ++ (reverse (up_to count code) ++ l)) (sym (reverse-copies low code))
-    ∙ ap (λ l. before ++ l) (sym (reverse-append (copies low code) (up_to count code))) ∙ ap (λ m. before ++ reverse (copies low code ++ up_to m code)) k
+bounded_out {now} more before code low high {count} b n s g w k e = search (rules, item_here, append_assoc, reverse-copies, reverse-append)
 
 -- what was written stays at the front
 pub grown_on : (nodes : List Node) {now middle new : List Node} (more first second : List Node) → now ≡ nodes ++ more → middle ≡ now ++ first → new ≡ middle ++ second → (all : List Node) × (new ≡ nodes ++ all)

@@ -1,5 +1,6 @@
 -- The nodes at the numbers of a code, and what they lead to.
-use Rattle.std.proofs.Common.{◌≡◌, ◌⊎◌, inl, inr, ℕ, zero, suc, ◌+◌, ◌<◌, ◌≤◌, Bool, true, false, IsTrue, List, [], ◌∷◌, length, get_or, refl, sym, ◌∙◌, subst, arith}
+use Rattle.std.proofs.Common.{rules}
+use Rattle.std.proofs.Common.{◌≡◌, ◌⊎◌, inl, inr, ℕ, zero, suc, ◌+◌, ◌<◌, ◌≤◌, Bool, true, false, IsTrue, List, [], ◌∷◌, length, get_or, refl, sym, ◌∙◌, subst, arith, ◌-◌, ◌++◌}
 use Rattle.std.proofs.lemmas.Bool.{false≢true}
 use Rattle.bre_core.specs.Match.{Parts}
 use Rattle.scan_core.specs.declared.node.Node.{Node}
@@ -8,6 +9,12 @@ use Rattle.scan_core.specs.Sets.{weight_if, positions_among}
 use Rattle.scan_core.specs.inner.Sets.{LeadsOn, Flows, IsCode, Passes}
 use Rattle.bre_core.specs.ByteSet.{has}
 use Rattle.scan_core.specs.declared.node.Node.TheVariants.{Take, First, Last, Choose, Back}
+use Rattle.scan_core.specs.declared.way.Way.{Way}
+use Rattle.scan_core.specs.declared.way.When.{When}
+use Rattle.scan_core.specs.declared.way.When.TheVariants.{Never, AtFront, AtEnd, Always}
+use Rattle.scan_core.specs.inner.Ways.{IsWay, Opens}
+use Rattle.std.proofs.lemmas.Grind.{common_steps}
+use Rattle.scan_core.specs.inner.Each.{AreEach}
 
 pub weight_most : (node : Node) → weight_of node ≤ 1
 weight_most (Take bytes) = omega arith
@@ -66,10 +73,7 @@ pub target_in : {code : List Node} (n skip : ℕ) → IsCode code → At code n 
 target_in n skip c here = c.fits n (Choose skip) here
 
 pub pass_found : (code : List Node) (n byte to : ℕ) (bytes : List Bool) → At code n (Take bytes) → Passes code byte n to → IsTrue (has bytes byte)
-pass_found code n byte to bytes here p =
-    let e : Take p.0 ≡ Take bytes = at_once code n (Take p.0) (Take bytes) p.1 here in
-    let e' : p.0 ≡ bytes = cc in
-    subst (λ b. IsTrue (has b byte)) e' p.2
+pass_found code n byte to bytes here p = search (rules, at_once)
 
 pub pass_never : (code : List Node) (n byte to : ℕ) (node : Node) → At code n node → ((bytes : List Bool) → Take bytes ≡ node → ⊥) → Passes code byte n to → ⊥
 pass_never code n byte to node here never p = never p.0 (at_once code n (Take p.0) node p.1 here)
@@ -88,3 +92,81 @@ takes_none code {n} {byte} {to} {read} h is (inr (inr (inr (by, e)))) p = pass_n
 pub weight_length : (code : List Node) → weight code ≤ length code
 weight_length [] = omega arith
 weight_length (node ∷ code) = let w = weight_most node in let r = weight_length code in omega (arith, w, r)
+
+-- Where the numbers of a code lead without a byte.
+
+pub way_nowhere : (code : List Node) (number : ℕ) → length code ≤ number → IsWay code number (record { when = Never; one = 0; other = 0 })
+way_nowhere code number h = search (rules, at_least)
+
+-- where a node leads
+abbrev pub way_at : Node → ℕ → Way
+way_at (Take bytes) number = record { when = Never; one = 0; other = 0 }
+way_at First number = record { when = AtFront; one = number + 1; other = number + 1 }
+way_at Last number = record { when = AtEnd; one = number + 1; other = number + 1 }
+way_at (Choose skip) number = record { when = Always; one = number + 1; other = number + skip }
+way_at (Back by) number = record { when = Always; one = number - by; other = number - by }
+
+one_of : {A : Type 0} → A ⊎ A → A
+one_of (inl a) = a
+one_of (inr a) = a
+
+pub way_is : (code : List Node) (number : ℕ) (node : Node) → IsCode code → At code number node → IsWay code number (way_at node number)
+way_is code number (Take bytes) c here = record {
+  one = omega arith;
+  other = omega arith;
+  exact = λ at_first at_last to. (λ f. absurd (flows_of code (Take bytes) at_first at_last to here f), λ o. absurd o.0);
+}
+way_is code number First c here = let l = at_least code number First here in record {
+  one = omega (arith, l);
+  other = omega (arith, l);
+  exact = λ at_first at_last to. (λ f. let w = flows_of code First at_first at_last to here f in (w.0, inl w.1), λ o. (First, here, (o.0, one_of o.1)));
+}
+way_is code number Last c here = let l = at_least code number Last here in record {
+  one = omega (arith, l);
+  other = omega (arith, l);
+  exact = λ at_first at_last to. (λ f. let w = flows_of code Last at_first at_last to here f in (w.0, inl w.1), λ o. (Last, here, (o.0, one_of o.1)));
+}
+way_is code number (Choose skip) c here = let l = at_least code number (Choose skip) here in record {
+  one = omega (arith, l);
+  other = c.fits number (Choose skip) here;
+  exact = λ at_first at_last to. (λ f. (tt, flows_of code (Choose skip) at_first at_last to here f), λ o. (Choose skip, here, o.1));
+}
+way_is code number (Back by) c here = let l = at_least code number (Back by) here in let b : by ≤ number = c.fits number (Back by) here in record {
+  one = omega (arith, l);
+  other = omega (arith, l);
+  exact = λ at_first at_last to. (
+    λ f. let e : number ≡ to + by = flows_of code (Back by) at_first at_last to here f in (tt, inl (omega (arith, e))),
+    λ o. (Back by, here, let e = one_of o.1 in omega (arith, e, b)),
+  );
+}
+
+-- what is open at any place
+pub opens_more : (when : When) (at_first at_last : Bool) → Opens when false false → Opens when at_first at_last
+opens_more Never at_first at_last o = o
+opens_more AtFront at_first at_last o = absurd (false≢true o)
+opens_more AtEnd at_first at_last o = absurd (false≢true o)
+opens_more Always at_first at_last o = o
+
+module _ {code : List Node} {number : ℕ} {way : Way} where
+  -- what is so of both is so of all that is led to
+  pub led_by : {at_first at_last : Bool} {to : ℕ} (So : ℕ → Type 0) → IsWay code number way → So way.one → So way.other → Flows code at_first at_last number to → So to
+  led_by {at_first} {at_last} {to} So w one other f = elim ((w.exact at_first at_last to).0 f).1 [ inl e ↦ subst So (sym e) one | inr e ↦ subst So (sym e) other ]
+
+  pub led_never : {at_first at_last : Bool} {to : ℕ} → IsWay code number way → way.when ≡ Never → Flows code at_first at_last number to → ⊥
+  led_never {at_first} {at_last} {to} w e f = subst (λ when. Opens when at_first at_last) e ((w.exact at_first at_last to).0 f).0
+
+  pub led_anywhere : {at_first at_last : Bool} {to : ℕ} → IsWay code number way → way.when ≡ Always → Flows code at_first at_last number to → Flows code false false number to
+  led_anywhere {at_first} {at_last} {to} w e f = (w.exact false false to).1 (subst (λ when. Opens when false false) (sym e) tt, ((w.exact at_first at_last to).0 f).1)
+
+-- Lists of which each entry is what its place asks for.
+
+module _ {A : Type 0} {none : A} {Is : ℕ → A → Type 0} {count : ℕ} {list : List A} where
+  -- one entry more
+  pub each_more : {new : List A} {entry : A} → AreEach none Is count list → Is count entry → new ≡ list ++ entry ∷ [] → AreEach none Is (count + 1) new
+  each_more {entry} a is e = grind (arith, common_steps)
+
+  pub each_to : {all : ℕ} → AreEach none Is count list → count ≡ all → AreEach none Is all list
+  each_to a e = subst (λ n. AreEach none Is n list) e a
+
+  pub each_by : {Other : ℕ → A → Type 0} → AreEach none Is count list → ((place : ℕ) (entry : A) → place < count → Is place entry → Other place entry) → AreEach none Other count list
+  each_by a there = record { size = a.size; each = λ place h. there place (get_or list place none) h (a.each place h) }

@@ -1,4 +1,5 @@
 -- What each line with a match has, and where a text lacks it.
+use Rattle.std.proofs.Common.{rules}
 use Rattle.std.proofs.Common.{◌≡◌, inl, inr, ℕ, zero, suc, ◌+◌, ◌-◌, ◌<◌, ◌≤◌, Bool, true, false, IsTrue, List, [], ◌∷◌, ◌++◌, length, slice_index, refl, sym, ap, ◌∙◌, subst, arith, length-append}
 use Rattle.std.proofs.lemmas.Bool.{cases_eq}
 use Rattle.std.proofs.lemmas.List.{get_or_append_left}
@@ -17,9 +18,8 @@ use Rattle.scan_core.specs.Clear.{IsClear}
 use Rattle.scan_core.specs.Code.{At, Leads, Walks, code_of, IsOrdered}
 use Rattle.scan_core.specs.Counted.{EndsIn}
 use Rattle.scan_core.specs.inner.Needles.{is_among, AreBytes, IsNeedle, LacksBefore, IsPassed, TakesOnly, IsLiteral}
-use Rattle.scan_core.proofs.Codes.{contained}
+use Rattle.scan_core.proofs.Codes.{contained, at_at}
 use Rattle.scan_core.proofs.Enterings.{at_once, at_least}
-use Rattle.scan_core.proofs.Walks.{at_at}
 use Rattle.std.proofs.lemmas.Grind.{common_steps}
 
 -- Each walk to the end comes by a node beyond which no choice leads.
@@ -41,9 +41,7 @@ come_by code line number passed (suc count) at place to stop w low high = elim (
 -- A walk that goes on from nodes which take bytes takes one after another.
 
 led_on : (code : List Node) (line : List ℕ) (count number place to stop : ℕ) (bytes : List Bool) → Walks code line (suc count) number place to stop → At code number (Take bytes) → (place < length line) × IsTrue (has bytes (slice_index line place)) × Walks code line count (number + 1) (place + 1) to stop
-led_on code line count number place to stop bytes w here =
-    let led : Leads (Take bytes) line number place w.0 w.1 = subst (λ n. Leads n line number place w.0 w.1) (at_once code number w.2.0 (Take bytes) w.2.1 here) w.2.2 in
-    (led.2, led.3, subst (λ p. Walks code line count (number + 1) p to stop) led.1 (subst (λ n. Walks code line count n w.1 to stop) led.0 w.3))
+led_on code line count number place to stop bytes w here = search (rules, at_once)
 
 abbrev AreTakes : List Node → ℕ → ℕ → Type 0
 AreTakes code number last = (k : ℕ) → k ≤ last → (bytes : List Bool) × At code (number + k) (Take bytes)
@@ -117,9 +115,7 @@ pub part_at : (before part after : List ℕ) (k : ℕ) → k < length part → s
 part_at before part after k within = grind (arith, common_steps)
 
 pub lacks_byte : (few : FewBytes) (text : List ℕ) (place : ℕ) → Nowhere (Passes (is_among few) text) 0 place → LacksBefore (Byte few) text place
-lacks_byte few text place none before part after all ends has =
-    none (length before + has.0) (omega arith) (omega (arith, ends, has.1))
-    (subst (λ those. Passes (is_among few) those (length before + has.0)) (sym all) (subst (λ byte. is_among few byte ≡ true) (sym (part_at before part after has.0 has.1)) has.2))
+lacks_byte few text place none before part after all ends has = search (rules, part_at)
 
 pub lacks_text : (needle text : List ℕ) (place : ℕ) → Nowhere (OccursAt text needle) 0 place → LacksBefore (Text needle) text place
 lacks_text needle text place none before part after all ends has =
@@ -134,10 +130,7 @@ lacks_text needle text place none before part after all ends has =
 -- a stretch that lacks the needle contains no match
 
 part_bytes : (before part after : List ℕ) → AreBytes (before ++ part ++ after) → AreBytes part
-part_bytes before part after are k within =
-    let one : length (before ++ part) ≡ length before + length part = length-append before part in
-    let two : length (before ++ part ++ after) ≡ length (before ++ part) + length after = length-append (before ++ part) after in
-    subst (λ byte. byte < 256) (part_at before part after k within) (are (length before + k) (omega (arith, one, two, within)))
+part_bytes before part after are k within = search (rules, length-append, part_at)
 
 pub clear_of : (pattern : Pattern) (needle : Needle) (text : List ℕ) (place : ℕ) → IsOrdered pattern → AreBytes text → IsNeedle (code_of pattern) needle → LacksBefore needle text place → IsClear pattern text place
 clear_of pattern needle text place ordered are is lacks before line after all ends = by (contains pattern line) refl

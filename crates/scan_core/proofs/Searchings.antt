@@ -1,20 +1,29 @@
 -- A search by sets of words, place by place.
-use Rattle.std.proofs.Common.{◌≡◌, ◌⊎◌, ◌↔◌, inl, inr, ℕ, suc, ◌+◌, ◌*◌, ◌<◌, ◌≤◌, Bool, true, false, IsTrue, List, length, slice_index, refl, sym, ◌∙◌, subst, arith}
-use Rattle.std.proofs.lemmas.Bool.{false≢true}
+use Rattle.std.proofs.Common.{◌≡◌, ◌⊎◌, ◌↔◌, inl, inr, ℕ, suc, ◌+◌, ◌*◌, ◌<◌, ◌≤◌, Bool, true, false, IsTrue, List, length, slice_index, refl, sym, ◌∙◌, subst, arith, rules, ◌/◌, ◌%◌, [], ◌∷◌, ◌++◌, length-append, get_or, ap}
+use Rattle.std.proofs.lemmas.Bool.{false≢true, cases_eq}
 use Rattle.std.proofs.Math.Nat.{mul-le-mul}
 use Rattle.scan_core.specs.declared.base.Base.{Base}
 use Rattle.scan_core.specs.declared.node.Node.{Node}
 use Rattle.scan_core.specs.inner.Base.{IsBase}
-use Rattle.scan_core.specs.Code.{Entered, weight}
+use Rattle.scan_core.specs.Code.{Entered, weight, At}
 use Rattle.scan_core.specs.Sets.{IsMarked, positions_among}
 use Rattle.scan_core.specs.inner.Sets.{FlowsOn, Passes, Came}
 use Rattle.scan_core.specs.Table.{IsOutcome}
-use Rattle.scan_core.specs.inner.Table.{IsCounted}
+use Rattle.scan_core.specs.inner.Table.{IsCounted, Next, InSets, entry, Tells, IsState, no_state, IsTable}
 use Rattle.scan_core.specs.inner.Words.{IsIn, width, flags_of, SpreadsOut}
-use Rattle.scan_core.proofs.Along.{IsPlace, reaches_exact, came_exact, counted_more, counted_found, counted_ends, steps_more, steps_wider}
-use Rattle.scan_core.proofs.Countings.{flags_are}
-use Rattle.scan_core.proofs.Enterings.{positions_most, parts_anywhere, weight_length}
-use Rattle.scan_core.proofs.Visitings.{flows_join}
+use Rattle.scan_core.proofs.Shiftings.{IsPlace, reaches_exact, came_exact, counted_more, counted_found, counted_ends, steps_more, steps_wider}
+use Rattle.scan_core.proofs.Countings.{flags_are, flags_length}
+use Rattle.scan_core.proofs.Enterings.{positions_most, parts_anywhere, weight_length, each_more, each_to, each_by, at_index, at_once, at_least}
+use Rattle.scan_core.proofs.Insides.{flows_join}
+use Rattle.std.proofs.lemmas.List.{get_or_append_left, get_or_default}
+use Rattle.bre_core.specs.ByteSet.{has}
+use Rattle.scan_core.specs.declared.build.Building.{Building}
+use Rattle.scan_core.specs.declared.node.Node.TheVariants.{Take}
+use Rattle.scan_core.specs.declared.table.State.{State}
+use Rattle.scan_core.specs.declared.table.Table.{Table}
+use Rattle.scan_core.specs.inner.Built.{AreAlike, Built, IsBuilding, IsOpen, LeadsTo, Led}
+use Rattle.scan_core.specs.inner.Each.{AreEach}
+use Rattle.scan_core.specs.Counted.{set_at}
 
 -- the line was searched up to a place, and no match has ended
 pub record Searched (code : List Node) (line : List ℕ) (place : ℕ) (words : List ℕ) (steps : ℕ) : Type 0 where
@@ -83,3 +92,145 @@ search_ends {code} line {place} {steps} now {found} s here e p test =
     let f = flags_are now (length code) in
     subst (λ q. IsOutcome code line (record { found = found; steps = steps + q })) (sym p)
     (counted_ends (flags_of now) s.so_far (marked_here code line place now here) e (λ t. f.1 (test.0 t), λ m. test.1 (f.0 m)))
+
+-- A table that is built set by set and entry by entry.
+
+tells_more : {code : List Node} {sets : List (List Bool)} (set : List Bool) {state byte read : ℕ} → state < length sets → Tells code sets state byte read
+    → Tells code (sets ++ set ∷ []) state byte read
+tells_more {code} {sets} set {state} {byte} {read} h t = search (rules, length-append, get_or_append_left)
+
+-- one more set; no entries of it are there yet
+built_set : {code : List Node} {entries : ℕ} {sets : List (List Bool)} {rows : List ℕ} {set : List Bool} → Built code entries sets rows → entries ≤ length sets * 256
+    → IsOpen code set → Built code entries (sets ++ set ∷ []) rows
+built_set {code} {sets} {set} b small o = let l = length-append sets (set ∷ []) in record {
+  some = omega (arith, l);
+  front = λ number. subst (λ s. IsMarked s number ↔ FlowsOn code true false 0 number) (sym (get_or_append_left sets (set ∷ []) [] 0 b.some)) (b.front number);
+  going = each_to (each_more b.going o refl) (omega (arith, l));
+  told = each_by b.told (λ place read h t. tells_more set (omega (arith, h, small)) t);
+}
+
+-- the entry of a state and a byte by its place
+tells_at : {code : List Node} {sets : List (List Bool)} {place state byte read : ℕ} → place ≡ state * 256 + byte → byte < 256
+    → Tells code sets state byte read ≡ Tells code sets (place / 256) (place % 256) read
+tells_at {code} {sets} {place} {state} {byte} {read} e h = search rules
+
+next_by : (code : List Node) {byte : ℕ} (One Other : ℕ → Type 0) → ((n : ℕ) → One n → Other n) → (number : ℕ) → Next code byte One number → Next code byte Other number
+next_by code One Other there number h = (h.0, elim h.1 [ inl s ↦ inl (s.0, there s.0 s.1, s.2) | inr e ↦ inr e ], h.2)
+
+-- two bytes that every node treats alike lead alike
+next_alike : (code : List Node) (one other : ℕ) (Set : ℕ → Type 0) (number : ℕ) → AreAlike code one other → Next code one Set number → Next code other Set number
+next_alike code one other Set number a n = (n.0, elim n.1 [ inl s ↦ inl (s.0, s.1, (s.2.0, s.2.1, sym (a s.0 s.2.0 s.2.1) ∙ s.2.2, s.2.3)) | inr e ↦ inr e ], n.2)
+
+-- the entry of a byte's twin is the byte's
+pub twin_entry : {code : List Node} {most place twin read : ℕ} (d : ℕ) {building : Building} → IsBuilding code most place building → AreAlike code (place % 256) twin → twin < place % 256
+    → read ≡ get_or building.rows.items (place / 256 * 256 + twin) d → Tells code building.sets.items (place / 256) (place % 256) read
+twin_entry {code} {place} {twin} {read} d {building} f a less e = record {
+  next = λ s. let n = t.next s in (n.0, λ number. (λ i. there number ((n.1 number).0 i), λ i. (n.1 number).1 (next_alike code (place % 256) twin (InSets building.sets.items (place / 256)) number a i)));
+  stop = λ s. there (length code) (t.stop s);
+}
+  where
+    there : (number : ℕ) → Next code twin (InSets building.sets.items (place / 256)) number → Next code (place % 256) (InSets building.sets.items (place / 256)) number
+    there number n = next_alike code twin (place % 256) (InSets building.sets.items (place / 256)) number (λ number bytes h. sym (a number bytes h)) n
+
+    t : Tells code building.sets.items (place / 256) twin read
+    t =
+        let here : place / 256 * 256 + twin < place = omega (arith, less) in
+        subst (Tells code building.sets.items (place / 256) twin) (sym (e ∙ get_or_default building.rows.items (place / 256 * 256 + twin) d 0 (omega (arith, here, f.built.told.size))))
+        (subst (λ t. t) (sym (tells_at refl (omega (arith, less)))) (f.built.told.each (place / 256 * 256 + twin) here))
+
+-- the sets stay, or one is added
+record Grown (code : List Node) (place : ℕ) (sets sets' : List (List Bool)) (rows : List ℕ) : Type 0 where
+  built : Built code place sets' rows
+  order : place ≤ length sets' * 256
+  known : place / 256 < length sets'
+  same : set_at sets' (place / 256) ≡ set_at sets (place / 256)
+
+grown : {code : List Node} {place : ℕ} {sets sets' : List (List Bool)} {rows : List ℕ} {set : List Bool} → Built code place sets rows → place ≤ length sets * 256
+    → place / 256 < length sets → (sets' ≡ sets) ⊎ ((sets' ≡ sets ++ set ∷ []) × IsOpen code set) → Grown code place sets sets' rows
+grown {code} {place} {sets} {rows} b r k (inl e) = subst (λ t. Grown code place sets t rows) (sym e) (record { built = b; order = r; known = k; same = refl })
+grown {code} {place} {sets} {rows} {set} b r k (inr e) = let l = length-append sets (set ∷ []) in subst (λ t. Grown code place sets t rows) (sym e.0) (record {
+  built = built_set b r e.1;
+  order = omega (arith, r, l);
+  known = omega (arith, k, l);
+  same = get_or_append_left sets (set ∷ []) [] (place / 256) k;
+})
+
+-- a set has as many words as the code asks for
+pub set_size : {code : List Node} {sets : List (List Bool)} {state : ℕ} (words : List ℕ) → AreEach [] (λ _. IsOpen code) (length sets) sets → state < length sets
+    → flags_of words ≡ set_at sets state → length words ≡ width code
+set_size words are h e = let l = flags_length words in let m = ap length e in let s = (are.each _ h).size in omega (arith, l, m, s)
+
+pub led_on : {code : List Node} {most place read : ℕ} {old new : Building} (before : List ℕ) {words : List ℕ} → IsBuilding code most place old → place / 256 < length old.sets.items
+    → flags_of before ≡ set_at old.sets.items (place / 256) → length words ≡ width code → ((number : ℕ) → IsIn words number ↔ Next code (place % 256) (IsIn before) number)
+    → LeadsTo (length code) most words old.sets.items new.sets.items read → new.rows ≡ old.rows → new.words.items ≡ words → Led code most place new read
+led_on {code} {most} {place} {read} {old} {new} before {words} f k is size advanced l er ew = record {
+  so_far = record { built = subst (λ rows. Built code place new.sets.items rows.items) (sym er) g.built; room = l.room; size = ap length ew ∙ size; order = g.order };
+  known = g.known;
+  tells = record {
+    next = λ s. let k = l.next s in (k.0, λ number. subst (λ t. IsMarked t number ↔ Next code (place % 256) (InSets new.sets.items (place / 256)) number) (sym k.1) (exact number));
+    stop = λ e. (exact (length code)).0 ((flags_are words (length code)).1 (l.stop e));
+  };
+}
+  where
+    set : (new.sets.items ≡ old.sets.items) ⊎ ((new.sets.items ≡ old.sets.items ++ flags_of words ∷ []) × IsOpen code (flags_of words))
+    set = elim l.sets [
+      | inl e ↦ inl e
+      | inr e ↦ inr (e.0, record { size = flags_length words ∙ ap (λ n. 64 * n) size; going = λ m. e.1 ((flags_are words (length code)).0 m) })
+    ]
+
+    g : Grown code place old.sets.items new.sets.items old.rows.items
+    g = grown f.built f.order k set
+
+    exact : (number : ℕ) → IsMarked (flags_of words) number ↔ Next code (place % 256) (InSets new.sets.items (place / 256)) number
+    exact number = subst (λ s. IsMarked (flags_of words) number ↔ Next code (place % 256) (IsMarked s) number) (is ∙ sym g.same) (
+      λ m. next_by code (IsIn before) (IsMarked (flags_of before)) (λ n. (flags_are before n).1) number ((advanced number).0 ((flags_are words number).0 m)),
+      λ n. (flags_are words number).1 ((advanced number).1 (next_by code (IsMarked (flags_of before)) (IsIn before) (λ n. (flags_are before n).0) number n)),
+    )
+
+-- one entry more
+pub building_more : {code : List Node} {most place read : ℕ} {old new : Building} → Led code most place old read → new.sets ≡ old.sets → new.words ≡ old.words → new.rows.items ≡ old.rows.items ++ read ∷ []
+    → IsBuilding code most (place + 1) new
+building_more {code} {most} {place} {old} {new} l es ew er =
+    let b = l.so_far.built in
+    let built : Built code (place + 1) old.sets.items new.rows.items = record { some = b.some; front = b.front; going = b.going; told = each_more b.told l.tells er } in
+    subst (λ sets. IsBuilding code most (place + 1) (record { sets = sets; rows = new.rows; words = new.words })) (sym es)
+    (record { built = built; room = l.so_far.room; size = ap (λ w. length w.items) ew ∙ l.so_far.size; order = omega (arith, l.known) })
+
+-- a set that a line's front has
+pub front_built : {code : List Node} (words : List ℕ) {sets : List (List Bool)} → length words ≡ width code → ((number : ℕ) → IsIn words number ↔ FlowsOn code true false 0 number)
+    → (IsIn words (length code) → ⊥) → sets ≡ flags_of words ∷ [] → Built code 0 sets []
+front_built {code} words size exact none e = search (rules, flags_are, each_more, flags_length)
+
+-- what a byte leads to from a set, with all that follows
+pub advanced : {code : List Node} {byte : ℕ} {base : Base} (old : List ℕ) {middle new : List ℕ} → IsBase code base
+    → ((number : ℕ) → IsIn middle number ↔ (((before : ℕ) × IsIn old before × Passes code byte before number) ⊎ IsIn base.words.items number)) → SpreadsOut code false false middle new
+    → (number : ℕ) → IsIn new number ↔ Next code byte (IsIn old) number
+advanced {code} old b passed s number = (
+  λ h. let f = (s.exact number).0 h in elim ((passed f.0).0 f.1) [
+    | inl led ↦ (f.0, inl led, f.2)
+    | inr based ↦ (0, inr refl, flows_join code false false f.2.0 0 f.0 number ((b.exact f.0).0 based) f.2.1)
+  ],
+  λ n. (s.exact number).1 (n.0, (passed n.0).1 (elim n.1 [ inl led ↦ inl led | inr e ↦ inr ((b.exact n.0).1 (0, sym e)) ]), n.2),
+)
+
+-- the first nodes don't tell two bytes apart
+pub alike_below : (code : List Node) (n one other : ℕ) {node : Node} → ((m : ℕ) (bytes : List Bool) → m < n → At code m (Take bytes) → has bytes one ≡ has bytes other) → node ≡ get_or code n node → n < length code
+    → ((bytes : List Bool) → node ≡ Take bytes → has bytes one ≡ has bytes other) → (m : ℕ) (bytes : List Bool) → m < n + 1 → At code m (Take bytes) → has bytes one ≡ has bytes other
+alike_below code n one other {node} before is h here m bytes l at = elim (cases_eq m n) [
+  | inl same ↦ here bytes (at_once code n node (Take bytes) (subst (At code n) (sym is) (at_index code n node h)) (subst (λ k. At code k (Take bytes)) same at))
+  | inr differs ↦ before m bytes (omega (arith, l, differs)) at
+]
+
+pub alike_all : (code : List Node) (n one other : ℕ) → length code ≤ n → ((m : ℕ) (bytes : List Bool) → m < n → At code m (Take bytes) → has bytes one ≡ has bytes other) → AreAlike code one other
+alike_all code n one other h before number bytes at = let l = at_least code number (Take bytes) at in before number bytes (omega (arith, l, h)) at
+
+-- what was seen of a set is so
+pub state_is : {code : List Node} {sets : List (List Bool)} {rows : List ℕ} {number : ℕ} {now last : List ℕ} {state : State} → flags_of now ≡ set_at sets number
+    → SpreadsOut code false true now last → state.positions ≡ positions_among code (flags_of now) → (IsTrue state.is_fixed → (byte : ℕ) → byte < 256 → entry rows number byte ≡ number)
+    → state.last_positions ≡ positions_among code (flags_of last) → (IsTrue state.ends ↔ IsIn last (length code)) → IsState code sets rows number state
+state_is {code} {now} {last} e s p f q x = search (rules, flags_are)
+
+-- a table that was built, with what is noted of each state
+pub table_is : {code : List Node} {sets : List (List Bool)} {table : Table} → Built code (length sets * 256) sets table.rows.items → length code ≤ 65536 → length sets < 65534
+    → AreEach no_state (IsState code sets table.rows.items) (length sets) table.states.items → IsTable code table
+table_is {sets} b few small noted = search rules

@@ -1,22 +1,309 @@
 -- A table of few states as words.
-use Rattle.std.proofs.Common.{rules, ◌≡◌, inl, inr, ℕ, zero, suc, ◌+◌, ◌*◌, ◌-◌, ◌/◌, ◌%◌, ◌^◌, ◌<◌, ◌≤◌, Bool, true, List, length, get_or, slice_index, refl, sym, ap, ◌∙◌, subst, arith}
-use Rattle.std.proofs.lemmas.Bool.{cases_lt}
-use Rattle.std.proofs.lemmas.Nat.{pow-add, shr-shr, shr_high}
-use Rattle.std.proofs.Math.Nat.{pow-le-pow_right}
-use Rattle.std.proofs.lemmas.List.{get_or_default}
+use Rattle.std.proofs.Common.{rules, ◌≡◌, ◌⊎◌, ◌↔◌, inl, inr, ℕ, zero, suc, ◌+◌, ◌*◌, ◌<◌, ◌≤◌, Bool, true, false, IsTrue, List, [], ◌∷◌, ◌++◌, length, slice_index, refl, sym, subst, arith, length-append, ◌-◌, get_or, ap, ◌∙◌, ◌/◌, ◌%◌, ◌^◌}
+use Rattle.std.proofs.lemmas.Bool.{cases_eq, ne_eqb, cases_lt}
+use Rattle.bre_core.specs.ByteSet.{has}
+use Rattle.bre_core.specs.Match.{Parts}
 use Rattle.scan_core.specs.declared.node.Node.{Node}
-use Rattle.scan_core.specs.declared.shift_table.ShiftTable.{ShiftTable}
-use Rattle.scan_core.specs.declared.table.State.{State}
+use Rattle.scan_core.specs.declared.node.Node.TheVariants.{Take, First, Last, Choose, Back}
+use Rattle.std.specs.Prelude.{◌==◌}
+use Rattle.std.proofs.lemmas.List.{get_or_push, get_or_append_left, get_or_default}
+use Rattle.scan_core.specs.Sets.{positions_among, IsMarked}
+use Rattle.scan_core.specs.Counted.{positions_in_all, AreSteps, set_at, HasStepsBefore}
+use Rattle.scan_core.specs.Code.{Leads, Goes, Walks, Entered, weight}
+use Rattle.scan_core.specs.Table.{IsOutcome}
+use Rattle.scan_core.specs.inner.Table.{IsCounted, Next, Inner, InSets, entry, IsState, no_state, IsTableOf, Walked, IsTable}
+use Rattle.scan_core.specs.inner.Sets.{LeadsOn, Flows, Passes, Came, Reaches, FlowsOn}
+use Rattle.scan_core.proofs.Enterings.{positions_most, weight_length, parts_anywhere}
+use Rattle.scan_core.proofs.Codes.{path_on, parts_join}
 use Rattle.scan_core.specs.declared.table.Table.{Table}
-use Rattle.scan_core.specs.Code.{weight}
-use Rattle.scan_core.specs.Counted.{set_at, HasStepsBefore}
+use Rattle.scan_core.specs.declared.table.State.{State}
+use Rattle.std.proofs.Math.Nat.{mul-le-mul, mul-suc, pow-le-pow_right}
+use Rattle.std.proofs.lemmas.Nat.{pow-add, shr-shr, shr_high}
+use Rattle.scan_core.specs.declared.shift_table.ShiftTable.{ShiftTable}
 use Rattle.scan_core.specs.inner.Shifts.{AreLight, IsAt, IsComplete, IsOffset, IsShiftTable, IsShifted, IsStateAt, IsWeight, IsWord, six_bits}
 use Rattle.scan_core.specs.inner.Each.{AreEach}
-use Rattle.scan_core.specs.Table.{IsOutcome}
-use Rattle.scan_core.specs.inner.Table.{IsTable, IsTableOf, Walked, entry, no_state}
-use Rattle.scan_core.proofs.Along.{steps_more}
-use Rattle.scan_core.proofs.Enterings.{positions_most, weight_length}
-use Rattle.scan_core.proofs.Inners.{walked_starts, walk_stops, walk_next, walk_run, walk_ends, fixed_stays, bound_fits}
+
+-- The sets of entered nodes along a line, place by place.
+
+-- which place of the line this is
+pub record IsPlace (line : List ℕ) (place : ℕ) (at_first at_last : Bool) : Type 0 where
+  pub within : place ≤ length line
+  pub first : IsTrue at_first ↔ (place ≡ 0)
+  pub last : IsTrue at_last ↔ (place ≡ length line)
+
+pub flow_goes : (node : Node) (line : List ℕ) {place : ℕ} {at_first at_last : Bool} (from to : ℕ) → IsPlace line place at_first at_last
+    → LeadsOn node at_first at_last from to ↔ Leads node line from place to place
+flow_goes (Take bytes) line from to p = (λ h. absurd h, λ h. absurd (omega (arith, h.1)))
+flow_goes First line from to p = (λ h. (h.1, refl, p.first.0 h.0), λ h. (p.first.1 h.2, h.0))
+flow_goes Last line from to p = (λ h. (h.1, refl, p.last.0 h.0), λ h. (p.last.1 h.2, h.0))
+flow_goes (Choose skip) line from to p = (λ h. (h, refl), λ h. h.0)
+flow_goes (Back by) line from to p = (λ h. (h, refl), λ h. h.0)
+
+-- a step stays at its place or goes on by one
+leads_place : (node : Node) (line : List ℕ) (from place to place' : ℕ) → Leads node line from place to place' → (place' ≡ place) ⊎ ((place' ≡ place + 1) × (bytes : List Bool) × (node ≡ Take bytes) × (place < length line) × IsTrue (has bytes (slice_index line place)) × (to ≡ from + 1))
+leads_place (Take bytes) line from place to place' h = inr (h.1, bytes, refl, h.2, h.3, h.0)
+leads_place First line from place to place' h = inl h.1
+leads_place Last line from place to place' h = inl h.1
+leads_place (Choose skip) line from place to place' h = inl h.1
+leads_place (Back by) line from place to place' h = inl h.1
+
+walk_forward : (code : List Node) (line : List ℕ) (count at place to stop : ℕ) → Walks code line count at place to stop → place ≤ stop
+walk_forward code line zero at place to stop w = omega (arith, w.1)
+walk_forward code line (suc count) at place to stop w =
+    let h = walk_forward code line count w.0 w.1 to stop w.3 in
+    elim (leads_place w.2.0 line at place w.0 w.1 w.2.2) [ inl e ↦ omega (arith, e, h) | inr e ↦ omega (arith, e.0, h) ]
+
+pub entered_on : (code : List Node) (line : List ℕ) {at place to stop : ℕ} → Entered code line at place → Goes code line at place to stop → Entered code line to stop
+entered_on code line {at} {place} {to} {stop} e g = (e.0, e.1, path_on code line 0 e.0 at place to stop e.2 (1, (to, stop, g, (refl, refl))))
+
+pub reaches_exact : (code : List Node) (line : List ℕ) {place : ℕ} {at_first at_last : Bool} → IsPlace line place at_first at_last → (number : ℕ) → Reaches code line place at_first at_last number ↔ Entered code line number place
+reaches_exact code line {place} {at_first} {at_last} p number = (there number, here number)
+  where
+    flows : (count from to : ℕ) → Entered code line from place → Parts (Flows code at_first at_last) count from to → Entered code line to place
+    flows zero from to e q = subst (λ n. Entered code line n place) q e
+    flows (suc count) from to e q = entered_on code line (flows count from q.0 e q.1) (q.2.0, q.2.1, (flow_goes q.2.0 line q.0 to p).0 q.2.2)
+
+    there : (number : ℕ) → Reaches code line place at_first at_last number → Entered code line number place
+    there number f = flows f.2.0 f.0 number (elim f.1 [ inl c ↦ entered_on code line c.3 c.4 | inr e ↦ (place, p.within, (0, (sym e, refl))) ]) f.2.1
+
+    step : (at from at' from' : ℕ) → from ≤ place → Entered code line at from → (from ≡ place → Reaches code line place at_first at_last at) → Goes code line at from at' from'
+        → from' ≡ place → Reaches code line place at_first at_last at'
+    step at from at' from' l e h g q = elim (leads_place g.0 line at from at' from' g.2) [
+      | inl same ↦
+          let here : from ≡ place = omega (arith, same, q) in
+          let was = h here in
+          let led = subst (λ n. Leads g.0 line at n at' place) here (subst (λ n. Leads g.0 line at from at' n) q g.2) in
+          (was.0, was.1, (suc was.2.0, (at, was.2.1, (g.0, g.1, (flow_goes g.0 line at at' p).1 led))))
+      | inr more ↦ (at', inl (from, omega (arith, more.0, q), at, e, subst (λ n. Goes code line at from at' n) q g), (0, refl))
+    ]
+
+    arrive : (count at from number : ℕ) → from ≤ place → Walks code line count at from number place → Entered code line at from → (from ≡ place → Reaches code line place at_first at_last at) → Reaches code line place at_first at_last number
+    arrive zero at from number l w e h = subst (Reaches code line place at_first at_last) w.0 (h w.1)
+    arrive (suc count) at from number l w e h =
+        arrive count w.0 w.1 number (walk_forward code line count w.0 w.1 number place w.3) w.3 (entered_on code line e w.2) (step at from w.0 w.1 l e h w.2)
+
+    here : (number : ℕ) → Entered code line number place → Reaches code line place at_first at_last number
+    here number e =
+        let l = walk_forward code line e.2.0 0 e.0 number place e.2.1 in
+        arrive e.2.0 0 e.0 number l e.2.1 (e.0, e.1, (0, (refl, refl))) (λ q. (0, inr refl, (0, refl)))
+
+pub inner : (line : List ℕ) {place : ℕ} {at_first : Bool} → place < length line → at_first ≡ (place == 0) → IsPlace line place at_first false
+inner line {place} h f = search rules
+
+-- one place more is counted
+more_positions : (code : List Node) (sets : List (List Bool)) (set : List Bool) → positions_in_all code (sets ++ set ∷ []) ≡ positions_in_all code sets + positions_among code set
+more_positions code [] set = omega arith
+more_positions code (other ∷ sets) set = let r = more_positions code sets set in omega (arith, r)
+
+one_counted : {code : List Node} (line : List ℕ) {place steps steps' : ℕ} (set : List Bool) → AreSteps code line place steps → ((number : ℕ) → IsMarked set number ↔ Entered code line number place) → steps' ≡ steps + positions_among code set
+    → AreSteps code line (place + 1) steps'
+one_counted {code} line {place} set a x e = record {
+  sets = a.sets ++ set ∷ [];
+  all = let l = length-append a.sets (set ∷ []) in omega (arith, l, a.all);
+  exact = λ p number h. elim (cases_eq p place) [
+    | inl same ↦ subst (λ s. IsMarked s number ↔ Entered code line number p) (sym (get_or_push a.sets set [] p (omega (arith, same, a.all)))) (subst (λ q. IsMarked set number ↔ Entered code line number q) (sym same) (x number))
+    | inr other ↦ let l : p < place = omega (arith, h, other) in subst (λ s. IsMarked s number ↔ Entered code line number p) (sym (get_or_append_left a.sets (set ∷ []) [] p (omega (arith, l, a.all)))) (a.exact p number l)
+  ];
+  total = let m = more_positions code a.sets set in let t = a.total in omega (arith, m, t, e);
+}
+
+pub final : (line : List ℕ) {place : ℕ} {at_first : Bool} → place ≡ length line → at_first ≡ (length line == 0) → IsPlace line place at_first true
+final line h f = search rules
+
+-- what a byte leads to from all that was entered at a place
+pub came_exact : (code : List Node) (line : List ℕ) (place : ℕ) {byte : ℕ} (Now : ℕ → Type 0) → ((number : ℕ) → Now number ↔ Entered code line number place) → place < length line → byte ≡ slice_index line place
+    → (number : ℕ) → ((from : ℕ) × Now from × Passes code byte from number) ↔ Came code line (suc place) number
+came_exact code line place Now a h e number = search rules
+
+-- one place more
+pub steps_more : (place steps count size : ℕ) → steps ≤ place * size → count ≤ size → steps + count ≤ (place + 1) * size
+steps_more place steps count size h k = let e : (place + 1) * size ≡ place * size + size = grind arith in omega (arith, h, k, e)
+
+pub steps_wider : (place most steps size : ℕ) → steps ≤ place * size → place ≤ most → steps ≤ most * size
+steps_wider place most steps size h k = search rules
+
+pub counted_starts : (code : List Node) (line : List ℕ) → IsCounted code line 0 0
+counted_starts code line = search rules
+
+pub counted_more : {code : List Node} {line : List ℕ} {place steps : ℕ} (set : List Bool) → IsCounted code line place steps → ((number : ℕ) → IsMarked set number ↔ Entered code line number place)
+    → (IsMarked set (length code) → ⊥) → IsCounted code line (place + 1) (steps + positions_among code set)
+counted_more {code} {line} {place} {steps} set s here never = record {
+  none = λ before l k. elim (cases_eq before place) [
+    | inl same ↦ never ((here (length code)).1 (subst (λ q. Entered code line (length code) q) same k))
+    | inr other ↦ s.none before (omega (arith, l, other)) k
+  ];
+  counted = one_counted line set s.counted here refl;
+  bound = let m = positions_most code set in steps_more place steps (positions_among code set) (weight code + 1) s.bound m;
+}
+
+-- the end is entered at a place
+pub counted_found : {code : List Node} {line : List ℕ} {place steps all : ℕ} → IsCounted code line place steps → place ≤ length line → Entered code line (length code) place → steps ≤ all
+    → all ≤ (length line + 1) * (weight code + 1) → IsOutcome code line (record { found = true; steps = all })
+counted_found {place} {steps} s within ends least most = search rules
+
+-- the line's end
+pub counted_ends : {code : List Node} {line : List ℕ} {place steps : ℕ} {found : Bool} (set : List Bool) → IsCounted code line place steps → ((number : ℕ) → IsMarked set number ↔ Entered code line number place)
+    → place ≡ length line → (IsTrue found ↔ IsMarked set (length code)) → IsOutcome code line (record { found = found; steps = steps + positions_among code set })
+counted_ends {code} {line} {place} {steps} set s here e test = record {
+  exact = (
+    λ t. (place, omega (arith, e), (here (length code)).0 (test.0 t)),
+    λ k. elim (cases_eq k.0 place) [
+      | inl same ↦ test.1 ((here (length code)).1 (subst (λ q. Entered code line (length code) q) same k.2))
+      | inr other ↦ absurd (s.none k.0 (omega (arith, k.1, e, other)) k.2)
+    ],
+  );
+  counted = λ absent. subst (λ n. AreSteps code line (n + 1) (steps + positions_among code set)) e (one_counted line set s.counted here refl);
+  least = λ t. (counted_found s (omega (arith, e)) ((here (length code)).0 (test.0 t)) (omega arith) all).least refl;
+  bound = all;
+}
+  where
+    all : steps + positions_among code set ≤ (length line + 1) * (weight code + 1)
+    all = subst (λ n. steps + positions_among code set ≤ (n + 1) * (weight code + 1)) e (steps_more place steps (positions_among code set) (weight code + 1) s.bound (positions_most code set))
+
+-- The sets of the places along a line, and a table of them.
+
+-- at every place but the last
+pub inner_entered : (code : List Node) (line : List ℕ) (place : ℕ) → place < length line → (number : ℕ) → Inner code line place number ↔ Entered code line number place
+inner_entered code line zero h number = reaches_exact code line (inner line h refl) number
+inner_entered code line (suc place) h number = reaches_exact code line (inner line h (sym (ne_eqb (suc place) 0 (λ e. omega (arith, e))))) number
+
+-- at the last place, after a byte
+pub last_entered : (code : List Node) (line : List ℕ) {place : ℕ} → suc place ≡ length line → (number : ℕ) → Entered code line number (suc place) ↔ ((from : ℕ) × Inner code line (suc place) from × FlowsOn code false true from number)
+last_entered code line {place} h number = let exact = reaches_exact code line (final line h (sym (ne_eqb (length line) 0 (λ e. omega (arith, e, h))))) number in (
+  λ e. let f = exact.1 e in (f.0, (f.0, f.1, (0, refl)), f.2),
+  λ k.
+      let before = parts_anywhere code false true k.1.2.0 k.1.0 k.0 k.1.2.1 in
+      exact.0 (k.1.0, k.1.1, (k.1.2.0 + k.2.0, parts_join (Flows code false true) k.1.2.0 k.2.0 k.1.0 k.0 number before k.2.1)),
+)
+
+pub walked_starts : {code : List Node} {sets : List (List Bool)} {table : Table} (line : List ℕ) → IsTableOf code sets table → Walked code sets line 0 0 0
+walked_starts {code} line t = search rules
+
+-- what is entered where the state's set is, and before
+walked_here : {code : List Node} {sets : List (List Bool)} (line : List ℕ) {place state steps : ℕ} → Walked code sets line place state steps
+    → place < length line → (number : ℕ) → InSets sets state number ↔ Entered code line number place
+walked_here {code} line {place} w h number = search (rules, inner_entered)
+
+-- what a byte leads to from the state's set
+next_inner : {code : List Node} {sets : List (List Bool)} (line : List ℕ) {place state steps : ℕ} → Walked code sets line place state steps → place < length line
+    → (number : ℕ) → Next code (slice_index line place) (InSets sets state) number ↔ Inner code line (suc place) number
+next_inner {code} {sets} line {place} {state} w h number = let came = came_exact code line place (InSets sets state) (walked_here line w h) h refl in (
+  λ n. (n.0, elim n.1 [ inl led ↦ inl ((came n.0).0 led) | inr e ↦ inr e ], n.2),
+  λ f. (f.0, elim f.1 [ inl c ↦ inl ((came f.0).1 c) | inr e ↦ inr e ], f.2),
+)
+
+-- one byte more
+pub walked_more : {code : List Node} {sets : List (List Bool)} {table : Table} (line : List ℕ) {place state next steps steps' : ℕ} → IsTableOf code sets table → Walked code sets line place state steps → place < length line → slice_index line place < 256
+    → next ≡ entry table.rows.items state (slice_index line place) → next < 65534 → steps' ≡ steps + positions_among code (set_at sets state) → Walked code sets line (suc place) next steps'
+walked_more {code} {sets} {table} line {place} {state} {steps} {steps'} t w h b e k p = record {
+  within = omega (arith, h);
+  known = omega (arith, e, step.0);
+  exact = λ number.
+      let n = next_inner line w h number in
+      subst (λ s. InSets sets s number ↔ Inner code line (suc place) number) (sym e) (λ i. n.0 ((step.1 number).0 i), λ i. (step.1 number).1 (n.1 i));
+  so_far =
+      let one : place + 1 ≡ suc place = omega arith in
+      subst (λ n. IsCounted code line n steps') one (subst (IsCounted code line (place + 1)) (sym p) (counted_more (set_at sets state) w.so_far (walked_here line w h) (t.none state w.known)));
+}
+  where
+    step : (entry table.rows.items state (slice_index line place) < length sets) × ((number : ℕ) → InSets sets (entry table.rows.items state (slice_index line place)) number ↔ Next code (slice_index line place) (InSets sets state) number)
+    step = (t.told state (slice_index line place) w.known b).next (omega (arith, e, k))
+
+walked_stay : {code : List Node} {sets : List (List Bool)} {table : Table} (line : List ℕ) (more : ℕ) {place state steps : ℕ} → IsTableOf code sets table → Walked code sets line place state steps → place + more ≤ length line → ((k : ℕ) → k < length line → slice_index line k < 256)
+    → ((k : ℕ) → place ≤ k → k < place + more → entry table.rows.items state (slice_index line k) ≡ state) → Walked code sets line (place + more) state (steps + positions_among code (set_at sets state) * more)
+walked_stay {code} {sets} line zero {place} {state} {steps} t w h b s = search rules
+walked_stay {code} {sets} line (suc more) {place} {state} {steps} t w h b s =
+    let before = walked_stay line more t w (omega (arith, h)) b (λ k l u. s k l (omega (arith, u))) in
+    let m = t.most in
+    let z : positions_among code (set_at sets state) * suc more ≡ positions_among code (set_at sets state) * more + positions_among code (set_at sets state) = mul-suc (positions_among code (set_at sets state)) more in
+    let last = walked_more line t before (omega (arith, h)) (b (place + more) (omega (arith, h)))
+    (sym (s (place + more) (omega arith) (omega arith))) (let l = w.known in omega (arith, m, l)) (omega (arith, z)) in
+    let e : suc (place + more) ≡ place + suc more = omega arith in
+    subst (λ p. Walked code sets line p state (steps + positions_among code (set_at sets state) * suc more)) e last
+
+-- what is entered after a byte is entered also where the line ends there
+entered_there : (code : List Node) (line : List ℕ) (place number : ℕ) → place < length line → Inner code line (suc place) number → Entered code line number (suc place)
+entered_there code line place number h i = elim (cases_eq (suc place) (length line)) [
+  | inl same ↦ (last_entered code line same number).1 (number, i, (0, refl))
+  | inr other ↦ (inner_entered code line (suc place) (omega (arith, h, other)) number).0 i
+]
+
+pub entry_read : {table : Table} {code : List Node} {sets : List (List Bool)} (state byte : ℕ) {read : ℕ} (d : ℕ) → IsTableOf code sets table → state < length sets → byte < 256 → read ≡ get_or table.rows.items (state * 256 + byte) d → read ≡ entry table.rows.items state byte
+entry_read {table} state byte d t h b e = e ∙ get_or_default table.rows.items (state * 256 + byte) d 0 (let r = t.rows in omega (arith, h, b, r))
+
+pub noted_read : {table : Table} {code : List Node} {sets : List (List Bool)} {state : ℕ} {read : State} (d : State) → IsTableOf code sets table → state < length sets → read ≡ get_or table.states.items state d → IsState code sets table.rows.items state read
+noted_read {table} {code} {sets} {state} d t h e = subst (IsState code sets table.rows.items state) (sym (e ∙ get_or_default table.states.items state d no_state (let s = t.states in omega (arith, h, s)))) (t.noted state h)
+
+-- along a line, by some table's sets
+abbrev pub WalkedOf : List Node → Table → List ℕ → ℕ → ℕ → ℕ → Type 0
+WalkedOf code table line place state steps = (sets : List (List Bool)) × IsTableOf code sets table × Walked code sets line place state steps
+
+-- a stretch in which the state stays
+pub walk_run : (code : List Node) (table : Table) (line : List ℕ) (from to : ℕ) {state : ℕ} (steps : ℕ) {added : ℕ} {noted : State} (d : State) → WalkedOf code table line from state steps → from ≤ to → to ≤ length line → ((k : ℕ) → k < length line → slice_index line k < 256)
+    → ((k : ℕ) → from ≤ k → k < to → entry table.rows.items state (slice_index line k) ≡ state) → noted ≡ get_or table.states.items state d → added ≡ noted.positions * (to - from) → WalkedOf code table line to state (steps + added)
+walk_run code table line from to {state} steps {added} d w l h b s e a =
+    let n = noted_read d w.1 w.2.known e in
+    let more : steps + positions_among code (set_at w.0 state) * (to - from) ≡ steps + added = ap (λ p. steps + p * (to - from)) (sym n.positions) ∙ ap (λ p. steps + p) (sym a) in
+    let there : from + (to - from) ≡ to = omega (arith, l) in
+    let stays = walked_stay line (to - from) w.1 w.2 (omega (arith, l, h)) b (λ k m u. s k m (omega (arith, u, l))) in
+    (w.0, w.1, subst (Walked code w.0 line to state) more (subst (λ p. Walked code w.0 line p state (steps + positions_among code (set_at w.0 state) * (to - from))) there stays))
+
+pub walk_next : (code : List Node) (table : Table) (line : List ℕ) (place state : ℕ) {next : ℕ} (steps d' : ℕ) {noted : State} (d : State) → WalkedOf code table line place state steps → place < length line → slice_index line place < 256
+    → next ≡ get_or table.rows.items (state * 256 + slice_index line place) d' → next < 65534 → noted ≡ get_or table.states.items state d → WalkedOf code table line (place + 1) next (steps + noted.positions)
+walk_next code table line place state {next} steps d' {noted} d w h b e k f =
+    let n = noted_read d w.1 w.2.known f in
+    let r = entry_read state (slice_index line place) d' w.1 w.2.known b e in
+    let one : suc place ≡ place + 1 = omega arith in
+    (w.0, w.1, subst (λ p. Walked code w.0 line p next (steps + noted.positions)) one (walked_more line w.1 w.2 h b r k (ap (λ p. steps + p) n.positions)))
+
+-- one place more
+pub walk_one : (code : List Node) (table : Table) (line : List ℕ) (place state steps : ℕ) {noted : State} (d : State) → WalkedOf code table line place state steps → noted ≡ get_or table.states.items state d
+    → steps + noted.positions ≤ (place + 1) * (weight code + 1)
+walk_one code table line place state steps {noted} d w f =
+    let n = noted_read d w.1 w.2.known f in
+    let m = positions_most code (set_at w.0 state) in
+    steps_more place steps noted.positions (weight code + 1) w.2.so_far.bound (let p = n.positions in omega (arith, m, p))
+
+-- a byte leads to the end
+pub walk_stops : {code : List Node} (table : Table) (line : List ℕ) (place state : ℕ) {next steps : ℕ} (d' : ℕ) {noted : State} (d : State) → WalkedOf code table line place state steps → place < length line → slice_index line place < 256
+    → next ≡ get_or table.rows.items (state * 256 + slice_index line place) d' → next ≡ 65535 → noted ≡ get_or table.states.items state d → IsOutcome code line (record { found = true; steps = steps + noted.positions })
+walk_stops {code} table line place state {steps} d' {noted} d w h b e k f =
+    let r = entry_read state (slice_index line place) d' w.1 w.2.known b e in
+    let n = noted_read d w.1 w.2.known f in
+    let next = (next_inner line w.2 h (length code)).0 ((w.1.told state (slice_index line place) w.2.known b).stop (sym r ∙ k)) in
+    let one : suc place ≡ place + 1 = omega arith in
+    let counted = subst (λ p. IsCounted code line (place + 1) (steps + p)) (sym n.positions) (counted_more (set_at w.0 state) w.2.so_far (walked_here line w.2 h) (w.1.none state w.2.known)) in
+    counted_found counted (omega (arith, h)) (subst (Entered code line (length code)) one (entered_there code line place (length code) h next)) (omega arith)
+    (steps_wider (place + 1) (length line + 1) (steps + noted.positions) (weight code + 1) (walk_one code table line place state steps d w f) (omega (arith, h)))
+
+-- the line's end
+pub walk_ends : {code : List Node} (table : Table) (line : List ℕ) (place : ℕ) (state steps : ℕ) {noted : State} (d : State) → WalkedOf code table line place state steps → place ≡ length line → 0 < length line → noted ≡ get_or table.states.items state d
+    → IsOutcome code line (record { found = noted.ends; steps = steps + noted.last_positions })
+walk_ends table line zero state steps d w h some e = absurd (omega (arith, h, some))
+walk_ends {code} table line (suc place) state steps {noted} d w h some e =
+    subst (λ p. IsOutcome code line (record { found = noted.ends; steps = steps + p })) (sym n.last_positions) (counted_ends n.last w.2.so_far last h n.ends)
+  where
+    n : IsState code w.0 table.rows.items state noted
+    n = noted_read d w.1 w.2.known e
+
+    last : (number : ℕ) → IsMarked n.last number ↔ Entered code line number (suc place)
+    last number = let l = last_entered code line h number in (
+      λ m. let k = (n.last_exact number).0 m in l.1 (k.0, (w.2.exact k.0).0 k.1, k.2),
+      λ f. let k = l.0 f in (n.last_exact number).1 (k.0, (w.2.exact k.0).1 k.1, k.2),
+    )
+
+pub bound_fits : (code : List Node) (places steps : ℕ) → length code ≤ 65536 → steps ≤ places * (weight code + 1) → places ≤ 18446744073709551617 → steps < 340282366920938463463374607431768211456
+bound_fits code places steps few h p = search (rules, weight_length, mul-le-mul)
+
+pub walk_fits : (code : List Node) (table : Table) (line : List ℕ) (place state : ℕ) {steps : ℕ} → WalkedOf code table line place state steps → place ≤ 18446744073709551616 → steps < 340282366920938463463374607431768211456
+walk_fits code table line place state {steps} w p = bound_fits code place steps w.1.few w.2.so_far.bound (omega (arith, p))
+
+-- a state that no byte changes
+pub fixed_stays : {code : List Node} {table : Table} (line : List ℕ) {state : ℕ} {noted : State} (d : State) → ((sets : List (List Bool)) × IsTableOf code sets table) → state < length table.states.items → noted ≡ get_or table.states.items state d → noted.is_fixed ≡ true
+    → (place : ℕ) → slice_index line place < 256 → entry table.rows.items state (slice_index line place) ≡ state
+fixed_stays line d t h e f place b =
+    let s = t.1.states in
+    (noted_read d t.1 (omega (arith, h, s)) e).is_fixed f (slice_index line place) b
 
 -- a word's six bits after one state more was put before them
 pub six_more : (word offset state : ℕ) → offset < 64 → six_bits (word * 64 + offset) (suc state) ≡ six_bits word state
@@ -59,13 +346,7 @@ word_fits {done} b h =
     omega (arith, p, s)
 
 pub states_are_light : (code : List Node) (table : Table) → IsTable code table → AreLight table.states.items
-states_are_light code table t state h =
-    let n = t.1.noted state (let s = t.1.states in omega (arith, s, h)) in
-    let m = positions_most code (set_at t.0 state) in
-    let w = weight_length code in
-    let f = t.1.few in
-    let p = n.positions in
-    omega (arith, m, w, f, p)
+states_are_light code table t state h = search (rules, positions_most, weight_length)
 
 -- what was made of the table's rows and states
 pub shifted_is : {table : Table} {shifts : ShiftTable} {rows : List ℕ} {noted : List State} → rows ≡ table.rows.items → noted ≡ table.states.items → length noted ≤ 9 → IsComplete rows → AreEach 0 (IsWord rows (length noted)) 256 shifts.words.items
@@ -92,12 +373,7 @@ at_starts line t = (
 
 -- the positions of a state, as the words have them
 weight_read : {table : Table} {shifts : ShiftTable} (word : ℕ) {added : ℕ} (e : ℕ) → IsShifted table shifts → added ≡ get_or shifts.weights.items (word % 256) e → IsWeight table.states.items (word % 64) added
-weight_read {table} {shifts} word {added} e i g =
-    let s = i.weights.size in
-    let low : word % 256 < 256 = omega arith in
-    let same : word % 256 % 64 ≡ word % 64 = omega arith in
-    subst (λ n. IsWeight table.states.items n added) same
-    (subst (IsWeight table.states.items (word % 256 % 64)) (get_or_default shifts.weights.items (word % 256) 0 e (omega (arith, s, low)) ∙ sym g) (i.weights.each (word % 256) low))
+weight_read {table} {shifts} word {added} e i g = search (rules, get_or_default)
 
 weight_small : (code : List Node) (table : Table) (state : ℕ) {low added : ℕ} → IsTable code table → IsWeight table.states.items low added → low ≡ 6 * state → state < length table.states.items → added ≤ weight code + 1
 weight_small code table state t w l h =

@@ -1,11 +1,11 @@
 //! Building a pattern's table ahead: set by set and byte by byte, as far as there is room.
 
-ghost use Rattle.std.specs.Prelude.{◌≡◌, ◌↔◌, ◌<◌, ◌≤◌, ◌+◌, ◌*◌, ℕ, List, Bool, IsTrue, IsFalse, IfOk, IfErr, IfSome, OnOk, [], length, slice_index_or};
+ghost use Rattle.std.specs.Prelude.{◌≡◌, ◌↔◌, ◌<◌, ◌≤◌, ◌+◌, ◌*◌, ◌/◌, ◌%◌, ℕ, List, Bool, IsTrue, IsFalse, IfOk, IfErr, IfSome, [], length, slice_index_or};
 ghost use Rattle.bre_core.specs.declared.fault.BreFault.TheVariants.{Memory};
 ghost use Rattle.bre_core.specs.ByteSet.{has};
 ghost use Rattle.scan_core.specs.declared.node.Node.TheVariants.{Take};
 ghost use Rattle.scan_core.specs.inner.Base.{IsBase};
-ghost use Rattle.scan_core.specs.inner.Built.{AreAlike, IsBuilding, IsFilling, IsOpen, LeadsTo, Led};
+ghost use Rattle.scan_core.specs.inner.Built.{AreAlike, IsBuilding, IsOpen, LeadsTo, Led};
 ghost use Rattle.scan_core.specs.inner.Closures.{AreClosures};
 ghost use Rattle.scan_core.specs.inner.Each.{AreEach};
 ghost use Rattle.scan_core.specs.inner.Sets.{IsCode};
@@ -220,7 +220,7 @@ impl Building {
         }))
     }
 
-    /// The entry of a state for a byte: that of the byte's twin, or what the byte leads to.
+    /// The entry at a place of the rows: that of the byte's twin, or what the byte leads to.
     fn entry_of(
         &mut self,
         alloc: Global,
@@ -229,20 +229,22 @@ impl Building {
         closures: &Closures,
         base: &Base,
         twin: u8,
-        state: usize,
-        byte: u8,
+        place: usize,
         most: usize,
     ) -> Result<u16, BreFault>
-        requires filling { IsFilling nodes.now most state byte self.old }
-        requires twin { AreAlike nodes.now byte twin }
+        requires so_far { IsBuilding nodes.now most place self.old }
+        requires known { place / 256 < length self.old.sets.items }
+        requires twin { AreAlike nodes.now (place % 256) twin }
         requires most { most < 65534 }
         requires code { IsCode nodes.now }
         requires masks { IsMasks nodes.now masks.now }
         requires closures { AreClosures nodes.now closures.now }
         requires base { IsBase nodes.now base.now }
-        ensures ok { IfOk result (Led nodes.now most state byte self.new) }
+        ensures ok { IfOk result (Led nodes.now most place self.new) }
         ensures err { IfErr result (λ fault. fault ≡ Memory) }
     {
+        let state = place / 256;
+        let byte = (place % 256) as u8;
         if twin < byte {
             return Ok(self.rows[state * 256 + twin as usize]);
         }
@@ -250,38 +252,6 @@ impl Building {
         self.words.copy_from_slice(&set.words);
         advance(&mut self.words, nodes, masks, closures, base, byte);
         lead_to(alloc, &mut self.sets, &self.words, nodes.len(), most)
-    }
-
-    /// Fills the row of a state.
-    fn fill(
-        &mut self,
-        alloc: Global,
-        nodes: &[Node],
-        masks: &Masks,
-        closures: &Closures,
-        base: &Base,
-        twins: &[u8],
-        state: usize,
-        most: usize,
-    ) -> Result<(), BreFault>
-        requires so_far { IsFilling nodes.now most state 0 self.old }
-        requires twins { AreEach 0 (AreAlike nodes.now) 256 twins.now }
-        requires most { most < 65534 }
-        requires code { IsCode nodes.now }
-        requires masks { IsMasks nodes.now masks.now }
-        requires closures { AreClosures nodes.now closures.now }
-        requires base { IsBase nodes.now base.now }
-        ensures ok { OnOk result (IsFilling nodes.now most state 256 self.new) }
-        ensures err { IfErr result (λ fault. fault ≡ Memory) }
-    {
-        for byte in 0..256usize {
-            let twin = twins[byte];
-            let read = self.entry_of(
-                alloc, nodes, masks, closures, base, twin, state, byte as u8, most,
-            )?;
-            self.rows.push(read)?;
-        }
-        Ok(())
     }
 }
 
@@ -370,11 +340,13 @@ pub fn build(
     let Some(mut building) = Building::begin(alloc, nodes, closures, most)? else {
         return Ok(None);
     };
-    for state in 0..most {
-        if state >= building.sets.len() {
+    for place in 0..most * 256 {
+        if place / 256 >= building.sets.len() {
             break;
         }
-        building.fill(alloc, nodes, masks, closures, base, &twins, state, most)?;
+        let twin = twins[place % 256];
+        let read = building.entry_of(alloc, nodes, masks, closures, base, twin, place, most)?;
+        building.rows.push(read)?;
     }
     let states = states_of(
         alloc,

@@ -34,11 +34,7 @@ pub record IsBuilding (code : List Node) (most entries : ℕ) (building : Buildi
   pub built : Built code entries building.sets.items building.rows.items
   pub room : length building.sets.items ≤ most
   pub size : length building.words.items ≡ width code
-
--- a row is filled up to a byte
-pub record IsFilling (code : List Node) (most state byte : ℕ) (building : Building) : Type 0 where
-  pub so_far : IsBuilding code most (state * 256 + byte) building
-  pub known : state < length building.sets.items
+  pub order : entries ≤ length building.sets.items * 256
 
 -- an entry that leads to a set, which may have been added to the others
 pub record LeadsTo (last most : ℕ) (words : List ℕ) (old new : List (List Bool)) (read : ℕ) : Type 0 where
@@ -48,6 +44,7 @@ pub record LeadsTo (last most : ℕ) (words : List ℕ) (old new : List (List Bo
   pub stop : read ≡ 65535 → IsIn words last
 
 -- what an entry that is made says is so
-pub record Led (code : List Node) (most state byte : ℕ) (building : Building) (read : ℕ) : Type 0 where
-  pub filling : IsFilling code most state byte building
-  pub tells : Tells code building.sets.items state byte read
+pub record Led (code : List Node) (most place : ℕ) (building : Building) (read : ℕ) : Type 0 where
+  pub so_far : IsBuilding code most place building
+  pub known : place / 256 < length building.sets.items
+  pub tells : Tells code building.sets.items (place / 256) (place % 256) read

@@ -1,5 +1,5 @@
 use Rattle.std.proofs.Common.{◌≡◌, length}
-use Rattle.plain_core.proofs.Reach.{Reached}
+use Rattle.plain_core.proofs.Exactness.{Reached}
 use Rattle.plain_core.proofs.spans.reached.Given as goal
 
 abbrev pub invariant-loop-middle : goal.invariant-loop-middle

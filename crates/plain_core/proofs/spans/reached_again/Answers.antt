@@ -1,5 +1,5 @@
 use Rattle.std.proofs.Common.{arith, ◌+◌, length, sym, ap, ◌∙◌, subst}
-use Rattle.plain_core.proofs.Reach.{Again, again_more, again_skip, again_ends}
+use Rattle.plain_core.proofs.Exactness.{Again, again_more, again_skip, again_ends}
 use Rattle.plain_core.proofs.spans.reached_again.Goals as goal
 use Rattle.plain_core.proofs.spans.reached_again.Goals.{then-contains, else-contains}
 

@@ -1,5 +1,5 @@
 use Rattle.std.proofs.Common.{◌≡◌, length}
-use Rattle.plain_core.proofs.Reach.{Again}
+use Rattle.plain_core.proofs.Exactness.{Again}
 use Rattle.plain_core.proofs.spans.reached_again.Given as goal
 
 abbrev pub invariant-loop-middle : goal.invariant-loop-middle

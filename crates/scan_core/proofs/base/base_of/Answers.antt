@@ -6,8 +6,8 @@ use Rattle.scan_core.specs.inner.Each.{AreEach}
 use Rattle.scan_core.specs.inner.Landings.{IsOther}
 use Rattle.scan_core.specs.inner.Sets.{FlowsOn}
 use Rattle.scan_core.specs.inner.Words.{IsIn, width}
-use Rattle.scan_core.proofs.Each.{each_more, each_by, each_to}
-use Rattle.scan_core.proofs.Landed.{other_kept}
+use Rattle.scan_core.proofs.Enterings.{each_more, each_by, each_to}
+use Rattle.scan_core.proofs.Closings.{other_kept}
 use Rattle.scan_core.proofs.base.base_of.Goals as goal
 
 pub loop-at-preserved : goal.loop-at-preserved

@@ -1,5 +1,5 @@
 use Rattle.scan_core.specs.inner.Words.{IsIn}
-use Rattle.scan_core.proofs.Ways.{led_by, led_never}
+use Rattle.scan_core.proofs.Enterings.{led_by, led_never}
 use Rattle.scan_core.proofs.base.is_within.Goals as goal
 
 pub returns-in-Never : goal.returns-in-Never

@@ -1,5 +1,5 @@
 use Rattle.scan_core.specs.inner.Words.{IsIn}
-use Rattle.scan_core.proofs.Bits.{AreBits, Unless}
+use Rattle.scan_core.proofs.Insides.{AreBits, Unless}
 use Rattle.scan_core.proofs.base.leading.Given as goal
 
 abbrev pub invariant-loop-bit : goal.invariant-loop-bit

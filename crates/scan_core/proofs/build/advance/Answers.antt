@@ -1,7 +1,7 @@
 use Rattle.std.proofs.Common.{◌⊎◌, ◌↔◌, ℕ, subst}
 use Rattle.scan_core.specs.inner.Sets.{Passes}
 use Rattle.scan_core.specs.inner.Words.{IsIn}
-use Rattle.scan_core.proofs.Tables.{advanced}
+use Rattle.scan_core.proofs.Searchings.{advanced}
 use Rattle.scan_core.proofs.build.advance.Goals as goal
 
 pub returns-clause-exact : goal.returns-clause-exact

@@ -1,4 +1,4 @@
-use Rattle.scan_core.proofs.Tables.{alike_below, alike_all}
+use Rattle.scan_core.proofs.Searchings.{alike_below, alike_all}
 use Rattle.scan_core.proofs.build.are_alike.Goals as goal
 
 pub loop-number-preserved : goal.loop-number-preserved

@@ -1,5 +1,5 @@
 use Rattle.std.proofs.Common.{◌∙◌}
-use Rattle.scan_core.proofs.Each.{each_more}
+use Rattle.scan_core.proofs.Enterings.{each_more}
 use Rattle.scan_core.proofs.build.states_of.Goals as goal
 
 pub loop-state-preserved : goal.loop-state-preserved

@@ -1,6 +1,6 @@
 use Rattle.std.proofs.Common.{get_or}
 use Rattle.std.specs.Prelude.{bit_and}
-use Rattle.scan_core.proofs.Visitings.{Visiting}
+use Rattle.scan_core.proofs.Insides.{Visiting}
 use Rattle.scan_core.proofs.closing.close.Given as goal
 
 abbrev pub invariant-bits : goal.invariant-bits

@@ -2,7 +2,7 @@ use Rattle.std.proofs.Common.{rules, ◌≡◌, ℕ, get_or, set, sym, ap, ◌�
 use Rattle.std.proofs.lemmas.List.{get_or-set_same, get_or_default}
 use Rattle.std.specs.Prelude.{bit_and, bit_or}
 use Rattle.scan_core.proofs.Closings.{close_all, close_none}
-use Rattle.scan_core.proofs.Visitings.{visit_starts}
+use Rattle.scan_core.proofs.Insides.{visit_starts}
 use Rattle.scan_core.proofs.closing.close_some.Goals as goal
 
 pub returns-then-word-index-eq0 : goal.returns-then-word-index-eq0

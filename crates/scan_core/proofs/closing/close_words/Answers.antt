@@ -2,7 +2,7 @@ use Rattle.std.proofs.Common.{◌+◌, ◌<◌, get_or, refl, sym, ap, ◌∙◌
 use Rattle.std.proofs.lemmas.List.{get_or_default}
 use Rattle.std.specs.Prelude.{bit_and, bit_or}
 use Rattle.scan_core.specs.inner.Words.{width}
-use Rattle.scan_core.proofs.Apart.{Apart, apart_skip, apart_more, apart_ends}
+use Rattle.scan_core.proofs.Closings.{Apart, apart_skip, apart_more, apart_ends}
 use Rattle.scan_core.proofs.closing.close_words.Goals as goal
 use Rattle.scan_core.proofs.closing.close_words.Goals.{then-word-index-ne0, else-word-index-ne0}
 

@@ -1,4 +1,4 @@
-use Rattle.scan_core.proofs.Apart.{Apart}
+use Rattle.scan_core.proofs.Closings.{Apart}
 use Rattle.scan_core.proofs.closing.close_words.Given as goal
 
 abbrev pub invariant-loop-at : goal.invariant-loop-at

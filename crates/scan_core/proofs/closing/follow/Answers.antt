@@ -1,7 +1,7 @@
 use Rattle.std.proofs.Common.{rules, ◌≡◌, ◌<◌, ◌^◌, min, get_or, refl, sym, subst}
 use Rattle.scan_core.specs.inner.Words.{IsIn}
-use Rattle.scan_core.proofs.Bits.{grows_none}
-use Rattle.scan_core.proofs.Hoppings.{entered_is, follow_new}
+use Rattle.scan_core.proofs.Insides.{grows_none}
+use Rattle.scan_core.proofs.Closings.{entered_is, follow_new}
 use Rattle.scan_core.proofs.closing.follow.Goals as goal
 
 pub returns-then-numbers-hop-eq0 : goal.returns-then-numbers-hop-eq0

@@ -1,4 +1,4 @@
-use Rattle.scan_core.proofs.Hoppings.{hopped_more}
+use Rattle.scan_core.proofs.Closings.{hopped_more}
 use Rattle.scan_core.proofs.closing.hop.Goals as goal
 
 pub loop-which-preserved : goal.loop-which-preserved

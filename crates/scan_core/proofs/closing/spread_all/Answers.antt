@@ -1,5 +1,5 @@
 use Rattle.std.proofs.Common.{arith}
-use Rattle.scan_core.proofs.Visitings.{spreading_more, spreading_ends, visits_smaller}
+use Rattle.scan_core.proofs.Insides.{spreading_more, spreading_ends, visits_smaller}
 use Rattle.scan_core.proofs.closing.spread_all.Goals as goal
 
 pub words-smaller : goal.words-smaller

@@ -1,6 +1,6 @@
 use Rattle.std.proofs.Common.{◌+◌, ◌*◌, ◌-◌, length}
 use Rattle.scan_core.specs.inner.Words.{unset}
-use Rattle.scan_core.proofs.Visitings.{Spreading}
+use Rattle.scan_core.proofs.Insides.{Spreading}
 use Rattle.scan_core.proofs.closing.spread_all.Given as goal
 
 abbrev pub invariant-words : goal.invariant-words

@@ -1,6 +1,6 @@
 use Rattle.std.proofs.Common.{subst}
 use Rattle.scan_core.specs.inner.Landings.{HasLanded}
-use Rattle.scan_core.proofs.Apart.{spread_landed, spread_after}
+use Rattle.scan_core.proofs.Closings.{spread_landed, spread_after}
 use Rattle.scan_core.proofs.closing.spread_apart.Goals as goal
 
 pub returns-then-over-eq0 : goal.returns-then-over-eq0

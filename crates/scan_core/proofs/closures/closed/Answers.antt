@@ -1,7 +1,7 @@
 use Rattle.std.proofs.Common.{IfSome, None, ◌∙◌, sym, subst, arith}
 use Rattle.std.proofs.lemmas.List.{get_or_default}
 use Rattle.scan_core.specs.inner.Closures.{AreNexts}
-use Rattle.scan_core.proofs.Nexts.{close_nexts}
+use Rattle.scan_core.proofs.Insides.{close_nexts}
 use Rattle.scan_core.proofs.closures.closed.Goals as goal
 
 pub returns-in-Some : goal.returns-in-Some

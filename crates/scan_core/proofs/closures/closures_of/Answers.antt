@@ -2,7 +2,7 @@ use Rattle.std.proofs.Common.{◌≡◌, subst, arith}
 use Rattle.scan_core.specs.inner.Closures.{IsLeaving}
 use Rattle.scan_core.specs.inner.Each.{AreEach}
 use Rattle.scan_core.specs.inner.Words.{width}
-use Rattle.scan_core.proofs.Each.{each_more, each_to}
+use Rattle.scan_core.proofs.Enterings.{each_more, each_to}
 use Rattle.scan_core.proofs.closures.closures_of.Goals as goal
 
 pub loop-at-preserved : goal.loop-at-preserved

@@ -1,5 +1,5 @@
 use Rattle.std.proofs.Common.{inl, inr, sym, ap, ◌∙◌, ◌/◌, eqb-true}
-use Rattle.scan_core.proofs.Ways.{led_anywhere, opens_more}
+use Rattle.scan_core.proofs.Enterings.{led_anywhere, opens_more}
 use Rattle.scan_core.proofs.closures.is_peer.Goals as goal
 
 pub returns-clause-yes : goal.returns-clause-yes

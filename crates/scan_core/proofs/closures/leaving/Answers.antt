@@ -1,5 +1,5 @@
 use Rattle.std.proofs.Common.{inl, inr, arith}
-use Rattle.scan_core.proofs.Bits.{bits_more, not_one}
+use Rattle.scan_core.proofs.Insides.{bits_more, not_one}
 use Rattle.scan_core.proofs.closures.leaving.Goals as goal
 
 pub loop-bit-preserved : goal.loop-bit-preserved

@@ -1,7 +1,7 @@
 use Rattle.std.proofs.Common.{◌⊎◌, ◌+◌, ◌*◌}
 use Rattle.scan_core.specs.inner.Closures.{Stays}
 use Rattle.scan_core.specs.inner.Hops.{HopsTo}
-use Rattle.scan_core.proofs.Bits.{AreBits, Unless}
+use Rattle.scan_core.proofs.Insides.{AreBits, Unless}
 use Rattle.scan_core.proofs.closures.leaving.Given as goal
 
 abbrev pub invariant-loop-bit : goal.invariant-loop-bit

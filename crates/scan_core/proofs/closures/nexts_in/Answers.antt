@@ -1,5 +1,5 @@
 use Rattle.std.proofs.Common.{arith}
-use Rattle.scan_core.proofs.Nexts.{next_more, next_ends}
+use Rattle.scan_core.proofs.Insides.{next_more, next_ends}
 use Rattle.scan_core.proofs.closures.nexts_in.Goals as goal
 
 pub loop-bit-preserved : goal.loop-bit-preserved

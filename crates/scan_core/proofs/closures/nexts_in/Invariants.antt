@@ -1,4 +1,4 @@
-use Rattle.scan_core.proofs.Nexts.{Nexting}
+use Rattle.scan_core.proofs.Insides.{Nexting}
 use Rattle.scan_core.proofs.closures.nexts_in.Given as goal
 
 abbrev pub invariant-loop-bit : goal.invariant-loop-bit

@@ -1,5 +1,5 @@
 use Rattle.std.proofs.Common.{◌%◌, ◌<◌, ℕ, refl, arith}
-use Rattle.scan_core.proofs.Bits.{bits_more, flag_one}
+use Rattle.scan_core.proofs.Insides.{bits_more, flag_one}
 use Rattle.scan_core.proofs.closures.peers_of.Goals as goal
 
 pub loop-bit-preserved : goal.loop-bit-preserved

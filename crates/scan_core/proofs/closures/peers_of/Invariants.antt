@@ -1,7 +1,7 @@
 use Rattle.std.proofs.Common.{◌≡◌, ◌⊎◌, ◌+◌, ◌*◌, ◌/◌, ◌%◌, ℕ, Bool}
 use Rattle.scan_core.specs.inner.Closures.{Stays}
 use Rattle.scan_core.specs.inner.Sets.{Flows}
-use Rattle.scan_core.proofs.Bits.{AreBits}
+use Rattle.scan_core.proofs.Insides.{AreBits}
 use Rattle.scan_core.proofs.closures.peers_of.Given as goal
 
 abbrev pub invariant-loop-bit : goal.invariant-loop-bit

@@ -1,7 +1,7 @@
 use Rattle.std.proofs.Common.{◌≡◌, ◌⊎◌, ◌/◌}
 use Rattle.scan_core.specs.inner.Hops.{HopsTo}
 use Rattle.scan_core.proofs.Insides.{stays_or_hops}
-use Rattle.scan_core.proofs.Ways.{led_anywhere, led_by, led_never}
+use Rattle.scan_core.proofs.Enterings.{led_anywhere, led_by, led_never}
 use Rattle.scan_core.proofs.closures.stays.Goals as goal
 
 pub returns-in-Never : goal.returns-in-Never

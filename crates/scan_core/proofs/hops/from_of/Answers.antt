@@ -1,4 +1,4 @@
-use Rattle.scan_core.proofs.Bits.{bits_more, flag_one}
+use Rattle.scan_core.proofs.Insides.{bits_more, flag_one}
 use Rattle.scan_core.proofs.hops.from_of.Goals as goal
 
 pub loop-bit-preserved : goal.loop-bit-preserved

@@ -1,4 +1,4 @@
-use Rattle.scan_core.proofs.Each.{each_more}
+use Rattle.scan_core.proofs.Enterings.{each_more}
 use Rattle.scan_core.proofs.hops.hops_of.Goals as goal
 
 pub loop-place-preserved : goal.loop-place-preserved

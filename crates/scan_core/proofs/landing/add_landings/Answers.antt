@@ -1,5 +1,5 @@
 use Rattle.std.proofs.Common.{refl, sym, subst}
-use Rattle.scan_core.proofs.Landed.{Adding, adding_more, hop_lands}
+use Rattle.scan_core.proofs.Closings.{Adding, adding_more, hop_lands}
 use Rattle.scan_core.proofs.landing.add_landings.Goals as goal
 use Rattle.scan_core.proofs.landing.add_landings.Goals.{then-is_landing+in_ok-push, else-is_landing}
 

@@ -1,4 +1,4 @@
-use Rattle.scan_core.proofs.Landed.{Adding}
+use Rattle.scan_core.proofs.Closings.{Adding}
 use Rattle.scan_core.proofs.landing.add_landings.Given as goal
 
 abbrev pub invariant-loop-which : goal.invariant-loop-which

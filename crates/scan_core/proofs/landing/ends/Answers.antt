@@ -1,4 +1,4 @@
-use Rattle.scan_core.proofs.Ways.{led_never}
+use Rattle.scan_core.proofs.Enterings.{led_never}
 use Rattle.scan_core.proofs.landing.ends.Goals as goal
 
 pub returns-in-Never : goal.returns-in-Never

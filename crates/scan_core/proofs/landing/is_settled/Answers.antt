@@ -1,5 +1,5 @@
 use Rattle.scan_core.specs.inner.Landings.{Lands}
-use Rattle.scan_core.proofs.Ways.{led_anywhere, led_by, led_never}
+use Rattle.scan_core.proofs.Enterings.{led_anywhere, led_by, led_never}
 use Rattle.scan_core.proofs.landing.is_settled.Goals as goal
 
 pub returns-in-Never : goal.returns-in-Never

@@ -1,6 +1,6 @@
 use Rattle.std.proofs.Common.{rules, ◌-◌, ◌^◌, ◌<◌, get_or, length, refl}
 use Rattle.scan_core.specs.inner.Landings.{no_landing}
-use Rattle.scan_core.proofs.Landed.{land_more, not_zero, is_not_zero}
+use Rattle.scan_core.proofs.Closings.{land_more, not_zero, is_not_zero}
 use Rattle.scan_core.proofs.landing.land.Goals as goal
 
 pub loop-place-preserved : goal.loop-place-preserved

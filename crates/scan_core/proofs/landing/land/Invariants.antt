@@ -1,4 +1,4 @@
-use Rattle.scan_core.proofs.Landed.{Landing_on}
+use Rattle.scan_core.proofs.Closings.{Landing_on}
 use Rattle.scan_core.proofs.landing.land.Given as goal
 
 abbrev pub invariant-loop-place : goal.invariant-loop-place

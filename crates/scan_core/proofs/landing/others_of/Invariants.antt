@@ -1,7 +1,7 @@
 use Rattle.std.proofs.Common.{◌+◌, ◌*◌, false}
 use Rattle.scan_core.specs.inner.Landings.{Lands}
 use Rattle.scan_core.specs.inner.Sets.{Flows}
-use Rattle.scan_core.proofs.Bits.{AreBits, Unless}
+use Rattle.scan_core.proofs.Insides.{AreBits, Unless}
 use Rattle.scan_core.proofs.landing.others_of.Given as goal
 
 abbrev pub invariant-loop-bit : goal.invariant-loop-bit

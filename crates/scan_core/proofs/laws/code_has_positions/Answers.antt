@@ -1,5 +1,5 @@
 use Rattle.std.proofs.Common.{◌+◌, ap}
-use Rattle.scan_core.proofs.Weights.{weighs}
+use Rattle.scan_core.proofs.Codes.{weighs}
 use Rattle.scan_core.proofs.laws.code_has_positions.Goals as goal
 
 pub returns : goal.returns

@@ -1,6 +1,6 @@
 use Rattle.std.proofs.Common.{sym, ◌∙◌, eqb-true, eq-eqb, refl}
 use Rattle.scan_core.proofs.Enterings.{node_here}
-use Rattle.scan_core.proofs.Masking.{counted_in, counted_out}
+use Rattle.scan_core.proofs.Countings.{counted_in, counted_out}
 use Rattle.scan_core.proofs.masks.counts.Goals as goal
 
 pub returns-then-number-nodes : goal.returns-then-number-nodes

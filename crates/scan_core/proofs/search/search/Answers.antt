@@ -1,7 +1,7 @@
 use Rattle.std.proofs.Common.{rules, ◌≡◌, ◌⊎◌, ◌↔◌, ℕ, ◌<◌, length, slice_index, refl, ◌∙◌, subst, arith}
 use Rattle.scan_core.specs.inner.Sets.{Passes}
 use Rattle.scan_core.specs.inner.Words.{IsIn}
-use Rattle.scan_core.proofs.Along.{inner, final}
+use Rattle.scan_core.proofs.Shiftings.{inner, final}
 use Rattle.scan_core.proofs.Searchings.{entered_here, search_more, search_found, search_ends, search_fits}
 use Rattle.scan_core.proofs.search.search.Goals as goal
 

@@ -2,7 +2,7 @@ use Rattle.std.proofs.Common.{refl, sym, subst, arith}
 use Rattle.std.specs.Prelude.{IfSome}
 use Rattle.scan_core.specs.inner.Shifts.{AreLight}
 use Rattle.scan_core.specs.inner.Table.{IsTable}
-use Rattle.scan_core.proofs.Each.{each_more, each_to}
+use Rattle.scan_core.proofs.Enterings.{each_more, each_to}
 use Rattle.scan_core.proofs.Shiftings.{shifted_is, states_are_light}
 use Rattle.scan_core.proofs.shift_table.shifts_of.Goals as goal
 

@@ -1,5 +1,5 @@
 use Rattle.std.proofs.Common.{rules, ◌<◌, slice_index}
-use Rattle.scan_core.proofs.Inners.{fixed_stays}
+use Rattle.scan_core.proofs.Shiftings.{fixed_stays}
 use Rattle.scan_core.proofs.walk.stretch_end.Goals as goal
 
 pub returns-then-index-clause-stays : goal.returns-then-index-clause-stays

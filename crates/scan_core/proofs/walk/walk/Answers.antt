@@ -1,5 +1,5 @@
 use Rattle.std.proofs.Common.{rules, ◌<◌, ◌+◌, ℕ, length, slice_index, arith}
-use Rattle.scan_core.proofs.Inners.{walk_run, walk_next, walk_one, walk_stops, walk_ends, walk_fits, bound_fits}
+use Rattle.scan_core.proofs.Shiftings.{walk_run, walk_next, walk_one, walk_stops, walk_ends, walk_fits, bound_fits}
 use Rattle.scan_core.proofs.walk.walk.Goals as goal
 
 pub overflow_add-steps : goal.overflow_add-steps

@@ -1,5 +1,5 @@
 use Rattle.std.proofs.Common.{arith}
-use Rattle.scan_core.proofs.Passings.{none_in}
+use Rattle.scan_core.proofs.Countings.{none_in}
 use Rattle.scan_core.proofs.words.clear.Goals as goal
 
 pub returns-clause-none : goal.returns-clause-none

@@ -1,5 +1,5 @@
 use Rattle.std.proofs.Common.{refl}
-use Rattle.scan_core.proofs.Landed.{enters_if}
+use Rattle.scan_core.proofs.Closings.{enters_if}
 use Rattle.scan_core.proofs.words.enter_if.Goals as goal
 
 pub returns-clause-exact : goal.returns-clause-exact

@@ -1,4 +1,4 @@
-use Rattle.scan_core.proofs.Bits.{has_tests}
+use Rattle.scan_core.proofs.Insides.{has_tests}
 use Rattle.scan_core.proofs.words.has.Goals as goal
 
 pub returns : goal.returns

@@ -1,6 +1,6 @@
 use Rattle.std.proofs.Common.{sym, ◌∙◌}
 use Rattle.std.proofs.lemmas.Bool.{false≢true}
-use Rattle.scan_core.proofs.Growings.{grows_closed, grows_way}
+use Rattle.scan_core.proofs.Insides.{grows_closed, grows_way}
 use Rattle.scan_core.proofs.words.lead.Goals as goal
 
 pub returns-then-not-is_open : goal.returns-then-not-is_open

@@ -1,7 +1,6 @@
 use Rattle.std.proofs.Common.{◌<◌, ◌+◌, ◌*◌, ◌^◌, length, refl, arith, rules, slice_index_or}
 use Rattle.std.proofs.lemmas.Nat.{and_le_l}
-use Rattle.scan_core.proofs.Masking.{takes_word}
-use Rattle.scan_core.proofs.Passings.{passing_more, passing_ends}
+use Rattle.scan_core.proofs.Countings.{takes_word, passing_more, passing_ends}
 use Rattle.scan_core.proofs.words.pass.Goals as goal
 
 pub loop-at-preserved : goal.loop-at-preserved

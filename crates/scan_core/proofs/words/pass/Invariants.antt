@@ -1,4 +1,4 @@
-use Rattle.scan_core.proofs.Passings.{Passing}
+use Rattle.scan_core.proofs.Countings.{Passing}
 use Rattle.scan_core.proofs.words.pass.Given as goal
 
 abbrev pub invariant-loop-at : goal.invariant-loop-at

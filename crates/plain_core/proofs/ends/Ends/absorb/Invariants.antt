@@ -1,5 +1,5 @@
 use Rattle.std.proofs.Common.{◌≡◌, length}
-use Rattle.plain_core.proofs.Places.{Absorbed}
+use Rattle.plain_core.proofs.Exactness.{Absorbed}
 use Rattle.plain_core.proofs.ends.Ends.absorb.Given as goal
 
 abbrev pub invariant-loop-i : goal.invariant-loop-i

@@ -2,7 +2,7 @@ use Rattle.std.proofs.Common.{arith, refl, ◌≡◌, subst}
 use Rattle.std.proofs.lemmas.Result.{IfOk-weaker}
 use Rattle.plain_core.specs.inner.Spans.{AreRepeated, StandAfter}
 use Rattle.plain_core.specs.declared.ends.Times.TheVariants.{AnyTimes}
-use Rattle.plain_core.proofs.Repeats.{RunsAre, runs_once, runs_more, runs_unbounded, no_bound}
+use Rattle.plain_core.proofs.Exactness.{RunsAre, runs_once, runs_more, runs_unbounded, no_bound}
 use Rattle.plain_core.proofs.spans.Spans.repeated.Goals as goal
 
 pub loop-count-preserved : goal.loop-count-preserved

@@ -1,5 +1,5 @@
 use Rattle.std.proofs.Common.{◌≤◌}
-use Rattle.plain_core.proofs.Repeats.{RunsAre}
+use Rattle.plain_core.proofs.Exactness.{RunsAre}
 use Rattle.plain_core.proofs.spans.Spans.repeated.Given as goal
 
 abbrev pub invariant-loop-count : goal.invariant-loop-count

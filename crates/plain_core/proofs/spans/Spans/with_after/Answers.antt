@@ -1,7 +1,6 @@
 use Rattle.std.proofs.Common.{arith, subst}
 use Rattle.plain_core.specs.inner.Spans.{AreSpans}
-use Rattle.plain_core.proofs.Places.{rows_whole}
-use Rattle.plain_core.proofs.Reach.{after_forward}
+use Rattle.plain_core.proofs.Exactness.{rows_whole, after_forward}
 use Rattle.plain_core.proofs.spans.Spans.with_after.Goals as goal
 
 pub invariant_of-result : goal.invariant_of-result

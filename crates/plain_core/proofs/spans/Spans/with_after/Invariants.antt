@@ -1,6 +1,6 @@
 use Rattle.std.proofs.Common.{◌≡◌, length}
 use Rattle.plain_core.specs.inner.Spans.{EndsAfter, ends_from}
-use Rattle.plain_core.proofs.Places.{RowsAre}
+use Rattle.plain_core.proofs.Exactness.{RowsAre}
 use Rattle.plain_core.proofs.spans.Spans.with_after.Given as goal
 
 abbrev pub invariant-loop-from : goal.invariant-loop-from

@@ -4,7 +4,7 @@ use Rattle.bre_core.specs.declared.fault.BreFault.{BreFault}
 use Rattle.bre_core.specs.declared.fault.BreFault.TheVariants.{Memory, TooLarge}
 use Rattle.bre_core.specs.Pattern.{Pattern}
 use Rattle.scan_core.specs.inner.Sets.{IsCode}
-use Rattle.scan_core.proofs.Whole.{is_code, enough_room}
+use Rattle.scan_core.proofs.Codes.{is_code, enough_room}
 use Rattle.scan_core.proofs.bre.Bre.read.Goals as goal
 
 no_fault : {bre : Pattern} → IsErrOf {T = Pattern} {E = BreFault} (Ok bre) TooLarge → ⊥

@@ -2,7 +2,7 @@ use Rattle.std.proofs.Common.{rules, ◌+◌, ◌/◌, ◌≤◌, length, sym, a
 use Rattle.bre_core.specs.Pattern.{positions_of}
 use Rattle.std.proofs.lemmas.List.{length-take}
 use Rattle.scan_core.specs.inner.Sets.{IsCode}
-use Rattle.scan_core.proofs.Whole.{is_code, enough_room}
+use Rattle.scan_core.proofs.Codes.{is_code, enough_room}
 use Rattle.scan_core.proofs.bre.Bre.search.Goals as goal
 
 pub slice_bounds-search-end : goal.slice_bounds-search-end

@@ -3,7 +3,7 @@ use Rattle.std.proofs.lemmas.Bool.{false≢true}
 use Rattle.std.proofs.lemmas.List.{with_items_is}
 use Rattle.scan_core.specs.inner.Built.{Built}
 use Rattle.scan_core.specs.inner.Words.{IsIn, flags_of, width}
-use Rattle.scan_core.proofs.Tables.{front_built}
+use Rattle.scan_core.proofs.Searchings.{front_built}
 use Rattle.scan_core.proofs.build.Building.begin.Goals as goal
 
 pub returns-clause-ok : goal.returns-clause-ok
@@ -18,4 +18,5 @@ returns-clause-ok c =
       built = subst (Built c.args.nodes.now 0 c.push.new.self.items) (sym c.new.ensures.items) (front_built c.begin.new.words size c.begin.ensures.exact none sets);
       room = let l = ap length sets in omega (arith, l, c.requires.most);
       size = ap length whole ∙ size;
+      order = omega arith;
     }

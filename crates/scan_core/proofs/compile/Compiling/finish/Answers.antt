@@ -1,6 +1,6 @@
 use Rattle.std.proofs.Common.{ap, ◌∙◌, subst}
 use Rattle.scan_core.specs.inner.Compiling.{Finishes}
-use Rattle.scan_core.proofs.Finishing.{begun_wider, finish_more, finish_ends, popped_begun}
+use Rattle.scan_core.proofs.Compiled.{begun_wider, finish_more, finish_ends, popped_begun}
 use Rattle.scan_core.proofs.compile.Compiling.finish.Goals as goal
 
 pub write_out-requires : goal.write_out-requires

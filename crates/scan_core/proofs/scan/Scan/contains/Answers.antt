@@ -1,6 +1,6 @@
 use Rattle.std.proofs.Common.{arith}
 use Rattle.std.proofs.lemmas.Grind.{common_steps}
-use Rattle.scan_core.proofs.Whole.{found_contains}
+use Rattle.scan_core.proofs.Codes.{found_contains}
 use Rattle.scan_core.proofs.scan.Scan.contains.Goals as goal
 
 pub returns-in-Some-clause-exact : goal.returns-in-Some-clause-exact

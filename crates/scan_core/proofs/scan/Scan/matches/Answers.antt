@@ -1,6 +1,6 @@
 use Rattle.std.proofs.Common.{◌+◌, length, arith}
 use Rattle.std.proofs.lemmas.Grind.{common_steps}
-use Rattle.scan_core.proofs.Whole.{found_contains, bound_of}
+use Rattle.scan_core.proofs.Codes.{found_contains, bound_of}
 use Rattle.scan_core.proofs.scan.Scan.matches.Goals as goal
 
 pub returns-clause-exact : goal.returns-clause-exact
