@@ -23,12 +23,7 @@ use Rattle.ports_core.specs.declared.fault.Fault.{Fault}
 use Rattle.csplit_core.specs.Input.{newline, without_newline, marked, all_lines, is_match_of}
 use Rattle.csplit_core.specs.declared.line_cutter.Cut.{Cut}
 use Rattle.csplit_core.specs.Cutter.{CutterState, state_in, most_by, pattern_by, suppress_in, IsFit, pattern_in, AimHolds, IsLive, EndsNow}
-<<<<<<< HEAD
-use Rattle.csplit_core.specs.inner.Cutter.{WillCut, PassesOn, WentOn, PassesCut, IsWhole, IsLine, Joins, Looked, IsFound, IsNoCut, search_after, StaysNear, Tries, TriesNext}
 use Rattle.ports_core.specs.inner.Part.{fault_in}
-=======
-use Rattle.csplit_core.specs.inner.Writer.{fault_in}
->>>>>>> c9f6484327ea8c5b59f882dbf7b847b7c332e827
 use Rattle.ports_core.specs.declared.fault.Fault.TheVariants.{Memory}
 use Rattle.bre_core.specs.Search.{contains}
 use Rattle.seg_core.specs.Line.{line_count}

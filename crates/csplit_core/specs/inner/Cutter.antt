@@ -23,14 +23,8 @@ use Rattle.csplit_core.specs.Planned.{plan}
 use Rattle.csplit_core.specs.inner.PlanLaws.{needed}
 use Rattle.csplit_core.specs.Section.{is_final}
 use Rattle.csplit_core.specs.Writer.{OwnsFiles, IsReady, size_of}
-<<<<<<< HEAD
 use Rattle.csplit_core.specs.inner.Writer.{BegunNot, Leaves, Reaches, new_writer}
 use Rattle.ports_core.specs.inner.Part.{fault_in}
-use Rattle.csplit_core.specs.declared.progress.Turn.{Turn}
-use Rattle.csplit_core.specs.declared.progress.Turn.TheVariants.{UsedUp, Missed, Above, Below, Cuts}
-=======
-use Rattle.csplit_core.specs.inner.Writer.{BegunNot, Leaves, Reaches, fault_in, new_writer}
->>>>>>> c9f6484327ea8c5b59f882dbf7b847b7c332e827
 use Rattle.csplit_core.specs.declared.line_cutter.Cut.{Cut}
 use Rattle.csplit_core.specs.declared.line_cutter.LineCutter.{LineCutter}
 use Rattle.csplit_core.specs.declared.line_cutter.Passed.{Passed}
