@@ -1,18 +1,15 @@
 -- Delimiters that are counted from the end of a text.
-use Rattle.std.proofs.Common.{◌≡◌, ℕ, ◌+◌, ◌-◌, ◌<◌, ◌≤◌, Bool, true, false, cond, eqb, List, [], ◌∷◌, length, take, drop, get_or, refl, sym, ap, ◌∙◌, arith}
+use Rattle.std.proofs.lemmas.Grind.{common_steps}
+use Rattle.std.proofs.Common.{◌≡◌, ℕ, ◌+◌, ◌-◌, ◌<◌, ◌≤◌, Bool, true, false, eqb, List, [], ◌∷◌, length, take, drop, get_or, refl, arith, rules}
 use Rattle.std.proofs.lemmas.List.{take_more, drop-drop}
 use mir.Val.{bool_byte}
-use Rattle.seg_core.specs.Line.{delimiters, ends_with, BeginsAt}
+use Rattle.seg_core.specs.Line.{delimiters, BeginsAt}
 use Rattle.seg_core.proofs.Delimiters.{delimiters-take-drop}
 use Rattle.seg_core.proofs.LineCounts.{ends_with-append}
 
-as_number : (is_delim : Bool) → bool_byte is_delim ≡ cond is_delim (0 + 1) 0
-as_number true = refl
-as_number false = refl
-
 -- what is added for a byte is its delimiters
 pub added : (delim byte n : ℕ) → n ≡ bool_byte (eqb byte delim) → n ≡ delimiters delim (byte ∷ [])
-added delim byte n is = is ∙ as_number (eqb byte delim)
+added delim byte n is = search rules
 
 is_one : (is_delim : Bool) → 0 < bool_byte is_delim → is_delim ≡ true
 is_one true some = refl
@@ -25,21 +22,8 @@ at_most_one false = omega arith
 
 -- the byte that brings the count to n is a delimiter
 pub begins_after : {delim : ℕ} {x : List ℕ} (i : ℕ) {n seen : ℕ} (one : ℕ) → i < length x → seen ≡ delimiters delim (drop (i + 1) x) → one ≡ bool_byte (eqb (get_or x i 0) delim) → seen < n → seen + one ≡ n → BeginsAt delim n x (i + 1)
-begins_after {delim} {x} i one here so_far is fewer full =
-    let most = at_most_one (eqb (get_or x i 0) delim) in
-    let yes_it_is : eqb (get_or x i 0) delim ≡ true = is_one (eqb (get_or x i 0) delim) (omega arith) in
-    record {
-      within = omega arith;
-      after = ap (ends_with delim) (take_more x i 0 here) ∙ ends_with-append delim (take i x) (get_or x i 0 ∷ []) (omega arith) ∙ yes_it_is;
-      counted = omega arith;
-    }
+begins_after {delim} {x} i one here so_far is fewer full = grind (arith, common_steps, at_most_one, is_one, take_more, ends_with-append)
 
 -- the delimiters of a stretch that ends at `end`, and those after it
 pub stretch_back : (delim : ℕ) (x : List ℕ) (end width : ℕ) {n : ℕ} (more : ℕ) → width ≤ end → n ≡ delimiters delim (drop end x) → more ≡ delimiters delim (take (end - (end - width)) (drop (end - width) x)) → n + more ≡ delimiters delim (drop (end - width) x)
-stretch_back delim x end width more fits so_far is =
-    let all : end - (end - width) ≡ width = omega arith in
-    let at : end - width + width ≡ end = omega arith in
-    let here = is ∙ ap (λ k. delimiters delim (take k (drop (end - width) x))) all in
-    let after = so_far ∙ ap (λ k. delimiters delim (drop k x)) (sym at) ∙ ap (delimiters delim) (sym (drop-drop width (end - width) x)) in
-    let both = delimiters-take-drop delim width (drop (end - width) x) in
-    omega arith
+stretch_back delim x end width more fits so_far is = grind (arith, common_steps, drop-drop, delimiters-take-drop)

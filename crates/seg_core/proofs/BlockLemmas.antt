@@ -1,7 +1,7 @@
 -- A text in blocks.
-use Rattle.std.proofs.Common.{rules, ◌≡◌, ℕ, zero, suc, ◌+◌, ◌-◌, ◌^◌, ◌<◌, ◌≤◌, List, [], ◌∷◌, ◌++◌, length, take, drop, get_or, set, refl, sym, ap, subst, ◌∙◌, arith}
+use Rattle.std.proofs.Common.{◌≡◌, ℕ, zero, suc, ◌+◌, ◌-◌, ◌^◌, ◌<◌, ◌≤◌, List, [], ◌∷◌, ◌++◌, length, take, drop, get_or, set, refl, sym, ap, subst, ◌∙◌, arith}
 use Rattle.std.proofs.lemmas.List.{append-nil, append_assoc, length-append, length-drop, drop-drop, take-append-drop, take_at, drop_at}
-use Rattle.std.proofs.lemmas.List.Elements.{All-get_or, All-set, All-cons, All-take, All-drop}
+use Rattle.std.proofs.lemmas.List.Elements.{All-set, All-cons, All-take, All-drop}
 use Rattle.std.proofs.Math.Seq.{drop-append-add, take-append-add}
 use Rattle.seg_core.specs.Line.{delimiters, ends_with, first_lines, line_count, after_lines, last_lines, but_last_lines}
 use Rattle.seg_core.specs.Blocks.{BlockState, text_of, HasCount, HaveCounts, IsCounted}
@@ -28,7 +28,7 @@ text_push blocks block rest = simp (text_of-append, append-nil, append_assoc)
 
 -- bytes appended to those of the last block
 pub text_set : (blocks : List BlockState) (n : ℕ) {last : BlockState} (new : BlockState) (part : List ℕ) → n + 1 ≡ length blocks → last ≡ get_or blocks n last → new.bytes ≡ last.bytes ++ part → text_of (set blocks n new) ≡ text_of blocks ++ part
-text_set (block ∷ []) zero new part is was now = cc (append-nil new.bytes, append-nil block.bytes)
+text_set (block ∷ []) zero new part is was now = grind (arith, common_steps)
 text_set (block ∷ next ∷ blocks) (suc n) new part is was now =
     ap (λ x. block.bytes ++ x) (text_set (next ∷ blocks) n new part (omega arith) was now) ∙ sym (append_assoc block.bytes (text_of (next ∷ blocks)) part)
 text_set blocks n new part is was now = absurd (omega arith)
@@ -47,7 +47,7 @@ ends_in delim blocks i {block} here is none some =
 
 -- the count of the i-th block
 pub counted_at : (delim : ℕ) (blocks : List BlockState) (i : ℕ) {block : BlockState} → i < length blocks → block ≡ get_or blocks i block → HaveCounts delim blocks → block.count ≡ delimiters delim block.bytes
-counted_at delim blocks i {block} here is each = subst (HasCount delim) (sym is) (All-get_or (HasCount delim) blocks i block here each)
+counted_at delim blocks i {block} here is each = grind (arith, common_steps)
 
 -- the count of all blocks
 pub all_counted : (delim : ℕ) (blocks : List BlockState) → HaveCounts delim blocks → count_of blocks ≡ delimiters delim (text_of blocks)
@@ -61,25 +61,15 @@ all_counted delim (block ∷ blocks) each =
 -- the counts stay right, once bytes went at the front of the first block, and once some came to the last
 pub dropped_counts : (delim n : ℕ) {gone : ℕ} (blocks : List BlockState) {first new : BlockState} → 0 < length blocks → first ≡ get_or blocks 0 first → new ≡ record { bytes = drop n first.bytes; count = first.count - gone } → gone ≡ delimiters delim (take n first.bytes) → HaveCounts delim blocks
     → HaveCounts delim (set blocks 0 new)
-dropped_counts delim n {gone} blocks {first} {new} some is now of each =
-    let here = counted_at delim blocks 0 some is each in
-    let cut = delimiters-take-drop delim n first.bytes in
-    let left : first.count - gone ≡ delimiters delim (drop n first.bytes) = omega arith in
-    All-set (HasCount delim) blocks 0 new (subst (HasCount delim) (sym now) left) each
+dropped_counts delim n {gone} blocks {first} {new} some is now of each = grind (arith, common_steps, counted_at, delimiters-take-drop, All-set)
 
 pub grown_counts : (delim n more : ℕ) (blocks : List BlockState) {last new : BlockState} (part : List ℕ) → n + 1 ≡ length blocks → last ≡ get_or blocks n last → new ≡ record { bytes = last.bytes ++ part; count = last.count + more } → more ≡ delimiters delim part → HaveCounts delim blocks
     → HaveCounts delim (set blocks n new)
-grown_counts delim n more blocks {last} {new} part at is now of each =
-    let here = counted_at delim blocks n (omega arith) is each in
-    let both = delimiters-append delim last.bytes part in
-    let all : last.count + more ≡ delimiters delim (last.bytes ++ part) = omega arith in
-    All-set (HasCount delim) blocks n new (subst (HasCount delim) (sym now) all) each
+grown_counts delim n more blocks {last} {new} part at is now of each = grind (arith, common_steps, counted_at, delimiters-append, All-set)
 
 -- a block stands before a text, and the lines end after the block
 pub lines_pass : (delim n : ℕ) (block rest : List ℕ) → delimiters delim block < n → length (first_lines delim n (block ++ rest)) ≡ length block + length (first_lines delim (n - delimiters delim block) rest)
-lines_pass delim n block rest fewer =
-    ap length (first_lines-append delim n block rest ∙ ap (λ x. x ++ first_lines delim (n - delimiters delim block) rest) (first_lines-short delim n block fewer))
-    ∙ length-append block (first_lines delim (n - delimiters delim block) rest)
+lines_pass delim n block rest fewer = grind (arith, common_steps, first_lines-append, first_lines-short, length-append)
 
 -- the first block goes too
 pub first_goes : {n : ℕ} {blocks : List BlockState} {first : BlockState} (left : List BlockState) {rest : List BlockState} {bytes count : ℕ} (long more : ℕ) → 0 < length left
@@ -99,7 +89,7 @@ first_goes {first} (block ∷ left) long more some is fits so_far after long_is 
 
 first_few : (blocks : List BlockState) {first : BlockState} → 0 < length blocks → first ≡ get_or blocks 0 first → first.count ≤ count_of blocks
 first_few [] some is = absurd (omega arith)
-first_few (block ∷ blocks) some is = let same = ap (λ (b : BlockState). b.count) is in omega arith
+first_few (block ∷ blocks) some is = grind (arith, common_steps)
 
 -- the count so far and that of the first block are no more than that of all blocks
 pub gone_fits : {n : ℕ} {blocks : List BlockState} {first : BlockState} {left : List BlockState} {bytes count : ℕ} → 0 < length left → first ≡ get_or left 0 first → Gone n blocks left bytes count → count + first.count ≤ count_of blocks
@@ -135,33 +125,15 @@ rest_counted delim {n} {blocks} {left} {bytes} so_far each =
 pub part_counted : (delim : ℕ) (x : List ℕ) (start n : ℕ) {count part : ℕ} → count ≡ delimiters delim (drop start x) → part ≡ delimiters delim (take n (drop start x)) → part + delimiters delim (drop (start + n) x) ≡ count
 part_counted delim x start n is of = omega (arith, delimiters-take-drop delim n (drop start x), ap (delimiters delim) (drop-drop n start x))
 
--- bytes after those of a block of which the front has left
-pub block_grows : (x part : List ℕ) {new : List ℕ} (start count more : ℕ) → start ≤ length x → count ≤ length (drop start x) → more ≤ length part → new ≡ x ++ part
-    → (start ≤ length new) × (count + more ≤ length (drop start new))
-block_grows x part {new} start count more within few no_more grown = grind (arith, common_steps)
-
 -- what a window knows of its blocks, once bytes go at the front
 pub counted_drop : {delim most : ℕ} (n : ℕ) {blocks new : List BlockState} {len count gone : ℕ} → IsCounted delim most blocks len count → n ≤ length (text_of blocks) → text_of new ≡ drop n (text_of blocks) → gone ≡ delimiters delim (take n (text_of blocks)) → HaveCounts delim new
     → IsCounted delim most new (len - n) (count - gone)
-counted_drop {delim} n {blocks} so_far within left is each =
-    let text = text_of blocks in
-    let fewer = line_count-drop delim n text in
-    let same = ap (line_count delim) left in
-    let short = ap length left ∙ length-drop n text in
-    let cut = delimiters-take-drop delim n text in
-    let rest = ap (delimiters delim) left in
-    record { few = omega arith; fits = omega arith; long = omega arith; counted = omega arith; each = each }
+counted_drop {delim} n {blocks} so_far within left is each = grind (arith, common_steps, line_count-drop, length-drop, delimiters-take-drop)
 
 -- and once a piece is appended
 pub counted_put : {delim most : ℕ} {blocks new : List BlockState} (piece : List ℕ) {len count : ℕ} (more : ℕ) → IsCounted delim most blocks len count → len + length piece < 2 ^ 63 → but_last_lines delim most (text_of blocks ++ piece) ≡ [] → text_of new ≡ text_of blocks ++ piece → more ≡ delimiters delim piece → HaveCounts delim new
     → IsCounted delim most new (len + length piece) (count + more)
-counted_put {delim} {most} {blocks} piece more so_far fits within grown is each =
-    let text = text_of blocks in
-    let few = few_from_nothing delim most (text ++ piece) within in
-    let same = ap (line_count delim) grown in
-    let all = ap length grown ∙ length-append text piece in
-    let both = ap (delimiters delim) grown ∙ delimiters-append delim text piece in
-    record { few = omega arith; fits = omega arith; long = omega arith; counted = omega arith; each = each }
+counted_put {delim} {most} {blocks} piece more so_far fits within grown is each = grind (arith, common_steps, few_from_nothing, length-append, delimiters-append)
 
 -- and once what is left of a block of bytes is put at the front
 pub counted_front : {delim most : ℕ} {blocks new : List BlockState} (front : BlockState) (bytes : List ℕ) {len count : ℕ} (long more : ℕ)
@@ -189,8 +161,3 @@ extended {old} filled fresh near {far} all fill_is of same split = cc (text_of-a
 -- the delimiters of a text in two parts
 pub split_counted : (delim : ℕ) {text : List ℕ} (near far : List ℕ) {count : ℕ} → count ≡ delimiters delim text → text ≡ near ++ far → count ≡ delimiters delim near + delimiters delim far
 split_counted delim near far is split = is ∙ ap (delimiters delim) split ∙ delimiters-append delim near far
-
--- all of a text is in blocks
-pub none_left : {held : List ℕ} (left : List ℕ) {text : List ℕ} → length left ≡ 0 → held ++ left ≡ text → held ≡ text
-none_left {held} [] none whole = sym (append-nil held) ∙ whole
-none_left (byte ∷ left) none whole = search rules

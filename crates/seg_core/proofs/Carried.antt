@@ -1,16 +1,16 @@
 -- The last lines of a text that goes on: what stood before them is never needed again.
+use Rattle.std.proofs.lemmas.Grind.{common_steps}
 use Rattle.std.proofs.Common.{◌≡◌, ℕ, ◌+◌, ◌-◌, ◌≤◌, min, List, [], ◌++◌, length, drop, sym, ap, ◌∙◌, arith}
 use Rattle.std.proofs.lemmas.List.{length-append, length-drop, drop-append-le}
 use Rattle.std.proofs.Math.Seq.{drop-append-add}
-use Rattle.seg_core.specs.Line.{lines_of, line_count, last_lines, but_last_lines}
+use Rattle.seg_core.specs.Line.{line_count, last_lines, but_last_lines}
 use Rattle.seg_core.proofs.FirstLines.{length-first_lines-le, after_lines-is_drop}
 use Rattle.seg_core.proofs.FirstLines.{lines_of-after_lines}
 use Rattle.seg_core.proofs.LastLines.{but_last_lines-few}
 
 -- the last n lines are n lines, or all there are
 pub line_count-last : (delim n : ℕ) (x : List ℕ) → line_count delim (last_lines delim n x) ≡ min n (line_count delim x)
-line_count-last delim n x =
-    omega (arith, ap length (lines_of-after_lines delim (line_count delim x - n) x) ∙ length-drop (line_count delim x - n) (lines_of delim x))
+line_count-last delim n x = grind (arith, common_steps, lines_of-after_lines, length-drop)
 
 -- they are the end of the text
 pub last_lines-is_drop : (delim n : ℕ) (x : List ℕ) → drop (length (but_last_lines delim n x)) x ≡ last_lines delim n x
@@ -27,8 +27,7 @@ left_after delim n held piece over is within =
 
 -- or the end of the piece alone
 pub left_alone : (delim n : ℕ) (held piece : List ℕ) (over more : ℕ) → over ≡ length (but_last_lines delim n (held ++ piece)) → over ≡ length held + more → drop more piece ≡ last_lines delim n (held ++ piece)
-left_alone delim n held piece over more is beyond =
-    sym (drop-append-add held piece more) ∙ ap (λ k. drop k (held ++ piece)) (sym beyond ∙ is) ∙ last_lines-is_drop delim n (held ++ piece)
+left_alone delim n held piece over more is beyond = grind (arith, common_steps, drop-append-add, last_lines-is_drop)
 
 -- so it has room for the piece, or for the end of the piece, once what is over has left at the front
 pub fits_after : (delim n : ℕ) (held piece : List ℕ) (over : ℕ) → over ≡ length (but_last_lines delim n (held ++ piece)) → over ≤ length held → but_last_lines delim n (drop over held ++ piece) ≡ []
@@ -38,4 +37,4 @@ pub fits_alone : (delim n : ℕ) (held piece : List ℕ) (over more : ℕ) → o
 fits_alone delim n held piece over more is beyond = ap (but_last_lines delim n) (left_alone delim n held piece over more is beyond) ∙ but_last_lines-last delim n (held ++ piece)
 
 pub over-le-length : (delim n : ℕ) (held piece : List ℕ) → length (but_last_lines delim n (held ++ piece)) ≤ length held + length piece
-over-le-length delim n held piece = omega (arith, length-first_lines-le delim (line_count delim (held ++ piece) - n) (held ++ piece), length-append held piece)
+over-le-length delim n held piece = grind (arith, common_steps, length-first_lines-le, length-append)

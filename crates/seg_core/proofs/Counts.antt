@@ -1,9 +1,10 @@
 -- What a text writes as a count or as a number, from how its parts were read.
-use Rattle.std.proofs.Common.{rules, ◌≡◌, ℕ, suc, ◌+◌, ◌-◌, ◌*◌, ◌^◌, ◌<◌, ◌≤◌, ◌⊎◌, min, Bool, true, false, cond, leb, ltb, ◌&&◌, List, [], ◌∷◌, Option, Ok, Err, length, take, drop, refl, sym, ap, ◌∙◌, arith}
+use Rattle.std.proofs.lemmas.Grind.{common_steps}
+use Rattle.std.proofs.Common.{rules, ◌≡◌, ℕ, suc, ◌+◌, ◌-◌, ◌*◌, ◌^◌, ◌<◌, ◌≤◌, ◌⊎◌, min, Bool, true, false, cond, leb, ltb, ◌&&◌, List, [], ◌∷◌, Option, Ok, Err, length, take, drop, refl, ap, arith}
 use Rattle.std.specs.List.{prefix_len, list_all}
 use Rattle.std.specs.Char.{is_ascii_digit}
 use Rattle.std.proofs.lemmas.Bool.{le-leb, lt-leb, lt-ltb, and_from, and_right}
-use Rattle.std.proofs.lemmas.List.{take_all, take_rest}
+use Rattle.std.proofs.lemmas.List.{take_rest}
 use Rattle.std.proofs.lemmas.List.Folds.{list_all_at}
 use Rattle.std.proofs.lemmas.List.Sums.{prefix_len-le-length, prefix_len_stops}
 use Rattle.seg_core.specs.declared.count.Sign.{Sign}
@@ -12,7 +13,7 @@ use Rattle.seg_core.specs.Count.{value_of, factor_of, greatest, sign_of, after_s
 
 pub count_of-parts : (text : List ℕ) {sign : Sign} {rest : List ℕ} → sign ≡ sign_of text → rest ≡ after_sign text → count_of text ≡ unsigned sign rest
 unfolding count_of
-count_of-parts text {rest} a b = sym (ap (λ s. unsigned s rest) a ∙ ap (unsigned (sign_of text)) b)
+count_of-parts text {rest} a b = grind (arith, common_steps)
 
 pub unsigned-none : (sign : Sign) (rest : List ℕ) (end : ℕ) → end ≡ prefix_len is_ascii_digit rest → end ≡ 0 → unsigned sign rest ≡ Err NoDigits
 unsigned-none sign rest end is none = search rules
@@ -24,9 +25,7 @@ unsigned-some sign rest end is some = search rules
 pub count_of-scaled : (text : List ℕ) {sign : Sign} {rest : List ℕ} (end : ℕ) {found : Option ℕ}
     → sign ≡ sign_of text → rest ≡ after_sign text → end ≡ prefix_len is_ascii_digit rest → (end ≡ 0 → ⊥) → found ≡ factor_of (take (length rest - end) (drop end rest))
     → count_of text ≡ scaled sign (take end rest) found
-count_of-scaled text {sign} {rest} end a b is some looked_up =
-    count_of-parts text a b ∙ unsigned-some sign rest end is some ∙ ap (λ suffix. scaled sign (take end rest) (factor_of suffix)) (sym (take_rest rest end))
-    ∙ ap (scaled sign (take end rest)) (sym looked_up)
+count_of-scaled text {sign} {rest} end a b is some looked_up = grind (arith, common_steps, count_of-parts, unsigned-some, take_rest)
 
 -- what the code reads: the value and the amount held at the greatest u64
 pub sized-ok : {sign : Sign} (value factor : ℕ) {held amount : ℕ} → held ≡ min value (2 ^ 64 - 1) → amount ≡ min (held * factor) (2 ^ 64 - 1) → 1 ≤ factor → amount ≤ greatest
@@ -58,24 +57,15 @@ digits_of-none (byte ∷ text) end is either =
 pub digits_of-some : (text : List ℕ) (end : ℕ) → end ≡ prefix_len is_ascii_digit text → (end ≡ 0 → ⊥) → length text ≤ end
     → digits_of text ≡ cond (leb (value_of text) greatest) (Ok (value_of text)) (Err TooLarge)
 unfolding digits_of
-digits_of-some text end is some whole =
-    let all : prefix_len is_ascii_digit text ≡ length text = let le = prefix_len-le-length is_ascii_digit text in omega arith in
-    let long : 0 < length text = omega arith in
-    ap (λ (c : Bool). cond c (cond (leb (value_of text) greatest) (Ok (value_of text)) (Err TooLarge)) (Err NoDigits))
-    (and_from (ltb 0 (length text)) (list_all is_ascii_digit text) (lt-ltb 0 (length text) long) (all_digits text all))
+digits_of-some text end is some whole = grind (arith, common_steps, prefix_len-le-length, and_from, lt-ltb, all_digits)
 
 held_whole : (text : List ℕ) (end : ℕ) {held : ℕ} → length text ≤ end → held ≡ min (value_of (take end text)) (2 ^ 64 - 1) → held ≡ min (value_of text) (2 ^ 64 - 1)
-held_whole text end whole h = h ∙ ap (λ x. min (value_of x) (2 ^ 64 - 1)) (take_all end text whole)
+held_whole text end whole h = grind (arith, common_steps)
 
 pub digits_of-ok : (text : List ℕ) (end : ℕ) {held : ℕ} → end ≡ prefix_len is_ascii_digit text → (end ≡ 0 → ⊥) → length text ≤ end → held ≡ min (value_of (take end text)) (2 ^ 64 - 1) → held ≤ greatest
     → digits_of text ≡ Ok held
-digits_of-ok text end {held} is some whole h fits =
-    let exact : value_of text ≡ held = omega (arith, held_whole text end whole h) in
-    digits_of-some text end is some whole ∙ ap (λ n. cond (leb n greatest) (Ok n) (Err TooLarge)) exact
-    ∙ ap (λ (c : Bool). cond c (Ok held) (Err TooLarge)) (le-leb held greatest fits)
+digits_of-ok text end {held} is some whole h fits = grind (arith, common_steps, held_whole, digits_of-some, le-leb)
 
 pub digits_of-too_large : (text : List ℕ) (end : ℕ) {held : ℕ} → end ≡ prefix_len is_ascii_digit text → (end ≡ 0 → ⊥) → length text ≤ end → held ≡ min (value_of (take end text)) (2 ^ 64 - 1) → greatest < held
     → digits_of text ≡ Err TooLarge
-digits_of-too_large text end is some whole h above =
-    let over : greatest < value_of text = omega (arith, held_whole text end whole h) in
-    digits_of-some text end is some whole ∙ ap (λ (c : Bool). cond c (Ok (value_of text)) (Err TooLarge)) (lt-leb (value_of text) greatest over)
+digits_of-too_large text end is some whole h above = grind (arith, common_steps, held_whole, digits_of-some, lt-leb)

@@ -1,4 +1,5 @@
 -- How many delimiters a text has.
+use Rattle.std.proofs.lemmas.Grind.{common_steps}
 use Rattle.std.proofs.Common.{◌≡◌, ◌≢◌, ℕ, ◌+◌, ◌-◌, ◌<◌, ◌≤◌, Bool, true, false, cond, eqb, List, [], ◌∷◌, ◌++◌, length, take, drop, get_or, sym, ap, ◌∙◌, arith}
 use Rattle.std.proofs.lemmas.List.{take_more, take-append-drop}
 use Rattle.std.proofs.Math.Seq.{take-add}
@@ -31,21 +32,17 @@ pub delimiters_more : (delim : ℕ) (x : List ℕ) (i : ℕ) → i < length x �
 delimiters_more delim x i h = ap (delimiters delim) (take_more x i 0 h) ∙ delimiters-append delim (take i x) (get_or x i 0 ∷ [])
 
 pub delimiters-one_yes : (delim byte : ℕ) → eqb byte delim ≡ true → delimiters delim (byte ∷ []) ≡ 1
-delimiters-one_yes delim byte e = ap (λ (c : Bool). cond c (0 + 1) 0) e
+delimiters-one_yes delim byte e = cc
 
 pub delimiters-one_no : (delim byte : ℕ) → eqb byte delim ≡ false → delimiters delim (byte ∷ []) ≡ 0
-delimiters-one_no delim byte e = ap (λ (c : Bool). cond c (0 + 1) 0) e
+delimiters-one_no delim byte e = cc
 
 pub delimiters-take-add : (delim i k : ℕ) (x : List ℕ) → delimiters delim (take (i + k) x) ≡ delimiters delim (take i x) + delimiters delim (take k (drop i x))
 delimiters-take-add delim i k x = ap (delimiters delim) (take-add i k x) ∙ delimiters-append delim (take i x) (take k (drop i x))
 
 -- a count that goes on by a stretch
 pub count_stretch : (delim : ℕ) (x : List ℕ) (at width : ℕ) {n : ℕ} (more : ℕ) → n ≡ delimiters delim (take at x) → more ≡ delimiters delim (take (at + width - at) (drop at x)) → n + more ≡ delimiters delim (take (at + width) x)
-count_stretch delim x at width more so_far is =
-    let all : at + width - at ≡ width = omega arith in
-    let here = is ∙ ap (λ k. delimiters delim (take k (drop at x))) all in
-    let both = delimiters-take-add delim at width x in
-    omega arith
+count_stretch delim x at width more so_far is = grind (arith, common_steps, delimiters-take-add)
 
 -- a count that goes on by one byte
 pub count_more : (delim : ℕ) (x : List ℕ) (i : ℕ) {n : ℕ} (one : ℕ) → n ≡ delimiters delim (take i x) → i < length x → one ≡ delimiters delim (get_or x i 0 ∷ []) → n + one ≡ delimiters delim (take (i + 1) x)
@@ -53,8 +50,7 @@ count_more delim x i one so_far h here = let more = delimiters_more delim x i h 
 
 -- a count that goes on byte by byte
 pub count_yes : {delim : ℕ} (x : List ℕ) (i : ℕ) {n : ℕ} → n ≡ delimiters delim (take i x) → i < length x → get_or x i 0 ≡ delim → n + 1 ≡ delimiters delim (take (i + 1) x)
-count_yes {delim} x i so_far h here = count_more delim x i 1 so_far h (sym (delimiters-one_yes delim (get_or x i 0) (eq-eqb (get_or x i 0) delim here)))
+count_yes {delim} x i so_far h here = grind (arith, common_steps, count_more, delimiters-one_yes, eq-eqb)
 
 pub count_no : (delim : ℕ) (x : List ℕ) (i : ℕ) {n : ℕ} → n ≡ delimiters delim (take i x) → i < length x → get_or x i 0 ≢ delim → n ≡ delimiters delim (take (i + 1) x)
-count_no delim x i so_far h here =
-    omega (arith, count_more delim x i 0 so_far h (sym (delimiters-one_no delim (get_or x i 0) (ne_eqb (get_or x i 0) delim here))))
+count_no delim x i so_far h here = grind (arith, common_steps, count_more, delimiters-one_no, ne_eqb)

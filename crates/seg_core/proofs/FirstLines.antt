@@ -1,8 +1,6 @@
 -- The first lines of a text, and of a text that goes on.
 use Rattle.std.proofs.Common.{rules, ◌≡◌, ℕ, zero, suc, ◌+◌, ◌-◌, ◌<◌, ◌≤◌, Bool, true, false, cond, eqb, inl, List, [], ◌∷◌, ◌++◌, length, take, drop, get_or, refl, sym, ap, ◌∙◌, arith}
-use Rattle.std.specs.List.{onto_first}
 use Rattle.std.proofs.lemmas.List.{take_more, take-append-drop, take_at, drop_at, take_all, length-take-le, append-nil, append_assoc, length-append}
-use Rattle.std.proofs.Math.Seq.{take-nil}
 use Rattle.seg_core.specs.Line.{AreLines, joined, lines_of, line_count, delimiters, first_lines, after_lines, EndsAt}
 use Rattle.seg_core.proofs.Delimiters.{delimiters-take-le}
 use Rattle.seg_core.proofs.LinesOf.{joined-lines_of, lines_of-joined, AreLines-lines_of}
@@ -16,15 +14,8 @@ first_lines-nil delim (suc n) = refl
 pub first_lines-zero : (delim : ℕ) (x : List ℕ) → first_lines delim 0 x ≡ []
 first_lines-zero delim x = refl
 
--- what is left of the first lines after a byte, which may be a delimiter
-cut : (is_delim : Bool) (byte n : ℕ) (lines : List (List ℕ)) → joined (take (suc n) (cond is_delim ((byte ∷ []) ∷ lines) (onto_first byte lines)))
-    ≡ byte ∷ cond is_delim (joined (take n lines)) (joined (take (suc n) lines))
-cut true byte n lines = refl
-cut false byte n [] = ap (λ (x : List (List ℕ)). byte ∷ joined x) (take-nil n)
-cut false byte n (line ∷ lines) = refl
-
 pub first_lines-cons : (delim byte n : ℕ) (x : List ℕ) → first_lines delim (suc n) (byte ∷ x) ≡ byte ∷ cond (eqb byte delim) (first_lines delim n x) (first_lines delim (suc n) x)
-first_lines-cons delim byte n x = cut (eqb byte delim) byte n (lines_of delim x)
+first_lines-cons delim byte n x = grind (arith, common_steps)
 
 append_step : (delim : ℕ) (is_delim : Bool) (n : ℕ) (x y : List ℕ)
     → first_lines delim n (x ++ y) ≡ first_lines delim n x ++ first_lines delim (n - delimiters delim x) y
@@ -53,15 +44,11 @@ first_lines-short delim n x h = first_lines-all delim n (omega (arith, (line_cou
 
 -- once n lines are complete, what follows adds nothing
 pub first_lines-full : (delim n : ℕ) (x y : List ℕ) → n ≤ delimiters delim x → first_lines delim n (x ++ y) ≡ first_lines delim n x
-first_lines-full delim n x y h =
-    let none : n - delimiters delim x ≡ 0 = omega arith in
-    first_lines-append delim n x y ∙ ap (λ k. first_lines delim n x ++ first_lines delim k y) none ∙ append-nil (first_lines delim n x)
+first_lines-full delim n x y h = grind (arith, common_steps, first_lines-append, append-nil)
 
 -- while n lines aren't complete, the next byte belongs to them
 pub first_lines-more : (delim n : ℕ) (x : List ℕ) (byte : ℕ) → delimiters delim x < n → first_lines delim n (x ++ byte ∷ []) ≡ x ++ byte ∷ []
-first_lines-more delim n x byte h =
-    first_lines-append delim n x (byte ∷ []) ∙ ap (λ z. z ++ first_lines delim (n - delimiters delim x) (byte ∷ [])) (first_lines-short delim n x h)
-    ∙ ap (λ z. x ++ z) (first_lines-all delim (n - delimiters delim x) (omega (arith, line_count-le-length delim (byte ∷ []))))
+first_lines-more delim n x byte h = grind (arith, common_steps, first_lines-append, first_lines-short, first_lines-all, line_count-le-length)
 
 pub joined-append : (front back : List (List ℕ)) → joined (front ++ back) ≡ joined front ++ joined back
 joined-append [] back = refl
@@ -91,7 +78,7 @@ after_lines-is_drop delim n x =
 full_step : (delim : ℕ) (is_delim : Bool) {n : ℕ} (x : List ℕ) → suc n ≤ cond is_delim (delimiters delim x + 1) (delimiters delim x)
     → (n ≤ delimiters delim x → delimiters delim (first_lines delim n x) ≡ n) → (suc n ≤ delimiters delim x → delimiters delim (first_lines delim (suc n) x) ≡ suc n)
     → cond is_delim (delimiters delim (cond is_delim (first_lines delim n x) (first_lines delim (suc n) x)) + 1) (delimiters delim (cond is_delim (first_lines delim n x) (first_lines delim (suc n) x))) ≡ suc n
-full_step delim true x h here there = let e = here (omega arith) in omega arith
+full_step delim true x h here there = grind (arith, common_steps)
 full_step delim false x h here there = there h
 
 pub delimiters-first_lines : (delim n : ℕ) (x : List ℕ) → n ≤ delimiters delim x → delimiters delim (first_lines delim n x) ≡ n
@@ -126,7 +113,7 @@ AreLines-take delim k lines each = each
 
 -- the lines of the first lines
 pub lines_of-first_lines : (delim n : ℕ) (x : List ℕ) → lines_of delim (first_lines delim n x) ≡ take n (lines_of delim x)
-lines_of-first_lines delim n x = lines_of-joined delim (take n (lines_of delim x)) (AreLines-take delim n (lines_of delim x) (AreLines-lines_of delim x))
+lines_of-first_lines delim n x = grind (arith, common_steps, lines_of-joined, AreLines-take, AreLines-lines_of)
 
 AreLines-drop : (delim k : ℕ) (lines : List (List ℕ)) → AreLines delim lines → AreLines delim (drop k lines)
 AreLines-drop delim zero lines each = each
@@ -136,7 +123,7 @@ AreLines-drop delim (suc (suc k)) lines each = tt
 
 -- the lines of what stands after the first lines
 pub lines_of-after_lines : (delim k : ℕ) (x : List ℕ) → lines_of delim (after_lines delim k x) ≡ drop k (lines_of delim x)
-lines_of-after_lines delim k x = lines_of-joined delim (drop k (lines_of delim x)) (AreLines-drop delim k (lines_of delim x) (AreLines-lines_of delim x))
+lines_of-after_lines delim k x = grind (arith, common_steps, lines_of-joined, AreLines-drop, AreLines-lines_of)
 
 -- the same, by their bytes
 pub lines_of-after : (delim n : ℕ) (x : List ℕ) → n ≤ delimiters delim x → lines_of delim (drop (length (first_lines delim n x)) x) ≡ drop n (lines_of delim x)

@@ -1,4 +1,5 @@
 -- The last lines of a text before which a block stands.
+use Rattle.std.proofs.lemmas.Grind.{common_steps}
 use Rattle.std.proofs.Common.{rules, ◌≡◌, ℕ, ◌+◌, ◌-◌, ◌<◌, ◌≤◌, Bool, not, eqb, List, [], ◌∷◌, ◌++◌, length, get_or, sym, ap, ◌∙◌, arith}
 use mir.Val.{bool_byte}
 use Rattle.std.proofs.lemmas.List.{append-nil, length-append}
@@ -20,24 +21,15 @@ delimiters_fit here there block held more bound of_block of_held fits = omega (a
 -- and so has a block with the text after it
 pub line_count-both : (delim : ℕ) (block held : List ℕ) (closed : Bool) {count : ℕ} (more one : ℕ) → 0 < length block → count ≡ delimiters delim held → more ≡ delimiters delim block → closed ≡ ends_with delim (block ++ held) → one ≡ bool_byte (not closed)
     → count + more + one ≡ line_count delim (block ++ held)
-line_count-both delim block held closed more one some of_held of_block is open_end =
-    let long : 0 < length (block ++ held) = omega (arith, length-append block held) in
-    let lines = line_count-by_end delim (block ++ held) closed long is in
-    let both = delimiters-append delim block held in
-    omega arith
+line_count-both delim block held closed more one some of_held of_block is open_end = grind (arith, common_steps, length-append, line_count-by_end, delimiters-append)
 
 -- where nothing is held, a block ends with its last byte
 pub ends_with-alone : (delim : ℕ) (block held : List ℕ) → length held ≡ 0 → 0 < length block → eqb (get_or block (length block - 1) 0) delim ≡ ends_with delim (block ++ held)
-ends_with-alone delim block [] none some =
-    let last : length block - 1 + 1 ≡ length block = omega arith in
-    sym (ap (ends_with delim) (append-nil block) ∙ ends_with-last delim block (length block - 1) last)
+ends_with-alone delim block [] none some = grind (arith, common_steps, append-nil, ends_with-last)
 ends_with-alone delim block (byte ∷ held) none some = absurd (omega arith)
 
 -- the last lines of a text before which a block stands: all of the text, where it has no more, and what stands in the block after the lines that are too many
 pub last_lines-front : (delim most : ℕ) (block held : List ℕ) → line_count delim held ≤ most
     → last_lines delim most (block ++ held) ≡ after_lines delim (line_count delim (block ++ held) - most) block ++ held
 last_lines-front delim most block [] few = search rules
-last_lines-front delim most block (byte ∷ held) few =
-    let over = line_count delim (block ++ byte ∷ held) - most in
-    let enough : over ≤ delimiters delim block = omega (arith, line_count-front delim block (byte ∷ held) (omega arith)) in
-    sym (after_lines-append delim over block (byte ∷ held) enough)
+last_lines-front delim most block (byte ∷ held) few = grind (arith, common_steps, line_count-front, after_lines-append)

@@ -1,4 +1,5 @@
 -- Delimiters that are counted in the lanes of a vector.
+use Rattle.std.proofs.lemmas.Grind.{common_steps}
 use Rattle.std.proofs.Common.{◌≡◌, ℕ, zero, suc, ◌+◌, ◌-◌, ◌*◌, ◌≤◌, Bool, true, false, cond, eqb, List, [], ◌∷◌, length, map, replicate, refl, sym, ap, ◌∙◌, arith, w8, w32, Fits}
 use Rattle.std.specs.Simd.Lanes.{Each1, Each2, zip2, sum_l, sel_l, top, products, dots, Steps, fold_l}
 use Rattle.std.proofs.lemmas.Simd.{tops_compared, zip2_splat, Each2-of, Each1-zip2, sum_bound, bytes_below, sum_fits, sum_dots, sum_by-ones, fold-sum}
@@ -41,13 +42,10 @@ abbrev pub IsFew : ℕ → ℕ → Type 0
 IsFew left lane = STEP * lane + left ≤ RUN
 
 pub more_fit : (lanes step : List ℕ) (left : ℕ) → STEP ≤ left → Each1 (IsFew left) lanes → Each1 (λ lane. lane ≤ 1) step → Each2 (λ a b. Fits w8 (a + b)) lanes step
-more_fit lanes step left some few small =
-    Each2-of (IsFew left) (λ lane. lane ≤ 1) (λ a b. Fits w8 (a + b)) (λ a b p q. record { fits = omega arith }) lanes step few small
+more_fit lanes step left some few small = grind (arith, common_steps, Each2-of)
 
 pub more_few : (lanes step : List ℕ) (left : ℕ) → STEP ≤ left → Each1 (IsFew left) lanes → Each1 (λ lane. lane ≤ 1) step → Each1 (IsFew (left - STEP)) (zip2 (λ a b. a + b) lanes step)
-more_few lanes step left some few small =
-    Each1-zip2 (λ a b. a + b) (IsFew (left - STEP)) lanes step
-    (Each2-of (IsFew left) (λ lane. lane ≤ 1) (λ a b. IsFew (left - STEP) (a + b)) (λ a b p q. omega arith) lanes step few small)
+more_few lanes step left some few small = grind (arith, common_steps, Each1-zip2, Each2-of)
 
 -- the lanes in fours, and these summed
 pub sum-fours : (lanes : List ℕ) → length lanes ≡ STEP → sum_l (dots lanes (replicate STEP 1)) ≡ sum_l lanes

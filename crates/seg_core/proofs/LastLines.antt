@@ -1,9 +1,10 @@
 -- The last lines of a text, and of a text that goes on.
+use Rattle.std.proofs.lemmas.Grind.{common_steps}
 use Rattle.std.proofs.Common.{◌≡◌, ℕ, zero, suc, ◌+◌, ◌-◌, ◌<◌, ◌≤◌, true, List, [], ◌∷◌, ◌++◌, length, take, drop, refl, sym, ap, ◌∙◌, arith}
 use Rattle.std.proofs.lemmas.List.{take-append-drop, take-take, append_assoc, length-append, length-take-le}
 use Rattle.seg_core.specs.Line.{delimiters, ends_with, first_lines, line_count, last_lines, but_last_lines, BeginsAt}
 use Rattle.seg_core.proofs.Delimiters.{delimiters-append, delimiters-take-drop}
-use Rattle.seg_core.proofs.FirstLines.{first_lines-all, first_lines-cons, first_lines-full, first_lines_then_rest}
+use Rattle.seg_core.proofs.FirstLines.{first_lines-all, first_lines-full, first_lines_then_rest}
 use Rattle.seg_core.proofs.LineCounts.{line_count-closed, line_count-le-length, ends_with-append, ends_with-some}
 
 -- a text is what stands before its last lines, and these
@@ -11,7 +12,7 @@ pub but_last_then_last : (delim n : ℕ) (x : List ℕ) → but_last_lines delim
 but_last_then_last delim n x = first_lines_then_rest delim (line_count delim x - n) x
 
 pub but_last_lines-few : (delim n : ℕ) (x : List ℕ) → line_count delim x ≤ n → but_last_lines delim n x ≡ []
-but_last_lines-few delim n x few = let none : line_count delim x - n ≡ 0 = omega arith in ap (λ k. first_lines delim k x) none
+but_last_lines-few delim n x few = grind (arith, common_steps)
 
 pub but_last_lines-zero : (delim : ℕ) {x : List ℕ} → but_last_lines delim 0 x ≡ x
 but_last_lines-zero delim {x} = first_lines-all delim (line_count delim x - 0) (omega arith)
@@ -19,7 +20,7 @@ but_last_lines-zero delim {x} = first_lines-all delim (line_count delim x - 0) (
 first_lines-some : (delim n : ℕ) (x : List ℕ) → 0 < n → 0 < length x → 0 < length (first_lines delim n x)
 first_lines-some delim zero x one some = absurd (omega arith)
 first_lines-some delim (suc n) [] one some = absurd (omega arith)
-first_lines-some delim (suc n) (byte ∷ x) one some = omega (arith, ap length (first_lines-cons delim byte n x))
+first_lines-some delim (suc n) (byte ∷ x) one some = grind (arith, common_steps)
 
 few_step : (delim n k : ℕ) (x : List ℕ) → line_count delim x - n ≡ k → first_lines delim k x ≡ [] → line_count delim x ≤ n
 few_step delim n zero x is none = omega arith
@@ -35,7 +36,7 @@ few_from_nothing delim n x none = few_step delim n (line_count delim x - n) x re
 
 -- complete lines, and what follows
 pub first_lines-whole : (delim : ℕ) (x y : List ℕ) (n : ℕ) → ends_with delim x ≡ true → n ≡ delimiters delim x → first_lines delim n (x ++ y) ≡ x
-first_lines-whole delim x y n ends is = first_lines-full delim n x y (omega arith) ∙ first_lines-all delim n (omega (arith, line_count-closed delim x ends))
+first_lines-whole delim x y n ends is = grind (arith, common_steps, first_lines-full, first_lines-all, line_count-closed)
 
 -- the piece has the last n lines by itself; `front` is the piece without its last delimiter
 pub over_begins : {delim n : ℕ} (held piece front : List ℕ) {at : ℕ} → front ≡ take (length front) piece → line_count delim (held ++ piece) ≡ delimiters delim held + delimiters delim front + 1 → BeginsAt delim n front at
@@ -58,8 +59,7 @@ over_begins {delim} {n} held piece front {at} is lines begins =
 -- the piece has fewer lines: the lines that go are complete in what is held
 pub over_short : (delim n : ℕ) (held piece : List ℕ) {lines : ℕ} → line_count delim (held ++ piece) ≡ lines → lines - n ≤ delimiters delim held
     → length (first_lines delim (lines - n) held) ≡ length (but_last_lines delim n (held ++ piece))
-over_short delim n held piece {lines} is enough =
-    sym (ap (λ k. length (first_lines delim (k - n) (held ++ piece))) is ∙ ap length (first_lines-full delim (lines - n) held piece enough))
+over_short delim n held piece {lines} is enough = grind (arith, common_steps, first_lines-full)
 
 -- what stands after the last delimiters of a text, by the number of lines before it
 pub begins_first : {delim n : ℕ} (lines : ℕ) {x : List ℕ} {at : ℕ} → n + lines ≡ delimiters delim x + 1 → BeginsAt delim n x at → at ≡ length (first_lines delim lines x)

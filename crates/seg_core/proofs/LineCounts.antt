@@ -1,5 +1,6 @@
 -- How many lines a text has.
-use Rattle.std.proofs.Common.{◌≡◌, ◌≢◌, ℕ, zero, suc, ◌+◌, ◌-◌, ◌<◌, ◌≤◌, Bool, true, false, not, cond, eqb, List, [], ◌∷◌, ◌++◌, length, take, drop, get_or, refl, sym, ap, ◌∙◌, arith}
+use Rattle.std.proofs.lemmas.Grind.{common_steps}
+use Rattle.std.proofs.Common.{◌≡◌, ◌≢◌, ℕ, zero, suc, ◌+◌, ◌-◌, ◌<◌, ◌≤◌, Bool, true, false, not, cond, eqb, List, [], ◌∷◌, ◌++◌, length, take, drop, get_or, refl, sym, ap, ◌∙◌, arith, rules}
 use mir.Val.{bool_byte}
 use Rattle.std.specs.List.{onto_first}
 use Rattle.std.proofs.lemmas.Bool.{eq-eqb, ne_eqb, false≢true}
@@ -10,13 +11,13 @@ use Rattle.seg_core.proofs.Delimiters.{delimiters-append, delimiters-one_yes, de
 -- a byte before lines makes a line more, or none; at least one is there then
 cons_step : (is_delim : Bool) (byte : ℕ) (lines : List (List ℕ))
     → let now = length (cond is_delim ((byte ∷ []) ∷ lines) (onto_first byte lines)) in (length lines ≤ now) × (now ≤ suc (length lines)) × (0 < now)
-cons_step true byte lines = (omega arith, omega arith, omega arith)
-cons_step false byte [] = (omega arith, omega arith, omega arith)
-cons_step false byte (line ∷ lines) = (omega arith, omega arith, omega arith)
+cons_step true byte lines = search rules
+cons_step false byte [] = search rules
+cons_step false byte (line ∷ lines) = search rules
 
 pub line_count-some : (delim : ℕ) (x : List ℕ) → 0 < length x → 0 < line_count delim x
 line_count-some delim [] some = absurd (omega arith)
-line_count-some delim (byte ∷ x) some = (cons_step (eqb byte delim) byte (lines_of delim x)).2
+line_count-some delim (byte ∷ x) some = grind (arith, common_steps)
 
 pub line_count-le-length : (delim : ℕ) (x : List ℕ) → line_count delim x ≤ length x
 line_count-le-length delim [] = omega arith
@@ -37,14 +38,10 @@ count_step false byte (line ∷ lines) some = refl
 line_count-cons : (delim byte : ℕ) (x : List ℕ) → 0 < length x → line_count delim (byte ∷ x) ≡ cond (eqb byte delim) (line_count delim x + 1) (line_count delim x)
 line_count-cons delim byte x some = count_step (eqb byte delim) byte (lines_of delim x) (line_count-some delim x some)
 
-one_line : (is_delim : Bool) (byte : ℕ) → length (cond is_delim ((byte ∷ []) ∷ []) (onto_first byte [])) ≡ 1
-one_line true byte = refl
-one_line false byte = refl
-
 -- a text that ends with a delimiter has as many lines as delimiters
 pub line_count-closed : (delim : ℕ) (x : List ℕ) → ends_with delim x ≡ true → line_count delim x ≡ delimiters delim x
-line_count-closed delim [] ends = absurd (false≢true ends)
-line_count-closed delim (byte ∷ []) ends = one_line (eqb byte delim) byte ∙ sym (delimiters-one_yes delim byte ends)
+line_count-closed delim [] ends = cc
+line_count-closed delim (byte ∷ []) ends = grind (arith, common_steps)
 line_count-closed delim (byte ∷ next ∷ x) ends =
     line_count-cons delim byte (next ∷ x) (omega arith) ∙ ap (λ n. cond (eqb byte delim) (n + 1) n) (line_count-closed delim (next ∷ x) ends)
 
@@ -55,7 +52,7 @@ open_step false n = refl
 -- a text with an open last line has one line more
 pub line_count-open : (delim : ℕ) (x : List ℕ) → 0 < length x → ends_with delim x ≡ false → line_count delim x ≡ delimiters delim x + 1
 line_count-open delim [] some open_end = absurd (omega arith)
-line_count-open delim (byte ∷ []) some open_end = one_line (eqb byte delim) byte ∙ sym (ap (λ (c : Bool). cond c (0 + 1) 0 + 1) open_end)
+line_count-open delim (byte ∷ []) some open_end = grind (arith, common_steps)
 line_count-open delim (byte ∷ next ∷ x) some open_end =
     line_count-cons delim byte (next ∷ x) (omega arith) ∙ ap (λ n. cond (eqb byte delim) (n + 1) n) (line_count-open delim (next ∷ x) (omega arith) open_end)
     ∙ open_step (eqb byte delim) (delimiters delim (next ∷ x))
@@ -97,36 +94,15 @@ line_count-by_end delim x false some is = line_count-open delim x some (sym is)
 
 -- a block before a text that isn't empty adds as many lines as it has delimiters
 pub line_count-front : (delim : ℕ) (block x : List ℕ) → 0 < length x → line_count delim (block ++ x) ≡ delimiters delim block + line_count delim x
-line_count-front delim block x some =
-    let closed = ends_with delim x in
-    let long : 0 < length (block ++ x) = omega (arith, length-append block x) in
-    let both = line_count-by_end delim (block ++ x) closed long (sym (ends_with-append delim block x some)) in
-    let here = line_count-by_end delim x closed some refl in
-    let all = delimiters-append delim block x in
-    omega arith
+line_count-front delim block x some = grind (arith, common_steps, length-append, line_count-by_end, ends_with-append, delimiters-append)
 
 -- without its last delimiter a text has one delimiter less
 pub closed_delimiters : {delim : ℕ} (x : List ℕ) (n : ℕ) → n + 1 ≡ length x → get_or x n 0 ≡ delim → delimiters delim x ≡ delimiters delim (take n x) + (length x - length (take n x))
-closed_delimiters {delim} x n last is =
-    let one = delimiters-one_yes delim (get_or x n 0) (eq-eqb (get_or x n 0) delim is) in
-    let more = delimiters_more delim x n (omega arith) in
-    let whole : delimiters delim (take (n + 1) x) ≡ delimiters delim x = ap (delimiters delim) (take_all (n + 1) x (omega arith)) in
-    let short = length-take-le n x (omega arith) in
-    omega arith
+closed_delimiters {delim} x n last is = grind (arith, common_steps, delimiters-one_yes, eq-eqb, delimiters_more, take_all, length-take-le)
 
 -- the lines of a text that goes on, by what stands before its last delimiter
 pub closed_text : {delim : ℕ} (before x : List ℕ) (n : ℕ) → n + 1 ≡ length x → get_or x n 0 ≡ delim → line_count delim (before ++ x) ≡ delimiters delim before + delimiters delim (take n x) + 1
-closed_text {delim} before x n last is =
-    let ends : ends_with delim (before ++ x) ≡ true =
-    ends_with-append delim before x (omega arith) ∙ ends_with-last delim x n last ∙ eq-eqb (get_or x n 0) delim is in
-    let here = closed_delimiters x n last is in
-    let short = length-take-le n x (omega arith) in
-    let both = delimiters-append delim before x in
-    line_count-closed delim (before ++ x) ends ∙ omega arith
+closed_text {delim} before x n last is = grind (arith, common_steps, ends_with-append, ends_with-last, eq-eqb, closed_delimiters, length-take-le, delimiters-append, line_count-closed)
 
 pub open_text : (delim : ℕ) (before x : List ℕ) (n : ℕ) → n + 1 ≡ length x → get_or x n 0 ≢ delim → line_count delim (before ++ x) ≡ delimiters delim before + delimiters delim x + 1
-open_text delim before x n last other =
-    let open_end : ends_with delim (before ++ x) ≡ false =
-    ends_with-append delim before x (omega arith) ∙ ends_with-last delim x n last ∙ ne_eqb (get_or x n 0) delim other in
-    let some : 0 < length (before ++ x) = omega (arith, length-append before x) in
-    line_count-open delim (before ++ x) some open_end ∙ ap (λ n. n + 1) (delimiters-append delim before x)
+open_text delim before x n last other = grind (arith, common_steps, ends_with-append, ends_with-last, ne_eqb, length-append, line_count-open, delimiters-append)

@@ -1,7 +1,8 @@
 -- `lines_of` is the one way to cut a text into lines.
+use Rattle.std.proofs.lemmas.Grind.{common_steps}
 use Rattle.std.proofs.Common.{rules, ◌≡◌, ◌≢◌, ℕ, ◌<◌, Bool, true, false, cond, eqb, List, [], ◌∷◌, ◌++◌, inl, inr, length, refl, sym, ap, subst, ◌∙◌, arith}
 use Rattle.std.specs.List.{onto_first}
-use Rattle.std.proofs.lemmas.Bool.{ne_eqb, cases_eq, false≢true, eq-eqb}
+use Rattle.std.proofs.lemmas.Bool.{cases_eq}
 use Rattle.std.proofs.lemmas.List.{append-nil}
 use Rattle.seg_core.specs.Line.{ends_with, joined, HasNone, IsComplete, AreLines, IsLines, lines_of}
 
@@ -22,16 +23,16 @@ complete_cons : {delim byte : ℕ} (line : List ℕ) → byte ≢ delim → IsCo
 complete_cons {byte} line other (text, whole, none) = (byte ∷ text, ap (λ z. byte ∷ z) whole, (other, none))
 
 other_first : (delim byte : ℕ) (lines : List (List ℕ)) → byte ≢ delim → AreLines delim lines → AreLines delim (onto_first byte lines)
-other_first delim byte [] other each = inr (omega arith, (other, tt))
+other_first delim byte [] other each = search rules
 other_first delim byte (line ∷ []) other (inl complete) = inl (complete_cons line other complete)
-other_first delim byte (line ∷ []) other (inr (some, none)) = inr (omega arith, (other, none))
+other_first delim byte (line ∷ []) other (inr (some, none)) = search rules
 other_first delim byte (line ∷ next ∷ lines) other (complete, each) = (complete_cons line other complete, each)
 
 lines_of-delimiter : {delim byte : ℕ} (x : List ℕ) → byte ≡ delim → lines_of delim (byte ∷ x) ≡ (byte ∷ []) ∷ lines_of delim x
-lines_of-delimiter {delim} {byte} x e = ap (λ (c : Bool). cond c ((byte ∷ []) ∷ lines_of delim x) (onto_first byte (lines_of delim x))) (eq-eqb byte delim e)
+lines_of-delimiter {delim} {byte} x e = grind (arith, common_steps)
 
 lines_of-other : (delim byte : ℕ) (x : List ℕ) → byte ≢ delim → lines_of delim (byte ∷ x) ≡ onto_first byte (lines_of delim x)
-lines_of-other delim byte x other = ap (λ (c : Bool). cond c ((byte ∷ []) ∷ lines_of delim x) (onto_first byte (lines_of delim x))) (ne_eqb byte delim other)
+lines_of-other delim byte x other = grind (arith, common_steps)
 
 pub AreLines-lines_of : (delim : ℕ) (x : List ℕ) → AreLines delim (lines_of delim x)
 AreLines-lines_of delim [] = tt
@@ -45,20 +46,19 @@ IsLines-lines_of {delim} {x} = record { whole = joined-lines_of delim x; each = 
 
 -- the text begins with a complete line
 pub lines_of-complete : (delim : ℕ) (text rest : List ℕ) → HasNone delim text → lines_of delim ((text ++ delim ∷ []) ++ rest) ≡ (text ++ delim ∷ []) ∷ lines_of delim rest
-lines_of-complete delim [] rest none = lines_of-delimiter rest refl
+lines_of-complete delim [] rest none = search rules
 lines_of-complete delim (byte ∷ text) rest (other, none) =
     lines_of-other delim byte ((text ++ delim ∷ []) ++ rest) other ∙ ap (onto_first byte) (lines_of-complete delim text rest none)
 
 -- the text is one open line
 pub lines_of-open : (delim : ℕ) (line : List ℕ) → 0 < length line → HasNone delim line → lines_of delim line ≡ line ∷ []
 lines_of-open delim [] some none = absurd (omega arith)
-lines_of-open delim (byte ∷ []) some (other, none) = lines_of-other delim byte [] other
+lines_of-open delim (byte ∷ []) some (other, none) = search rules
 lines_of-open delim (byte ∷ next ∷ line) some (other, none) =
     lines_of-other delim byte (next ∷ line) other ∙ ap (onto_first byte) (lines_of-open delim (next ∷ line) (omega arith) none)
 
 line_first : {delim : ℕ} (line rest : List ℕ) → IsComplete delim line → lines_of delim (line ++ rest) ≡ line ∷ lines_of delim rest
-line_first {delim} line rest (text, whole, none) =
-    subst (λ l. lines_of delim (l ++ rest) ≡ l ∷ lines_of delim rest) (sym whole) (lines_of-complete delim text rest none)
+line_first {delim} line rest (text, whole, none) = grind (arith, common_steps, lines_of-complete)
 
 pub lines_of-joined : (delim : ℕ) (lines : List (List ℕ)) → AreLines delim lines → lines_of delim (joined lines) ≡ lines
 lines_of-joined delim [] each = refl
@@ -78,7 +78,7 @@ append_step false byte (line ∷ front) back some = refl
 
 -- a text that ends with a delimiter and goes on: its lines, and those of what follows
 pub lines_of-append : (delim : ℕ) (x y : List ℕ) → ends_with delim x ≡ true → lines_of delim (x ++ y) ≡ lines_of delim x ++ lines_of delim y
-lines_of-append delim [] y ends = absurd (false≢true ends)
+lines_of-append delim [] y ends = cc
 lines_of-append delim (byte ∷ []) y ends = search rules
 lines_of-append delim (byte ∷ next ∷ x) y ends =
     ap (λ ls. cond (eqb byte delim) ((byte ∷ []) ∷ ls) (onto_first byte ls)) (lines_of-append delim (next ∷ x) y ends)

@@ -1,4 +1,5 @@
 -- The first line of a text and the rest, from where the first delimiter stands.
+use Rattle.std.proofs.lemmas.Grind.{common_steps}
 use Rattle.std.proofs.Common.{◌≡◌, ℕ, zero, suc, ◌+◌, ◌<◌, ◌≤◌, Bool, true, false, cond, List, [], ◌∷◌, ◌++◌, length, take, drop, get_or, refl, sym, ap, subst, ◌∙◌, arith}
 use Rattle.std.proofs.lemmas.Bool.{eq-eqb, ne_eqb, eqb-true, false≢true}
 use Rattle.std.proofs.lemmas.List.{take_more, take-append-drop, take_all, drop_all, length-append}
@@ -45,12 +46,7 @@ complete_cut {delim} text {rest} none =
     }
 
 open_cut : {delim : ℕ} {x : List ℕ} → HasNone delim x → IsCutFrom delim x x []
-open_cut {delim} {x} none = record {
-  first = λ some. lines_of-open delim x some none;
-  some = λ some. some;
-  count = delimiters-none delim x none ∙ sym (ap (λ (c : Bool). cond c (delimiters delim [] + 1) (delimiters delim [])) (ends-none delim x none));
-  last = λ no. refl;
-}
+open_cut {delim} {x} none = grind (arith, common_steps, lines_of-open, delimiters-none, ends-none)
 
 pub cut_after : {delim : ℕ} {x : List ℕ} {k : ℕ} (line : List ℕ) {rest : List ℕ} → k < length x → Passes (is_byte delim) x k → Nowhere (Passes (is_byte delim) x) 0 k
     → line ≡ take (k + 1) x → rest ≡ drop (k + 1) x → IsCutFrom delim x line rest

@@ -1,8 +1,7 @@
 -- Bytes that are moved out, stretch by stretch.
-use Rattle.std.proofs.Common.{◌≡◌, ℕ, ◌+◌, ◌≤◌, List, ◌++◌, length, take, drop, sym, ap, ◌∙◌, arith}
+use Rattle.std.proofs.Common.{◌≡◌, ℕ, ◌+◌, ◌≤◌, List, ◌++◌, length, take, drop, sym, ap, ◌∙◌}
 use Rattle.std.proofs.lemmas.List.{append_assoc, length-take-le, drop-drop, take_at, drop_at, take-append-le}
 use Rattle.std.proofs.Math.Seq.{take-add}
-use Rattle.std.proofs.lemmas.Grind.{common_steps}
 
 -- after the first `at` bytes of what was held, n more bytes of the stretch that follows them
 pub taken_more : (held front rest before : List ℕ) {out : List ℕ} (at n : ℕ) → at ≤ length held → drop at held ≡ front ++ rest → n ≤ length front → out ≡ take at held ++ drop at before
@@ -16,7 +15,3 @@ taken_more held front rest before {out} at n within next fits so_far =
     ap (λ x. x ++ (take n front ++ drop (at + n) out)) head ∙ ap (λ x. take at held ++ (take n front ++ x)) tail
     ∙ ap (λ x. take at held ++ (x ++ drop (at + n) before)) more ∙ sym (append_assoc (take at held) (take n (drop at held)) (drop (at + n) before))
     ∙ ap (λ x. x ++ drop (at + n) before) (sym (take-add at n held))
-
--- moving out leaves the slice as long as it was
-pub same_size : (held before : List ℕ) {out : List ℕ} (at : ℕ) → at ≤ length held → at ≤ length before → out ≡ take at held ++ drop at before → length out ≡ length before
-same_size held before at within fits so_far = grind (arith, common_steps)

@@ -1,8 +1,8 @@
-use Rattle.std.proofs.Common.{rules, arith}
+use Rattle.std.proofs.Common.{arith}
 use Rattle.std.proofs.lemmas.Grind.{common_steps}
 use Rattle.seg_core.specs.Count.{factor_of}
 use Rattle.seg_core.proofs.count.factor.Goals as goal
 
 pub returns-clause-value : goal.returns-clause-value
 unfolding factor_of
-returns-clause-value c = first_of (search rules, grind (arith, common_steps))
+returns-clause-value c = grind (arith, common_steps)

@@ -1,4 +1,4 @@
-use Rattle.std.proofs.Common.{◌+◌, ◌∙◌, length, sym, ap, subst, arith}
+use Rattle.std.proofs.Common.{◌+◌, ◌∙◌, length, sym, ap, subst, arith, rules}
 use Rattle.std.specs.Simd.Lanes.{Each1, zip2}
 use Rattle.std.proofs.lemmas.List.{take_rest, length-drop}
 use Rattle.std.proofs.lemmas.Simd.{sum-zip2}
@@ -9,7 +9,7 @@ use Rattle.seg_core.proofs.Lanes.{IsFew, more_fit, more_few}
 use Rattle.seg_core.proofs.line.count_in_run.Goals as goal
 
 pub overflow_add-lanes : goal.overflow_add-lanes
-overflow_add-lanes c = more_fit c.loop-left.lanes c.delimiters_in_step-lanes.result (length c.loop-left.left.now) c.loop-left-test.true c.loop-left.invariant.few c.delimiters_in_step-lanes.ensures.each
+overflow_add-lanes c = search (rules, more_fit)
 
 pub loop-left-preserved : goal.loop-left-preserved
 loop-left-preserved c =

@@ -1,3 +1,4 @@
+use Rattle.std.proofs.lemmas.Grind.{common_steps}
 use Rattle.std.proofs.Common.{◌<◌, length, refl, arith}
 use Rattle.seg_core.proofs.BlockLemmas.{gone_fits, first_goes}
 use Rattle.seg_core.proofs.line_blocks.drop_whole.Goals as goal
@@ -9,7 +10,4 @@ overflow_add-left c =
     omega (arith, gone_fits some c.in-Some.ensures.lookup c.loop-first.invariant)
 
 pub loop-first-preserved-else-left-len : goal.loop-first-preserved-else-left-len
-loop-first-preserved-else-left-len c =
-    let items = c.loop-first.queue.items in
-    let some : 0 < length items = let v = c.in-Some.ensures.variant.0 refl in let o = c.loop-first.queue.ok in omega arith in
-    first_goes items _ _ some c.in-Some.ensures.lookup (omega arith) c.loop-first.invariant c.pop_front.ensures.rest c.len-in-Some.ensures c.delimiters.ensures
+loop-first-preserved-else-left-len c = grind (arith, common_steps, first_goes)

@@ -1,17 +1,12 @@
-use Rattle.std.proofs.Common.{◌≡◌, ◌+◌, ◌-◌, ℕ, ap, length, refl, arith}
+use Rattle.std.proofs.lemmas.Grind.{common_steps}
+use Rattle.std.proofs.Common.{◌≡◌, ◌+◌, ◌-◌, ℕ, length, refl, arith}
 use Rattle.std.specs.VecDeque.{deque_len}
 use Rattle.std.proofs.lemmas.Result.{on_ok_weaker}
-use Rattle.seg_core.specs.Blocks.{BlockState}
 use Rattle.seg_core.proofs.BlockLemmas.{grown_counts, text_set}
 use Rattle.seg_core.proofs.line_blocks.fill.Goals as goal
 
 pub returns-in-Some-clause-ok : goal.returns-in-Some-clause-ok
-returns-in-Some-clause-ok c =
-    let blocks = c.args.queue.now in
-    let last : deque_len blocks - 1 + 1 ≡ length blocks.items = let v = c.in-Some.ensures.variant.0 refl in let o = blocks.ok in omega arith in
-    on_ok_weaker c.append.result
-    (λ grown. text_set blocks.items (deque_len blocks - 1) c.append.new.self c.args.part.now last c.in-Some.ensures.value (ap (λ (b : BlockState). b.bytes) grown))
-    c.append.ensures.ok
+returns-in-Some-clause-ok c = grind (arith, common_steps, on_ok_weaker, text_set)
 
 pub returns-in-Some-clause-each : goal.returns-in-Some-clause-each
 returns-in-Some-clause-each c =
