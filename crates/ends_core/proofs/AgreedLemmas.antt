@@ -7,7 +7,6 @@ use Rattle.std.proofs.Math.Seq.{drop-append_seam, get_or-append_right}
 use Rattle.seg_core.specs.Line.{joined, lines_of, delimiters, ends_with}
 use Rattle.seg_core.proofs.LinesOf.{lines_of-append, joined-lines_of}
 use Rattle.seg_core.proofs.LineCounts.{line_count-closed, ends_with-append}
-use Rattle.seg_core.proofs.EndLines.{last_lines-zero}
 use Rattle.ports_core.specs.Part.{IsBeginning, nothing, only_out}
 use Rattle.ports_core.specs.Agreed.{CanCome, IsAgreed, IsUndecided, Spot, spot, spots_from, output_at, GoesTo, ArePlaced}
 use Rattle.ports_core.proofs.AgreedLemmas.{none_comes, one_comes, copies_come, other, other_differs, other_comes, agreed_now, beginning_short, common, spot_in, spot_past, some_spot}
