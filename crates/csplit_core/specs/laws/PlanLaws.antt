@@ -14,15 +14,15 @@ use Rattle.csplit_core.specs.Measure.{Moves}
 
 -- Laws that traits cite: laws of the first match of an operand.
 
-matched_on : {operand : Operand} {lines : List Line} {from : ℕ} (has : Bool) → is_match operand lines from ≡ has → from ≤ length lines
+matched_on : (operand : Operand) (lines : List Line) {from : ℕ} (has : Bool) → is_match operand lines from ≡ has → from ≤ length lines
     → (matched : Option ℕ) → MatchesAs operand lines (suc from) matched → MatchesAs operand lines from (cond has (Some from) matched)
-matched_on true is within matched rest =
+matched_on operand lines true is within matched rest =
     record { not_before = omega arith; within = within; match = is; first = λ other from_on less. absurd (omega (arith, from_on, less)) }
-matched_on {operand} {lines} {from} false is within None none = λ line from_on in_lines. elim (cases_lt from line) [
+matched_on operand lines {from} false is within None none = λ line from_on in_lines. elim (cases_lt from line) [
   | inl later ↦ none line later in_lines
   | inr same ↦ subst (λ n. is_match operand lines n ≡ false) (let e : from ≡ line = omega (arith, from_on, same) in e) is
 ]
-matched_on {operand} {lines} {from} false is within (Some line) some = record {
+matched_on operand lines {from} false is within (Some line) some = record {
   not_before = let later = some.not_before in omega (arith, later);
   within = some.within;
   match = some.match;
@@ -34,7 +34,7 @@ matched_on {operand} {lines} {from} false is within (Some line) some = record {
 
 among : (operand : Operand) (front rest : List Line) {from : ℕ} → from ≡ length front + 1 → MatchesAs operand (front ++ rest) from (first_among operand from rest)
 among operand front [] is = λ line from_on within. absurd (let e = length-append front [] in omega (arith, e, from_on, within, is))
-among operand front (line ∷ rest) {from} is = matched_on (line.marks operand)
+among operand front (line ∷ rest) {from} is = matched_on operand (front ++ line ∷ rest) (line.marks operand)
     (ap (λ n. (get_or (front ++ line ∷ rest) n unmarked).marks operand) (let e : from - 1 ≡ length front = omega (arith, is) in e)
     ∙ ap (λ (l : Line). l.marks operand) (get_or-append_seam front line rest unmarked))
     (let e = length-append front (line ∷ rest) in omega (arith, e, is)) (first_among operand (suc from) rest)
@@ -323,12 +323,6 @@ pub plan_once : (suppress : Bool) (operands : List Operand) (lines : List Line) 
     (ending : Ending) → Runs suppress lines (start operands) steps last ending → plan suppress operands lines ≡ so steps last ending
 plan_once suppress operands lines steps last ending is =
     computed steps last is (length operands * (length lines + 1)) (enough_at_start (length lines) operands) (omega arith)
-
--- so is one from any state on
-pub run_once : {suppress : Bool} {lines : List Line} {first : State} {one : List Step} {last : State} {ending : Ending} {other : List Step} {end : State} {how : Ending} → 1 ≤ first.current
-    → Runs suppress lines first one last ending → Runs suppress lines first other end how → so other end how ≡ so one last ending
-run_once {lines = lines} {first} {one} {last} {other = other} {end} some runs again =
-    sym (computed other end again (needed (length lines) first) (omega arith) some) ∙ computed one last runs (needed (length lines) first) (omega arith) some
 
 -- What was cut off stays so
 
