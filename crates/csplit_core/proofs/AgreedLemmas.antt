@@ -10,7 +10,7 @@ use Rattle.std.proofs.Math.Seq.{get_or-append_seam}
 use Rattle.bre_core.specs.Pattern.{Pattern}
 use Rattle.csplit_core.specs.Operand.{Minus, Target, Number, Search, Operand, Line, unmarked, Plus, most_held, is_kept}
 use Rattle.csplit_core.specs.Plan.{State, start, Step, Ending, below, search_line, IsFirst, MatchesNone, CutsAt, line_after, state_after, step_of, Runs, is_below, cuts, missed, Misses, used_up, above, is_used_up, misses, is_above}
-use Rattle.csplit_core.specs.laws.PlanLaws.{search_some, match_still, line_some, runs, goes_on, plan_runs, plan_once, cuts_still, from_not_less, less_test, not_less_test}
+use Rattle.csplit_core.specs.laws.PlanLaws.{search_some, line_some, runs, goes_on, plan_runs, plan_once, cuts_still, from_not_less, less_test, not_less_test}
 use Rattle.csplit_core.specs.inner.PlanLaws.{needed, EndsAs, Grow}
 use Rattle.std.proofs.lemmas.List.{append-nil, map-append, take-append-drop, drop-drop}
 use Rattle.csplit_core.specs.Planned.{plan, Plan}

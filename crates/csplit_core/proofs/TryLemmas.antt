@@ -7,7 +7,7 @@ use Rattle.std.proofs.Math.Seq.{get_or-append_right, get_or-append_seam}
 use Rattle.csplit_core.specs.Operand.{Target, Number, Search, Operand, Line, unmarked, is_match, Offset, moved, has_more}
 use Rattle.csplit_core.specs.Plan.{State, Step, Ending, missed, above, search_line, IsFirst, MatchesNone, Misses, line_after, Runs, is_used_up, misses, is_above, is_below, cuts, used_up, below, CutsAt, operands_after, repetition_after, state_after}
 use Rattle.csplit_core.specs.Planned.{plan}
-use Rattle.csplit_core.specs.laws.PlanLaws.{search_some, match_still, cuts_still, goes_on, plan_runs, plan_once, line_some, fewer_left, fewer_moves, search_past}
+use Rattle.csplit_core.specs.laws.PlanLaws.{search_some, cuts_still, goes_on, plan_runs, plan_once, line_some, fewer_left, fewer_moves}
 use Rattle.std.specs.Prelude.{min, max, eqb, ◌&&◌}
 use Rattle.bre_core.specs.Pattern.{Pattern}
 use Rattle.csplit_core.specs.Progress.{state_of, EndsHere, AimsAt}

@@ -9,7 +9,7 @@ use Rattle.csplit_core.specs.Input.{newline}
 use Rattle.csplit_core.specs.Output.{Style, Contents, makes_file, file_at, files_of, size_line, size_lines, part_by, is_empty}
 use Rattle.csplit_core.specs.Draft.{Draft, draft_part, last_contents, AreClosed}
 use Rattle.csplit_core.specs.inner.Writer.{with_section, KeepsFiles, MakesNone, unnamed, failed, Made, next_name, Appends, Wrote, Makes, with_bytes, with_kept, first_draft, Goes, KeepsOrBreaks, Leaves, BegunNot, new_writer}
-use Rattle.csplit_core.specs.laws.SectionLaws.{size_lines-append, made_more}
+use Rattle.csplit_core.specs.laws.SectionLaws.{size_lines-append}
 use Rattle.csplit_core.proofs.WriterLemmas.{file_of, with_last, more_files, reaches_as, reaches_by, where_well, writes_to, leaves_again, stops_in, Becomes, becomes_again, file_begins, opens, opens_not, reaches_again, stops_wider, section_begins, in_any, falls_wider, line_begins, close_begins, closes_last, closes_not, tells_line}
 use Rattle.std.proofs.lemmas.Bool.{false≢true, cases_lt, eq-eqb}
 use Rattle.ports_core.specs.Slot.{Slot, has_file, slot_at, changed_at, opened, unopened, closes, with_broken, is_writable, is_removable, broke, numberless, FailsToOpen, told_of}
