@@ -10,7 +10,7 @@ use Rattle.std.proofs.Math.Seq.{get_or-append_seam}
 use Rattle.bre_core.specs.Pattern.{Pattern}
 use Rattle.csplit_core.specs.Operand.{Minus, Target, Number, Search, Operand, Line, unmarked, Plus, most_held, is_kept}
 use Rattle.csplit_core.specs.Plan.{State, start, Step, Ending, below, search_line, IsFirst, MatchesNone, CutsAt, line_after, state_after, step_of, Runs, is_below, cuts, missed, Misses, used_up, above, is_used_up, misses, is_above}
-use Rattle.csplit_core.specs.laws.PlanLaws.{search_some, match_still, line_some, runs, goes_on, plan_runs, plan_once, run_once, cuts_still, from_not_less, less_test, not_less_test}
+use Rattle.csplit_core.specs.laws.PlanLaws.{search_some, line_some, runs, goes_on, plan_runs, plan_once, cuts_still, from_not_less, less_test, not_less_test}
 use Rattle.csplit_core.specs.inner.PlanLaws.{needed, EndsAs, Grow}
 use Rattle.std.proofs.lemmas.List.{append-nil, map-append, take-append-drop, drop-drop}
 use Rattle.csplit_core.specs.Planned.{plan, Plan}
@@ -25,11 +25,6 @@ use Rattle.std.proofs.lemmas.Grind.{common_steps}
 -- What is settled is what all continuations agree on.
 
 -- One more line that every operand finds.
-
--- a search never begins further than one past the lines that are there
-search_by : (total : ℕ) (state : State) (first : Bool) → state.current ≤ total → state.matched ≤ total → cond first 1 (suc (max state.current state.matched)) ≤ suc total
-search_by total state true within matched = omega arith
-search_by total state false within matched = grind (arith, common_steps)
 
 search_past_cut : (suppress : Bool) (total : ℕ) (state : State) (cut : ℕ) → state.current ≡ line_after suppress cut → cut ≤ total → state.matched ≤ total → search_line suppress state ≤ suc total
 search_past_cut true total state cut is within matched = grind (arith, common_steps)
@@ -113,10 +108,6 @@ kept_by : (has : Bool) (lines : List Line) (low high : List (List Line)) → Are
 kept_by true lines low high fronts = search rules
 kept_by false lines low high fronts = fronts
 
-last_by : (has : Bool) (one other : List Line) (more : List (List Line)) → IsFront one other → AreFronts (cond has (one ∷ []) []) (cond has (other ∷ more) more)
-last_by true one other more front = (front, tt)
-last_by false one other more front = tt
-
 kept_grow : (front : List Section) (begun other : Section) (more : List Section) → begun.is_kept ≡ other.is_kept → IsFront begun.lines other.lines → AreFronts (kept_lines (front ++ begun ∷ [])) (kept_lines (front ++ other ∷ more))
 kept_grow [] begun other more same begins = grind (arith, common_steps)
 kept_grow (one ∷ front) begun other more same begins = kept_by one.is_kept one.lines _ _ (kept_grow front begun other more same begins)
@@ -144,16 +135,6 @@ fewest suppress operands x =
 -- no front is longer than the whole
 front_short : (front whole : List Line) → IsFront front whole → length front ≤ length whole
 front_short front whole (rest, is) = grind (arith, common_steps)
-
--- at a place of the closed sections the outputs are the same, and at the next they are what the open section has
-at_front : (front rest other : List (List Line)) (place : ℕ) → place < length front → output_at (front ++ rest) place ≡ output_at (front ++ other) place
-at_front [] rest other place less = search rules
-at_front (one ∷ front) rest other zero less = refl
-at_front (one ∷ front) rest other (suc place) less = grind (arith, common_steps)
-
-at_last : (front rest : List (List Line)) (one : List Line) → output_at (front ++ one ∷ rest) (length front) ≡ one
-at_last [] rest one = refl
-at_last (first ∷ front) rest one = at_last front rest one
 
 -- A continuation after which the open section has no more than what is settled
 pub record Decides (suppress : Bool) (operands : List Operand) (x : List Line) : Type 0 where

@@ -1,4 +1,5 @@
 -- A cut ends the open section, and the next one begins.
+use Rattle.std.proofs.lemmas.Grind.{common_steps}
 use Rattle.std.proofs.Common.{◌≡◌, ℕ, suc, ◌+◌, ◌-◌, ◌≤◌, max, eqb, ◌&&◌, cond, Bool, true, false, List, [], ◌∷◌, ◌++◌, length, map, Option, Some, None, Err, refl, sym, ◌∙◌, ap, subst, arith, append_assoc}
 use Rattle.std.proofs.lemmas.List.{map-append, append-nil}
 use Rattle.seg_core.specs.Line.{first_lines, after_lines}
@@ -121,18 +122,16 @@ before_begins {cutter} {x} {left} line {before} {at} cut now fit will before_is 
 pub cut_stopped : {told : Bool} {cutter next : CutterState} {cut : Cut} {place : ℕ} {left line : List ℕ} {old new : List Slot} {fault : Fault} → next.operands ≡ cutter.operands → Leaves cutter.writer next.writer old new (Some fault)
     → ((x : List ℕ) (at : IsAt cutter x left) → CutsNow cutter x left line cut place at → Reaches told cutter.writer next.writer (part_at cutter x left at) (settled_part cutter x) old new (Some fault))
     → CutsAll told cutter cut place left line [] old new next (Some fault)
-cut_stopped {cutter = cutter} operands leaves reaches =
-    record { keeps = record { operands = operands; writer = leaves }; reaches = λ x at now. reaches_as refl (ap (settled_part cutter) (append-nil x)) (reaches x at now); went = tt }
+cut_stopped {cutter = cutter} operands leaves reaches = grind (arith, common_steps)
 
 -- where the run stands after the cut
 passed_state : {told : Bool} {cutter mid : CutterState} {writer : WriterState} {cut : Cut} {before : List ℕ} {old new : List Slot} → Goes told cutter.writer (with_bytes before) old new writer None → WentOn (record cutter { writer = writer }) cut mid
     → {operand : Operand} {operands : List Operand} → (state_in cutter).operands ≡ operand ∷ operands → state_in mid ≡ state_after (suppress_in cutter) operand operands cutter.progress.repetition cut.matched cut.line
-passed_state {cutter = cutter} {cut = cut} goes passed {operand} {operands} are =
-    passed.state operand operands are ∙ ap (λ (s : Style). state_after s.suppress operand operands cutter.progress.repetition cut.matched cut.line) goes.leaves.style
+passed_state {cutter = cutter} {cut = cut} goes passed {operand} {operands} are = grind (arith, common_steps)
 
 -- the writer is as it was before
 began_there : {told : Bool} (cutter : CutterState) {mid : CutterState} {writer next : WriterState} {cut : Cut} {kept : Bool} {old new : List Slot} {fault : Option Fault} → WentOn (record cutter { writer = writer }) cut mid → Goes told mid.writer (with_section kept) old new next fault → Goes told writer (with_section kept) old new next fault
-began_there {told} cutter {next = next} {kept = kept} {old} {new} {fault} passed began = subst (λ w. Goes told w (with_section kept) old new next fault) (ap (λ (c : CutterState). c.writer) passed.same) began
+began_there {told} cutter {next = next} {kept = kept} {old} {new} {fault} passed began = grind (arith, common_steps)
 
 -- a cut of this cutter is due, and stands after these bytes of the lines that are left
 module _ {cutter : CutterState} {cut : Cut} {place : ℕ} {left before : List ℕ} (fit : IsFit cutter) (will : WillCut cutter cut) (before_is : before ≡ first_lines newline (cut.line - place) left) where
@@ -161,12 +160,11 @@ module _ {cutter : CutterState} {cut : Cut} {place : ℕ} {left before : List �
 -- the next section began
 
 search_same : (suppress : Bool) (a b : State) → a.current ≡ b.current → a.matched ≡ b.matched → search_line suppress a ≡ search_line suppress b
-search_same true a b current matched = ap (λ n. suc (max (n - 1) a.matched)) current ∙ ap (λ n. suc (max (b.current - 1) n)) matched
-search_same false a b current matched = ap (λ n. cond (eqb n 1 && eqb a.matched 0) 1 (suc (max n a.matched))) current ∙ ap (λ n. cond (eqb b.current 1 && eqb n 0) 1 (suc (max b.current n))) matched
+search_same true a b current matched = grind (arith, common_steps)
+search_same false a b current matched = grind (arith, common_steps)
 
 leads_as : {suppress suppress' : Bool} {lines : List Line} {operands operands' : List Operand} (steps : List Step) {state state' : State} → suppress' ≡ suppress → operands' ≡ operands → state' ≡ state → Leads suppress lines operands steps state → Leads suppress' lines operands' steps state'
-leads_as {suppress} {lines} {operands} {operands'} steps {state'} one two three leads =
-    subst (λ s. Leads s lines operands' steps state') (sym one) (subst (λ o. Leads suppress lines o steps state') (sym two) (subst (Leads suppress lines operands steps) (sym three) leads))
+leads_as {suppress} {lines} {operands} {operands'} steps {state'} one two three leads = grind (arith, common_steps)
 
 rest_from : (suppress : Bool) {rest : List ℕ} (all : List ℕ) (cut : ℕ) (x : List ℕ) → 1 ≤ cut → all ≡ text_from cut x → (suppress ≡ true → rest ≡ after_lines newline 1 all) → (suppress ≡ false → rest ≡ all) → rest ≡ text_from (line_after suppress cut) x
 rest_from true all cut x some is skipped whole = skipped refl ∙ ap (after_lines newline 1) is ∙ from_further cut 1 x some ∙ ap (λ n. text_from n x) (let e : cut + 1 ≡ suc cut = omega arith in e)

@@ -1,4 +1,5 @@
 -- Lemmas on the cutter of lines: what is settled, and what holding lines leaves.
+use Rattle.std.proofs.lemmas.Grind.{common_steps}
 use Rattle.std.proofs.Common.{◌≡◌, ℕ, ◌+◌, ◌-◌, ◌≤◌, Bool, true, false, List, [], ◌∷◌, ◌++◌, length, map, refl, sym, ◌∙◌, ap, arith, ◌⊎◌, inl, inr, Option, None, subst, ◌<◌, min, Some, Result, Ok, Err, OnOk, IfErr, take, drop, append_assoc, length-append}
 use Rattle.std.proofs.lemmas.Bool.{false≢true, cases_lt}
 use Rattle.std.proofs.lemmas.List.{map-append, append-nil, length-take-le, length-drop, take-append-drop, take-append-le, take_all, drop_all, take_at, drop_at, drop-drop}
@@ -68,9 +69,7 @@ draft_is past {suppress} operands x {steps} {state} {ending} taken {written} run
 
 -- and what is written of it is what is settled
 pub settled_part_is : (style : Style) (operands : List Operand) (lines : List Line) → draft_part style (settled_draft style.suppress operands lines) ≡ settled_of style operands lines
-settled_part_is style operands lines =
-    let p = plan style.suppress operands lines in
-    ap (part_by style) (sym (map-append contents_of (map (section_of lines) p.steps) (section (is_last_kept p.ending) false (lines_between p.last.current (settled_end (length lines) p.ending) lines) ∷ [])))
+settled_part_is style operands lines = grind (arith, common_steps)
 
 pub final_count : (total current : ℕ) (ending : Ending) → is_final ending ≡ true → 0 ≡ settled_end total ending - current
 final_count total current (below operand repetition) past = omega arith
@@ -88,11 +87,7 @@ ended_still style operands {x} t {steps} {state} {ending} kept written whole run
 pub most_is : (suppress : Bool) (lines : List Line) (state : State) (ending : Ending) → EndsAs suppress lines state ending → is_final ending ≡ false → most_by state.operands ≡ most_waiting ending
 most_is suppress lines state used_up none live = ap most_by none
 most_is suppress lines state (missed operand repetition) (operands, is, none, often) live = ap most_by is
-most_is suppress lines state (above operand repetition matched cut) (operands, is, at, far, often) live = ap most_by is ∙ none_held operand.target at where
-  none_held : (target : Target) → CutsAt suppress lines state operand target matched cut → most_held target ≡ 0
-  none_held (Number n) at = refl
-  none_held (Search pattern kept (Plus k)) at = refl
-  none_held (Search pattern kept (Minus k)) at = let is : cut ≡ matched - k = at.1 in let within : matched ≤ length lines = at.0.within in absurd (omega (arith, is, within, far))
+most_is suppress lines state (above operand repetition matched cut) (operands, is, at, far, often) live = grind (arith, common_steps)
 most_is suppress lines state (below operand repetition) those live = absurd (false≢true (sym live))
 
 -- an aim that isn't below a cut doesn't end for good
@@ -113,14 +108,14 @@ keeps_on first second = record { operands = second.operands ∙ first.operands; 
 
 -- what style and operands decide stays
 pub same_by : {A : Type 0} {cutter next : CutterState} {old new : List Slot} {fault : Option Fault} (f : Style → List Operand → A) → Keeps cutter next old new fault → f next.writer.style next.operands ≡ f cutter.writer.style cutter.operands
-same_by {cutter = cutter} {next} f keeps = ap (λ (s : Style). f s next.operands) keeps.writer.style ∙ ap (f cutter.writer.style) keeps.operands
+same_by {cutter = cutter} {next} f keeps = grind (arith, common_steps)
 
 pub settled_same : {cutter next : CutterState} {old new : List Slot} {fault : Option Fault} (x : List ℕ) → Keeps cutter next old new fault → settled_part next x ≡ settled_part cutter x
-settled_same x keeps = same_by (λ style operands. settled_of style operands (all_lines x)) keeps
+settled_same x keeps = grind (arith, common_steps)
 
 -- the plan up to where the cutter stands
 pub runs_to : {cutter : CutterState} {x left : List ℕ} (at : IsAt cutter x left) (ends : EndsNow cutter x) → Runs (suppress_in cutter) (all_lines x) (start cutter.operands) at.steps (state_in cutter) ends.ending
-runs_to {cutter} {x} at ends = subst (λ steps. Runs (suppress_in cutter) (all_lines x) (start cutter.operands) steps (state_in cutter) ends.ending) (append-nil at.steps) (at.leads [] (state_in cutter) ends.ending ends.runs)
+runs_to {cutter} {x} at ends = grind (arith, common_steps)
 
 -- more lines came in, and nothing was done with them yet
 unfoldable pub at_more : (cutter : CutterState) (lines : ℕ) (aim : Turn) (x t left : List ℕ) → Joins x t → 1 ≤ cutter.progress.current → (at : IsAt cutter x left) → EndsNow cutter x → lines ≡ line_count newline (x ++ t)
@@ -152,7 +147,7 @@ settled_count at _ live = omega (arith, at.counted)
 
 -- what is written of the open section, where all but the last lines that may wait are taken, is what is settled
 pub live_taken : {cutter : CutterState} {x : List ℕ} (live : IsLive cutter x) → live.at.taken ≡ settled_end (line_count newline x) live.ends.ending - cutter.progress.current
-live_taken live = live.settled ∙ settled_count live.at live.ends.ending live.live
+live_taken live = grind (arith, common_steps)
 
 pub live_part : {cutter : CutterState} {x : List ℕ} (live : IsLive cutter x) → part_at cutter x cutter.window.held live.at ≡ settled_part cutter x
 live_part {cutter} {x} live =
@@ -164,7 +159,7 @@ pub left_count : {cutter : CutterState} {x left : List ℕ} (at : IsAt cutter x 
 left_count {cutter} {x} at = ap (line_count newline) at.left_is ∙ count_from (cutter.progress.current + at.taken) x ∙ ap (λ n. n - (cutter.progress.current + at.taken - 1)) (sym at.counted)
 
 pub few_taken : {cutter : CutterState} {x left : List ℕ} (at : IsAt cutter x left) → cutter.progress.current + at.taken ≤ cutter.lines + 1
-few_taken {cutter} {x} at = let f : cutter.progress.current + at.taken ≤ line_count newline x + 1 = at.few in let e : cutter.lines ≡ line_count newline x = at.counted in omega (arith, f, e)
+few_taken {cutter} {x} at = grind (arith, common_steps)
 
 -- some lines of those that were left are written, and the others wait
 unfoldable pub at_held : (cutter : CutterState) (writer : WriterState) (x left bytes held : List ℕ) (n : ℕ) → 1 ≤ cutter.progress.current → (at : IsAt cutter x left) → writer.style ≡ cutter.writer.style → n ≤ line_count newline left
@@ -228,14 +223,10 @@ lacks_memory style draft closed = let turn = draft_turn style draft closed (make
 -- bytes that are written after others
 
 again : (draft : Draft) (a b : List ℕ) → with_bytes b (with_bytes a draft) ≡ with_bytes (a ++ b) draft
-again draft a b = ap (λ bytes. record draft { bytes = bytes }) (append_assoc draft.bytes a b)
-
-none_more : {draft : Draft} → draft ≡ with_bytes [] draft
-none_more {draft} = ap (λ bytes. record draft { bytes = bytes }) (sym (append-nil draft.bytes))
+again draft a b = grind (arith, common_steps)
 
 goes_none : {told : Bool} {writer : WriterState} {slots : List Slot} → IsReady writer slots → Goes told writer (with_bytes []) slots slots writer None
-goes_none {writer = writer} ready = goes_still writer.current ready ready.current (λ last. last)
-    (λ draft writes. (ap (draft_part writer.style) (none_more {draft = draft}), writes.closed, subst (λ bytes. IsCurrent writer.style draft.is_kept bytes writer.current) (sym (append-nil draft.bytes)) writes.current))
+goes_none {writer = writer} ready = grind (arith, common_steps)
 
 goes_more : {told : Bool} {one two three : WriterState} (a b : List ℕ) {old mid new : List Slot} {fault : Option Fault} → Goes told one (with_bytes a) old mid two None → Goes told two (with_bytes b) mid new three fault → Goes told one (with_bytes (a ++ b)) old new three fault
 goes_more {one = one} a b first second = goes_again (with_bytes (a ++ b)) (λ draft. again draft a b) (bytes_begin one.style a) first second
@@ -246,7 +237,7 @@ stops_among {writer = writer} a b stopped = goes_wider (with_bytes (a ++ b))
     (λ draft. subst (λ those. Begins (draft_part writer.style (with_bytes a draft)) (draft_part writer.style those)) (again draft a b) (bytes_begin writer.style b (with_bytes a draft))) stopped
 
 pub goes_as : {told : Bool} {writer next : WriterState} {a b : List ℕ} {old new : List Slot} {fault : Option Fault} → a ≡ b → Goes told writer (with_bytes a) old new next fault → Goes told writer (with_bytes b) old new next fault
-goes_as {told} {writer} {next} {old = old} {new} {fault} is goes = subst (λ bytes. Goes told writer (with_bytes bytes) old new next fault) is goes
+goes_as {told} {writer} {next} {old = old} {new} {fault} is goes = grind (arith, common_steps)
 
 -- A beginning of what waited was written and dropped, and `left` bytes are still to go.
 pub record Emptying (told : Bool) (writer now : WriterState) (window left_in : Window) (n left : ℕ) (old new : List Slot) : Type 0 where
@@ -256,19 +247,14 @@ pub record Emptying (told : Bool) (writer now : WriterState) (window left_in : W
   pub size : size_of now.current + length left_in.held ≤ size_of writer.current + length window.held
 
 pub starts : {told : Bool} {writer : WriterState} {window : Window} {n : ℕ} {slots : List Slot} → IsReady writer slots → Emptying told writer writer window window n n slots slots
-starts {window = window} {n} ready = let none : n - n ≡ 0 = omega arith in record {
-  few = omega arith;
-  rest = sym (ap (without_first window) none);
-  went = goes_as (sym (ap (λ k. take k window.held) none)) (goes_none ready);
-  size = omega arith;
-}
+starts {window = window} {n} ready = grind (arith, common_steps)
 
 -- the first bytes of what stands at the front are the first of all
 front_bytes : (bytes : ℕ) {held : List ℕ} (front rest : List ℕ) → held ≡ front ++ rest → bytes ≤ length front → take bytes front ≡ take bytes held
-front_bytes bytes front rest is within = sym (ap (take bytes) is ∙ take-append-le bytes front rest within)
+front_bytes bytes front rest is within = grind (arith, common_steps)
 
 front_within : {held : List ℕ} (front rest : List ℕ) → held ≡ front ++ rest → length front ≤ length held
-front_within {held} front rest is = let e : length held ≡ length front + length rest = ap length is ∙ length-append front rest in omega (arith, e)
+front_within {held} front rest is = grind (arith, common_steps)
 
 module _ {told : Bool} {writer now : WriterState} {window left_in : Window} {n left : ℕ} {old mid : List Slot} (so_far : Emptying told writer now window left_in n left old mid) where
   -- what is still to go is held
@@ -369,9 +355,7 @@ goes_lacking {bytes = bytes} {fault = fault} ready lacks = stops_among [] bytes 
 
 pub kept_window : {window mid : Window} (new : Window) {over front : ℕ} {text : List ℕ} (result : Result (Unit {0}) Fault) → Parted window.delim window.most over front window.held text → mid ≡ without_first window front
     → OnOk result (new ≡ record { most = mid.most; delim = mid.delim; held = mid.held ++ drop (over - front) text }) → OnOk result (new ≡ record { most = window.most; delim = window.delim; held = last_lines window.delim window.most (window.held ++ text) })
-kept_window {window} new {over = over} {front} {text} (Ok done) parts dropped put =
-    put ∙ ap (λ (w : Window). record { most = w.most; delim = w.delim; held = w.held ++ drop (over - front) text }) dropped
-    ∙ ap (λ held. record { most = window.most; delim = window.delim; held = held }) parts.stays
+kept_window {window} new {over = over} {front} {text} (Ok done) parts dropped put = grind (arith, common_steps)
 kept_window new (Err fault) parts dropped put = tt
 
 -- What `hold` leaves: all that is settled of the lines that came in is written, and the others wait.

@@ -25,7 +25,7 @@ use Rattle.csplit_core.specs.declared.progress.Turn.{Turn}
 use Rattle.csplit_core.specs.declared.progress.Turn.TheVariants.{Below, Cuts, UsedUp, Missed, Above}
 use Rattle.csplit_core.specs.Writer.{WriterState, Writes, size_of}
 use Rattle.csplit_core.specs.Cutter.{CutterState, most_next, pattern_next, kept_next, next_of, most_by, pattern_by, kept_by, settled_draft, IsFit, Stands, suppress_in, state_in, text_from, draft_by, IsLive, IsPast}
-use Rattle.csplit_core.proofs.TryLemmas.{repeated_anew, turn_ends, no_cut_aims, left_is}
+use Rattle.csplit_core.proofs.TryLemmas.{turn_ends, no_cut_aims, left_is}
 use Rattle.ports_core.proofs.SlotSteps.{none_past}
 use Rattle.csplit_core.proofs.WriterCalls.{begun_not, new_owns, new_writes, no_draft, ended_part}
 use Rattle.csplit_core.proofs.WriterLemmas.{reaches_as, stops_wider, bytes_begin, section_begins, in_any, leaves_again, reaches_again}
@@ -189,10 +189,6 @@ whole_part_is style operands lines =
 
 -- The last section has all lines that are left, and none where the cut is below the current line.
 
-whole_past : (total : ℕ) (ending : Ending) → is_final ending ≡ true → settled_end total ending ≡ whole_end total ending
-whole_past total (below operand repetition) past = refl
-whole_past total _ past = cc
-
 all_first : (n : ℕ) {y : List ℕ} → line_count newline y ≤ n → first_lines newline n y ≡ y
 all_first n {y} few = ap joined (take_all n (lines_of newline y) few) ∙ joined-lines_of newline y
 
@@ -304,11 +300,6 @@ none_of suppress lines state used_up ends none = refl
 none_of suppress lines state (below operand repetition) ends none = absurd (cc ends.3)
 none_of suppress lines state (missed operand repetition) ends none = absurd (cc ends.1)
 none_of suppress lines state (above operand repetition matched cut) ends none = absurd (cc ends.1)
-
--- what is said of the operand of an ending and of how often it was performed is said of the next one
-next_one : (f : Operand → ℕ → Option Fault) (state : State) {operand other : Operand} {operands others : List Operand} {repetition : ℕ} → state.operands ≡ other ∷ others → repetition ≡ state.repetition
-    → state.operands ≡ operand ∷ operands → f operand state.repetition ≡ f other repetition
-next_one f state {operand} {other} is often are = grind (arith, common_steps)
 
 -- the fault of the next operand, by what it did
 abbrev pub verdict_at : Turn → Operand → ℕ → Option Fault

@@ -267,10 +267,6 @@ joined_line rest end none is = grind (arith, common_steps, line_by, joined_by, n
 
 -- the first of complete lines is complete, and so are those after it
 
-complete_by : {text : List ℕ} (line : List ℕ) {rest : List ℕ} (ends : Bool) → ends_with newline line ≡ ends → (ends_with newline line ≡ false → rest ≡ []) → text ≡ line ++ rest → ends_with newline text ≡ true → ends_with newline line ≡ true
-complete_by line true is last joined whole = is
-complete_by line false is last joined whole = grind (arith, common_steps)
-
 pub first_complete : {text : List ℕ} (line : List ℕ) {rest : List ℕ} → (ends_with newline line ≡ false → rest ≡ []) → text ≡ line ++ rest → ends_with newline text ≡ true → ends_with newline line ≡ true
 first_complete line last joined whole = grind (arith, common_steps)
 

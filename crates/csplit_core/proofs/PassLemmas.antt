@@ -1,4 +1,5 @@
 -- Lines over which the next operand stands as it does, and those that are seen to have no match.
+use Rattle.std.proofs.lemmas.Grind.{common_steps}
 use Rattle.std.proofs.Common.{◌≡◌, inl, inr, ℕ, zero, suc, ◌+◌, ◌-◌, ◌^◌, ◌<◌, ◌≤◌, Bool, true, false, cond, List, [], ◌∷◌, ◌++◌, length, take, drop, get_or, refl, sym, ◌∙◌, ap, subst, arith, Some, None, IfSome, append_assoc, length-append}
 use Rattle.std.proofs.lemmas.Bool.{cases_lt, eq-eqb, eqb-true, ne_eqb, false≢true}
 use Rattle.std.proofs.lemmas.List.{get_or-map, drop_at, take_all, take_at, length-drop, take-append-drop, length-take-le, get_or_append_left, append-nil}
@@ -29,38 +30,11 @@ use Rattle.seg_core.proofs.LinesOf.{AreLines-lines_of, joined-lines_of}
 
 -- What stays so of a state when more lines come
 
-repeated_more : (total more : ℕ) (state : State) (target : Target) → total ≤ more → IsRepeatedBy total state target → IsRepeatedBy more state target
-repeated_more total more state (Number n) less few = omega (arith, less, few)
-repeated_more total more state (Search pattern kept offset) less few = few
-
-all_repeated_more : (total more : ℕ) (state : State) (operands : List Operand) → total ≤ more → IsRepeated total state operands → IsRepeated more state operands
-all_repeated_more total more state [] less none = none
-all_repeated_more total more state (operand ∷ operands) less few = repeated_more total more state operand.target less few
-
 fits_more : {total : ℕ} (more : ℕ) {state : State} → total ≤ more → Fits total state → Fits more state
-fits_more {total} more {state} less fits = record {
-  some = fits.some;
-  current = let e : state.current ≤ total + 1 = fits.current in omega (arith, e, less);
-  matched = let e : state.matched ≤ total = fits.matched in omega (arith, e, less);
-  repeated = all_repeated_more total more state state.operands less fits.repeated;
-}
-
-moves_more : (total more : ℕ) (state : State) (target : Target) (matched cut : ℕ) → total ≤ more → Moves total state target matched cut → Moves more state target matched cut
-moves_more total more state (Number n) matched cut less at = at
-moves_more total more state (Search pattern kept offset) matched cut less at = (at.0, omega (arith, at.1, less))
+fits_more {total} more {state} less fits = grind (arith, common_steps)
 
 aim_more : (cutter : CutterState) (text : List ℕ) (lines : ℕ) (aim : Turn) → cutter.lines ≤ lines → AimHolds cutter.operands cutter.lines cutter.progress aim → StaysOver cutter text lines aim → AimHolds cutter.operands lines cutter.progress aim
-aim_more cutter text lines (Above matched line) less will stays = record {
-  operand = will.operand;
-  rest = will.rest;
-  within = will.within;
-  left = will.left;
-  cut = will.cut;
-  moves = moves_more cutter.lines lines (state_in cutter) will.operand.target matched will.cut less will.moves;
-  line_is = will.line_is;
-  matched_within = let e : matched ≤ cutter.lines = will.matched_within in omega (arith, e, less);
-  above = stays;
-}
+aim_more cutter text lines (Above matched line) less will stays = grind (arith, common_steps)
 aim_more cutter text lines (Cuts matched line) less holds stays = holds
 aim_more cutter text lines _ less holds stays = tt
 
@@ -131,14 +105,7 @@ pub record Unmatched (cutter : CutterState) (text left : List ℕ) (next : Cutte
   pub none : StaysOver cutter front next.lines Missed
 
 pub none_yet : {cutter : CutterState} {text : List ℕ} → Unmatched cutter text text cutter
-none_yet = record {
-  front = [];
-  all = refl;
-  whole = inl refl;
-  same = refl;
-  count = omega arith;
-  none = λ operand same k less near. absurd (omega (arith, less));
-}
+none_yet = grind (arith, common_steps)
 
 -- the line up to the first newline
 
@@ -164,13 +131,7 @@ without_last (byte ∷ text) none = ap (λ is. cond is [] (byte ∷ without_newl
 
 none_more : (operand : Operand) (count : ℕ) (a b : List Line) (from : ℕ) → NoneFrom operand count a from → NoneFrom operand (count + length a) b from
     → NoneFrom operand count (a ++ b) from
-none_more operand count a b from those others k less near = elim (cases_lt k (length a)) [
-  | inl before ↦ ap (λ (l : Line). l.marks operand) (get_or_append_left a b unmarked k before) ∙ those k before near
-  | inr past ↦
-      let e : length (a ++ b) ≡ length a + length b = length-append a b in
-      ap (λ (l : Line). l.marks operand) (get_or-append_right a b k unmarked past)
-      ∙ others (k - length a) (omega (arith, e, past, less)) (omega (arith, past, near))
-]
+none_more operand count a b from those others k less near = grind (arith, common_steps)
 
 none_one : (operand : Operand) (count : ℕ) (line : Line) (from : ℕ) → (from ≤ count + 1 → line.marks operand ≡ false) → NoneFrom operand count (line ∷ []) from
 none_one operand count line from here zero less near = here near
@@ -205,9 +166,7 @@ few_counted {cutter} {text} {left} {next} so =
 
 -- what is left of a slice
 pub all_left : (left : List ℕ) {n : ℕ} (end : ℕ) → n ≡ length left → take (n - (end + 1)) (drop (end + 1) left) ≡ drop (suc end) left
-all_left left {n} end is =
-    take_all (n - (end + 1)) (drop (end + 1) left) (let e : length (drop (end + 1) left) ≡ length left - (end + 1) = length-drop (end + 1) left in omega (arith, e, is))
-    ∙ ap (λ k. drop k left) (let e : end + 1 ≡ suc end = omega arith in e)
+all_left left {n} end is = grind (arith, common_steps)
 
 -- the same of a cutter that looked at the line
 pub one_more_at : {cutter : CutterState} {text left rest : List ℕ} {next now : CutterState} (end : ℕ) {found : Bool} → Unmatched cutter text left next → now ≡ next → end < length left → Passes (is_byte newline) left end → Nowhere (Passes (is_byte newline) left) 0 end
@@ -276,10 +235,7 @@ pub few_left : {cutter : CutterState} {text left : List ℕ} {next : CutterState
 few_left so fits = let less = few_counted so in omega (arith, less, fits)
 
 pub stops_unfound : {cutter : CutterState} {text : List ℕ} {next : CutterState} {n : ℕ} (passed : Passed) → PassesOver cutter text next n → passed.size ≡ n → passed.found ≡ None → StopsAt cutter text next passed
-stops_unfound {cutter} {text} {next} passed over size_is found_is = record {
-  over = subst (PassesOver cutter text next) (sym size_is) over;
-  found = subst (λ found. IfSome found (IsNextFound next (drop passed.size text))) (sym found_is) tt;
-}
+stops_unfound {cutter} {text} {next} passed over size_is found_is = grind (arith, common_steps)
 
 -- The line in which the pattern was found is the next one.
 
@@ -326,11 +282,9 @@ line_clear pattern {text} place front line more rest clear all within (bytes, is
     ap (contains pattern) (ap without_newline is ∙ without_last bytes none) ∙ clear front bytes after parts (omega (arith, long, longer, within))
 
 line_some : (line : List ℕ) (lines : List (List ℕ)) → AreLines newline (line ∷ lines) → 0 < length (joined (line ∷ lines))
-line_some line [] (inl (bytes, is, none)) = let long : length line ≡ length bytes + 1 = ap length is ∙ length-append bytes (newline ∷ []) in let all : length (line ++ []) ≡ length line + 0 = length-append line [] in omega (arith, long, all)
-line_some line [] (inr unended) = let some : 0 < length line = unended.0 in let all : length (line ++ []) ≡ length line + 0 = length-append line [] in omega (arith, some, all)
-line_some line (next ∷ lines) ((bytes, is, none), others) =
-    let long : length line ≡ length bytes + 1 = ap length is ∙ length-append bytes (newline ∷ []) in
-    let all : length (joined (line ∷ next ∷ lines)) ≡ length line + length (joined (next ∷ lines)) = length-append line (joined (next ∷ lines)) in omega (arith, long, all)
+line_some line [] (inl (bytes, is, none)) = grind (arith, common_steps)
+line_some line [] (inr unended) = grind (arith, common_steps)
+line_some line (next ∷ lines) ((bytes, is, none), others) = grind (arith, common_steps)
 
 each_clear : (pattern : Pattern) {text : List ℕ} (place : ℕ) (front : List ℕ) (lines : List (List ℕ)) (rest : List ℕ) → IsClear pattern text place → text ≡ front ++ joined lines ++ rest → length front + length (joined lines) ≤ place → AreLines newline lines
     → (0 < length lines → ends_with newline (joined lines) ≡ true) → (k : ℕ) → k < length lines → contains pattern (without_newline (get_or lines k [])) ≡ false
@@ -348,7 +302,7 @@ each_clear pattern place front (line ∷ next ∷ lines) rest clear all within a
     (λ some. sym (ends_with-append newline line (joined (next ∷ lines)) (line_some next lines are.1)) ∙ ends (omega arith)) k (omega (arith, less))
 
 whole_ends : {x : List ℕ} → IsWhole x → 0 < length (lines_of newline x) → ends_with newline (joined (lines_of newline x)) ≡ true
-whole_ends {x} (inl none) some = absurd (let e : length (lines_of newline x) ≡ 0 = ap (λ those. length (lines_of newline those)) none in omega (arith, e, some))
+whole_ends {x} (inl none) some = grind (arith, common_steps)
 whole_ends {x} (inr ends) some = ap (ends_with newline) (joined-lines_of newline x) ∙ ends
 
 pub clear_front : (pattern : Pattern) (text : List ℕ) (place n : ℕ) → IsClear pattern text place → n ≤ place → n ≤ length text → IsWhole (take n text) → AreClear pattern (take n text)

@@ -1,4 +1,5 @@
 -- Taking lines in, one by one and stretch by stretch, and cutting them as often as operands cut.
+use Rattle.std.proofs.lemmas.Grind.{common_steps}
 use Rattle.std.proofs.Common.{◌≡◌, ◌⊎◌, inl, inr, ℕ, ◌+◌, ◌-◌, ◌<◌, ◌≤◌, max, Bool, true, Option, Some, None, List, [], ◌∷◌, ◌++◌, length, refl, sym, ◌∙◌, ap, subst, arith, append_assoc, length-append, IfSome, Ok, Err, take, drop, eqb, Result}
 use Rattle.std.proofs.lemmas.List.{take_all, append-nil, take-append-drop, length-drop, take_at, nil_from_length, length-take-le, drop_at, drop-drop}
 use Rattle.std.proofs.lemmas.Bool.{false≢true, cases_lt, eqb-true}
@@ -95,13 +96,10 @@ live_of differs (inl live) = live
 live_of differs (inr past) = absurd (differs past.aim)
 
 most_load : (lines size held more_lines more most : ℕ) → more_lines ≤ lines + more → size ≤ held + more → max more_lines size ≤ max lines held + more
-most_load lines size held count more most few less = max-le (let a = le-max_left lines held in omega (arith, a, few)) (let b = le-max_right lines held in omega (arith, b, less))
+most_load lines size held count more most few less = grind (arith, common_steps)
 
 pub sound_held : {mid next : CutterState} {left : List ℕ} → Held mid left next → IsSound mid → IsSound next
-sound_held held sound = subst IsSound (sym held.same) (record {
-  fit = record { fits = sound.fit.fits; most = ap (λ (w : Window). w.most) held.window ∙ sound.fit.most; delim = ap (λ (w : Window). w.delim) held.window ∙ sound.fit.delim; sought = sound.fit.sought };
-  aim = sound.aim;
-})
+sound_held held sound = grind (arith, common_steps)
 
 -- these lines are left where outputs have this part
 pub record Reached (low : Part) (cutter : CutterState) (x left : List ℕ) : Type 0 where
@@ -157,7 +155,7 @@ record CutThere (low : Part) (cutter : CutterState) (x left line : List ℕ) (cu
   same : low ≡ part_at cutter x left at
 
 line_has : (line : List ℕ) → IsLine line → 1 ≤ length line
-line_has line one = let l = line_count-le-length newline line in let e : line_count newline line ≡ 1 = ap length one in omega (arith, l, e)
+line_has line one = grind (arith, common_steps)
 
 took_cut : {told : Bool} {cutter next : CutterState} {lines : ℕ} {aim : Turn} (line more : List ℕ) {cut : Cut} {old new : List Slot} {fault : Option Fault} → IsFit cutter → (cutter.aim ≡ Below → ⊥) → IsLine line → lines ≡ cutter.lines + 1 → WillCut (more_lines cutter lines aim) cut
     → TriesNext cutter line (more_lines cutter lines aim) (Some cut) → CutsAll told (more_lines cutter lines aim) cut (lines - delimiters newline cutter.window.held) (cutter.window.held ++ line) line more old new next fault
@@ -193,7 +191,7 @@ take_cut {told} {cutter} {next = next} line more {cut} {old} {new} {fault} fit d
 -- Where the cut is below the current line, later lines go nowhere.
 
 pub past_not_live : {cutter : CutterState} {x : List ℕ} → cutter.aim ≡ Below → IsLive cutter x → ⊥
-past_not_live aim live = false≢true (sym live.live ∙ aims_past live.ends.ending (subst (λ a. AimsAt a live.ends.ending) aim live.ends.aims))
+past_not_live aim live = grind (arith, common_steps)
 
 final_stays : (suppress : Bool) (count : ℕ) (b : List Line) (total : ℕ) (last : State) (ending : Ending) → is_final ending ≡ true
     → EndsStill suppress count b total last ending
@@ -286,11 +284,7 @@ pub record Taking (told : Bool) (cutter now : CutterState) (text left : List ℕ
   pub took : Takes told cutter front old new now None
 
 pub takes_none : {told : Bool} {cutter : CutterState} {slots : List Slot} → IsSound cutter → IsReady cutter.writer slots → Takes told cutter [] slots slots cutter None
-takes_none {cutter = cutter} sound ready = record {
-  keeps = record { operands = refl; writer = leaves_still ready };
-  reaches = λ x whole stands. reaches_still (ap (settled_part cutter) (sym (append-nil x)));
-  went = record { stands = λ x whole stands. subst (Stands cutter) (sym (append-nil x)) stands; sound = sound; size = omega arith };
-}
+takes_none {cutter = cutter} sound ready = grind (arith, common_steps)
 
 pub takes_all : {told : Bool} {cutter : CutterState} {text : List ℕ} {slots : List Slot} → IsWhole text → IsSound cutter → IsReady cutter.writer slots → Taking told cutter cutter text text slots slots
 takes_all whole sound ready = record { front = []; whole = refl; complete = inl refl; rest = whole; took = takes_none sound ready }
@@ -319,13 +313,10 @@ module _ {told : Bool} {cutter now : CutterState} {text left : List ℕ} {old mi
       let all : length text ≡ length so_far.front + length left = ap length so_far.whole ∙ length-append so_far.front left in let s = so_far.took.went.size in omega (arith, all, s, fits)
 
 pub found_next : {told : Bool} {now next : CutterState} {left : List ℕ} {size : ℕ} (passed : Passed) {mid new : List Slot} → Stretches told now left size mid new next (Ok passed) → IfSome passed.found (IsNextFound next (take (length left - passed.size) (drop passed.size left)))
-found_next {next = next} {left} passed more =
-    subst (λ those. IfSome passed.found (IsNextFound next those)) (sym (rest_all passed.size left)) (subst (λ k. IfSome passed.found (IsNextFound next (drop k left))) (sym more.size_is) more.found)
+found_next {next = next} {left} passed more = grind (arith, common_steps)
 
 pub takes_fewer : {told : Bool} {now next : CutterState} {left : List ℕ} {size : ℕ} (passed : Passed) {mid new : List Slot} → 0 < size → Stretches told now left size mid new next (Ok passed) → length (take (length left - passed.size) (drop passed.size left)) < length left
-takes_fewer {left = left} passed some more =
-    let e : length (take (length left - passed.size) (drop passed.size left)) ≡ length left - passed.size = ap length (rest_all passed.size left) ∙ length-drop passed.size left in
-    let least = more.least in let within = more.within in let is = more.size_is in omega (arith, e, some, least, within, is)
+takes_fewer {left = left} passed some more = grind (arith, common_steps)
 
 -- Cutting as often as operands cut the lines that are left, and then taking in the lines after them that aren't cut.
 
@@ -342,13 +333,13 @@ at_alike cutter aim window x left at = record { steps = at.steps; leads = at.lea
 -- Trying the next operand changes the aim alone.
 
 pub spread_fit : {now mid : CutterState} → mid ≡ record now { aim = mid.aim } → IsFit now → IsFit mid
-spread_fit is fit = subst IsFit (sym is) (record { fits = fit.fits; most = fit.most; delim = fit.delim; sought = fit.sought })
+spread_fit is fit = grind (arith, common_steps)
 
 pub spread_ready : (now : CutterState) {mid : CutterState} {slots : List Slot} → mid ≡ record now { aim = mid.aim } → IsReady now.writer slots → IsReady mid.writer slots
-spread_ready now {slots} is ready = subst (λ (c : CutterState). IsReady c.writer slots) (sym is) ready
+spread_ready now {slots} is ready = grind (arith, common_steps)
 
 pub spread_fewer : (now : CutterState) {mid : CutterState} {less : ℕ} → mid ≡ record now { aim = mid.aim } → less < needed mid.lines (state_in mid) → less < needed now.lines (state_in now)
-spread_fewer now {less} is fewer = subst (λ (c : CutterState). less < needed c.lines (state_in c)) is fewer
+spread_fewer now {less} is fewer = grind (arith, common_steps)
 
 -- the next operand cuts as well
 
@@ -446,13 +437,11 @@ spread_held {told} {cutter} {mid} {next} {left = left} {between = between} {new}
 -- where none waits
 
 pub none_there : {held : List ℕ} {empty : Bool} → empty ≡ eqb (length held) 0 → empty ≡ true → held ≡ []
-none_there {held} is true_is = nil_from_length held (eqb-true (length held) 0 (sym is ∙ true_is))
+none_there {held} is true_is = grind (arith, common_steps)
 
 pub alone : (P : ℕ → List ℕ → Type 0) (cutter : CutterState) (line : List ℕ) → cutter.window.held ≡ [] → P cutter.lines line
     → P (cutter.lines - delimiters newline cutter.window.held) (cutter.window.held ++ line)
-alone P cutter line none holds =
-    subst (λ those. P (cutter.lines - delimiters newline those) (those ++ line)) (sym none)
-    (subst (λ n. P n line) (let e : cutter.lines ≡ cutter.lines - 0 = omega arith in e) holds)
+alone P cutter line none holds = grind (arith, common_steps)
 
 -- and where some do
 
@@ -477,32 +466,17 @@ cut_drained {told} {cutter} {next} {window} {cut} {waiting = waiting} {line} {ol
 
 -- how many lines wait
 pub waiting_count : (lines : ℕ) (held : List ℕ) {waiting : List ℕ} (line front : List ℕ) {size count place : ℕ} → waiting ≡ held ++ line → size ≡ length held → front ≡ take size waiting → count ≡ delimiters newline front → place ≡ lines - count → place ≡ lines - delimiters newline held
-waiting_count lines held line front {size} waiting_is size_is front_is count_is place_is =
-    place_is ∙ ap (λ n. lines - n) (count_is ∙ ap (delimiters newline) (front_is ∙ ap (take size) waiting_is ∙ take_at held line size (sym size_is)))
+waiting_count lines held line front {size} waiting_is size_is front_is count_is place_is = grind (arith, common_steps)
 
 pub waiting_size : (held line : List ℕ) {items : List ℕ} {n : ℕ} → items ≡ held ++ line → n ≡ length items → n - length line ≡ length held
-waiting_size held line {items} is long = let e : length items ≡ length held + length line = ap length is ∙ length-append held line in omega (arith, e, long)
+waiting_size held line {items} is long = grind (arith, common_steps)
 
 -- A line is cut, or isn't, and what is left of it is held together with the lines after it that aren't cut.
 
 -- What was found of the next line stays where lines are held.
 
-found_as : {mid : CutterState} {writer : Rattle.csplit_core.specs.Writer.WriterState} {window : Window} {rest : List ℕ} {size : ℕ} → writer.style ≡ mid.writer.style → IsNextFound mid rest size → IsNextFound (record mid { writer = writer; window = window }) rest size
-found_as {mid} same found = record {
-  some = found.some;
-  within = found.within;
-  line = found.line;
-  ends = found.ends;
-  aim = found.aim;
-  found = record {
-    none = found.found.none;
-    before = λ less. found.found.before (subst (λ (style : Style). mid.lines + 1 < search_line style.suppress (state_in mid)) same less);
-    some = λ pattern sought from. found.found.some pattern sought (subst (λ (style : Style). search_line style.suppress (state_in mid) ≤ mid.lines + 1) same from);
-  };
-}
-
 found_by : {told : Bool} {mid next : CutterState} {left : List ℕ} {old new : List Slot} (rest : List ℕ) (found : Option ℕ) → Holds told mid left old new next None → IfSome found (IsNextFound mid rest) → IfSome found (IsNextFound next rest)
-found_by rest (Some size) held is = subst (λ (those : CutterState). IsNextFound those rest size) (sym held.went.same) (found_as held.keeps.writer.style is)
+found_by rest (Some size) held is = grind (arith, common_steps)
 found_by rest None held is = is
 
 found_held : {told : Bool} {mid next : CutterState} {left : List ℕ} {old new : List Slot} (rest : List ℕ) (result : Result Passed Fault) → Holds told mid left old new next (fault_in result) → IfOk result (λ passed. IfSome passed.found (IsNextFound mid rest))
@@ -544,7 +518,7 @@ there_of {now = now} {mid} {aim} {x} line {left} {rest} {n} fit whole tries over
 
 -- where the first line is all, or complete
 joins_by : {E : Type 0} {x rest : List ℕ} (n : ℕ) → (rest ≡ []) ⊎ E → (E → IsWhole x) → Joins x (take n rest)
-joins_by n (inl none) ends = inr (ap (take n) none ∙ take_all n [] (omega arith))
+joins_by n (inl none) ends = grind (arith, common_steps)
 joins_by n (inr so) ends = inl (ends so)
 
 spread_passes : {told : Bool} {cutter mid end next : CutterState} {cut : Cut} {place : ℕ} {line left rest : List ℕ} {n : ℕ} {old between new : List Slot} {fault : Option Fault} → Spread told cutter cut place line line old between mid left → (rest ≡ []) ⊎ (ends_with newline line ≡ true) → PassesOver mid rest end n
@@ -577,9 +551,7 @@ left_within text left size within (front, is) =
 -- What `cut_on` owes.
 
 gone_left : {told : Bool} {mid next : CutterState} {left rest tail : List ℕ} {kept : ℕ} {old new : List Slot} {result : Result Passed Fault} → kept ≡ length left → tail ≡ left ++ rest → GoesOn told mid (take kept tail) (drop kept tail) old new next result → GoesOn told mid left rest old new next result
-gone_left {told} {mid} {next} {left} {rest} {tail} {kept} {old} {new} {result} kept_is is gone =
-    subst (λ those. GoesOn told mid those rest old new next result) (ap (take kept) is ∙ take_at left rest kept (sym kept_is))
-    (subst (λ those. GoesOn told mid (take kept tail) those old new next result) (ap (drop kept) is ∙ drop_at left rest kept (sym kept_is)) gone)
+gone_left {told} {mid} {next} {left} {rest} {tail} {kept} {old} {new} {result} kept_is is gone = grind (arith, common_steps)
 
 pub cut_on : {told : Bool} {cutter mid next : CutterState} {cut : Cut} (text : List ℕ) {tail left : List ℕ} (size : ℕ) {kept : ℕ} {passed all : Passed} {old between new : List Slot} → size ≤ length text → (drop size text ≡ []) ⊎ (ends_with newline (take size text) ≡ true)
     → Spread told cutter cut cutter.lines (take size text) (take size text) old between mid left → kept ≡ length left → tail ≡ left ++ drop size text → GoesOn told mid (take kept tail) (drop kept tail) between new next (Ok passed)
@@ -603,7 +575,7 @@ cut_not_on complete spread kept_is tail_is goes =
 
 -- a fault at the cut
 pub cut_stopped_on : {told : Bool} {cutter next : CutterState} {cut : Cut} {line rest : List ℕ} {old new : List Slot} {fault : Fault} → CutsAll told cutter cut cutter.lines line line [] old new next (Some fault) → CutsOn told cutter cut line rest old new next (Err fault)
-cut_stopped_on stopped = record { n = 0; within = omega arith; whole = inl refl; all = stopped; size = tt; found = tt }
+cut_stopped_on stopped = grind (arith, common_steps)
 
 -- What `stretch` owes. The first line isn't cut.
 
@@ -664,16 +636,8 @@ stretch_first {told} {cutter} {next = next} {text} {size} {old = old} {new} resu
 
 -- All of it goes nowhere.
 pub stretch_past : {told : Bool} {cutter next : CutterState} {text : List ℕ} {size : ℕ} {old new : List Slot} (passed : Passed) → size ≤ length text → Takes told cutter text old new next None → passed.size ≡ length text → passed.found ≡ None → Stretches told cutter text size old new next (Ok passed)
-stretch_past {told} {cutter} {next} {text} {old = old} {new} passed within took size_is none = record {
-  n = length text;
-  least = within;
-  within = omega arith;
-  whole = λ all. subst IsWhole (sym (take_all (length text) text (omega arith))) all;
-  took = subst (λ those. Takes told cutter those old new next None) (sym (take_all (length text) text (omega arith))) took;
-  size_is = size_is;
-  found = subst (λ found. IfSome found (IsNextFound next (drop (length text) text))) (sym none) tt;
-}
+stretch_past {told} {cutter} {next} {text} {old = old} {new} passed within took size_is none = grind (arith, common_steps)
 
 -- The text is one line.
 pub stretched_line : {told : Bool} {cutter next : CutterState} {line : List ℕ} {old new : List Slot} {result : Result Passed Fault} → Stretches told cutter line (length line) old new next result → Takes told cutter line old new next (fault_in result)
-stretched_line {told} {cutter} {next} {line} {old} {new} {result} stretch = subst (λ those. Takes told cutter those old new next (fault_in result)) (take_all stretch.n line stretch.least) stretch.took
+stretched_line {told} {cutter} {next} {line} {old} {new} {result} stretch = grind (arith, common_steps)

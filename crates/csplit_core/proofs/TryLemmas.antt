@@ -7,7 +7,7 @@ use Rattle.std.proofs.Math.Seq.{get_or-append_right, get_or-append_seam}
 use Rattle.csplit_core.specs.Operand.{Target, Number, Search, Operand, Line, unmarked, is_match, Offset, moved, has_more}
 use Rattle.csplit_core.specs.Plan.{State, Step, Ending, missed, above, search_line, IsFirst, MatchesNone, Misses, line_after, Runs, is_used_up, misses, is_above, is_below, cuts, used_up, below, CutsAt, operands_after, repetition_after, state_after}
 use Rattle.csplit_core.specs.Planned.{plan}
-use Rattle.csplit_core.specs.laws.PlanLaws.{search_some, match_still, cuts_still, goes_on, plan_runs, plan_once, line_some, fewer_left, fewer_moves, search_past}
+use Rattle.csplit_core.specs.laws.PlanLaws.{search_some, cuts_still, goes_on, plan_runs, plan_once, line_some, fewer_left, fewer_moves}
 use Rattle.std.specs.Prelude.{min, max, eqb, ◌&&◌}
 use Rattle.bre_core.specs.Pattern.{Pattern}
 use Rattle.csplit_core.specs.Progress.{state_of, EndsHere, AimsAt}
@@ -36,34 +36,11 @@ use Rattle.std.proofs.lemmas.Grind.{common_steps}
 abbrev pub NoneFrom : Operand → (count : ℕ) → List Line → (from : ℕ) → Type 0
 NoneFrom operand count lines from = (k : ℕ) → k < length lines → from ≤ count + suc k → (get_or lines k unmarked).marks operand ≡ false
 
--- a search that matched nothing goes on over more lines
-none_from : (operand : Operand) (a b : List Line) (from : ℕ) → 1 ≤ from → MatchesNone operand a from → NoneFrom operand (length a) b from → MatchesNone operand (a ++ b) from
-none_from operand a b from some none those line from_on within = grind (arith, common_steps)
-
 misses_from : (suppress : Bool) (a b : List Line) (state : State) (operand : Operand) (target : Target) → Misses suppress a state operand target → NoneFrom operand (length a) b (search_line suppress state) → Misses suppress (a ++ b) state operand target
 misses_from suppress a b state operand (Number n) none those = none
 misses_from suppress a b state operand (Search pattern kept offset) none those = grind (arith, common_steps)
 
 -- After a cut, no line before the last one has to be looked at again
-
-abbrev from_of : (current matched : ℕ) → ℕ
-from_of current matched = cond (eqb current 1 && eqb matched 0) 1 (suc (max current matched))
-
-most_from : (current matched : ℕ) (first : Bool) → cond first 1 (suc (max current matched)) ≤ suc (max current matched)
-most_from current matched true = omega arith
-most_from current matched false = omega arith
-
-at_one : {current matched : ℕ} → current ≡ 1 → matched ≡ 0 → from_of current matched ≡ 1
-at_one {matched} is none = grind (arith, common_steps)
-
-from_first : (current matched cut matched' : ℕ) → 1 ≤ current → current ≤ cut → matched ≤ matched' → (then : Bool) → (eqb cut 1 && eqb matched' 0) ≡ then → from_of current matched ≤ cond then 1 (suc (max cut matched'))
-from_first current matched cut matched' some least more true is = grind (arith, common_steps)
-from_first current matched cut matched' some least more false is = grind (arith, common_steps)
-
--- a search after a cut begins no earlier than one that begins where the state was before it
-pub search_grows : (suppress : Bool) (state next : State) (cut : ℕ) → 1 ≤ state.current → state.current ≤ cut → state.matched ≤ next.matched → next.current ≡ line_after suppress cut → search_line suppress state ≤ search_line suppress next
-search_grows true state next cut some least more is = grind (arith, common_steps)
-search_grows false state next cut some least more is = grind (arith, common_steps)
 
 -- where no line before the last one is matched, that line alone decides
 pub looks_last : {operand : Operand} {lines : List Line} {from : ℕ} → ((other : ℕ) → from ≤ other → other < length lines → is_match operand lines other ≡ false) → from ≤ length lines → is_match operand lines (length lines) ≡ true → IsFirst operand lines from (length lines)
@@ -184,10 +161,6 @@ repeated_again total state next (Number n) cut at some within again same few =
     let less : total - next.repetition < total - state.repetition = fewer_left total state next (Number n) cut at some within again same in omega (arith, less, again)
 repeated_again total state next (Search pattern kept offset) cut at some within again same few = omega (arith, at.0, few, again, same)
 
-pub repeated_anew : (total : ℕ) (state : State) (operands : List Operand) → state.repetition ≡ 0 → IsRepeated total state operands
-repeated_anew total state [] none = none
-repeated_anew total state (operand ∷ operands) none = grind (arith, common_steps)
-
 repeated_by : (total : ℕ) (state : State) (operand : Operand) (operands : List Operand) {matched : ℕ} (cut : ℕ) → Moves total state operand.target matched cut → 1 ≤ cut → cut ≤ total → IsRepeated total state (operand ∷ operands)
     → (more : Bool) (next : State) → next.repetition ≡ repetition_after more state.repetition → next.matched ≡ matched → IsRepeated total next (operands_after more operand operands)
 repeated_by total state operand operands cut at some within few true next again same = repeated_again total state next operand.target cut at some within again same few
@@ -248,10 +221,6 @@ module _ {cutter : CutterState} {cut : Cut} {operand : Operand} (progress : Prog
 
 -- What trying the next operand with the last line says.
 
--- the mark of the last line
-last_mark : (operand : Operand) {lines : List Line} {total : ℕ} (line : List ℕ) (front : List Line) → lines ≡ front ++ marked line ∷ [] → length lines ≡ total → is_match operand lines total ≡ is_match_of line operand.target
-last_mark operand {lines} {total} line front is count = grind (arith, common_steps)
-
 pub found_is : {cutter : CutterState} (line : List ℕ) {text : List ℕ} (number : ℕ) {found : Bool} (target : Target) → text ≡ without_newline line → cutter.sought ≡ pattern_in target → IsFound cutter text number found
     → search_line (suppress_in cutter) (state_in cutter) ≤ number → is_match_of line target ≡ found
 found_is line number (Number n) is sought says near = sym (says.none sought)
@@ -273,21 +242,6 @@ no_cut_aims operands total progress _ no_cut moves = tt
 pub after_cut : (suppress : Bool) (cut : Cut) → cut.line ≤ search_after suppress cut
 after_cut true cut = grind (arith, common_steps)
 after_cut false cut = grind (arith, common_steps)
-
-pub after_matched : (suppress : Bool) (cut : Cut) → cut.matched < search_after suppress cut
-after_matched suppress cut = grind (arith, common_steps)
-
-near_by : {cutter : CutterState} {x : List ℕ} (line : List ℕ) (cut : Cut) {operand : Operand} {operands : List Operand} (target : Target) → (state_in cutter).operands ≡ operand ∷ operands → operand.target ≡ target → IsFit cutter → Looked cutter x line
-    → CutsAt (suppress_in cutter) (all_lines x) (state_in cutter) operand target cut.matched cut.line → cutter.progress.current ≤ cut.line → StaysNear cutter cut
-near_by {cutter} line cut {operands} (Number n) are is fit looked at_cut from (inl far) =
-    let same : cut.matched ≡ cutter.progress.matched = at_cut.0 in
-    let more = search_grows (suppress_in cutter) (state_in cutter) (record { operands = []; repetition = 0; current = line_after (suppress_in cutter) cut.line; matched = cut.matched }) cut.line fit.fits.some from (omega (arith, same)) refl in
-    omega (arith, far, more)
-near_by line cut (Number n) are is fit looked at_cut from (inr searched) = absurd (searched (fit.sought ∙ ap pattern_by are ∙ ap pattern_in is))
-near_by {cutter} line cut {operand} {operands} (Search pattern kept offset) are is fit looked at_cut from either = elim (cases_lt cut.matched cutter.lines) [
-  | inl less ↦ absurd (false≢true (sym (looked.others operand operands are cut.matched at_cut.0.not_before less) ∙ at_cut.0.match))
-  | inr not_less ↦ let past = after_matched (suppress_in cutter) cut in omega (arith, not_less, past)
-]
 
 pub cut_near : {cutter : CutterState} {x : List ℕ} (line : List ℕ) (cut : Cut) {turn : Turn} → turn ≡ Cuts cut.matched cut.line → IsFit cutter → Looked cutter x line → Turns (suppress_in cutter) (all_lines x) (state_in cutter) turn → StaysNear cutter cut
 cut_near {cutter} {x} line cut is fit looked turns = search rules
@@ -364,10 +318,6 @@ missed_looked : (suppress : Bool) (a : List Line) (line : Line) (state : State) 
     → (other : ℕ) → search_line suppress state ≤ other → other ≤ length a → is_match operand (a ++ line ∷ []) other ≡ false
 missed_looked suppress a line state (missed operand' repetition) (operands', is, none, often) aims {operand} are other from within = grind (arith, common_steps)
 missed_looked suppress a line state _ ends aims are other from within = absurd aims
-
-missed_sought : (suppress : Bool) (a : List Line) (state : State) (ending : Ending) → EndsAs suppress a state ending → AimsAt Missed ending → pattern_by state.operands ≡ None → ⊥
-missed_sought suppress a state (missed operand repetition) (operands, is, fails, often) aims none = grind (arith, common_steps)
-missed_sought suppress a state _ ends aims none = absurd aims
 
 pub next_looked : {cutter : CutterState} {x : List ℕ} (line : List ℕ) (live : IsLive cutter x) → IsWhole x → IsLine line → cutter.aim ≡ Missed → Looked (record cutter { lines = cutter.lines + 1 }) (x ++ line) line
 next_looked {cutter} {x} line live whole one aim =

@@ -19,14 +19,6 @@ after_within false cut total within = omega (arith, within)
 
 -- Few lines wait.
 
-left_over : (lines : List Line) (current past : ℕ) → 1 ≤ current → length (drop (past - current) (drop (current - 1) lines)) ≤ suc (length lines) - past
-left_over lines current past some = grind (arith, common_steps)
-
-few_at : (lines : List Line) (plan' : Plan) (ending : Ending) → plan'.ending ≡ ending → 1 ≤ plan'.last.current → length (waiting_lines lines plan') ≤ most_waiting ending
-few_at lines plan' (missed operand repetition) is some = grind (arith, common_steps)
-few_at lines plan' (below operand repetition) is some = grind (arith, common_steps)
-few_at lines plan' ending is some = grind (arith, common_steps)
-
 pub few_wait : (suppress : Bool) (operands : List Operand) (x : List Line) → length (waiting_lines x (plan suppress operands x)) ≤ most_waiting (plan suppress operands x).ending
 few_wait suppress operands x = grind (arith, common_steps)
 

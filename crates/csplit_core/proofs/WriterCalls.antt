@@ -10,7 +10,7 @@ use Rattle.csplit_core.specs.Output.{Style, Contents, makes_file, file_at, files
 use Rattle.csplit_core.specs.Draft.{Draft, draft_part, last_contents, AreClosed}
 use Rattle.csplit_core.specs.inner.Writer.{with_section, KeepsFiles, MakesNone, unnamed, failed, Made, next_name, Appends, Makes, with_bytes, with_kept, first_draft, Goes, KeepsOrBreaks, Leaves, BegunNot, new_writer}
 use Rattle.ports_core.specs.inner.Write.{Wrote}
-use Rattle.csplit_core.specs.laws.SectionLaws.{size_lines-append, made_more}
+use Rattle.csplit_core.specs.laws.SectionLaws.{size_lines-append}
 use Rattle.csplit_core.proofs.WriterLemmas.{more_files, reaches_as, reaches_by, where_well, leaves_again, stops_in, file_begins, opens_not, reaches_again, stops_wider, section_begins, in_any, line_begins, tells_line}
 use Rattle.ports_core.proofs.PartSteps.{file_of, with_last, writes_to, Becomes, becomes_again, opens, falls_wider, close_begins, closes_last, closes_not}
 use Rattle.std.proofs.lemmas.Bool.{false≢true, cases_lt, eq-eqb}
@@ -233,9 +233,6 @@ owned_opened {writer} {next} {slot} {old} {new} two made = record {
   there : AreThere writer.files old → AreThere next.files new
   there are = subst (λ those. AreThere those new) (sym files) (subst (AreThere (writer.files ++ slot ∷ [])) (sym made.added) (there_more writer.files old (next_name writer) at two are))
 
-unopened_keeps : (kept : List ℕ) (old : List Slot) (place : ℕ) → has_file (slot_at (old ++ unopened kept ∷ []) place).state ≡ has_file (slot_at old place).state
-unopened_keeps kept old place = grind (arith, common_steps)
-
 unmade_keeps : {name : List ℕ} {old new : List Slot} {f : Fault} → MakesNone old name new f → (place : ℕ) → has_file (slot_at new place).state ≡ has_file (slot_at old place).state
 unmade_keeps (unnamed same) place = grind (arith, common_steps)
 unmade_keeps {old} (failed _ (broke slot kept number is added)) place = grind (arith, common_steps)
@@ -396,7 +393,8 @@ some_bytes (byte ∷ bytes) is = refl
 
 made_becomes : {told : Bool} {writer next : WriterState} (ended : List Contents) {slot : ℕ} {old new : List Slot} → length writer.files ≡ length (files_of writer.style 0 ended) → Made writer old new next slot
     → Becomes told (part_by writer.style ended) (with_last (size_lines writer.style ended) (files_of writer.style 0 ended) (file_of (name_after writer.style ended) [] state.Open)) old new None
-made_becomes {told} {writer} ended {old = old} count made = grind (arith, common_steps)
+made_becomes {told} {writer} ended {old = old} count made = opens told (size_lines writer.style ended) (files_of writer.style 0 ended) (name_after writer.style ended)
+    (made.added ∙ ap (λ n. old ++ opened (numbered_name writer.style.prefix writer.style.digits n) Fresh ∷ []) count)
 
 next_file : (style : Style) (ended : List Contents) (one : Contents) → makes_file style one ≡ true → IsNext (part_by style ended) (part_by style (ended ++ one ∷ [])) (name_after style ended)
 next_file style ended one makes = record {
@@ -441,9 +439,6 @@ unmade_leaves {writer} {old = old} {new} (same, none) = record {
 }
 
 -- The first bytes of a section whose file isn't made before them
-
-first_makes : (style : Style) (draft : Draft) (bytes : List ℕ) → draft.is_kept ≡ true → style.elide ≡ true → draft.bytes ≡ [] → is_empty bytes ≡ false → makes_file style (last_contents false (with_bytes bytes draft)) ≡ true
-first_makes style draft bytes kept elide none some = grind (arith, common_steps)
 
 -- what is known where a draft has no file of the open section, and one is made of it for another
 record Unwritten (writer : WriterState) (draft next : Draft) : Type 0 where

@@ -1,4 +1,5 @@
 -- Laws that traits cite: the plan that is computed is the one plan there is, and it goes on as the lines do.
+use Rattle.std.proofs.lemmas.Grind.{common_steps}
 use Rattle.std.proofs.Common.{◌≡◌, inl, inr, ℕ, zero, suc, ◌+◌, ◌-◌, ◌<◌, ◌≤◌, max, eqb, ◌&&◌, Bool, true, false, cond, List, [], ◌∷◌, ◌++◌, append_assoc, length, drop, take, get_or, Option, Some, None, refl, sym, ◌∙◌, ap, arith, length-append, length-drop, ◌*◌, nat_lt, subst}
 use Rattle.std.proofs.lemmas.Bool.{false≢true, cases_lt}
 use Rattle.std.proofs.lemmas.List.{drop_all, get_or_append_left, length-take-le, take-append-drop}
@@ -14,27 +15,15 @@ use Rattle.csplit_core.specs.Measure.{Moves}
 
 -- Laws that traits cite: laws of the first match of an operand.
 
-matched_on : {operand : Operand} {lines : List Line} {from : ℕ} (has : Bool) → is_match operand lines from ≡ has → from ≤ length lines
+matched_on : (operand : Operand) (lines : List Line) {from : ℕ} (has : Bool) → is_match operand lines from ≡ has → from ≤ length lines
     → (matched : Option ℕ) → MatchesAs operand lines (suc from) matched → MatchesAs operand lines from (cond has (Some from) matched)
-matched_on true is within matched rest =
-    record { not_before = omega arith; within = within; match = is; first = λ other from_on less. absurd (omega (arith, from_on, less)) }
-matched_on {operand} {lines} {from} false is within None none = λ line from_on in_lines. elim (cases_lt from line) [
-  | inl later ↦ none line later in_lines
-  | inr same ↦ subst (λ n. is_match operand lines n ≡ false) (let e : from ≡ line = omega (arith, from_on, same) in e) is
-]
-matched_on {operand} {lines} {from} false is within (Some line) some = record {
-  not_before = let later = some.not_before in omega (arith, later);
-  within = some.within;
-  match = some.match;
-  first = λ other from_on less. elim (cases_lt from other) [
-    | inl later ↦ some.first other later less
-    | inr same ↦ subst (λ n. is_match operand lines n ≡ false) (let e : from ≡ other = omega (arith, from_on, same) in e) is
-  ];
-}
+matched_on operand lines true is within matched rest = grind (arith, common_steps)
+matched_on operand lines {from} false is within None none = grind (arith, common_steps)
+matched_on operand lines {from} false is within (Some line) some = grind (arith, common_steps)
 
 among : (operand : Operand) (front rest : List Line) {from : ℕ} → from ≡ length front + 1 → MatchesAs operand (front ++ rest) from (first_among operand from rest)
-among operand front [] is = λ line from_on within. absurd (let e = length-append front [] in omega (arith, e, from_on, within, is))
-among operand front (line ∷ rest) {from} is = matched_on (line.marks operand)
+among operand front [] is = grind (arith, common_steps)
+among operand front (line ∷ rest) {from} is = matched_on operand (front ++ line ∷ rest) (line.marks operand)
     (ap (λ n. (get_or (front ++ line ∷ rest) n unmarked).marks operand) (let e : from - 1 ≡ length front = omega (arith, is) in e)
     ∙ ap (λ (l : Line). l.marks operand) (get_or-append_seam front line rest unmarked))
     (let e = length-append front (line ∷ rest) in omega (arith, e, is)) (first_among operand (suc from) rest)
@@ -52,64 +41,23 @@ first_match_as operand lines from some = elim (cases_lt (length lines) (from - 1
 -- no other line is the first
 pub one_first : {operand : Operand} {lines : List Line} {from : ℕ} (one other : ℕ) → IsFirst operand lines from one
     → IsFirst operand lines from other → one ≡ other
-one_first one other is are = elim (cases_lt one other) [
-  | inl less ↦ absurd (false≢true (sym (are.first one is.not_before less) ∙ is.match))
-  | inr most ↦ elim (cases_lt other one) [
-    | inl less ↦ absurd (false≢true (sym (is.first other are.not_before less) ∙ are.match))
-    | inr least ↦ omega (arith, most, least)
-  ]
-]
+one_first one other is are = grind (arith, common_steps)
 
 -- so there is one first match
 matches_once : (operand : Operand) (lines : List Line) (from : ℕ) (one other : Option ℕ) → MatchesAs operand lines from one → MatchesAs operand lines from other → one ≡ other
 matches_once operand lines from None None none also = refl
-matches_once operand lines from None (Some line) none is = absurd (false≢true (sym (none line is.not_before is.within) ∙ is.match))
-matches_once operand lines from (Some line) None is none = absurd (false≢true (sym (none line is.not_before is.within) ∙ is.match))
+matches_once operand lines from None (Some line) none is = grind (arith, common_steps)
+matches_once operand lines from (Some line) None is none = grind (arith, common_steps)
 matches_once operand lines from (Some line) (Some other) is are = ap Some (one_first line other is are)
-
--- where the search begins
-search_by : (state : State) (b : Bool) → 1 ≤ cond b 1 (suc (max state.current state.matched))
-search_by state true = omega arith
-search_by state false = omega arith
 
 pub search_some : (suppress : Bool) (state : State) → 1 ≤ search_line suppress state
 search_some true state = omega arith
-search_some false state = search_by state (eqb state.current 1 && eqb state.matched 0)
-
-past_by : (current matched : ℕ) (one none : Bool) → eqb current 1 ≡ one → eqb matched 0 ≡ none → matched < cond (one && none) 1 (suc (max current matched))
-past_by current matched true true is none = grind (arith, none)
-past_by current matched one none is are = let e : matched ≤ max current matched = le-max_right current matched in omega (arith, e)
-
-pub search_past : (suppress : Bool) (state : State) → state.matched < search_line suppress state
-search_past true state = let e : state.matched ≤ max (state.current - 1) state.matched = le-max_right (state.current - 1) state.matched in omega (arith, e)
-search_past false state = past_by state.current state.matched (eqb state.current 1) (eqb state.matched 0) refl refl
+search_some false state = grind (arith, common_steps)
 
 first_is : (suppress : Bool) (operand : Operand) (lines : List Line) (state : State) (matched : Option ℕ) → MatchesAs operand lines (search_line suppress state) matched
     → first_match operand lines (search_line suppress state) ≡ matched
 first_is suppress operand lines state matched is =
     matches_once operand lines (search_line suppress state) (first_match operand lines (search_line suppress state)) matched (first_match_as operand lines (search_line suppress state) (search_some suppress state)) is
-
--- more lines
-pub match_still : (operand : Operand) (a b : List Line) (line : ℕ) → 1 ≤ line → line ≤ length a → is_match operand (a ++ b) line ≡ is_match operand a line
-match_still operand a b line some within = ap (λ (l : Line). l.marks operand) (get_or_append_left a b unmarked (line - 1) (omega (arith, some, within)))
-
-pub first_still : {operand : Operand} {a : List Line} (b : List Line) {from : ℕ} (line : ℕ) → 1 ≤ from → IsFirst operand a from line
-    → IsFirst operand (a ++ b) from line
-first_still {operand} {a} b line some is = record {
-  not_before = is.not_before;
-  within = let e : length (a ++ b) ≡ length a + length b = length-append a b in omega (arith, e, is.within);
-  match = match_still operand a b line (omega (arith, some, is.not_before)) is.within ∙ is.match;
-  first = λ other from_on less. match_still operand a b other (omega (arith, some, from_on)) (omega (arith, less, is.within)) ∙ is.first other from_on less;
-}
-
--- where no line matched, a match among more lines is past them
-pub first_beyond : {operand : Operand} (a b : List Line) {from : ℕ} (line : ℕ) → 1 ≤ from → MatchesNone operand a from
-    → IsFirst operand (a ++ b) from line → length a < line
-first_beyond {operand} a b line some none is = elim (cases_lt (length a) line) [
-  | inl less ↦ less
-  | inr within ↦ absurd (false≢true (sym (none line is.not_before within)
-      ∙ sym (match_still operand a b line (omega (arith, some, is.not_before)) within) ∙ is.match))
-]
 
 -- Laws that traits cite: the plan that is computed is the one plan there is, and it goes on as the lines do.
 
@@ -130,9 +78,7 @@ from_not_less a b is = grind (arith, nat_tests, is)
 turn_at_cut : (suppress : Bool) (lines : List Line) (state : State) (operand : Operand) (operands : List Operand) (target : Target) (matched cut : ℕ)
     → CutsAt suppress lines state operand target matched cut → turn_to suppress lines state operand operands target
     ≡ turn_at suppress (length lines) state operand operands matched cut
-turn_at_cut suppress lines state operand operands (Number n) matched cut at =
-    ap (λ f. turn_at suppress (length lines) state operand operands f (n * (state.repetition + 1))) (sym at.0)
-    ∙ ap (turn_at suppress (length lines) state operand operands matched) (sym at.1)
+turn_at_cut suppress lines state operand operands (Number n) matched cut at = grind (arith, common_steps)
 turn_at_cut suppress lines state operand operands (Search pattern kept offset) matched cut at =
     ap (turn_from suppress (length lines) state operand operands offset) (first_is suppress operand lines state (Some matched) at.0)
     ∙ ap (turn_at suppress (length lines) state operand operands matched) (sym at.1)
@@ -144,30 +90,19 @@ turn_missed suppress lines state {operand} operands (Search pattern kept offset)
     ap (turn_from suppress (length lines) state operand operands offset)
     (first_is suppress operand lines state None none)
 
-left_most : (total : ℕ) (state : State) (target : Target) → left_of total state target ≤ total
-left_most total state (Number n) = omega arith
-left_most total state (Search pattern kept offset) = omega arith
-
 fewer_operands : (total : ℕ) (state : State) (operands : List Operand) → needed_by total state operands < length operands * (total + 1) + 1
 fewer_operands total state [] = omega arith
-fewer_operands total state (operand ∷ operands) =
-    let most : left_of total state operand.target ≤ total = left_most total state operand.target in
-    let more : suc (length operands) * (total + 1) ≡ length operands * (total + 1) + (total + 1) = omega arith in omega (arith, most, more)
+fewer_operands total state (operand ∷ operands) = grind (arith, common_steps)
 
 pub moves_of : (suppress : Bool) (lines : List Line) (state : State) (operand : Operand) (target : Target)
     (matched cut : ℕ) → CutsAt suppress lines state operand target matched cut → Moves (length lines) state target matched cut
 moves_of suppress lines state operand (Number n) matched cut at = at.1
-moves_of suppress lines state operand (Search pattern kept offset) matched cut at =
-    let more : state.matched < search_line suppress state = search_past suppress state in (omega (arith, more, at.0.not_before), at.0.within)
+moves_of suppress lines state operand (Search pattern kept offset) matched cut at = grind (arith, common_steps)
 
 pub fewer_left : (total : ℕ) (state next : State) (target : Target) {matched : ℕ} (cut : ℕ) → Moves total state target matched cut → 1 ≤ cut → cut ≤ total
     → next.repetition ≡ state.repetition + 1 → next.matched ≡ matched → left_of total next target < left_of total state target
-fewer_left total state next (Number zero) cut at some within again same = absurd (none (omega (arith, at)) some) where
-  none : cut ≡ 0 → 1 ≤ cut → ⊥
-  none is some = omega (arith, is, some)
-fewer_left total state next (Number (suc n)) cut at some within again same =
-    let is : suc n * (state.repetition + 1) ≡ n * (state.repetition + 1) + (state.repetition + 1) = omega arith in
-    let cut_is : cut ≡ suc n * (state.repetition + 1) = at in omega (arith, is, cut_is, within, again)
+fewer_left total state next (Number zero) cut at some within again same = grind (arith, common_steps)
+fewer_left total state next (Number (suc n)) cut at some within again same = grind (arith, common_steps)
 fewer_left total state next (Search pattern kept offset) cut at some within again same = omega (arith, at.0, at.1, same)
 
 fewer_by : (total : ℕ) (state : State) (operand : Operand) (operands : List Operand) {matched : ℕ} (cut : ℕ)
@@ -202,41 +137,29 @@ pub line_some : (suppress : Bool) (cut : ℕ) → cut ≤ line_after suppress cu
 line_some true cut = omega arith
 line_some false cut = omega arith
 
-no_bound : (total : ℕ) (state : State) {operand : Operand} {operands : List Operand} → state.operands ≡ operand ∷ operands → needed total state ≤ 0 → ⊥
-no_bound total state {operand} {operands} is enough =
-    none (needed_by total state (operand ∷ operands)) (omega arith) (subst (λ those. needed_by total state those ≤ 0) is enough) where
-      none : (n : ℕ) → 1 ≤ n → n ≤ 0 → ⊥
-      none n some few = omega (arith, some, few)
-
 turns_to : (bound : ℕ) (suppress : Bool) (lines : List Line) (state : State) {operand : Operand}
     {operands : List Operand} {turn' : Turn} → state.operands ≡ operand ∷ operands → turn_to suppress lines state operand operands operand.target ≡ turn'
     → plan_within (suc bound) suppress lines state ≡ after bound suppress lines state turn'
-turns_to bound suppress lines state is e =
-    ap (λ those. after bound suppress lines state (turn_of suppress lines state those)) is ∙ ap (after bound suppress lines state) e
+turns_to bound suppress lines state is e = grind (arith, common_steps)
 
 ends_within : (bound : ℕ) (suppress : Bool) (lines : List Line) (state : State) {operand : Operand}
     {operands : List Operand} {ending : Ending} → state.operands ≡ operand ∷ operands
     → turn_to suppress lines state operand operands operand.target ≡ ends ending → needed (length lines) state ≤ bound
     → plan_within bound suppress lines state ≡ so [] state ending
-ends_within zero suppress lines state is e enough = absurd (no_bound (length lines) state is enough)
-ends_within (suc bound) suppress lines state is e enough = turns_to bound suppress lines state is e
+ends_within zero suppress lines state is e enough = grind (arith, common_steps)
+ends_within (suc bound) suppress lines state is e enough = grind (arith, common_steps)
 
 tested : (suppress : Bool) (total : ℕ) (state : State) (operand : Operand) (operands : List Operand) (matched cut : ℕ)
     {far low : Bool} → nat_lt total cut ≡ far → nat_lt cut state.current ≡ low → turn_at suppress total state operand operands matched cut
     ≡ cond far (ends (above operand state.repetition matched cut)) (cond low (ends (below operand state.repetition))
     (goes (step_of state operand matched cut) (state_after suppress operand operands state.repetition matched cut)))
-tested suppress total state operand operands matched cut {far} is are =
-    ap (λ b. cond b (ends (above operand state.repetition matched cut)) (cond (nat_lt cut state.current) (ends (below operand state.repetition))
-    (goes (step_of state operand matched cut) (state_after suppress operand operands state.repetition matched cut)))) is
-    ∙ ap (λ b. cond far (ends (above operand state.repetition matched cut)) (cond b (ends (below operand state.repetition))
-    (goes (step_of state operand matched cut) (state_after suppress operand operands state.repetition matched cut)))) are
+tested suppress total state operand operands matched cut {far} is are = grind (arith, common_steps)
 
 -- A plan is the one that is computed
 pub computed : {suppress : Bool} {lines : List Line} {first : State} (all : List Step) (end : State) {how : Ending} → Runs suppress lines first all end how
     → (bound : ℕ) → needed (length lines) first ≤ bound → 1 ≤ first.current → plan_within bound suppress lines first ≡ so all end how
 computed all end (is_used_up state none) zero enough some = refl
-computed {suppress} {lines} all end (is_used_up state none) (suc bound) enough some =
-    ap (λ those. after bound suppress lines state (turn_of suppress lines state those)) none
+computed {suppress} {lines} all end (is_used_up state none) (suc bound) enough some = grind (arith, common_steps)
 computed {suppress} {lines} all end (misses state operand operands is none) bound enough some =
     ends_within bound suppress lines state is (turn_missed suppress lines state operands operand.target none) enough
 computed {suppress} {lines} all end (is_above state operand operands matched cut is at far) bound enough some =
@@ -245,8 +168,7 @@ computed {suppress} {lines} all end (is_above state operand operands matched cut
 computed {suppress} {lines} all end (is_below state operand operands matched cut is at within low) bound enough some =
     ends_within bound suppress lines state is (turn_at_cut suppress lines state operand operands operand.target matched cut at
     ∙ tested suppress (length lines) state operand operands matched cut (not_less_test (length lines) cut within) (less_test cut state.current low)) enough
-computed {lines} all end (cuts state operand operands matched cut steps last ending is at from within rest) zero enough some =
-    absurd (no_bound (length lines) state is enough)
+computed {lines} all end (cuts state operand operands matched cut steps last ending is at from within rest) zero enough some = grind (arith, common_steps)
 computed {suppress} {lines} all end (cuts state operand operands matched cut steps last ending is at from within rest) (suc bound) enough some =
     turns_to bound suppress lines state is (turn_at_cut suppress lines state operand operands operand.target matched cut at
     ∙ tested suppress (length lines) state operand operands matched cut (not_less_test (length lines) cut within) (not_less_test cut state.current from))
@@ -298,8 +220,7 @@ mutual_runs bound suppress lines state (operand ∷ operands) is rest = runs_tar
 none_by : (suppress : Bool) (lines : List Line) (state : State) (operands : List Operand) → state.operands ≡ operands
     → needed_by (length lines) state operands ≤ 0 → RunsAs suppress lines state (ended state used_up)
 none_by suppress lines state [] is enough = is_used_up state is
-none_by suppress lines state (operand ∷ operands) is enough =
-    absurd (no_bound (length lines) state is (subst (λ those. needed_by (length lines) state those ≤ 0) (sym is) enough))
+none_by suppress lines state (operand ∷ operands) is enough = grind (arith, common_steps)
 
 pub runs : (bound : ℕ) (suppress : Bool) (lines : List Line) (state : State) → needed (length lines) state ≤ bound
     → 1 ≤ state.current → RunsAs suppress lines state (plan_within bound suppress lines state)
@@ -324,18 +245,12 @@ pub plan_once : (suppress : Bool) (operands : List Operand) (lines : List Line) 
 plan_once suppress operands lines steps last ending is =
     computed steps last is (length operands * (length lines + 1)) (enough_at_start (length lines) operands) (omega arith)
 
--- so is one from any state on
-pub run_once : {suppress : Bool} {lines : List Line} {first : State} {one : List Step} {last : State} {ending : Ending} {other : List Step} {end : State} {how : Ending} → 1 ≤ first.current
-    → Runs suppress lines first one last ending → Runs suppress lines first other end how → so other end how ≡ so one last ending
-run_once {lines = lines} {first} {one} {last} {other = other} {end} some runs again =
-    sym (computed other end again (needed (length lines) first) (omega arith) some) ∙ computed one last runs (needed (length lines) first) (omega arith) some
-
 -- What was cut off stays so
 
 pub cuts_still : (suppress : Bool) (a b : List Line) (state : State) (operand : Operand) (target : Target)
     (matched cut : ℕ) → CutsAt suppress a state operand target matched cut → CutsAt suppress (a ++ b) state operand target matched cut
 cuts_still suppress a b state operand (Number n) matched cut at = at
-cuts_still suppress a b state operand (Search pattern kept offset) matched cut at = (first_still b matched (search_some suppress state) at.0, at.1)
+cuts_still suppress a b state operand (Search pattern kept offset) matched cut at = grind (arith, common_steps)
 
 pub goes_on : {suppress : Bool} {a : List Line} (b : List Line) {first : State} {steps : List Step} {last : State} {ending : Ending}
     (more : List Step) (end : State) {how : Ending} → Runs suppress a first steps last ending → Runs suppress (a ++ b) last more end how

@@ -1,4 +1,5 @@
 -- Laws that traits cite: what sections are when more lines come.
+use Rattle.std.proofs.lemmas.Grind.{common_steps}
 use Rattle.std.proofs.Common.{◌≡◌, ◌⊎◌, inl, inr, ℕ, zero, suc, ◌+◌, ◌-◌, ◌<◌, ◌≤◌, Bool, true, false, cond, not, ◌&&◌, List, [], ◌∷◌, ◌++◌, length, map, take, drop, refl, sym, ◌∙◌, ap, subst, arith, append_assoc, length-append, length-drop}
 use Rattle.std.proofs.lemmas.Bool.{false≢true, cases_lt}
 use Rattle.std.proofs.lemmas.List.{append-nil, map-append, drop-append-le, take-append-le}
@@ -10,7 +11,7 @@ use Rattle.csplit_core.specs.Planned.{plan_within, plan}
 use Rattle.csplit_core.specs.Section.{Section, section, section_of, lines_between, bytes_of, is_last_kept, whole_end, settled_end, sections_by, settled_sections}
 use Rattle.csplit_core.specs.Output.{Style, Contents, contents_of, is_empty, makes_file, file_at, files_of, size_line, size_lines, part_by, part_of}
 use Rattle.csplit_core.specs.Csplit.{settled_of, whole_of}
-use Rattle.csplit_core.specs.laws.PlanLaws.{one_first, search_some, first_beyond, line_some, cuts_still, goes_on, runs, plan_runs, plan_once}
+use Rattle.csplit_core.specs.laws.PlanLaws.{one_first, search_some, line_some, cuts_still, goes_on, runs, plan_runs, plan_once}
 use Rattle.csplit_core.specs.inner.PlanLaws.{needed, EndsAs, AreWithin, Next, Covers, Grow, GoesOn, CutsFrom}
 
 -- Stretches of lines
@@ -23,14 +24,7 @@ take_begins (suc n) (suc m) (x ∷ xs) less = let rest = take_begins n m xs (ome
 
 -- more lines change nothing before them
 pub between_still : (first past : ℕ) (a b : List Line) → 1 ≤ first → past ≤ length a + 1 → lines_between first past (a ++ b) ≡ lines_between first past a
-between_still first past a b some within = elim (cases_lt (length a) (first - 1)) [
-  | inl beyond ↦ let none : past - first ≡ 0 =
-      omega (arith, beyond, within) in ap (λ n. take n (drop (first - 1) (a ++ b))) none ∙ sym (ap (λ n. take n (drop (first - 1) a)) none)
-  | inr on ↦
-      let left : length (drop (first - 1) a) ≡ length a - (first - 1) = length-drop (first - 1) a in
-      ap (take (past - first)) (drop-append-le (first - 1) a b on)
-      ∙ take-append-le (past - first) (drop (first - 1) a) b (omega (arith, left, some, within, on))
-]
+between_still first past a b some within = grind (arith, common_steps)
 
 -- and what is taken further begins with it
 pub between_grows : (first past more : ℕ) (a b : List Line) → 1 ≤ first → past ≤ length a + 1 → (past ≤ more)
@@ -49,7 +43,7 @@ pub ends_as : (suppress : Bool) (lines : List Line) (first : State) (steps : Lis
 ends_as suppress lines first steps last ending (is_used_up state none) = none
 ends_as suppress lines first steps last ending (misses state operand operands is none) = (operands, is, none, refl)
 ends_as suppress lines first steps last ending (is_above state operand operands matched cut is at far) = (operands, is, at, far, refl)
-ends_as suppress lines first steps last ending (is_below state operand operands matched cut is at within low) = (operands, matched, cut, is, at, within, low, refl)
+ends_as suppress lines first steps last ending (is_below state operand operands matched cut is at within low) = grind (arith, common_steps)
 ends_as suppress lines first steps last ending (cuts state operand operands matched cut steps' last' ending' is at from within rest) =
     ends_as suppress lines (state_after suppress operand operands state.repetition matched cut) steps' last' ending' rest
 
@@ -69,7 +63,7 @@ closed_still a b (step ∷ steps) within =
     (let less : step.cut ≤ length a = within.2 in omega (arith, less))) ∙ ap (λ those. section_of a step ∷ those) (closed_still a b steps within.3)
 
 pub front_of : (one other : Operand) {ones others : List Operand} → one ∷ ones ≡ other ∷ others → one ≡ other
-front_of one other is = ap (λ those. elim those [ [] ↦ one | first ∷ rest ↦ first ]) is
+front_of one other is = grind (arith, common_steps)
 
 next_by : (a b : List Line) (current past more : ℕ) {kept : Bool} (closed : Bool) {other_kept : Bool} {rest : List Section} → 1 ≤ current
     → past ≤ length a + 1 → (past ≤ more) ⊎ (past ≤ current) → kept ≡ other_kept → Next (section kept false (lines_between current past a))
@@ -85,52 +79,13 @@ next_by a b current past more {kept} closed {other_kept} {rest} some within less
       lines = grown.1;
     }
 
--- where a pattern matched no line, the cut is past what is settled
-pub missed_cut : (suppress : Bool) (a b : List Line) (state : State) (operand : Operand) (target : Target)
-    → Misses suppress a state operand target → (matched cut : ℕ) → CutsAt suppress (a ++ b) state operand target matched cut
-    → suc (length a) - most_held target ≤ cut
-missed_cut suppress a b state operand (Number n) none matched cut at = absurd none
-missed_cut suppress a b state operand (Search pattern kept (Plus k)) none matched cut at =
-    let beyond : length a < matched = first_beyond a b matched
-    (search_some suppress state) none at.0 in let is : cut ≡ matched + k = at.1 in omega (arith, beyond, is)
-missed_cut suppress a b state operand (Search pattern kept (Minus k)) none matched cut at =
-    let beyond : length a < matched = first_beyond a b matched
-    (search_some suppress state) none at.0 in let is : cut ≡ matched - k = at.1 in omega (arith, beyond, is)
-
--- a cut is one
-pub cut_once : (suppress : Bool) (lines : List Line) (state : State) (operand : Operand) (target : Target)
-    {matched : ℕ} (cut : ℕ) {matched' cut' : ℕ} → CutsAt suppress lines state operand target matched cut
-    → CutsAt suppress lines state operand target matched' cut' → (matched ≡ matched') × (cut ≡ cut')
-cut_once suppress lines state operand (Number n) cut at other = (at.0 ∙ sym other.0, at.1 ∙ sym other.1)
-cut_once suppress lines state operand (Search pattern kept offset) {matched} cut {matched'} at other =
-    let same = one_first matched matched' at.0 other.0 in (same, at.1 ∙ ap (moved offset) same ∙ sym other.1)
-
--- an operand that cuts doesn't miss
-pub cuts_or_misses : (suppress : Bool) (lines : List Line) (state : State) (operand : Operand) (target : Target)
-    (matched cut : ℕ) → CutsAt suppress lines state operand target matched cut → Misses suppress lines state operand target → ⊥
-cuts_or_misses suppress lines state operand (Number n) matched cut at none = none
-cuts_or_misses suppress lines state operand (Search pattern kept offset) matched cut at none =
-    false≢true (sym (none matched at.0.not_before at.0.within) ∙ at.0.match)
-
 -- what is settled stands before what the next operand does where more lines follow
 pub cuts_from : (suppress : Bool) (a b : List Line) (state : State) (ending : Ending) {operands : List Operand} → EndsAs suppress a state ending → state.operands ≡ operands
     → CutsFrom suppress (a ++ b) state (settled_end (length a) ending) (is_last_kept ending) operands
-cuts_from suppress a b state used_up ends are = subst (CutsFrom suppress (a ++ b) state (suc (length a)) true) (sym ends ∙ are) refl
-cuts_from suppress a b state (missed operand repetition) (rest, is, none, often) are =
-    subst (CutsFrom suppress (a ++ b) state (suc (length a) - most_held operand.target) (is_kept operand.target)) (sym is ∙ are) (
-      refl,
-      missed_cut suppress a b state operand operand.target none,
-      λ again. let longer : length (a ++ b) ≡ length a + length b = length-append a b in omega (arith, longer),
-    )
-cuts_from suppress a b state (above operand repetition matched cut) (rest, is, at, far, often) are =
-    let still = cuts_still suppress a b state operand operand.target matched cut at in
-    subst (CutsFrom suppress (a ++ b) state (suc (length a)) (is_kept operand.target)) (sym is ∙ are) (
-      refl,
-      λ matched' cut' at'. let same : cut ≡ cut' = (cut_once suppress (a ++ b) state operand operand.target cut still at').1 in omega (arith, far, same),
-      λ none. absurd (cuts_or_misses suppress (a ++ b) state operand operand.target matched cut still none),
-    )
-cuts_from suppress a b state (below operand repetition) (rest, matched, cut, is, at, within, low, often) are =
-    subst (CutsFrom suppress (a ++ b) state 0 (is_kept operand.target)) (sym is ∙ are) (refl, (λ matched' cut' at'. omega arith), λ none. omega arith)
+cuts_from suppress a b state used_up ends are = grind (arith, common_steps)
+cuts_from suppress a b state (missed operand repetition) (rest, is, none, often) are = grind (arith, common_steps)
+cuts_from suppress a b state (above operand repetition matched cut) (rest, is, at, far, often) are = grind (arith, common_steps)
+cuts_from suppress a b state (below operand repetition) (rest, matched, cut, is, at, within, low, often) are = grind (arith, common_steps)
 
 pub settled_most : (total : ℕ) (ending : Ending) → settled_end total ending ≤ total + 1
 settled_most total used_up = omega arith
@@ -232,36 +187,15 @@ out_grows style front begun after is_open = (
   size_lines-append style front after ∙ ap (λ those. those ++ size_lines style after) (sym (open_sizes style front begun is_open)),
 )
 
--- a file that was made begins the one that is made
-pub made_more : (elide kept : Bool) (bytes more : List ℕ) → (kept && not (elide && is_empty bytes)) ≡ true
-    → (kept && not (elide && is_empty (bytes ++ more))) ≡ true
-made_more elide false bytes more is = is
-made_more false true bytes more is = refl
-made_more true true [] more is = absurd (false≢true is)
-made_more true true (byte ∷ bytes) more is = refl
-
-last_by : (style : Style) (place : ℕ) (begun other : Contents) (more : List Contents) (makes then_makes : Bool)
-    → (makes ≡ true → then_makes ≡ true) → begun.is_closed ≡ false → IsBeginning begun.bytes other.bytes
-    → FilesBegin (cond makes (file_at style place begun ∷ []) [])
-    (cond then_makes (file_at style place other ∷ files_of style (place + 1) more) (files_of style place more))
-last_by style place begun other more false then_makes makes is_open begins = tt
-last_by style place begun other more true true makes is_open begins =
-    (refl, refl, refl, inl (ap (λ c. (file_at style place (record begun { is_closed = c })).state) is_open), begins, tt)
-last_by style place begun other more true false makes is_open begins = absurd (false≢true (makes refl))
-
 files_by : (style : Style) (place : ℕ) (one : Contents) (low low' high high' : List File) (makes : Bool) → FilesBegin low high → FilesBegin low' high'
     → FilesBegin (cond makes (file_at style place one ∷ low) low') (cond makes (file_at style place one ∷ high) high')
-files_by style place one low low' high high' true rest other = (refl, refl, refl, inr refl, begins_itself one.bytes, rest)
+files_by style place one low low' high high' true rest other = grind (arith, common_steps)
 files_by style place one low low' high high' false rest other = other
 
 files_grow : (style : Style) (place : ℕ) (front : List Contents) (begun other : Contents) (more : List Contents)
     → begun.is_closed ≡ false → begun.is_kept ≡ other.is_kept → (rest : List ℕ) → other.bytes ≡ begun.bytes ++ rest
     → FilesBegin (files_of style place (front ++ begun ∷ [])) (files_of style place (front ++ other ∷ more))
-files_grow style place [] begun other more is_open kept rest bytes =
-    last_by style place begun other more (makes_file style begun) (makes_file style other)
-    (λ made. ap (λ those. other.is_kept && not (style.elide && is_empty those)) bytes
-    ∙ ap (λ k. k && not (style.elide && is_empty (begun.bytes ++ rest))) (sym kept) ∙ made_more style.elide begun.is_kept begun.bytes rest made)
-    is_open (rest, bytes)
+files_grow style place [] begun other more is_open kept rest bytes = grind (arith, common_steps)
 files_grow style place (one ∷ front) begun other more is_open kept rest bytes =
     files_by style place one (files_of style (place + 1) (front ++ begun ∷ []))
     (files_of style place (front ++ begun ∷ [])) (files_of style (place + 1) (front ++ other ∷ more))
