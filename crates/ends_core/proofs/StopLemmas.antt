@@ -1,18 +1,18 @@
 -- How bytes are written to standard output one after another, and how that stops.
 use Rattle.std.proofs.lemmas.Grind.{common_steps}
-use Rattle.std.proofs.Common.{◌≡◌, ℕ, ◌+◌, ◌<◌, ◌≤◌, List, [], ◌++◌, length, take, Bool, true, false, Ok, Err, Result, IfErr, IsTrue, refl, sym, ◌∙◌, ap, subst, arith, length-append}
+use Rattle.std.proofs.Common.{◌≡◌, ℕ, ◌+◌, List, [], ◌++◌, length, Bool, true, false, Ok, Err, Result, IfErr, IsTrue, refl, sym, ◌∙◌, ap, subst, arith}
 use Rattle.std.proofs.lemmas.List.{take-append-le}
 use Rattle.std.proofs.Math.Seq.{take-append-add}
-use Rattle.ports_core.specs.Slot.{Slot, slot_at, is_writable, with_written, with_broken, told_of}
+use Rattle.ports_core.specs.Slot.{Slot, is_writable, with_written, told_of}
 use Rattle.ports_core.specs.Write.{BrokeAfter}
 use Rattle.ports_core.specs.Part.{Part, OutputsAt, StoppedBetween}
 use Rattle.ports_core.specs.Work.{Means, Needs}
 use Rattle.ports_core.specs.Engine.{IsMet, is_verdict}
 use Rattle.ports_core.specs.declared.fault.Fault.{Fault}
 use Rattle.ports_core.specs.declared.fault.Fault.TheVariants as fault
-use Rattle.ports_core.proofs.WriteLemmas.{told_of-append, told_of-nil, with_written-append, writable-written}
+use Rattle.ports_core.proofs.WriteLemmas.{told_of-append, told_of-nil, with_written-append}
 use Rattle.ports_core.proofs.SlotLemmas.{with_written-nil}
-use Rattle.ports_core.proofs.PartLemmas.{out_more, out_cut, begins_more, part_begins_itself, files_begin_themselves, still_in_order, broken_at, sound_at}
+use Rattle.ports_core.proofs.PartLemmas.{out_more, out_cut, begins_more, part_begins_itself, files_begin_themselves, still_in_order}
 use Rattle.ends_core.specs.inner.Stops.{Stops, broke, no_room}
 
 pub nothing_written : (told : Bool) (slots : List Slot) → with_written 0 (told_of told []) slots ≡ slots

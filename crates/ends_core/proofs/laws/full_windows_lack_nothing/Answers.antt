@@ -41,3 +41,5 @@ fails engine x piece old new fault holds enough refused =
     (λ other ends. none-some other (sym (always_well s delim unit n (x ++ piece)) ∙ (ends x holds.within).1))
     (subst (λ (means : Means). IsCaused (IsMet means means.feeding (may_lack engine.stage ≡ true) (EndsWith Holds work engine.stage piece) old new) engine.is_over engine.fed (length piece) old new fault) (on_means s delim unit n) refused)
 
+pub returns : goal.returns
+returns c = record { full = λ engine x holds. holds.within.full; none = λ engine x holds. holds.within.none; fails = fails }
