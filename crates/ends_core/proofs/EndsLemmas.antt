@@ -21,12 +21,11 @@ use Rattle.ends_core.specs.Head.{head_work, IsDone}
 use Rattle.ends_core.specs.Stage.{Stretch, the_first, from_the_nth, the_last, keeps, work_in, front_in, stretch_of, delim_of, unit_of, count_of, left_of, waiting_of, waiting, past_in, past_of, may_lack, work, Holds, is_done, all_but_last}
 use Rattle.ends_core.specs.inner.Stage.{is_last, due, due_at_end, left_waiting, is_full, unused_of, FullLacksNone, SameAsked}
 use Rattle.ends_core.specs.Kept.{most_of, delim_of as kept_delim, unit_of as kept_unit}
-use Rattle.ends_core.specs.inner.Load.{Passes}
-use Rattle.ends_core.specs.inner.Stops.{Stops}
+use Rattle.ends_core.specs.inner.Kept.{Passes, Stops}
 use Rattle.ends_core.specs.laws.WorkLaws.{full_head}
 use Rattle.ends_core.specs.laws.EndsLaws.{ends_together, first_then_after, measure-append, first_of-append, first_of-short, after_of-append, last_of-append, but_last_of-append}
 use Rattle.ends_core.proofs.EndsLaws.{measure-delimiters, first_of-more, but_last_grows}
-use Rattle.ends_core.proofs.StopLemmas as stop
+use Rattle.ends_core.proofs.KeptLemmas as stop
 use Rattle.ends_core.proofs.LoadLemmas.{last_none}
 use Rattle.ports_core.specs.Guard.{GuardState, HoldsIn}
 

@@ -16,7 +16,7 @@ use Rattle.seg_core.specs.declared.unit.Unit.{Unit as Counted}
 use Rattle.seg_core.specs.declared.unit.Unit.TheVariants.{Lines, Bytes}
 use Rattle.ends_core.specs.Ends.{size, measure, after_of, last_of}
 use Rattle.ends_core.specs.laws.EndsLaws.{after_of-append}
-use Rattle.ends_core.specs.inner.Load.{HasSeen, Passes}
+use Rattle.ends_core.specs.inner.Kept.{HasSeen, Passes}
 use Rattle.seg_core.proofs.LineCounts.{line_count-front}
 
 size-append : (delim : ℕ) (unit : Counted) (n : ℕ) (x y : List ℕ) → n < size delim unit y → size delim unit (x ++ y) ≡ measure delim unit x + size delim unit y

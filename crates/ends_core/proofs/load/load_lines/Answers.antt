@@ -1,4 +1,4 @@
-use Rattle.std.proofs.Common.{◌++◌, ◌∙◌, ap, arith, rules}
+use Rattle.std.proofs.Common.{◌++◌, ◌∙◌, ap, arith}
 use Rattle.std.proofs.lemmas.Grind.{common_steps}
 use Rattle.seg_core.specs.Line.{last_lines}
 use Rattle.ends_core.proofs.LoadLemmas.{holds_more, holds_last}
@@ -25,6 +25,3 @@ loop-end-preserved g c =
           (seen.3 ∙ ap (λ delim. last_lines delim c.loop-end.window.most (seen.0 ++ c.loop-end.window.held)) so_far.delim ∙ ap (λ most. last_lines c.args.window.now.delim most (seen.0 ++ c.loop-end.window.held)) so_far.most)
           (omega (arith, c.len.ensures.len, c.if-len-left.false));
     }
-
-pub returns-clause-held : goal.returns-clause-held
-returns-clause-held g c = search rules

@@ -1,5 +1,0 @@
-use Rattle.ports_core.proofs.HandedOn.{fault_is}
-use Rattle.ends_core.proofs.ends.Tail.open_for.Goals as goal
-
-pub returns-in_err-kept-clause-err : goal.returns-in_err-kept-clause-err
-returns-in_err-kept-clause-err c = fault_is _ _ _ c.from_residual.ensures.1 (c.in_err-kept.ensures.err, c.if-from_nth.false)
