@@ -1,10 +1,11 @@
 -- Lemmas on gathering the lines of a piece.
+use Rattle.std.proofs.lemmas.Grind.{common_steps}
 use Rattle.std.proofs.lemmas.Bool.Decides.{nat_tests}
-use Rattle.std.proofs.Common.{◌≡◌, ◌≢◌, ℕ, ◌+◌, ◌%◌, ◌<◌, ◌≤◌, zero, suc, min, max, Bool, true, false, cond, eqb, List, [], ◌∷◌, ◌++◌, length, get_or, set, take, drop, Result, OnOk, inl, inr, refl, sym, ◌∙◌, ap, subst, arith, append_assoc, length-append}
+use Rattle.std.proofs.Common.{◌≡◌, ◌≢◌, ℕ, ◌+◌, ◌%◌, ◌<◌, ◌≤◌, zero, suc, min, max, Bool, true, false, cond, eqb, List, [], ◌∷◌, ◌++◌, length, get_or, set, take, drop, Result, OnOk, inl, inr, refl, sym, ◌∙◌, ap, subst, arith, append_assoc}
 use Rattle.std.proofs.Math.Nat.{mod-add-mod, mod-eq_of_lt, mod-mod, mod_self, mod-le}
 use Rattle.std.proofs.Math.Dec.{eqb-suc-suc}
 use Rattle.std.proofs.lemmas.Bool.{cases_eq, eqb-true, eqb-false}
-use Rattle.std.proofs.lemmas.List.{append-nil, ext_get_or, take_at, take-append-le, take-take, length-take-le}
+use Rattle.std.proofs.lemmas.List.{append-nil, ext_get_or, take-append-le, take-take, length-take-le}
 use Rattle.std.proofs.Math.Seq.{take-append-add}
 use Rattle.std.proofs.lemmas.Result.{on_ok_weaker}
 use Rattle.std.proofs.lemmas.List.FromFn.{length-map-range_with_len, get_or-map-range_with_len}
@@ -136,8 +137,7 @@ ended {delim} {n} {start} {piece} {gathered} {next} {reached} so_far = record {
 
 pub ends_here : {delim n start : ℕ} {piece : List ℕ} {gathered : List (List ℕ)} {next reached : ℕ} {left : List ℕ} (line : List ℕ) → Dealing delim n start piece gathered next reached left → line ≡ left → eqb (length line) 0 ≡ true
     → Gathers delim n start piece gathered next reached
-ends_here {delim} {n} {start} {piece} {gathered} {next} {reached} {left} line so_far same none =
-    ended (subst (λ those. Dealing delim n start piece gathered next reached those) (no_length left (ap length (sym same) ∙ eqb-true (length line) 0 none)) so_far)
+ends_here {delim} {n} {start} {piece} {gathered} {next} {reached} {left} line so_far same none = grind (arith, common_steps, ended, no_length, eqb-true)
 
 pub ends_open : {delim n start : ℕ} {piece : List ℕ} {gathered now : List (List ℕ)} {next reached reached_now : ℕ} {left : List ℕ} (line : List ℕ) → Dealing delim n start piece gathered next reached left → line ≡ left → delimiters delim left ≡ 0
     → eqb (length line) 0 ≡ false → now ≡ changed_at next (λ had. had ++ line) gathered → reached_now ≡ max reached (next + 1) → Gathers delim n start piece now next reached_now
@@ -148,16 +148,14 @@ ends_open {delim} {n} {start} {piece} {gathered} {next} {reached} line so_far sa
 
 -- a line that is the first of what was left stands at its beginning
 pub first_taken : {delim : ℕ} {left x : List ℕ} (line : List ℕ) {rest : List ℕ} → IsFirstLine delim x line rest → left ≡ x → take (length line) left ≡ line
-first_taken line {rest} cut same = ap (take (length line)) (same ∙ cut.whole) ∙ take_at line rest (length line) refl
+first_taken line {rest} cut same = grind (arith, common_steps)
 
 pub no_longer : {delim : ℕ} {left x : List ℕ} (line : List ℕ) {rest : List ℕ} → IsFirstLine delim x line rest → left ≡ x → length line ≤ length left
-no_longer line cut same = omega (arith, simp length-append at (ap length (same ∙ cut.whole)))
+no_longer line cut same = grind (arith, common_steps)
 
 pub by_delimiter : (one other : ℕ) {x : List ℕ} (line : List ℕ) {rest : List ℕ} → one ≡ other → IsFirstLine one x line rest → IsFirstLine other x line rest
-by_delimiter one other {x} line {rest} same first = subst (λ delim. IsFirstLine delim x line rest) same first
+by_delimiter one other {x} line {rest} same first = grind (arith, common_steps)
 
 -- of a chunk that was copied the first bytes count
 pub chunk_taken : (room : List ℕ) {new : List ℕ} (text : List ℕ) (at n chunk : ℕ) → new ≡ take at room ++ (take chunk text ++ drop (at + chunk) room) → at ≤ length room → n ≤ chunk → chunk ≤ length text → take (at + n) new ≡ take at room ++ take n text
-chunk_taken room text at n chunk is within few enough =
-    let long : length (take at room) ≡ at = length-take-le at room within in
-    cc (is, long, take-append-add (take at room) (take chunk text ++ drop (at + chunk) room) n, take-append-le n (take chunk text) (drop (at + chunk) room) (omega (arith, length-take-le chunk text enough)), take-take n chunk text few)
+chunk_taken room text at n chunk is within few enough = grind (arith, common_steps, length-take-le, take-append-add, take-append-le, take-take)

@@ -1,5 +1,6 @@
 -- One file is opened, written or closed.
-use Rattle.std.proofs.Common.{◌≡◌, ℕ, ◌+◌, ◌<◌, ◌≤◌, max, Bool, true, cond, ltb, List, [], ◌∷◌, ◌++◌, length, map, take, drop, get_or, ◌⊎◌, inl, inr, refl, sym, ◌∙◌, ap, subst, arith, append_assoc, length-append, IsTrue, Ok, Err, Result}
+use Rattle.std.proofs.lemmas.Grind.{common_steps}
+use Rattle.std.proofs.Common.{◌≡◌, ℕ, ◌+◌, ◌<◌, ◌≤◌, max, Bool, true, cond, ltb, List, [], ◌∷◌, ◌++◌, length, map, take, drop, get_or, ◌⊎◌, inl, inr, refl, sym, ◌∙◌, ap, subst, arith, append_assoc, length-append, IsTrue, Ok, Err, Result, rules}
 use Rattle.std.specs.List.{range_with_len}
 use Rattle.std.proofs.Math.Nat.{zero-add}
 use Rattle.std.proofs.Math.Path.{fun_ext}
@@ -20,7 +21,7 @@ use Rattle.ports_core.proofs.PartLemmas.{begins_itself, sound_at}
 use Rattle.ports_core.proofs.SlotLemmas.{length-changed_at}
 use Rattle.ports_core.proofs.WriteLemmas.{writable-written}
 use Rattle.ports_core.proofs.FileLemmas.{Makes, file_more, file_changes, write_makes, close_makes, gets, ended}
-use Rattle.ports_core.proofs.SlotSteps.{keeps_again, keeps_close, keeps_open, keeps_same, keeps_write, open_rose, rose_later, write_rose, writable_elsewhere, writable_within, writable_before, opened_writable, broken_there, written_size, short_size, broken_size}
+use Rattle.ports_core.proofs.SlotSteps.{keeps_again, keeps_close, keeps_open, keeps_write, open_rose, rose_later, write_rose, writable_elsewhere, writable_within, writable_before, opened_writable, broken_there, written_size, short_size, broken_size}
 use Rattle.split_core.specs.Split.{Share, share, name_of, is_named, from_start, file_at, only_files}
 use Rattle.split_core.specs.FilesState.{FilesState}
 use Rattle.split_core.specs.Round.{AreReady, output_at}
@@ -32,7 +33,6 @@ use Rattle.split_core.specs.inner.Moves.{wants_memory, breaks_write, breaks_open
 use Rattle.split_core.specs.Sharing.{CannotOpen}
 use Rattle.split_core.proofs.MoveLemmas.{opens_marks, opens_at}
 use Rattle.split_core.proofs.FilesLemmas.{adds_idle, adds_not, adds_then, adds_wider, changed_by, grow_by, outputs_as, stops_in_order}
-use Rattle.ports_core.proofs.CounterLemmas.{same_default}
 
 -- Opening
 
@@ -236,23 +236,13 @@ pub shut_now : (i n : ℕ) → i < n → cond (ltb i n) Closed Open ≡ Closed
 shut_now i n less = grind (arith, nat_tests, less)
 
 closed_as : (had : ℕ → List ℕ) (i n m : ℕ) → (i < n → i < m) → (i < m → i < n) → closed_first n had i ≡ closed_first m had i
-closed_as had i n m there back = ap (λ now. share now (had i)) (grind (arith, nat_tests, there, back))
+closed_as had i n m there back = grind (arith, common_steps)
 
 pub none_closed : (told : Bool) {files : FilesState} {slots : List Slot} → AreReady files slots → Closing told files 0 slots slots
-none_closed told {files} ready = record {
-  size = refl;
-  left = λ other past inside. ready.closable other inside;
-  closed = λ before had at. outputs_as told (from_start files.names) (λ i inside. ap (λ now. share now (had i)) (sym (still_open i 0 (omega arith)))) refl at.outputs;
-  sound = keeps_same _ _ refl;
-}
+none_closed told {files} ready = grind (arith, common_steps)
 
 pub all_closed : {told : Bool} {files : FilesState} {place : ℕ} {old now : List Slot} → Closing told files place old now → place ≡ length files.outputs → ClosesAll told files old now (Ok tt)
-all_closed {told} {files} {old = old} {now} so_far all = record {
-  closed = subst (λ n. HaveClosed told files n old now) all so_far.closed;
-  cut = tt;
-  caused = tt;
-  owned = owned_same so_far.size;
-}
+all_closed {told} {files} {old = old} {now} so_far all = grind (arith, common_steps)
 
 module _ (told : Bool) {files : FilesState} {place : ℕ} {old now : List Slot} (ready : AreReady files old) (within : place < length files.outputs) (so_far : Closing told files place old now) where
   closes_next : {new : List Slot} → new ≡ changed_at (output_at files place) closes now → {before : List Slot} {had : ℕ → List ℕ} → StandAt told files before had old
@@ -328,7 +318,7 @@ module _ (told : Bool) {files : FilesState} {place : ℕ} {old now : List Slot} 
 
 -- there is such a file once it was reached
 pub sent_within : {told : Bool} {files between : FilesState} {old mid : List Slot} {place low : ℕ} → Opens told files low (place + 1) old between mid (Ok tt) → place < length between.outputs
-sent_within reached = omega (arith, reached.adds.opened)
+sent_within reached = search rules
 
 pub sent : {told : Bool} {files between : FilesState} {old mid new : List Slot} {place slot : ℕ} (bytes : List ℕ) (result : Result (Unit {0}) Fault)
     → Opens told files place (place + 1) old between mid (Ok tt) → slot ≡ output_at between place
@@ -343,4 +333,4 @@ sent_unreached {place = place} bytes reached = adds_wider place (place + 1) (onl
 
 -- what a field of the list of outputs shows
 pub output_is : (files : FilesState) {items : List ℕ} (place : ℕ) {slot : ℕ} → items ≡ files.outputs → place < length files.outputs → slot ≡ get_or items place slot → slot ≡ output_at files place
-output_is files place {slot} same within is = is ∙ ap (λ those. get_or those place slot) same ∙ same_default files.outputs place slot 0 within
+output_is files place {slot} same within is = grind (arith, common_steps)

@@ -1,4 +1,5 @@
 -- Lemmas on files that are opened, written and closed in order.
+use Rattle.std.proofs.lemmas.Grind.{common_steps}
 use Rattle.std.proofs.Common.{◌≡◌, ℕ, ◌+◌, ◌-◌, ◌<◌, ◌≤◌, zero, suc, max, Bool, cond, ltb, List, [], ◌++◌, ◌⊎◌, length, map, take, drop, Result, Ok, Err, append_assoc, inl, inr, refl, sym, ◌∙◌, ap, subst, arith}
 use Rattle.std.specs.List.{range_with_len}
 use Rattle.std.proofs.Math.Nat.{zero-add}
@@ -281,7 +282,7 @@ abbrev pub up_to : ℕ → (ℕ → List ℕ) → ℕ → List ℕ
 up_to n more i = cond (ltb i n) (more i) []
 
 pub sent_none : (told : Bool) {files : FilesState} (more : ℕ → List ℕ) {slots : List Slot} → AreReady files slots → Adds told files (up_to 0 more) 0 0 slots files slots (Ok tt)
-sent_none told more ready = adds_idle told (up_to 0 more) 0 0 (λ i. grind (arith, nat_tests)) (omega arith) ready
+sent_none told more ready = grind (arith, common_steps)
 
 module _ {told : Bool} {files between next : FilesState} {old mid new : List Slot} {place : ℕ} (more : ℕ → List ℕ) {bytes : List ℕ} (before : Adds told files (up_to place more) 0 place old between mid (Ok tt)) (is : bytes ≡ more place) where
   pub sent_next : (result : Result (Unit {0}) Fault) → Adds told between (only_at place bytes) place (place + 1) mid next new result
@@ -300,6 +301,4 @@ module _ {told : Bool} {files between next : FilesState} {old mid new : List Slo
 -- all of them got it
 pub sent_all : {told : Bool} {files next : FilesState} {old new : List Slot} (place : ℕ) {most : ℕ} (more : ℕ → List ℕ) → ((i : ℕ) → most ≤ i → more i ≡ []) → place ≡ most
     → Adds told files (up_to place more) 0 place old next new (Ok tt) → Adds told files more 0 most old next new (Ok tt)
-sent_all {told} {files} {next} {old} {new} place {most} more none is adds =
-    subst (λ those. Adds told files those 0 most old next new (Ok tt)) (fun_ext (λ i. grind (arith, nat_tests, none i)))
-    (subst (λ n. Adds told files (up_to n more) 0 n old next new (Ok tt)) is adds)
+sent_all {told} {files} {next} {old} {new} place {most} more none is adds = grind (arith, common_steps)

@@ -1,5 +1,6 @@
 -- What the stage that cuts off one part after another owes.
-use Rattle.std.proofs.Common.{◌≡◌, ℕ, suc, List, ◌++◌, length, map, Bool, true, false, not, cond, Some, None, Result, Ok, Err, sym, ◌∙◌, ap, subst, refl}
+use Rattle.std.proofs.lemmas.Grind.{common_steps}
+use Rattle.std.proofs.Common.{◌≡◌, ℕ, suc, List, ◌++◌, length, map, Bool, true, false, not, cond, Some, None, Result, Ok, Err, sym, ◌∙◌, ap, subst, refl, arith}
 use Rattle.std.proofs.Math.Nat.{zero-add}
 use Rattle.std.proofs.lemmas.List.{length-map}
 use Rattle.ports_core.specs.Slot.{Slot}
@@ -10,12 +11,11 @@ use Rattle.ports_core.specs.declared.fault.Fault.{Fault}
 use Rattle.ports_core.specs.declared.fault.Fault.TheVariants.{Suffixes}
 use Rattle.ports_core.specs.declared.slot.State.TheVariants.{Closed}
 use Rattle.ports_core.proofs.PartLemmas.{stopped_in_turn}
-use Rattle.split_core.specs.declared.limit.Limit.{Limit}
 use Rattle.split_core.specs.Parts.{parts}
 use Rattle.split_core.specs.Split.{share, are_named, from_start, is_named, only_files, settled_parts}
 use Rattle.split_core.specs.laws.ShareLaws.{are_named_more, settled_count}
 use Rattle.split_core.specs.PartsState.{PartsState, Stands}
-use Rattle.split_core.specs.PartState.{work, parts_work}
+use Rattle.split_core.specs.PartState.{work}
 use Rattle.split_core.specs.Ways as ways
 use Rattle.split_core.specs.declared.splitter.Splitter.TheVariants as way
 use Rattle.split_core.specs.inner.Ways.{PassesBy, FinishesBy}
@@ -24,7 +24,7 @@ use Rattle.split_core.proofs.MoveLemmas.{are_named_same, met_closing, met_files,
 
 have_names : (state : PartsState) (x : List ℕ) {have : Bool} → are_named (from_start state.names) (length (settled_parts state.limit x)) ≡ have
     → are_named (from_start state.names) (length (map (share Closed) (parts state.limit x))) ≡ have
-have_names state x is = ap (are_named (from_start state.names)) (length-map (parts state.limit x) (share Closed) ∙ sym (settled_count state.limit x)) ∙ is
+have_names state x is = grind (arith, common_steps, length-map, settled_count)
 
 all_have : {state : PartsState} {x : List ℕ} → Stands state x → are_named (from_start state.names) (length (map (share Closed) (parts state.limit x))) ≡ true
 all_have {state} {x} stands = have_names state x (are_named_same state.names (from_start state.names) _ refl ∙ stands.enough)
@@ -34,7 +34,7 @@ pub never_done : {state : PartsState} {x : List ℕ} → Stands state x → fals
 never_done stands = sym (ap not (all_have stands))
 
 work_by : (state next : PartsState) → next.limit ≡ state.limit → from_start next.names ≡ from_start state.names → work next ≡ work state
-work_by state next limit names = ap (λ (those : Limit). parts_work those (from_start next.names)) limit ∙ ap (parts_work state.limit) names
+work_by state next limit names = grind (arith, common_steps)
 
 -- a piece
 
@@ -79,21 +79,5 @@ module _ (told : Bool) (state next : PartsState) (piece : List ℕ) (old new : L
 
 pub finishes_by : (told : Bool) (state next : PartsState) (old new : List Slot) (result : Result (Unit {0}) Fault) → Finishes told state old new next result
     → FinishesBy told old new result (way.Parts state) (way.Parts next)
-finishes_by told state next old new (Ok done) ends = record {
-  same = work_by state next ends.keeps.limit ends.keeps.names;
-  outputs = λ before x at. (
-    ap (λ (have : Bool). cond (not have) (Some Suffixes) None) (all_have at.holds),
-    ((ends.goes x at.holds).moves (owns_last state.current (length before) old at.owns)).gets before at.outputs,
-  );
-  owns = ends.keeps.owned;
-  cut = tt;
-  met = tt;
-}
-finishes_by told state next old new (Err f) ends = record {
-  same = work_by state next ends.keeps.limit ends.keeps.names;
-  outputs = tt;
-  owns = ends.keeps.owned;
-  cut = λ before x at. engine.cut (ap is_verdict ends.caused.1)
-      (stopped_in_turn told before _ _ f new (((ends.goes x at.holds).moves (owns_last state.current (length before) old at.owns)).gets before at.outputs));
-  met = met_closing (EndsThere ways.Holds ways.work (way.Parts state)) old new ends.caused;
-}
+finishes_by told state next old new (Ok done) ends = grind (arith, common_steps, work_by, all_have, owns_last)
+finishes_by told state next old new (Err f) ends = grind (arith, common_steps, work_by, stopped_in_turn, owns_last, met_closing)

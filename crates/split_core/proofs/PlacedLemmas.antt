@@ -60,11 +60,14 @@ record IsIn (outputs : List (List ℕ)) (i : ℕ) : Type 0 where
 goes_in : (place : ℕ) (outputs : List (List ℕ)) (i : ℕ) {at : Spot} → GoesTo at (spots_from place outputs i) → (found : IsIn outputs i) × (at ≡ spot (place + found.k) found.offset)
 goes_in place [] i goes = absurd goes
 goes_in place (bytes ∷ outputs) i {at} goes = elim (cases_lt i (length bytes)) [
-  | inl less ↦ (record { k = 0; offset = i; within = less; is = sym (zero-add i) },
-      only_spot _ (subst (GoesTo at) (spot_in place i bytes outputs less) goes) ∙ ap (λ n. spot n i) (sym (add-zero place)))
-  | inr past ↦ (let rest = goes_in (place + 1) outputs (i - length bytes) (subst (GoesTo at) (spot_past place i bytes outputs past) goes) in
-      (record { k = suc rest.0.k; offset = rest.0.offset; within = rest.0.within; is = omega (arith, rest.0.is, length-append bytes (joined (take rest.0.k outputs)), past) },
-      rest.1 ∙ ap (λ n. spot n rest.0.offset) (sym (one_on place rest.0.k))))
+  | inl less ↦ (
+    record { k = 0; offset = i; within = less; is = sym (zero-add i) },
+    only_spot _ (subst (GoesTo at) (spot_in place i bytes outputs less) goes) ∙ ap (λ n. spot n i) (sym (add-zero place)),
+  )
+  | inr past ↦ (let rest = goes_in (place + 1) outputs (i - length bytes) (subst (GoesTo at) (spot_past place i bytes outputs past) goes) in (
+    record { k = suc rest.0.k; offset = rest.0.offset; within = rest.0.within; is = omega (arith, rest.0.is, length-append bytes (joined (take rest.0.k outputs)), past) },
+    rest.1 ∙ ap (λ n. spot n rest.0.offset) (sym (one_on place rest.0.k)),
+  ))
 ]
 
 -- a byte that is in an output is one of the text

@@ -1,7 +1,8 @@
 -- What a step of a piece leaves, and a piece that is taken in step by step, and the end of the input.
+use Rattle.std.proofs.lemmas.Grind.{common_steps}
 use Rattle.std.proofs.Common.{◌≡◌, ℕ, ◌+◌, ◌-◌, ◌<◌, ◌≤◌, List, [], ◌∷◌, ◌++◌, length, map, take, drop, Bool, true, false, Some, None, Result, Ok, Err, OnOk, IfOk, IfErr, inl, refl, sym, ◌∙◌, ap, subst, arith, append_assoc}
 use Rattle.std.proofs.Math.Seq.{take-length}
-use Rattle.std.proofs.lemmas.List.{append-nil, drop-take, map-append, take-append-drop}
+use Rattle.std.proofs.lemmas.List.{append-nil, drop-take, take-append-drop}
 use Rattle.std.proofs.lemmas.Bool.{false≢true}
 use Rattle.std.proofs.lemmas.Result.{IfErr-weaker, on_ok_weaker}
 use Rattle.ports_core.specs.Name.{Naming}
@@ -283,7 +284,7 @@ no_rest {state} {x} stands none = by (rest_of state x) (settled_some state.limit
   by (byte ∷ rest) some = absurd (omega (arith, ap length none, some (omega arith)))
 
 whole_is : (state : PartsState) (x : List ℕ) → whole_parts state.limit x ≡ full_of state x ++ map (share file_state.Closed) (unless_empty (rest_of state x))
-whole_is state x = map-append (share file_state.Closed) (cut_up state.limit x).full (unless_empty (rest_of state x))
+whole_is state x = grind (arith, common_steps)
 
 pub finishes_none : (told : Bool) (state : PartsState) {old : List Slot} → IsReady state.current old → state.current ≡ None → Finishes told state old old state (Ok tt)
 finishes_none told state ready none = record {

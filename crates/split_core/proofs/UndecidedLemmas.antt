@@ -1,9 +1,9 @@
 -- Which bytes continuations put into different files.
-use Rattle.std.proofs.Common.{◌≡◌, ◌≢◌, ◌⊎◌, ℕ, ◌+◌, ◌-◌, ◌<◌, ◌≤◌, suc, List, [], ◌∷◌, ◌++◌, length, map, Bool, true, false, not, inl, inr, refl, sym, ◌∙◌, ap, arith, length-append}
+use Rattle.std.proofs.lemmas.Grind.{common_steps}
+use Rattle.std.proofs.Common.{◌≡◌, ◌≢◌, ◌⊎◌, ℕ, ◌+◌, ◌-◌, ◌<◌, ◌≤◌, suc, List, [], ◌∷◌, ◌++◌, length, map, Bool, true, false, not, inl, inr, refl, sym, ◌∙◌, ap, arith, length-append, rules}
 use Rattle.std.proofs.Math.Seq.{drop-append_seam}
-use Rattle.std.proofs.Math.Nat.{add-zero, sub-zero}
-use Rattle.std.proofs.lemmas.Bool.{cond_both, cases_lt, false≢true, lt-ltb, not-false}
-use Rattle.std.proofs.lemmas.List.{append-nil, length-map, drop_all, take-append-le}
+use Rattle.std.proofs.lemmas.Bool.{cond_both, cases_lt, false≢true}
+use Rattle.std.proofs.lemmas.List.{append-nil, drop_all}
 use Rattle.seg_core.specs.Line.{joined, delimiters}
 use Rattle.seg_core.proofs.FirstLines.{joined-append}
 use Rattle.ports_core.specs.Name.{Naming}
@@ -34,7 +34,7 @@ use Rattle.split_core.proofs.RoundLemmas.{dealt_all}
 
 -- after some outputs
 spots_after : (place i : ℕ) (front back : List (List ℕ)) → length (joined front) ≤ i → spots_from place (front ++ back) i ≡ spots_from (place + length front) back (i - length (joined front))
-spots_after place i [] back past = ap (λ at. spots_from at back i) (sym (add-zero place)) ∙ ap (λ at. spots_from (place + 0) back at) (sym (sub-zero i))
+spots_after place i [] back past = grind (arith, common_steps)
 spots_after place i (bytes ∷ front) back past =
     let long = length-append bytes (joined front) in
     spot_past place i bytes (front ++ back) (omega (arith, past, long)) ∙ spots_after (place + 1) (i - length bytes) front back (omega (arith, past, long))
@@ -48,7 +48,7 @@ OnlyLastOpen (file ∷ files) = (file.state ≡ Open → files ≡ []) × OnlyLa
 
 last_open : (names : Naming) (place : ℕ) (full : List (List ℕ)) (rest : List ℕ) → OnlyLastOpen (named names place (map (share Closed) full ++ map (share Open) (unless_empty rest)))
 last_open names place [] [] = tt
-last_open names place [] (byte ∷ rest) = cond_both (is_named names place) _ _ OnlyLastOpen (λ is. (λ opened. refl, tt)) (λ is. tt)
+last_open names place [] (byte ∷ rest) = grind (arith, common_steps)
 last_open names place (part ∷ full) rest =
     cond_both (is_named names place) _ _ OnlyLastOpen (λ is. (λ opened. absurd (false≢true (ap is_open opened)), last_open names (place + 1) full rest))
     (λ is. tt)
@@ -56,7 +56,7 @@ last_open names place (part ∷ full) rest =
 -- bytes that files have stay where they are
 spots_stay : (place i : ℕ) (low high : List File) → FilesBegin low high → OnlyLastOpen low → i < length (joined (map (λ (file : File). file.bytes) low))
     → spots_from place (map (λ (file : File). file.bytes) high) i ≡ spots_from place (map (λ (file : File). file.bytes) low) i
-spots_stay place i [] high begins last less = absurd (omega (arith, less))
+spots_stay place i [] high begins last less = search rules
 spots_stay place i (file ∷ low) [] begins last less = absurd begins
 spots_stay place i (file ∷ low) (whole ∷ high) begins last less = elim (cases_lt i (length file.bytes)) [
   | inl within ↦ (let short = beginning_short file.bytes whole.bytes begins.4 in spot_in place i whole.bytes _ (omega (arith, within, short)) ∙ sym (spot_in place i file.bytes _ within))
@@ -169,8 +169,7 @@ parts_undecided limit names {x} some are = record {
 -- Lines that are dealt: none waits
 
 dealt_decided : (delim n : ℕ) (names : Naming) (x y : List ℕ) (i : ℕ) → i < length x → dealt_spots delim n names (x ++ y) i ≡ dealt_spots delim n names x i
-dealt_decided delim n names x y i less =
-    cc (lt-ltb i (length (x ++ y)) (omega (arith, length-append x y, less)), lt-ltb i (length x) less, take-append-le i x y (omega (arith, less)))
+dealt_decided delim n names x y i less = grind (arith, common_steps)
 
 round_undecided : (delim n : ℕ) (elide : Bool) (names : Naming) {x : List ℕ} → 0 < n → are_named names (length (dealt_files delim elide n x)) ≡ true
     → IsUndecided (split_spots (round_plan delim n elide names)) x ((split_work (round_plan delim n elide names)).waiting x)
@@ -185,7 +184,7 @@ round_undecided delim n elide names {x} some are =
 -- All ways to cut
 
 counted : (names : Naming) (those : List (List ℕ)) → not (are_named names (length (map (share Closed) those))) ≡ false → are_named names (length those) ≡ true
-counted names those is = ap (are_named names) (sym (length-map those (share Closed))) ∙ not-false _ is
+counted names those is = grind (arith, common_steps)
 
 undecided_at : (delim : ℕ) (cut : Cut) (elide : Bool) (names : Naming) → IsPositive cut → {x : List ℕ} → is_short (plan_by delim cut elide names) x ≡ false
     → IsUndecided (split_spots (plan_by delim cut elide names)) x ((split_work (plan_by delim cut elide names)).waiting x)
