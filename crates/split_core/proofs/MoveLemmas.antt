@@ -1,11 +1,11 @@
--- How the files of `split` change, as they are opened, written and closed.
+-- How the files of `split` change, as they are opened, written and closed, and how what waits is written.
 use Rattle.std.proofs.lemmas.Grind.{common_steps}
-use Rattle.std.proofs.Common.{◌≡◌, ℕ, ◌+◌, ◌≤◌, zero, suc, List, [], ◌∷◌, ◌++◌, ◌⊎◌, length, Bool, true, false, IsTrue, Option, Some, None, Result, Ok, Err, OnOk, IfErr, inl, inr, refl, sym, ap, subst, arith, length-append, rules}
+use Rattle.std.proofs.Common.{◌≡◌, ℕ, ◌+◌, ◌≤◌, zero, suc, List, [], ◌∷◌, ◌++◌, ◌⊎◌, length, Bool, true, false, IsTrue, Option, Some, None, Result, Ok, Err, OnOk, IfErr, inl, inr, refl, sym, ap, subst, arith, length-append, rules, take, drop, ◌∙◌, append_assoc}
 use Rattle.std.proofs.Math.Nat.{zero-add}
 use Rattle.std.proofs.lemmas.Bool.{cond_both, false≢true}
 use Rattle.std.proofs.lemmas.Result.{IfErr-weaker, on_ok_weaker}
-use Rattle.ports_core.specs.Name.{Naming, next_name, has_next}
-use Rattle.ports_core.specs.Slot.{Slot, changed_at, opened, closes, with_broken, is_writable}
+use Rattle.ports_core.specs.Name.{Naming, next_name, has_next, with_one_drawn}
+use Rattle.ports_core.specs.Slot.{Slot, changed_at, opened, closes, with_broken, is_writable, FailsToOpen, with_written, told_of}
 use Rattle.ports_core.specs.inner.Slot.{KeepsBroken}
 use Rattle.ports_core.specs.declared.slot.Mode.TheVariants.{Fresh}
 use Rattle.ports_core.specs.declared.slot.State.TheVariants as state
@@ -25,6 +25,11 @@ use Rattle.split_core.specs.laws.ShareLaws.{part_begins, one_on, shares_fewer}
 use Rattle.split_core.specs.inner.PartsState.{IsAtEnd}
 use Rattle.split_core.specs.PartsState.{PartsState, IsReady, OwnsFile}
 use Rattle.split_core.specs.inner.Moves.{part_of, Draft, written, Goes, Moves, RunsShort, Keeps, KeepsFile, Breaks, CannotClose, OpensNone, no_memory, no_file, no_name, WritesTo, wants_memory, breaks_write, breaks_open, lacks_names}
+use Rattle.std.proofs.lemmas.List.{append-nil, take-append-le}
+use Rattle.std.proofs.Math.Seq.{drop-append_seam, take-append-add}
+use Rattle.ports_core.specs.Slot as outputs
+use Rattle.ports_core.proofs.WriteLemmas.{told_of-append, told_of-nil, with_written-append, writable-written}
+use Rattle.ports_core.proofs.SlotLemmas.{with_written-nil}
 
 -- names
 
@@ -276,3 +281,57 @@ open_stops told {names} {next} current shares one {old} {new} shut drawn none = 
     fewer = omega (arith, length-append shares (one ∷ []));
     moves = λ last before at. rw same at;
   }
+
+pub nothing_written : (told : Bool) (slot : ℕ) {slots : List Slot} → slots ≡ with_written slot (told_of told []) slots
+nothing_written told slot {slots} = sym (ap (λ bytes. with_written slot bytes slots) (told_of-nil told) ∙ with_written-nil slot slots)
+
+-- one write after another
+pub written_both : (told : Bool) (slot : ℕ) (first more : List ℕ) (old : List Slot) {mid new : List Slot} → mid ≡ with_written slot (told_of told first) old → new ≡ with_written slot (told_of told more) mid → new ≡ with_written slot (told_of told (first ++ more)) old
+written_both told slot first more old one other = grind (arith, common_steps, with_written-append, told_of-append)
+
+pub still_writable : (told : Bool) (slot : ℕ) (bytes : List ℕ) (old : List Slot) {new : List Slot} → IsTrue (is_writable old slot) → new ≡ with_written slot (told_of told bytes) old → IsTrue (is_writable new slot)
+still_writable told slot bytes old can wrote = grind (arith, common_steps, writable-written)
+
+-- the output broke in a later write
+pub short_later : (told : Bool) {slot : ℕ} (first more past : List ℕ) {old mid new : List Slot} {fault : Fault} → mid ≡ with_written slot (told_of told first) old → WritesShort told slot more mid new fault → WritesShort told slot (first ++ (more ++ past)) old new fault
+short_later told {slot} first more past {old} one (broke n cut) = broke (length first + n) (record {
+  within = omega (arith, cut.within, length-append first (more ++ past), length-append more past);
+  slots = cc (cut.slots, written_both told slot first (take n more) old one refl, taken);
+}) where
+  taken : take (length first + n) (first ++ (more ++ past)) ≡ first ++ take n more
+  taken = take-append-add first (more ++ past) n ∙ ap (λ z. first ++ z) (take-append-le n more past (omega (arith, cut.within)))
+
+pub wrote_both : (told : Bool) (slot : ℕ) (first more : List ℕ) (old : List Slot) {mid : List Slot} (new : List Slot) (result : Result (Unit {0}) Fault) → mid ≡ with_written slot (told_of told first) old → WritesTo told slot more mid new result → WritesTo told slot (first ++ more) old new result
+wrote_both told slot first more old new (Ok done) one other = written_both told slot first more old one other
+wrote_both told slot first more old new (Err fault) one short = subst (λ those. WritesShort told slot (first ++ those) old new fault) (append-nil more) (short_later told first more [] one short)
+
+-- a beginning of what the window held was written, and the window holds the rest
+pub record Emptying (told : Bool) (slot : ℕ) (most now_most : ℕ) (held now : List ℕ) (old slots : List Slot) : Type 0 where
+  pub gone : List ℕ
+  pub both : held ≡ gone ++ now
+  pub wrote : slots ≡ with_written slot (told_of told gone) old
+  pub same : now_most ≡ most
+  pub writable : IsTrue (is_writable slots slot)
+
+pub all_held : (told : Bool) {slot most : ℕ} {held : List ℕ} {old : List Slot} → IsTrue (is_writable old slot) → Emptying told slot most most held held old old
+all_held told {slot} can = record { gone = []; both = refl; wrote = nothing_written told slot; same = refl; writable = can }
+
+pub empties : (told : Bool) {slot most now_most next_most : ℕ} {held now : List ℕ} (front rest : List ℕ) {next : List ℕ} {old slots new : List Slot} → Emptying told slot most now_most held now old slots → now ≡ front ++ rest → new ≡ with_written slot (told_of told front) slots
+    → next_most ≡ now_most → next ≡ drop (length front) now → Emptying told slot most next_most held next old new
+empties told {slot} front rest {old} {slots} so_far is wrote same left = record {
+  gone = so_far.gone ++ front;
+  both = so_far.both ∙ ap (λ those. so_far.gone ++ those) is ∙ sym (append_assoc so_far.gone front rest) ∙ ap (λ those. (so_far.gone ++ front) ++ those) (sym (left ∙ ap (drop (length front)) is ∙ drop-append_seam front rest));
+  wrote = written_both told slot so_far.gone front old so_far.wrote wrote;
+  same = same ∙ so_far.same;
+  writable = still_writable told slot front slots so_far.writable wrote;
+}
+
+pub empties_short : (told : Bool) {slot most now_most : ℕ} {held now : List ℕ} (front rest : List ℕ) {old slots new : List Slot} {fault : Fault} → Emptying told slot most now_most held now old slots → now ≡ front ++ rest → WritesShort told slot front slots new fault
+    → WritesShort told slot held old new fault
+empties_short told {slot} front rest {old} {new} {fault} so_far is short = grind (arith, common_steps, short_later)
+
+-- a file that couldn't be opened
+pub opens_none : (names : Naming) {next : Naming} {name : List ℕ} {old new : List Slot} → name ≡ next_name names → IsTrue (has_next names) → next ≡ with_one_drawn names
+    → {fault : Fault} → FailsToOpen old name new fault → OpensNone names next old new fault
+opens_none names named has drew (outputs.broke slot kept at is made) = no_file slot kept at has drew (subst (λ those. (kept ≡ those) ⊎ (kept ≡ [])) named is) made
+opens_none names named has drew (outputs.numberless full same) = no_memory same

@@ -25,7 +25,7 @@ use Rattle.split_core.proofs.CutLaws.{opened_by-most}
 use Rattle.split_core.proofs.MoveLemmas.{named_before}
 use Rattle.split_core.proofs.AgreedLemmas.{named_bytes, dealt_whole, plan_by}
 use Rattle.split_core.specs.laws.ShareLaws.{one_on}
-use Rattle.split_core.proofs.PlacedLemmas.{parts_placed}
+use Rattle.split_core.proofs.UndecidedLemmas.{parts_placed}
 use Rattle.split_core.proofs.RoundLemmas.{none_yet}
 
 -- What a file has, byte by byte

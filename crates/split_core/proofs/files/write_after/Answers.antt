@@ -2,7 +2,7 @@ use Rattle.std.proofs.lemmas.Grind.{common_steps}
 use Rattle.std.proofs.Common.{[], arith}
 use Rattle.ports_core.proofs.HandedOn.{result_is}
 use Rattle.split_core.specs.inner.Moves.{WritesTo}
-use Rattle.split_core.proofs.HeldLemmas.{nothing_written, short_later, still_writable, wrote_both}
+use Rattle.split_core.proofs.MoveLemmas.{nothing_written, short_later, still_writable, wrote_both}
 use Rattle.split_core.proofs.files.write_after.Goals as goal
 
 pub returns-in_err-write_held-clause-wrote : goal.returns-in_err-write_held-clause-wrote
