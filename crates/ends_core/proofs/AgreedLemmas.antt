@@ -1,10 +1,10 @@
 -- What all continuations agree on, of heads and tails, and where the bytes of an input go.
 use Rattle.std.proofs.lemmas.Grind.{common_steps}
-use Rattle.std.proofs.Common.{◌≡◌, ◌≢◌, ℕ, ◌+◌, ◌-◌, ◌<◌, ◌≤◌, zero, suc, List, [], ◌∷◌, ◌++◌, length, length-drop, drop, replicate, get_or, Bool, true, false, cond, inl, inr, refl, sym, ◌∙◌, ap, subst, arith, append_assoc, length-append, rules}
+use Rattle.std.proofs.Common.{◌≡◌, ◌≢◌, ℕ, ◌+◌, ◌-◌, ◌<◌, ◌≤◌, zero, suc, List, [], ◌∷◌, ◌++◌, length, drop, replicate, get_or, Bool, true, false, cond, inl, inr, refl, sym, ◌∙◌, ap, subst, arith, append_assoc, length-append, rules}
 use Rattle.std.proofs.lemmas.Bool.{cases_lt, lt-ltb, le-ltb, eq-eqb, ne_eqb}
 use Rattle.std.proofs.lemmas.List.{append-nil, drop-append-le, length-replicate, get_or_append_left}
 use Rattle.std.proofs.Math.Seq.{drop-append_seam, get_or-append_right}
-use Rattle.seg_core.specs.Line.{joined, lines_of, delimiters, ends_with}
+use Rattle.seg_core.specs.Line.{delimiters, ends_with}
 use Rattle.seg_core.proofs.LinesOf.{lines_of-append, joined-lines_of}
 use Rattle.seg_core.proofs.LineCounts.{line_count-closed, ends_with-append}
 use Rattle.ports_core.specs.Part.{IsBeginning, nothing, only_out}
@@ -25,7 +25,20 @@ use Rattle.ports_core.specs.Work.{Work}
 
 -- after enough further lines or bytes all that came in stands before the last n
 far : (delim : ℕ) (unit : Counted) (n : ℕ) (x : List ℕ) → length x < length (but_last_of delim unit n (x ++ replicate (n + 1) delim))
-far delim unit n x = search (rules, cases_lt, last_is_drop, drop-append-le, measure-append, measure-delimiters, last_is_small)
+far delim unit n x = elim (cases_lt (length x) (length (but_last_of delim unit n (x ++ replicate (n + 1) delim)))) [
+  | inl past ↦ past
+  | inr within ↦ absurd (too_many within)
+] where
+  too_many : length (but_last_of delim unit n (x ++ replicate (n + 1) delim)) ≤ length x → ⊥
+  too_many within =
+      let k = length (but_last_of delim unit n (x ++ replicate (n + 1) delim)) in
+      let last : last_of delim unit n (x ++ replicate (n + 1) delim) ≡ drop k x ++ replicate (n + 1) delim
+      = last_is_drop delim unit n (x ++ replicate (n + 1) delim) ∙ drop-append-le k x (replicate (n + 1) delim) within in
+      let sum : measure delim unit (last_of delim unit n (x ++ replicate (n + 1) delim)) ≡ measure delim unit (drop k x) + measure delim unit (replicate (n + 1) delim)
+      = ap (measure delim unit) last ∙ measure-append delim unit (drop k x) (replicate (n + 1) delim) in
+      let many : measure delim unit (replicate (n + 1) delim) ≡ n + 1 = measure-delimiters delim unit in
+      let few : measure delim unit (last_of delim unit n (x ++ replicate (n + 1) delim)) ≤ n = last_is_small delim unit n (x ++ replicate (n + 1) delim) in
+      omega arith
 
 -- Heads
 
@@ -140,7 +153,7 @@ tail_cuts delim unit from_nth n = record {
 }
 
 pub tail_undecided : (delim : ℕ) → delim < 256 → (unit : Counted) (from_nth : Bool) (n : ℕ) {x : List ℕ} → IsUndecided (tail_spots delim unit from_nth n) x (tail_waiting delim unit from_nth n x)
-tail_undecided delim byte unit true n = grind (arith, common_steps)
+tail_undecided delim byte unit true n = first_undecided delim unit (n - 1) (tail_cuts delim unit true n)
 tail_undecided delim byte unit false n = last_undecided delim unit n (tail_cuts delim unit false n) byte
 
 -- Tails: two continuations of which the last n begin with other bytes
@@ -159,12 +172,15 @@ others_come delim byte Lines k = grind (arith, common_steps, one_comes, other, o
 others_come delim byte Bytes k = grind (arith, common_steps)
 
 others_size : (delim : ℕ) (unit : Counted) {k : ℕ} → size delim unit (other delim ∷ others delim unit k) ≡ suc k
-others_size delim Lines {k} = search (rules, line_count-closed, other, ends_with-append, ends_there, ne_eqb, other_differs, measure-delimiters)
+others_size delim Lines {k} =
+    line_count-closed delim (other delim ∷ replicate (suc k) delim) (ends_with-append delim (other delim ∷ []) (replicate (suc k) delim) (omega arith) ∙ ends_there delim k)
+    ∙ ap (λ is. cond is (delimiters delim (replicate (suc k) delim) + 1) (delimiters delim (replicate (suc k) delim))) (ne_eqb (other delim) delim (λ is. other_differs delim (sym is)))
+    ∙ measure-delimiters delim Lines
 others_size delim Bytes {k} = grind (arith, common_steps)
 
 delimiters_size : (delim : ℕ) (unit : Counted) {k : ℕ} → size delim unit (replicate (suc k) delim) ≡ suc k
 delimiters_size delim Lines {k} = line_count-closed delim (replicate (suc k) delim) (ends_there delim k) ∙ measure-delimiters delim Lines
-delimiters_size delim Bytes {k} = search rules
+delimiters_size delim Bytes {k} = length-replicate (suc k) delim
 
 -- after a complete line these are the last n
 last_exact : (delim : ℕ) (unit : Counted) {n : ℕ} (front : List ℕ) {back : List ℕ} → ends_with delim front ≡ true → size delim unit back ≡ n → last_of delim unit n (front ++ back) ≡ back
@@ -217,8 +233,12 @@ last_longest apart zero less = grind (arith, common_steps)
 last_longest apart (suc place) less = search rules
 
 pub tail_agreed : (delim : ℕ) → delim < 256 → (unit : Counted) (from_nth : Bool) (n : ℕ) {x : List ℕ} → IsAgreed (tail_work delim unit from_nth n) x ((tail_work delim unit from_nth n).settled x)
-tail_agreed delim byte unit true n {x} = grind (arith, common_steps)
-tail_agreed delim byte unit false n {x} = grind (arith, common_steps, common, none_comes, last_longest, apart)
+tail_agreed delim byte unit true n {x} = agreed_now (tail_work delim unit true n) x (common (tail_work delim unit true n) (law.tail_lawful delim unit true n) x) refl
+tail_agreed delim byte unit false n {x} = record {
+  common = λ y can. common (tail_work delim unit false n) (law.tail_lawful delim unit false n) x y;
+  fewest = ([], none_comes, refl);
+  longest = last_longest (apart byte n);
+}
 
 -- Spots are right: each of them writes one stretch of its input, and nothing else.
 
@@ -295,7 +315,8 @@ head_stretch delim unit but_last n = record {
 }
 
 pub head_placed : (delim : ℕ) (unit : Counted) (but_last : Bool) (n : ℕ) → ArePlaced (head_work delim unit but_last n) (head_spots delim unit but_last n)
-head_placed delim unit but_last n = grind (arith, common_steps, head_stretch, apart)
+head_placed delim unit but_last n =
+    let all = placed (head_stretch delim unit but_last n) in record { stands = all.stands; filled = all.filled; apart = all.apart }
 
 tail_stretch : (delim : ℕ) (unit : Counted) (from_nth : Bool) (n : ℕ) → IsStretch (tail_spots delim unit from_nth n) (tail_of delim unit from_nth n)
 tail_stretch delim unit from_nth n = record {
@@ -308,4 +329,5 @@ tail_stretch delim unit from_nth n = record {
 }
 
 pub tail_placed : (delim : ℕ) (unit : Counted) (from_nth : Bool) (n : ℕ) → ArePlaced (tail_work delim unit from_nth n) (tail_spots delim unit from_nth n)
-tail_placed delim unit from_nth n = grind (arith, common_steps, tail_stretch, apart)
+tail_placed delim unit from_nth n =
+    let all = placed (tail_stretch delim unit from_nth n) in record { stands = all.stands; filled = all.filled; apart = all.apart }

@@ -1,7 +1,7 @@
 -- What stands at the ends of an input, and of an input that goes on.
 use Rattle.std.proofs.lemmas.Grind.{common_steps}
-use Rattle.std.proofs.Common.{◌≡◌, ℕ, ◌+◌, ◌-◌, ◌<◌, ◌≤◌, zero, suc, List, [], ◌∷◌, ◌++◌, length, take, drop, refl, sym, ◌∙◌, ap, arith, length-append, length-drop, replicate}
-use Rattle.std.proofs.lemmas.List.{append-nil, take_all, take_at, drop_at, take-append-drop, append_cancel_left, append_cancel_right, length-replicate}
+use Rattle.std.proofs.Common.{◌≡◌, ℕ, ◌+◌, ◌-◌, ◌<◌, ◌≤◌, zero, suc, List, [], ◌∷◌, ◌++◌, length, take, drop, refl, sym, ◌∙◌, ap, arith, length-drop, replicate}
+use Rattle.std.proofs.lemmas.List.{append-nil, take_at, drop_at, take-append-drop, append_cancel_left, append_cancel_right, length-replicate}
 use Rattle.std.proofs.lemmas.Bool.{eq-eqb}
 use Rattle.seg_core.specs.Line.{delimiters, last_lines}
 use Rattle.seg_core.proofs.Delimiters.{delimiters-append, delimiters-one_yes}

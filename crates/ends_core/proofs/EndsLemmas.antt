@@ -1,9 +1,8 @@
 -- Lemmas on the stage of `head` and `tail`.
 use Rattle.std.proofs.lemmas.Grind.{common_steps}
-use Rattle.std.proofs.Common.{◌≡◌, ℕ, ◌+◌, ◌-◌, ◌<◌, ◌≤◌, ◌==◌, ◌&&◌, not, List, [], ◌∷◌, ◌++◌, ◌⊎◌, length, Bool, true, false, IsTrue, Ok, Err, Result, OnOk, nat_le, inl, inr, None, refl, sym, ◌∙◌, ap, subst, arith, length-append, ◌↔◌, replicate, lit<, rules}
+use Rattle.std.proofs.Common.{◌≡◌, ℕ, ◌+◌, ◌-◌, ◌<◌, ◌≤◌, ◌&&◌, not, List, [], ◌∷◌, ◌++◌, ◌⊎◌, length, Bool, true, false, IsTrue, Ok, Err, Result, OnOk, nat_le, inl, inr, None, refl, sym, ◌∙◌, ap, subst, arith, length-append, ◌↔◌, replicate, lit<}
 use Rattle.std.proofs.lemmas.Bool.{false≢true, leb-false}
-use Rattle.std.proofs.lemmas.Bool.Decides.{nat_tests}
-use Rattle.std.proofs.lemmas.List.{append-nil, nil_from_length}
+use Rattle.std.proofs.lemmas.List.{nil_from_length}
 use Rattle.std.proofs.lemmas.List.Elements.{All-replicate}
 use Rattle.ports_core.specs.Slot.{Slot, is_writable, with_written, told_of}
 use Rattle.ports_core.specs.Source.{Source}
@@ -22,13 +21,11 @@ use Rattle.ends_core.specs.Head.{head_work, IsDone}
 use Rattle.ends_core.specs.Stage.{Stretch, the_first, from_the_nth, the_last, keeps, work_in, front_in, stretch_of, delim_of, unit_of, count_of, left_of, waiting_of, waiting, past_in, past_of, may_lack, work, Holds, is_done, all_but_last}
 use Rattle.ends_core.specs.inner.Stage.{is_last, due, due_at_end, left_waiting, is_full, unused_of, FullLacksNone, SameAsked}
 use Rattle.ends_core.specs.Kept.{most_of, delim_of as kept_delim, unit_of as kept_unit}
-use Rattle.ends_core.specs.inner.Load.{Passes}
-use Rattle.ends_core.specs.inner.Stops.{Stops}
+use Rattle.ends_core.specs.inner.Kept.{Passes, Stops}
 use Rattle.ends_core.specs.laws.WorkLaws.{full_head}
 use Rattle.ends_core.specs.laws.EndsLaws.{ends_together, first_then_after, measure-append, first_of-append, first_of-short, after_of-append, last_of-append, but_last_of-append}
 use Rattle.ends_core.proofs.EndsLaws.{measure-delimiters, first_of-more, but_last_grows}
-use Rattle.ends_core.proofs.StopLemmas as stop
-use Rattle.ends_core.proofs.KeptLemmas.{full_once}
+use Rattle.ends_core.proofs.KeptLemmas as stop
 use Rattle.ends_core.proofs.LoadLemmas.{last_none}
 use Rattle.ports_core.specs.Guard.{GuardState, HoldsIn}
 
@@ -52,7 +49,7 @@ always_well s delim unit n x = refl
 went_out : (ends : Ends) {x : List ℕ} (piece : List ℕ) → Holds ends x → record ((work ends).settled x) { out = ((work ends).settled x).out ++ due ends piece } ≡ (work ends).settled (x ++ piece)
 went_out (First count front) {x} piece holds = grind (arith, common_steps, first_of-append)
 went_out (ButLast kept) {x} piece holds = grind (arith, common_steps, but_last_of-append)
-went_out (FromNth count front) {x} piece holds = cc
+went_out (FromNth count front) {x} piece holds = grind (arith, common_steps, after_of-append)
 went_out (Last kept) piece holds = refl
 
 -- and at the end
@@ -61,10 +58,12 @@ rest_out (Last kept) holds = ap only_out holds.waits
 rest_out ends {x} holds = grind (arith, common_steps)
 
 pub puts_out : (told : Bool) (ends : Ends) (piece : List ℕ) {old new : List Slot} → new ≡ with_written 0 (told_of told (due ends piece)) old → PutsOut Holds OwnsNone work ends piece told old new
-puts_out told ends piece {old} {new} wrote before x at = grind (arith, common_steps, went_out, out_more)
+puts_out told ends piece {old} {new} wrote before x at =
+    subst (λ part. OutputsAt told before part new) (went_out ends piece at.holds) (out_more told before _ old new (due ends piece) at.outputs wrote)
 
 pub cuts_off : (told : Bool) {lacks : Bool} (ends : Ends) (piece : List ℕ) {old new : List Slot} {f : Fault} → Stops told lacks (due ends piece) old new f → CutsOff Holds OwnsNone work ends piece told old new f
-cuts_off told ends piece {new} {f} stops before x at = grind (arith, common_steps, went_out)
+cuts_off told ends piece {new} {f} stops before x at =
+    cut (stop.unjudged told stops) (subst (λ part. StoppedBetween told before ((work ends).settled x) part f new) (went_out ends piece at.holds) (stop.between told at.outputs stops))
 
 pub finishes : (told : Bool) (ends : Ends) {old new : List Slot} → new ≡ with_written 0 (told_of told (due_at_end ends)) old → Finishes Holds OwnsNone work ends told old new
 finishes told ends {old} {new} wrote before x at = (
@@ -118,15 +117,16 @@ incomplete delim unit false n x byte short done =
     let same : x ++ 0 ∷ [] ≡ x = sym (first_of-more delim unit n x 0 few) ∙ done (0 ∷ []) (All-replicate (λ byte. byte < 256) 1 0 (lit< tt)) ∙ first_of-short delim unit n {x = x} few in
     let longer : length x + 1 ≡ length x = sym (length-append x (0 ∷ [])) ∙ ap length same in
     omega arith
-incomplete delim unit true n x byte short done = search (rules, but_last_grows, measure-delimiters, All-replicate)
+incomplete delim unit true n x byte short done =
+    but_last_grows delim unit n x (replicate (n + 1) delim) (let many = measure-delimiters delim unit {k = n + 1} in omega arith) (done (replicate (n + 1) delim) (All-replicate (λ byte. byte < 256) (n + 1) delim byte))
 
 head_exact : (delim : ℕ) (unit : Counted) (but_last : Bool) (n : ℕ) (x : List ℕ) (full : Bool) → delim < 256 → full ≡ (head_work delim unit but_last n).is_complete x → IsTrue full ↔ IsDone delim unit but_last n x
-head_exact delim unit but_last n x true byte is = grind (arith, common_steps)
+head_exact delim unit but_last n x true byte is = (λ yes y bytes. (full_head delim unit but_last n x y (sym is)).1, λ done. refl)
 head_exact delim unit but_last n x false byte is = (λ yes. absurd (false≢true yes), λ done. absurd (incomplete delim unit but_last n x byte (sym is) done))
 
 pub done_is_exact : (ends : Ends) {x : List ℕ} {full : Bool} → Holds ends x → full ≡ (work ends).is_complete x → IsTrue full ↔ is_done ends x
 done_is_exact (First count front) {x} {full} holds is = head_exact front.delim front.unit false count x full holds.byte is
-done_is_exact (ButLast kept) {x} {full} holds is = grind (arith, common_steps)
+done_is_exact (ButLast kept) {x} {full} holds is = head_exact (kept_delim kept) (kept_unit kept) true (most_of kept) x full holds.byte is
 done_is_exact ends holds is = grind (arith, common_steps)
 
 pub full_is : (ends : Ends) {x : List ℕ} → Holds ends x → is_full ends ≡ (work ends).is_complete x

@@ -1,10 +1,10 @@
 -- Lemmas on taking in the last lines or bytes of a text from its end.
 use Rattle.std.proofs.lemmas.Grind.{common_steps}
-use Rattle.std.proofs.Common.{◌≡◌, ℕ, zero, suc, ◌+◌, ◌-◌, ◌<◌, ◌≤◌, Bool, true, false, eqb, IsTrue, List, [], ◌∷◌, ◌++◌, length, take, drop, replicate, Result, Ok, Err, OnOk, refl, sym, ◌∙◌, ap, arith, length-append, length-drop, length-take, rules}
+use Rattle.std.proofs.Common.{◌≡◌, ℕ, zero, suc, ◌+◌, ◌-◌, ◌<◌, ◌≤◌, Bool, true, false, eqb, IsTrue, List, [], ◌∷◌, ◌++◌, length, take, drop, replicate, Result, Ok, Err, OnOk, refl, sym, ◌∙◌, ap, arith, length-append, length-drop, rules}
 use Rattle.std.specs.Prelude.{if◌then◌else◌, is_err}
 use Rattle.std.proofs.Math.Seq.{take-add}
 use Rattle.std.proofs.lemmas.List.{append-nil, drop_all, drop_at, drop-drop, nil_from_length, take-append-drop, take_all, length-replicate}
-use Rattle.std.proofs.lemmas.Bool.{eq-eqb, false≢true, or_left, or_right}
+use Rattle.std.proofs.lemmas.Bool.{eq-eqb, or_left, or_right}
 use Rattle.seg_core.specs.Line.{line_count, last_lines, but_last_lines, first_lines}
 use Rattle.seg_core.specs.Window.{ByteWindowState, with_put}
 use Rattle.seg_core.proofs.EndLines.{after_lines-past}
@@ -16,7 +16,7 @@ use Rattle.seg_core.specs.declared.unit.Unit.{Unit as Counted}
 use Rattle.seg_core.specs.declared.unit.Unit.TheVariants.{Lines, Bytes}
 use Rattle.ends_core.specs.Ends.{size, measure, after_of, last_of}
 use Rattle.ends_core.specs.laws.EndsLaws.{after_of-append}
-use Rattle.ends_core.specs.inner.Load.{HasSeen, Passes}
+use Rattle.ends_core.specs.inner.Kept.{HasSeen, Passes}
 use Rattle.seg_core.proofs.LineCounts.{line_count-front}
 
 size-append : (delim : ℕ) (unit : Counted) (n : ℕ) (x y : List ℕ) → n < size delim unit y → size delim unit (x ++ y) ≡ measure delim unit x + size delim unit y
@@ -62,10 +62,6 @@ front-long : (told : Bool) {place : ℕ} (text : List ℕ) → (told ≡ true �
 front-long true {place} text within = grind (arith, common_steps)
 front-long false {place} text within = length-replicate place 0
 
-front-there : (told : Bool) (place : ℕ) {text rest : List ℕ} → (told ≡ true → rest ≡ drop place text) → told ≡ true → front_of told place text ++ rest ≡ text
-front-there true place {text} is tells = grind (arith, common_steps)
-front-there false place is tells = cc
-
 -- what follows a place was seen, and its last part is that of the whole
 pub seen_from : (told : Bool) (text : List ℕ) (left place delim : ℕ) (unit : Counted) (n : ℕ) (rest held : List ℕ) → (told ≡ true → left ≡ length text) → place ≤ left → length rest ≡ left - place → (told ≡ true → rest ≡ drop place text)
     → held ≡ last_of delim unit n (front_of told place text ++ rest) → HasSeen told text left (λ x. held ≡ last_of delim unit n x)
@@ -93,7 +89,11 @@ holds_more told {text} {left} {place} {size} {delim} {n} {block} {held} {new} ho
 -- the window is shorter than what was seen: all of the last lines are there
 pub holds_last : (told : Bool) {text : List ℕ} {left place size delim n : ℕ} {block held new : List ℕ} → (told ≡ true → left ≡ length text) → HoldsFrom told text left place delim n held → size ≤ place → length block ≡ size → (told ≡ true → Shows text (place - size) block)
     → new ≡ last_lines delim n (block ++ held) → length new < left - (place - size) → HasSeen told text left (λ x. new ≡ last_lines delim n x)
-holds_last told {text} {left} {place} {size} {delim} {n} {block} {held} {new} known holds within long shows is shorter = grind (arith, common_steps, more_lines, seen_from, seen_more, last_after)
+holds_last told {text} {left} {place} {size} {delim} {n} {block} {held} {new} known holds within long shows is shorter =
+    let all : length (block ++ held) ≡ left - (place - size) = omega (arith, length-append block held, holds.within, holds.long, long, within) in
+    let more : n < line_count delim (block ++ held) = more_lines delim n (block ++ held) (omega (arith, all, shorter, ap length is)) in
+    seen_from told text left (place - size) delim Lines n (block ++ held) new known (omega (arith, holds.within)) all (seen_more told text place within long shows holds.there)
+    (is ∙ sym (last_after delim Lines n (front_of told (place - size) text) (block ++ held) more))
 
 -- a window over bytes holds what stands between two places
 pub record HoldsBetween (told : Bool) (text : List ℕ) (from place : ℕ) (held : List ℕ) : Type 0 where

@@ -1,11 +1,11 @@
 -- Lemmas on what of its input a head uses.
 use Rattle.std.proofs.lemmas.Grind.{common_steps}
-use Rattle.std.proofs.Common.{◌≡◌, ℕ, zero, suc, ◌+◌, ◌-◌, ◌<◌, ◌≤◌, true, false, List, [], ◌∷◌, ◌++◌, ◌⊎◌, length, take, drop, inl, inr, refl, sym, ◌∙◌, ap, subst, arith, length-append, rules}
+use Rattle.std.proofs.Common.{◌≡◌, ℕ, zero, suc, ◌+◌, ◌-◌, ◌<◌, ◌≤◌, true, false, List, [], ◌∷◌, ◌++◌, ◌⊎◌, length, take, drop, inl, inr, refl, sym, ◌∙◌, ap, arith, length-append}
 use Rattle.std.proofs.lemmas.Bool.{cases_lt, le-leb, lt-leb, leb-true, leb-false}
 use Rattle.std.proofs.lemmas.List.{append-nil, append_cancel_left, nil_from_length, take-append-drop, take-append-le, take_at, length-drop, length-take}
 use Rattle.ports_core.specs.Work.{IsNeeded, IsSpare}
 use Rattle.ports_core.specs.Engine.{MayGet}
-use Rattle.ports_core.proofs.SpareLemmas.{all_used, none_spare}
+use Rattle.ports_core.proofs.SpareLemmas.{all_used}
 use Rattle.seg_core.specs.Line.{delimiters}
 use Rattle.seg_core.proofs.Delimiters.{delimiters-le-length, delimiters-take-add, delimiters-take-le}
 use Rattle.seg_core.proofs.FirstLines.{delimiters-first_lines}
@@ -18,7 +18,6 @@ use Rattle.ends_core.specs.Head.{head_work, ahead_of}
 use Rattle.ends_core.specs.Stage.{Holds, past_of, work}
 use Rattle.ends_core.specs.inner.Stage.{piece_for, wanted_by}
 use Rattle.ends_core.specs.laws.EndsLaws.{first_then_after, first_of-full, first_of-short}
-use Rattle.ends_core.specs.laws.WorkLaws.{lawful}
 use Rattle.ends_core.proofs.EndsLaws.{first_of-more, first_of-nil}
 use Rattle.ends_core.proofs.EndsLemmas.{past_after}
 use Rattle.ends_core.proofs.LoadLemmas.{after-past}
@@ -89,10 +88,11 @@ needed_whole delim unit n (inr (before, piece, is, few, going)) = ap (first_of d
 
 pub written_used : (delim : ℕ) (unit : Counted) (n : ℕ) {used rest : List ℕ} → IsNeeded (head_work delim unit false n).is_complete 1 used → (rest ≡ []) ⊎ ((head_work delim unit false n).is_complete used ≡ true) → first_of delim unit n (used ++ rest) ≡ used
 written_used delim unit n {used} needed (inl none) = grind (arith, common_steps, append-nil, needed_whole)
-written_used delim unit n {used} {rest} needed (inr complete) = search rules
+written_used delim unit n {used} {rest} needed (inr complete) = grind (arith, common_steps, first_of-full, leb-true, needed_whole)
 
 pub rest_left : (delim : ℕ) (unit : Counted) (n : ℕ) (used : List ℕ) {rest : List ℕ} → IsNeeded (head_work delim unit false n).is_complete 1 used → (rest ≡ []) ⊎ ((head_work delim unit false n).is_complete used ≡ true) → after_of delim unit n (used ++ rest) ≡ rest
-rest_left delim unit n used {rest} needed enough = grind (arith, common_steps, append_cancel_left, written_used, first_then_after)
+rest_left delim unit n used {rest} needed enough =
+    append_cancel_left used _ _ (ap (λ those. those ++ after_of delim unit n (used ++ rest)) (sym (written_used delim unit n needed enough)) ∙ first_then_after delim unit n (used ++ rest))
 
 pub spare_here : (ends : Ends) {x : List ℕ} → Holds ends x → IsSpare (work ends) x (past_of ends)
 spare_here (First count front) {x} holds = grind (arith, common_steps, past_after, first_used)
@@ -122,16 +122,19 @@ few_between delim x piece used rest is past =
 
 few_spare : (delim : ℕ) (unit : Counted) (count : ℕ) {left n : ℕ} (x piece : List ℕ) (spare : IsSpare (head_work delim unit false count) (x ++ piece) n) → left ≡ count - measure delim unit x → measure delim unit x < count → count ≤ measure delim unit spare.used
     → length piece ≤ piece_for unit left → n ≤ ahead_of unit
-few_spare delim Bytes count x piece spare is going enough within = grind (arith, common_steps)
-few_spare delim Lines count x piece spare is going enough within = search (rules, goes_past, few_between)
+few_spare delim Bytes count x piece spare is going enough within =
+    omega (arith, is, going, enough, within, spare.long, sym (length-append x piece) ∙ ap length spare.joined ∙ length-append spare.used spare.rest)
+few_spare delim Lines count x piece spare is going enough within =
+    let past = goes_past delim x piece spare.used spare.rest spare.joined (omega (arith, going, enough)) in
+    let few = few_between delim x piece spare.used spare.rest spare.joined past in
+    omega (arith, is, going, enough, within, past, few, spare.long, sym (length-append x piece) ∙ ap length spare.joined ∙ length-append spare.used spare.rest)
 
 pub may_get : (ends : Ends) → MayGet Holds work ends (wanted_by ends)
-may_get (First count front) x piece after n holds going within same later spare = grind (arith, common_steps, few_spare, leb-false, leb-true)
+may_get (First count front) x piece after n holds going within same later spare = elim spare.enough [
+  | inl none ↦ omega (arith, spare.long, ap length none)
+  | inr complete ↦ few_spare front.delim front.unit count x piece spare (holds.left refl) (leb-false count (measure front.delim front.unit x) going) (leb-true count (measure front.delim front.unit spare.used) complete) within
+]
 may_get ends x piece after n holds going within same later spare = grind (arith, common_steps)
-
-some_wanted : (unit : Counted) (left : ℕ) → 0 < left → 0 < piece_for unit left
-some_wanted Lines left some = omega (arith, some)
-some_wanted Bytes left some = some
 
 pub wants_some : (ends : Ends) {x : List ℕ} → Holds ends x → (work ends).is_complete x ≡ false → 0 < wanted_by ends
 wants_some (First count front) {x} holds going = grind (arith, common_steps)

@@ -1,4 +1,2 @@
-pub mod Kept
-pub mod Load
 pub mod Stage
-pub mod Stops
+pub mod Kept

@@ -8,11 +8,9 @@ ghost use Rattle.ends_core.specs.Ends.{measure};
 ghost use Rattle.ends_core.specs.Head.{head_work};
 ghost use Rattle.ends_core.specs.Tail.{tail_work};
 ghost use Rattle.ends_core.specs.inner.Stage.{FullLacksNone, SameAsked, due, due_at_end, is_full, is_last, left_waiting, unused_of, wanted_by};
-ghost use Rattle.ends_core.specs.Stage.{is_done};
-ghost use Rattle.ends_core.specs.Stage.{Holds, IsAsked, all_but_last, delim_of, from_the_nth, left_of, may_lack, past_of, stretch_of, the_first, the_last, unit_of, waiting, waiting_of, work};
+ghost use Rattle.ends_core.specs.Stage.{is_done, Holds, IsAsked, all_but_last, delim_of, from_the_nth, left_of, may_lack, past_of, stretch_of, the_first, the_last, unit_of, waiting, waiting_of, work};
 ghost use Rattle.ends_core.specs.laws.WorkLaws.{lawful};
-ghost use Rattle.ends_core.specs.inner.Load.{Passes};
-ghost use Rattle.ends_core.specs.inner.Stops.{Stops};
+ghost use Rattle.ends_core.specs.inner.Kept.{Passes, Stops};
 
 use crate::Unit;
 use crate::front::{Front, pass_after, pass_front};

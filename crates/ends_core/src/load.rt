@@ -2,7 +2,7 @@
 ghost use Rattle.std.specs.Prelude.{◌≡◌, ◌<◌, ◌≤◌, ◌++◌, ℕ, List, [], true, length, IsTrue};
 ghost use Rattle.seg_core.specs.Line.{last_lines};
 ghost use Rattle.ports_core.specs.Source.{Shows, source_at, is_readable};
-ghost use Rattle.ends_core.specs.inner.Load.{HasSeen};
+ghost use Rattle.ends_core.specs.inner.Kept.{HasSeen};
 ghost use Rattle.seg_core.specs.declared.unit.Unit.TheVariants.{Bytes};
 ghost use Rattle.ends_core.specs.Ends.{last_of};
 

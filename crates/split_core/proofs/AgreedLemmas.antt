@@ -1,11 +1,11 @@
 -- What all continuations agree on, of files.
+use Rattle.std.proofs.lemmas.Grind.{common_steps}
 use Rattle.std.proofs.lemmas.Bool.Decides.{nat_tests}
 use Rattle.std.proofs.Common.{◌≡◌, ℕ, ◌+◌, ◌-◌, ◌<◌, zero, suc, List, [], ◌∷◌, ◌++◌, length, map, replicate, Bool, true, false, cond, inl, inr, refl, sym, ◌∙◌, ap, subst, arith, append_assoc, length-append}
 use Rattle.std.proofs.Math.Nat.{zero-add}
 use Rattle.std.proofs.lemmas.Bool.{cases_lt, ne_eqb}
 use Rattle.std.proofs.lemmas.List.{append-nil, take_all, length-map, length-replicate}
 use Rattle.seg_core.specs.Line.{delimiters}
-use Rattle.seg_core.proofs.Delimiters.{delimiters-le-length}
 use Rattle.ports_core.specs.Name.{Naming}
 use Rattle.ports_core.specs.Part.{File}
 use Rattle.ports_core.specs.Agreed.{CanCome, IsAgreed, file_bytes, outputs_of}
@@ -51,10 +51,10 @@ named_more names place (one ∷ front) back = more_step (is_named names place) o
 pub count_named : (names : Naming) (place : ℕ) (these those : List (List ℕ)) → length these ≡ length those → length (named_bytes names place these) ≡ length (named_bytes names place those)
 count_named names place [] [] same = refl
 count_named names place (one ∷ these) (two ∷ those) same = grind (arith, nat_tests, count_named names (place + 1) these those (omega (arith, same)))
-count_named names place these those same = absurd (omega (arith, same))
+count_named names place these those same = cc
 
 named_each : (names : Naming) (place : ℕ) (one : List ℕ) (those : List (List ℕ)) → is_named names (place + length those) ≡ true → named_bytes names place (one ∷ those) ≡ one ∷ those
-named_each names place one [] is = ap (λ has. cond has (one ∷ []) []) (named_before names place (place + 0) is (omega arith))
+named_each names place one [] is = grind (arith, common_steps)
 named_each names place one (two ∷ those) is =
     cc (named_before names place (place + suc (length those)) is (omega arith), named_each names (place + 1) two those (subst (λ n. is_named names n ≡ true) (one_on place (length those)) is))
 
@@ -111,7 +111,7 @@ one_of [] some = absurd (omega (arith, some))
 one_of (byte ∷ bytes) some = refl
 
 pub delimiters_some : (delim : ℕ) (x : List ℕ) → 0 < delimiters delim x → 0 < length x
-delimiters_some delim x some = omega (arith, some, delimiters-le-length delim x)
+delimiters_some delim x some = grind (arith, common_steps)
 
 pub decides_lines : (delim n : ℕ) {x : List ℕ} → 0 < n → 0 < delimiters delim (cut_up (LineBytes n delim) x).rest → Decides (LineBytes n delim) x
 decides_lines delim n {x} some lines =

@@ -1,15 +1,15 @@
--- How the files of `split` change, as they are opened, written and closed.
-use Rattle.std.proofs.lemmas.Bool.Decides.{nat_tests}
-use Rattle.std.proofs.Common.{◌≡◌, ℕ, ◌+◌, ◌≤◌, zero, suc, List, [], ◌∷◌, ◌++◌, ◌⊎◌, length, Bool, true, false, IsTrue, Option, Some, None, Result, Ok, Err, OnOk, IfErr, inl, inr, refl, sym, ◌∙◌, ap, subst, arith, length-append}
-use Rattle.std.proofs.Math.Nat.{add-zero, zero-add}
+-- How the files of `split` change, as they are opened, written and closed, and how what waits is written.
+use Rattle.std.proofs.lemmas.Grind.{common_steps}
+use Rattle.std.proofs.Common.{◌≡◌, ℕ, ◌+◌, ◌≤◌, zero, suc, List, [], ◌∷◌, ◌++◌, ◌⊎◌, length, Bool, true, false, IsTrue, Option, Some, None, Result, Ok, Err, OnOk, IfErr, inl, inr, refl, sym, ap, subst, arith, length-append, rules, take, drop, ◌∙◌, append_assoc}
+use Rattle.std.proofs.Math.Nat.{zero-add}
 use Rattle.std.proofs.lemmas.Bool.{cond_both, false≢true}
 use Rattle.std.proofs.lemmas.Result.{IfErr-weaker, on_ok_weaker}
-use Rattle.ports_core.specs.Name.{Naming, next_name, has_next}
-use Rattle.ports_core.specs.Slot.{Slot, changed_at, opened, unopened, closes, with_broken, is_writable}
+use Rattle.ports_core.specs.Name.{Naming, next_name, has_next, with_one_drawn}
+use Rattle.ports_core.specs.Slot.{Slot, changed_at, opened, closes, with_broken, is_writable, FailsToOpen, with_written, told_of}
 use Rattle.ports_core.specs.inner.Slot.{KeepsBroken}
 use Rattle.ports_core.specs.declared.slot.Mode.TheVariants.{Fresh}
 use Rattle.ports_core.specs.declared.slot.State.TheVariants as state
-use Rattle.ports_core.specs.Part.{Part, OutputsAt, Marks, IsAt}
+use Rattle.ports_core.specs.Part.{Part, Marks, IsAt}
 use Rattle.ports_core.specs.inner.Part.{AllClosed, InTurn}
 use Rattle.ports_core.specs.Engine.{IsMet, is_verdict}
 use Rattle.ports_core.specs.declared.fault.Fault.{Fault}
@@ -18,7 +18,7 @@ use Rattle.ports_core.proofs.PartLemmas.{begins_itself, begins_more, turn_last, 
 use Rattle.ports_core.proofs.PartSteps.{Becomes, with_last, becomes_again, falls_wider, halts_here, opens, writes_to, closes_last, closes_not}
 use Rattle.ports_core.specs.inner.Part.{fault_in}
 use Rattle.ports_core.specs.inner.Write.{WritesShort, broke}
-use Rattle.ports_core.proofs.SlotSteps.{keeps_again, keeps_same, rose_later, write_rose, open_rose}
+use Rattle.ports_core.proofs.SlotSteps.{keeps_again, rose_later, write_rose, open_rose}
 use Rattle.split_core.specs.Split.{Share, share, split_means, is_named, are_named, from_start, only_files, file_at, named, name_of}
 use Rattle.split_core.specs.inner.CutLaws.{AllShut, SharesBegin}
 use Rattle.split_core.proofs.CutLaws.{shares_more, shares_themselves, shares_trans, last_grows}
@@ -26,15 +26,20 @@ use Rattle.split_core.specs.laws.ShareLaws.{part_begins, one_on, shares_fewer}
 use Rattle.split_core.specs.inner.PartsState.{IsAtEnd}
 use Rattle.split_core.specs.PartsState.{PartsState, IsReady, OwnsFile}
 use Rattle.split_core.specs.inner.Moves.{part_of, Draft, written, Goes, Moves, RunsShort, Keeps, KeepsFile, Breaks, CannotClose, OpensNone, no_memory, no_file, no_name, WritesTo, wants_memory, breaks_write, breaks_open, lacks_names}
+use Rattle.std.proofs.lemmas.List.{append-nil, take-append-le}
+use Rattle.std.proofs.Math.Seq.{drop-append_seam, take-append-add}
+use Rattle.ports_core.specs.Slot as outputs
+use Rattle.ports_core.proofs.WriteLemmas.{told_of-append, told_of-nil, with_written-append, writable-written}
+use Rattle.ports_core.proofs.SlotLemmas.{with_written-nil}
 
 -- names
 
 pub named_before : (names : Naming) (place more : ℕ) → is_named names more ≡ true → place ≤ more → is_named names place ≡ true
-named_before names place more is less = grind (arith, nat_tests, is, less)
+named_before names place more is less = search rules
 
 -- the files of shares that all have names, and then the files of those after them
 pub named_on : (names : Naming) (place : ℕ) (front rest : List Share) → is_named names (place + length front) ≡ true → named names place (front ++ rest) ≡ named names place front ++ named names (place + length front) rest
-named_on names place [] rest is = ap (λ n. named names n rest) (sym (add-zero place))
+named_on names place [] rest is = grind (arith, common_steps)
 named_on names place (one ∷ front) rest is = cc (
   named_before names place (place + suc (length front)) is (omega arith),
   one_on place (length front),
@@ -43,18 +48,18 @@ named_on names place (one ∷ front) rest is = cc (
 
 pub named_at : (names : Naming) (front rest : List Share) (one : Share) → is_named names (length front) ≡ true
     → named names 0 (front ++ one ∷ rest) ≡ named names 0 front ++ file_at names (length front) one ∷ named names (length front + 1) rest
-named_at names front rest one is = cc (named_on names 0 front (one ∷ rest) (subst (λ n. is_named names n ≡ true) (sym (zero-add (length front))) is), zero-add (length front), is)
+named_at names front rest one is = grind (arith, common_steps, named_on, zero-add)
 
 -- nor does it matter how many names were drawn
 pub are_named_same : (names next : Naming) (count : ℕ) → from_start next ≡ from_start names → are_named next count ≡ are_named names count
 are_named_same names next zero same = refl
-are_named_same names next (suc last) same = ap (λ (those : Naming). is_named those last) same
+are_named_same names next (suc last) same = grind (arith, common_steps)
 
 -- what begins where names run out makes the same files
 pub same_files : (names : Naming) (place : ℕ) (those high : List Share) → AllShut those → SharesBegin those high
     → is_named names (place + length those) ≡ false → named names place high ≡ named names place those
 same_files names place [] [] shut begins none = refl
-same_files names place [] (whole ∷ high) shut begins none = cc (subst (λ n. is_named names n ≡ false) (add-zero place) none)
+same_files names place [] (whole ∷ high) shut begins none = grind (arith, common_steps)
 same_files names place (one ∷ those) [] shut begins none = absurd begins
 same_files names place (one ∷ those) (whole ∷ high) shut begins none =
     cc (same begins.0, same_files names (place + 1) those high shut.1 begins.2 (subst (λ n. is_named names n ≡ false) (one_on place (length those)) none)) where
@@ -79,7 +84,7 @@ all_named : (names : Naming) (shares : List Share) → is_named names (length sh
 all_named names shares is = named_count names 0 shares (subst (λ n. is_named names n ≡ true) (sym (zero-add (length shares))) is)
 
 pub last_turn : (names : Naming) (shares : List Share) (one : Share) → is_named names (length shares) ≡ true → AllShut shares → InTurn (named names 0 (shares ++ one ∷ [])) (length shares)
-last_turn names shares one is shut = subst (λ files. InTurn files (length shares)) (sym (named_at names shares [] one is)) (turn_last (named names 0 shares) (file_at names (length shares) one) (length shares) (all_named names shares is) (shut_files names 0 shares shut))
+last_turn names shares one is shut = grind (arith, common_steps, named_at, turn_last, all_named, shut_files)
 
 -- which faults come
 
@@ -100,7 +105,7 @@ open_breaks (no_name none same) = lacks_names
 -- what an open that failed leaves, and where it failed
 pub opens_marks : (IsName : List ℕ → Type 0) {names next : Naming} {old new : List Slot} {fault : Fault} → (IsTrue (has_next names) → IsName (next_name names)) → OpensNone names next old new fault → Marks IsName fault old new
 opens_marks IsName named (no_memory same) = same
-opens_marks IsName {names} named (no_file slot kept at has drew is made) = (at, (next_name names, kept, named has, is, made))
+opens_marks IsName {names} named (no_file slot kept at has drew is made) = grind (arith, common_steps)
 opens_marks IsName named (no_name none same) = same
 
 pub opens_at : {names next : Naming} {old new : List Slot} {fault : Fault} (first : ℕ) {place count : ℕ} → place ≡ count → OpensNone names next old new fault → IsAt fault first place count
@@ -115,14 +120,13 @@ unjudged breaks named = refl
 
 pub met_files : (Ends : Fault → Type 0) {old new : List Slot} {fault : Fault} → Breaks old new fault → (fault ≡ Suffixes → Ends fault) → IsMet split_means split_means.feeding (true ≡ true) Ends old new fault
 met_files Ends wants_memory ends = (refl, refl)
-met_files Ends (breaks_write slot two rose) ends = (λ none. absurd (omega (arith, none)), λ none. absurd (false≢true (sym none)), rose)
+met_files Ends (breaks_write slot two rose) ends = grind (arith, common_steps)
 met_files Ends (breaks_open slot rose) ends = (refl, refl, rose)
 met_files Ends lacks_names ends = ends refl
 
 pub met_closing : (Ends : Fault → Type 0) (old new : List Slot) {fault : Fault} → CannotClose old new fault
     → IsMet split_means split_means.closing (Unit {0}) Ends old new fault
-met_closing Ends old new why = subst (λ those. IsMet split_means split_means.closing (Unit {0}) Ends old new those) (sym why.1)
-    (λ none. absurd (omega (arith, none, why.2)), λ none. absurd (false≢true (sym none)), why.3)
+met_closing Ends old new why = grind (arith, common_steps)
 
 -- where the file of the part that was begun stands
 
@@ -139,23 +143,22 @@ stays_last current next old new keeps last = owns_last next 0 new (keeps 0 (owne
 
 -- there are as many outputs as before
 pub owned_same : (current : Option ℕ) (old new : List Slot) → length new ≡ length old → KeepsFile current old current new
-owned_same None old new same first owns = omega (arith, owns, same)
-owned_same (Some slot) old new same first owns = (owns.0, owns.1 ∙ sym same)
+owned_same None old new same first owns = search rules
+owned_same (Some slot) old new same first owns = search rules
 
 -- the file ended
 pub owned_ended : (slot : ℕ) (old new : List Slot) → length new ≡ length old → KeepsFile (Some slot) old None new
-owned_ended slot old new same first owns = omega (arith, owns.0, owns.1, same)
+owned_ended slot old new same first owns = search rules
 
 -- the file was opened
 pub owned_opened : {slot : ℕ} (one : Slot) (old : List Slot) {new : List Slot} → slot ≡ length old → new ≡ old ++ one ∷ [] → KeepsFile None old (Some slot) new
-owned_opened one old {new} at is first owns =
-    let size : length new ≡ length old + 1 = ap length is ∙ length-append old (one ∷ []) in (omega (arith, owns, at), omega (arith, owns, at))
+owned_opened one old {new} at is first owns = grind (arith, common_steps)
 
 -- the file could not be opened
 pub owned_unopened : {names next : Naming} {old new : List Slot} {fault : Fault} → OpensNone names next old new fault → KeepsFile None old None new
-owned_unopened {old = old} {new} (no_memory same) first owns = owned_same None old new (ap length same) first owns
-owned_unopened {old = old} (no_file slot kept at has drew is made) first owns = omega (arith, owns, ap length made ∙ length-append old (unopened kept ∷ []))
-owned_unopened {old = old} {new} (no_name none same) first owns = owned_same None old new (ap length same) first owns
+owned_unopened {old = old} {new} (no_memory same) first owns = grind (arith, common_steps)
+owned_unopened {old = old} (no_file slot kept at has drew is made) first owns = grind (arith, common_steps)
+owned_unopened {old = old} {new} (no_name none same) first owns = grind (arith, common_steps)
 
 pub on_ok : {P : Type 0} (result : Result (Unit {0}) Fault) → P → OnOk result P
 on_ok (Ok done) is = is
@@ -183,41 +186,19 @@ goes_then {names = names} {current} {next} {low} {mid} {high} {old} {wet} result
 -- a fault on the way to what the step was only a part of
 pub goes_wider : {told : Bool} {names : Naming} {current : Option ℕ} {low mid high : List Share} {old new : List Slot} {fault : Fault}
     → Goes told names current low mid old new (Err fault) → SharesBegin mid high → Goes told names current low high old new (Err fault)
-goes_wider {names = names} {low = low} {mid} {high} stop begins = record {
-  grows = shares_trans low mid high stop.grows begins;
-  moves = λ last. falls_wider (stop.moves last) (part_begins names mid high begins);
-  short = λ is. let ran = stop.short is in record {
-    those = ran.those;
-    shut = ran.shut;
-    none = ran.none;
-    begins = shares_trans ran.those mid high ran.begins begins;
-    fewer = omega (arith, shares_fewer mid high begins, ran.fewer);
-    moves = ran.moves;
-  };
-}
+goes_wider {names = names} {low = low} {mid} {high} stop begins = grind (arith, common_steps, shares_trans, falls_wider, part_begins, shares_fewer)
 
 -- nothing changed
 pub goes_same : {told : Bool} {names : Naming} {current : Option ℕ} {low high : List Share} {slots : List Slot} → low ≡ high → Goes told names current low high slots slots (Ok tt)
-goes_same {told} {names} {low = low} {slots = slots} same = record {
-  grows = subst (SharesBegin low) same (shares_themselves low);
-  moves = λ last. record { gets = λ before at. subst (λ shares. OutputsAt told before (part_of names shares) slots) same at };
-  short = tt;
-}
+goes_same {told} {names} {low = low} {slots = slots} same = grind (arith, common_steps, shares_themselves)
 
 -- and what a call leaves, whatever it is for
 pub keeps_then : {parts mid next : PartsState} {old wet new : List Slot} (result : Result (Unit {0}) Fault)
     → Keeps parts old wet mid (Ok tt) → Keeps mid wet new next result → Keeps parts old new next result
-keeps_then {old} {wet} {new} result one other = record {
-  limit = other.limit ∙ one.limit;
-  names = other.names ∙ one.names;
-  owned = λ first owns. other.owned first (one.owned first owns);
-  sound = on_ok_weaker result (keeps_again old wet new one.sound) other.sound;
-  ready = other.ready;
-  breaks = IfErr-weaker result _ _ (λ fault breaks. breaks_later one.sound breaks) other.breaks;
-}
+keeps_then {old} {wet} {new} result one other = grind (arith, common_steps, on_ok_weaker, keeps_again, IfErr-weaker, breaks_later)
 
 pub keeps_still : {parts : PartsState} {slots : List Slot} → IsReady parts.current slots → Keeps parts slots slots parts (Ok tt)
-keeps_still ready = record { limit = refl; names = refl; owned = λ first owns. owns; sound = keeps_same _ _ refl; ready = ready; breaks = tt }
+keeps_still ready = grind (arith, common_steps)
 
 pub moves_then : {told : Bool} {parts mid next : PartsState} {between are : ℕ × Bool × List ℕ} {first second : Draft → Draft} {old wet new : List Slot} (result : Result (Unit {0}) Fault)
     → Moves told parts between first old wet mid (Ok tt) → Moves told mid are second wet new next result → Moves told parts are (λ those. second (first those)) old new next result
@@ -232,8 +213,7 @@ moves_then {told} {parts} {mid} {first = first} {second} {wet = wet} {new} resul
 -- the file of the part that was begun is the last output
 
 becomes_as : {told : Bool} {low low' high high' : Part} {old new : List Slot} {fault : Option Fault} → low ≡ low' → high ≡ high' → Becomes told low' high' old new fault → Becomes told low high old new fault
-becomes_as {told} {low} {high' = high'} {old} {new} {fault} is_low is_high becomes =
-    subst (λ part. Becomes told low part old new fault) (sym is_high) (subst (λ part. Becomes told part high' old new fault) (sym is_low) becomes)
+becomes_as {told} {low} {high' = high'} {old} {new} {fault} is_low is_high becomes = grind (arith, common_steps)
 
 module _ (told : Bool) (names : Naming) (shares : List Share) (begun : List ℕ) (old : List Slot) (shut : AllShut shares) (is : is_named names (length shares) ≡ true) where
   last_one : (one : Share) → part_of names (shares ++ one ∷ []) ≡ with_last [] (named names 0 shares) (file_at names (length shares) one)
@@ -302,3 +282,57 @@ open_stops told {names} {next} current shares one {old} {new} shut drawn none = 
     fewer = omega (arith, length-append shares (one ∷ []));
     moves = λ last before at. rw same at;
   }
+
+pub nothing_written : (told : Bool) (slot : ℕ) {slots : List Slot} → slots ≡ with_written slot (told_of told []) slots
+nothing_written told slot {slots} = sym (ap (λ bytes. with_written slot bytes slots) (told_of-nil told) ∙ with_written-nil slot slots)
+
+-- one write after another
+pub written_both : (told : Bool) (slot : ℕ) (first more : List ℕ) (old : List Slot) {mid new : List Slot} → mid ≡ with_written slot (told_of told first) old → new ≡ with_written slot (told_of told more) mid → new ≡ with_written slot (told_of told (first ++ more)) old
+written_both told slot first more old one other = grind (arith, common_steps, with_written-append, told_of-append)
+
+pub still_writable : (told : Bool) (slot : ℕ) (bytes : List ℕ) (old : List Slot) {new : List Slot} → IsTrue (is_writable old slot) → new ≡ with_written slot (told_of told bytes) old → IsTrue (is_writable new slot)
+still_writable told slot bytes old can wrote = grind (arith, common_steps, writable-written)
+
+-- the output broke in a later write
+pub short_later : (told : Bool) {slot : ℕ} (first more past : List ℕ) {old mid new : List Slot} {fault : Fault} → mid ≡ with_written slot (told_of told first) old → WritesShort told slot more mid new fault → WritesShort told slot (first ++ (more ++ past)) old new fault
+short_later told {slot} first more past {old} one (broke n cut) = broke (length first + n) (record {
+  within = omega (arith, cut.within, length-append first (more ++ past), length-append more past);
+  slots = cc (cut.slots, written_both told slot first (take n more) old one refl, taken);
+}) where
+  taken : take (length first + n) (first ++ (more ++ past)) ≡ first ++ take n more
+  taken = take-append-add first (more ++ past) n ∙ ap (λ z. first ++ z) (take-append-le n more past (omega (arith, cut.within)))
+
+pub wrote_both : (told : Bool) (slot : ℕ) (first more : List ℕ) (old : List Slot) {mid : List Slot} (new : List Slot) (result : Result (Unit {0}) Fault) → mid ≡ with_written slot (told_of told first) old → WritesTo told slot more mid new result → WritesTo told slot (first ++ more) old new result
+wrote_both told slot first more old new (Ok done) one other = written_both told slot first more old one other
+wrote_both told slot first more old new (Err fault) one short = subst (λ those. WritesShort told slot (first ++ those) old new fault) (append-nil more) (short_later told first more [] one short)
+
+-- a beginning of what the window held was written, and the window holds the rest
+pub record Emptying (told : Bool) (slot : ℕ) (most now_most : ℕ) (held now : List ℕ) (old slots : List Slot) : Type 0 where
+  pub gone : List ℕ
+  pub both : held ≡ gone ++ now
+  pub wrote : slots ≡ with_written slot (told_of told gone) old
+  pub same : now_most ≡ most
+  pub writable : IsTrue (is_writable slots slot)
+
+pub all_held : (told : Bool) {slot most : ℕ} {held : List ℕ} {old : List Slot} → IsTrue (is_writable old slot) → Emptying told slot most most held held old old
+all_held told {slot} can = record { gone = []; both = refl; wrote = nothing_written told slot; same = refl; writable = can }
+
+pub empties : (told : Bool) {slot most now_most next_most : ℕ} {held now : List ℕ} (front rest : List ℕ) {next : List ℕ} {old slots new : List Slot} → Emptying told slot most now_most held now old slots → now ≡ front ++ rest → new ≡ with_written slot (told_of told front) slots
+    → next_most ≡ now_most → next ≡ drop (length front) now → Emptying told slot most next_most held next old new
+empties told {slot} front rest {old} {slots} so_far is wrote same left = record {
+  gone = so_far.gone ++ front;
+  both = so_far.both ∙ ap (λ those. so_far.gone ++ those) is ∙ sym (append_assoc so_far.gone front rest) ∙ ap (λ those. (so_far.gone ++ front) ++ those) (sym (left ∙ ap (drop (length front)) is ∙ drop-append_seam front rest));
+  wrote = written_both told slot so_far.gone front old so_far.wrote wrote;
+  same = same ∙ so_far.same;
+  writable = still_writable told slot front slots so_far.writable wrote;
+}
+
+pub empties_short : (told : Bool) {slot most now_most : ℕ} {held now : List ℕ} (front rest : List ℕ) {old slots new : List Slot} {fault : Fault} → Emptying told slot most now_most held now old slots → now ≡ front ++ rest → WritesShort told slot front slots new fault
+    → WritesShort told slot held old new fault
+empties_short told {slot} front rest {old} {new} {fault} so_far is short = grind (arith, common_steps, short_later)
+
+-- a file that couldn't be opened
+pub opens_none : (names : Naming) {next : Naming} {name : List ℕ} {old new : List Slot} → name ≡ next_name names → IsTrue (has_next names) → next ≡ with_one_drawn names
+    → {fault : Fault} → FailsToOpen old name new fault → OpensNone names next old new fault
+opens_none names named has drew (outputs.broke slot kept at is made) = no_file slot kept at has drew (subst (λ those. (kept ≡ those) ⊎ (kept ≡ [])) named is) made
+opens_none names named has drew (outputs.numberless full same) = no_memory same

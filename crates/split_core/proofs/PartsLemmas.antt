@@ -1,7 +1,8 @@
 -- What each call on parts leaves: their files, and the part that was begun.
-use Rattle.std.proofs.Common.{◌≡◌, ℕ, ◌+◌, ◌-◌, ◌<◌, ◌≤◌, suc, List, [], ◌∷◌, ◌++◌, length, map, Bool, true, false, eqb, IsTrue, Option, Some, None, Result, Ok, Err, OnOk, IfErr, refl, sym, ◌∙◌, ap, subst, add-one, arith, length-append}
+use Rattle.std.proofs.lemmas.Grind.{common_steps}
+use Rattle.std.proofs.Common.{◌≡◌, ℕ, ◌+◌, ◌-◌, ◌<◌, ◌≤◌, suc, List, [], ◌∷◌, ◌++◌, length, map, Bool, true, false, eqb, IsTrue, Option, Some, None, Result, Ok, Err, OnOk, IfErr, refl, sym, ◌∙◌, ap, subst, add-one, arith, length-append, rules}
 use Rattle.std.proofs.lemmas.List.{append-nil}
-use Rattle.std.proofs.lemmas.Bool.{false≢true, eqb-false, eqb-true}
+use Rattle.std.proofs.lemmas.Bool.{false≢true}
 use Rattle.std.proofs.lemmas.Result.{IfErr-weaker, on_ok_weaker}
 use Rattle.seg_core.specs.Window.{ByteWindowState}
 use Rattle.ports_core.specs.Name.{Naming, next_name, has_next, with_one_drawn}
@@ -240,19 +241,7 @@ no_file told parts bytes {old} {new} {next} f some none = record {
 -- other numbers change nothing of the files
 pub moves_as : {told : Bool} {parts next : PartsState} {are : ℕ × Bool × List ℕ} {change : Draft → Draft} {old new : List Slot} (left : ℕ) (has_line : Bool)
     → Moves told parts are change old new next (Ok tt) → Moves told parts (left, has_line, are.2) change old new (record next { left = left; has_line = has_line }) (Ok tt)
-moves_as left has_line moves = record {
-  same = ap (λ (those : ℕ × Bool × List ℕ). (left, has_line, those.2)) moves.same;
-  keeps = record {
-    limit = moves.keeps.limit;
-    names = moves.keeps.names;
-    owned = moves.keeps.owned;
-    sound = moves.keeps.sound;
-    ready = moves.keeps.ready;
-    breaks = tt;
-  };
-  begun = moves.begun;
-  goes = moves.goes;
-}
+moves_as left has_line moves = grind (arith, common_steps)
 
 -- it could not be closed
 pub turns_not : {told : Bool} {parts next : PartsState} (bytes : List ℕ) {old new : List Slot} {f : Fault} → Shuts told parts old new next (Err f)
@@ -287,22 +276,14 @@ module _ {told : Bool} {parts shut mid : PartsState} (bytes : List ℕ) {old wet
 -- the numbers of the next part
 
 pub left_next : {limit : Limit} (other : Limit) {waiting held : List ℕ} (bytes : List ℕ) {most_is size : ℕ} → most_is ≡ most other → other ≡ limit → size ≡ length held → held ≡ waiting → most_is - (size + length bytes) ≡ most limit - length (waiting ++ bytes)
-left_next {limit} other {waiting} bytes {most_is} {size} is same counted holds =
-    omega (arith, is ∙ ap most same, counted ∙ ap length holds, length-append waiting bytes)
+left_next {limit} other {waiting} bytes {most_is} {size} is same counted holds = grind (arith, common_steps)
 
 pub fits_next : {limit : Limit} (other : Limit) {waiting held : List ℕ} (bytes : List ℕ) {most_is size old_left : ℕ} {has_line : Bool} {window : ByteWindowState} → most_is ≡ most other → other ≡ limit → size ≡ length held → held ≡ waiting → length waiting + length bytes < most limit
     → window.held ≡ waiting → Fits other old_left has_line window → Fits other (most_is - (size + length bytes)) false window
-fits_next {limit} other {waiting} bytes {most_is} {size} {window} is same counted holds room now fits =
-    let full = is ∙ ap most same in let some = counted ∙ ap length holds in let here = ap length now in let there = ap most same in
-    record {
-      some = omega arith;
-      room = fits.room;
-      within = omega arith;
-      after_line = λ never. absurd (false≢true never);
-    }
+fits_next {limit} other {waiting} bytes {most_is} {size} {window} is same counted holds room now fits = grind (arith, common_steps)
 
 pub no_bytes : (bytes : List ℕ) → true ≡ eqb (length bytes) 0 → length bytes ≡ 0
-no_bytes bytes is = eqb-true (length bytes) 0 (sym is)
+no_bytes bytes is = search rules
 
 pub some_of : (bytes : List ℕ) → false ≡ eqb (length bytes) 0 → 0 < length bytes
-some_of bytes is = omega (arith, eqb-false (length bytes) 0 (sym is))
+some_of bytes is = grind (arith, common_steps)

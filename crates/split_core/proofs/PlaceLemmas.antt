@@ -1,9 +1,10 @@
 -- Where each line of a text is dealt to: the lines of a file by their places in the text.
+use Rattle.std.proofs.lemmas.Grind.{common_steps}
 use Rattle.std.proofs.lemmas.Bool.Decides.{nat_tests}
 use Rattle.std.proofs.Common.{◌≡◌, ℕ, ◌+◌, ◌-◌, ◌*◌, ◌%◌, ◌<◌, ◌≤◌, zero, suc, min, List, [], ◌∷◌, ◌++◌, length, take, map, get_or, Bool, true, false, cond, eqb, if◌then◌else◌, ◌==◌, inl, inr, refl, sym, ◌∙◌, ap, arith, length-append}
-use Rattle.std.proofs.Math.Nat.{suc-mul, zero-mul, mod-lt, mod-add-mod, mod-eq_of_lt, add-mod_right}
+use Rattle.std.proofs.Math.Nat.{suc-mul, zero-mul, mod-lt, mod-eq_of_lt, add-mod_right}
 use Rattle.std.specs.List.{range_with_len}
-use Rattle.std.proofs.lemmas.Bool.{cond_both, cases_eq, cases_lt, eq-eqb, ne_eqb, eqb-true, eqb-false}
+use Rattle.std.proofs.lemmas.Bool.{cond_both, cases_eq, cases_lt, eq-eqb, ne_eqb, eqb-true}
 use Rattle.std.proofs.lemmas.List.{take_all}
 use Rattle.std.proofs.lemmas.List.FromFn.{length-map-range_with_len, get_or-map-range_with_len, take-map-range_with_len}
 use Rattle.seg_core.specs.Line.{joined, lines_of, line_count, AreLines}
@@ -45,20 +46,12 @@ are_dealt delim n file place (line ∷ lines) each =
     cond_both (eqb (place % n) file) _ _ (AreLines delim) (λ is. before_some delim line lines _ each (few_dealt n file (place + 1) lines) rest) (λ is. rest)
 
 lines_of-dealt : (delim n file place : ℕ) (lines : List (List ℕ)) → AreLines delim lines → lines_of delim (dealt n file place lines) ≡ lines_dealt n file place lines
-lines_of-dealt delim n file place lines each = ap (lines_of delim) (dealt_are n file place lines) ∙ lines_of-joined delim _ (are_dealt delim n file place lines each)
+lines_of-dealt delim n file place lines each = grind (arith, common_steps, dealt_are, lines_of-joined, are_dealt)
 
 -- the places of a file's lines are n apart
 
-within_one : (n : ℕ) {rest left : ℕ} → rest < n → left < n → (rest + left) % n ≡ rest → left ≡ 0
-within_one n {rest} {left} low few same = elim (cases_lt (rest + left) n) [
-  | inl before ↦ omega (arith, mod-eq_of_lt before, same)
-  | inr past ↦
-      let back : (rest + left) % n ≡ (rest + left - n) % n = (let split : rest + left ≡ rest + left - n + n = omega (arith, past) in ap (λ place. place % n) split ∙ add-mod_right (rest + left - n) n) in
-      let here : (rest + left - n) % n ≡ rest + left - n = mod-eq_of_lt (omega arith) in omega (arith, same, back, here, past)
-]
-
 nothing_between : (n place : ℕ) {left : ℕ} → left < n → (place + left) % n ≡ place % n → left ≡ 0
-nothing_between n place {left} few same = within_one n (mod-lt place (omega arith)) few (mod-add-mod place n left ∙ same)
+nothing_between n place {left} few same = grind (arith, common_steps)
 
 nth_step : (n : ℕ) {file : ℕ} (place left k : ℕ) (line : List ℕ) (lines : List (List ℕ)) (gets : Bool) → left < n → (place + left) % n ≡ file → eqb (place % n) file ≡ gets
     → ((left k : ℕ) → left < n → (place + 1 + left) % n ≡ file → get_or (lines_dealt n file (place + 1) lines) k [] ≡ get_or lines (left + k * n) [])
@@ -72,9 +65,7 @@ nth_step n {file} place left (suc k) line lines true few at is next =
     let there : left + suc k * n ≡ suc (n - 1 + k * n) = omega (arith, none, suc-mul k n, few) in
     let around : place + 1 + (n - 1) ≡ place + n = omega arith in
     cc (next (n - 1) k (omega arith) (ap (λ at. at % n) around ∙ add-mod_right place n ∙ eqb-true (place % n) file is), there)
-nth_step n {file} place zero k line lines false few at is next = absurd (eqb-false (place % n) file is (ap (λ at. at % n) same ∙ at)) where
-  same : place ≡ place + 0
-  same = omega arith
+nth_step n {file} place zero k line lines false few at is next = grind (arith, common_steps)
 nth_step n place (suc left) k line lines false few at is next =
     let on : place + 1 + left ≡ place + suc left = omega arith in
     let there : suc left + k * n ≡ suc (left + k * n) = omega arith in
@@ -86,11 +77,7 @@ nth_dealt n {file} place (line ∷ lines) left k few at = nth_step n place left 
 
 -- line k of the file at a place is the line of the text at that place plus k times n
 pub line_at : (delim n file k : ℕ) (x : List ℕ) → file < n → get_or (lines_of delim (get_or (round_robin delim n x) file [])) k [] ≡ get_or (lines_of delim x) (file + k * n) []
-line_at delim n file k x within =
-    let here : 0 + file ≡ file = omega arith in
-    ap (λ text. get_or (lines_of delim text) k []) (get_or-map-range_with_len (share_of delim n x) 0 n file file [] within here)
-    ∙ ap (λ lines. get_or lines k []) (lines_of-dealt delim n file 0 (lines_of delim x) (AreLines-lines_of delim x))
-    ∙ nth_dealt n 0 (lines_of delim x) file k within (ap (λ place. place % n) here ∙ mod-eq_of_lt within)
+line_at delim n file k x within = grind (arith, common_steps, get_or-map-range_with_len, lines_of-dealt, AreLines-lines_of, nth_dealt, mod-eq_of_lt)
 
 -- each line goes to one file
 

@@ -1,9 +1,10 @@
 -- The spots of split's files are right, where lines are dealt.
-use Rattle.std.proofs.Common.{◌≡◌, ℕ, ◌+◌, ◌%◌, ◌<◌, ◌&&◌, nat_lt, zero, suc, List, [], ◌∷◌, ◌++◌, length, map, take, drop, get_or, Bool, true, false, cond, eqb, inl, inr, refl, sym, ◌∙◌, ap, subst, arith, length-append}
+use Rattle.std.proofs.lemmas.Grind.{common_steps}
+use Rattle.std.proofs.Common.{◌≡◌, ℕ, ◌+◌, ◌%◌, ◌<◌, zero, suc, List, [], ◌∷◌, ◌++◌, length, map, take, drop, get_or, Bool, true, false, cond, eqb, inl, inr, refl, sym, ◌∙◌, ap, subst, arith, length-append, rules}
 use Rattle.std.specs.List.{range_with_len}
-use Rattle.std.proofs.Math.Nat.{mod-lt, zero-add, add-zero}
+use Rattle.std.proofs.Math.Nat.{mod-lt, zero-add}
 use Rattle.std.proofs.Math.Seq.{drop-cons, get_or-append_seam}
-use Rattle.std.proofs.lemmas.Bool.{cond_both, and_parts, cases_lt, lt-ltb, ltb-true, eq-eqb, eqb-true}
+use Rattle.std.proofs.lemmas.Bool.{cases_lt, eq-eqb}
 use Rattle.std.proofs.lemmas.Bool.Decides.{nat_tests}
 use Rattle.std.proofs.lemmas.List.{take-take, take-append-drop, get_or_past, length-take-le}
 use Rattle.std.proofs.lemmas.List.FromFn.{get_or-map-range_with_len, length-map-range_with_len}
@@ -24,7 +25,7 @@ use Rattle.split_core.proofs.CutLaws.{opened_by-most}
 use Rattle.split_core.proofs.MoveLemmas.{named_before}
 use Rattle.split_core.proofs.AgreedLemmas.{named_bytes, dealt_whole, plan_by}
 use Rattle.split_core.specs.laws.ShareLaws.{one_on}
-use Rattle.split_core.proofs.PlacedLemmas.{only_spot, parts_placed}
+use Rattle.split_core.proofs.UndecidedLemmas.{parts_placed}
 use Rattle.split_core.proofs.RoundLemmas.{none_yet}
 
 -- What a file has, byte by byte
@@ -79,12 +80,7 @@ pub record Found (delim n file place : ℕ) (x : List ℕ) (k : ℕ) : Type 0 wh
   pub at : length (dealt n file place (lines_of delim (take i x))) ≡ k
 
 found_now : {delim n file place byte : ℕ} {x : List ℕ} → eqb (place % n) file ≡ true → Found delim n file place (byte ∷ x) 0
-found_now {n} {file} {place} is = record {
-  i = 0;
-  within = omega arith;
-  goes = ap (λ k. k % n) (let e : place + 0 ≡ place = omega arith in e) ∙ eqb-true (place % n) file is;
-  at = refl;
-}
+found_now {n} {file} {place} is = grind (arith, common_steps)
 
 found_after : {delim n file place byte k : ℕ} {x : List ℕ} {gets : Bool} → eqb (place % n) file ≡ gets → Found delim n file (cond (eqb byte delim) (place + 1) place) x k → Found delim n file place (byte ∷ x) (cond gets (suc k) k)
 found_after {delim} {n} {file} {place} {byte} {k} {x} {gets} is found = record {
@@ -106,7 +102,7 @@ found_by (suc k) true is later less = found_after is (later k (omega (arith, les
 found_by k false is later less = found_after is (later k less)
 
 find : {delim n file : ℕ} (place : ℕ) (x : List ℕ) {k : ℕ} → k < length (dealt n file place (lines_of delim x)) → Found delim n file place x k
-find place [] less = absurd (omega (arith, less))
+find place [] less = search rules
 find {delim} {n} {file} place (byte ∷ x) {k} less = found_by k (eqb (place % n) file) refl (λ m within. find (cond (eqb byte delim) (place + 1) place) x within)
     (subst (λ those. k < length those) (dealt_first (eqb byte delim) n file place byte (lines_of delim x)) less)
 
@@ -121,7 +117,7 @@ file_is delim elide n x file within = ap (λ files. get_or files file []) (dealt
 
 named_at : (names : Naming) (place : ℕ) (those : List (List ℕ)) (k : ℕ) → get_or (named_bytes names place those) k [] ≡ cond (is_named names (place + k)) (get_or those k []) []
 named_at names place [] k = grind (arith, nat_tests)
-named_at names place (one ∷ those) zero = grind (arith, nat_tests, ap (is_named names) (add-zero place))
+named_at names place (one ∷ those) zero = grind (arith, common_steps)
 named_at names place (one ∷ those) (suc k) = grind (
   arith,
   nat_tests,
@@ -151,10 +147,7 @@ pub record Goes (delim n : ℕ) (names : Naming) (x : List ℕ) (i : ℕ) (at : 
   pub is : at ≡ spot (dealt_to delim n x i + 1) (had delim n (dealt_to delim n x i) x i)
 
 dealt_goes : {delim n : ℕ} (names : Naming) {x : List ℕ} {i : ℕ} {at : Spot} → GoesTo at (dealt_spots delim n names x i) → Goes delim n names x i at
-dealt_goes {delim} {n} names {x} {i} {at} goes =
-    cond_both (nat_lt i (length x) && is_named names (dealt_to delim n x i)) _ _ (λ those. GoesTo at those → Goes delim n names x i at)
-    (λ is goes. let both = and_parts _ _ is in record { within = ltb-true i (length x) both.0; named = both.1; is = only_spot _ goes })
-    (λ is goes. absurd goes) goes
+dealt_goes {delim} {n} names {x} {i} {at} goes = grind (arith, common_steps)
 
 abbrev files_of : ℕ → ℕ → Bool → Naming → List ℕ → List (List ℕ)
 files_of delim n elide names x = file_bytes (whole_by (round_plan delim n elide names) x)
@@ -178,10 +171,7 @@ dealt_stands delim n elide names some x i at goes =
     (subst (λ those. had delim n (dealt_to delim n x i) x i < length those) (sym there) (had_less delim n x i one.within), ap (λ those. get_or those (had delim n (dealt_to delim n x i) x i) 0) there ∙ had_byte delim n x i one.within)
 
 goes_there : (delim n : ℕ) (names : Naming) (x : List ℕ) (i : ℕ) {file offset : ℕ} → i < length x → dealt_to delim n x i ≡ file → had delim n file x i ≡ offset → is_named names file ≡ true → GoesTo (spot (suc file) offset) (dealt_spots delim n names x i)
-goes_there delim n names x i {file} {offset} less to at named =
-    let next : suc file ≡ file + 1 = omega arith in
-    let is : spot (suc file) offset ∷ [] ≡ dealt_spots delim n names x i = cc (next, to, at, named, lt-ltb i (length x) less) in
-    subst (GoesTo (spot (suc file) offset)) is (inl refl)
+goes_there delim n names x i {file} {offset} less to at named = grind (arith, common_steps)
 
 dealt_filled : (delim n : ℕ) (elide : Bool) (names : Naming) (x : List ℕ) (place offset : ℕ) → offset < length (get_or ([] ∷ files_of delim n elide names x) place []) → (i : ℕ) × (i < length x) × GoesTo (spot place offset) (dealt_spots delim n names x i)
 dealt_filled delim n elide names x zero offset less = absurd (omega (arith, less))

@@ -1,10 +1,10 @@
 -- The parts of a text in other words: runs of lines or bytes, and whole lines within a number of bytes.
-use Rattle.std.proofs.Common.{◌≡◌, ℕ, ◌+◌, ◌-◌, ◌*◌, ◌<◌, ◌≤◌, zero, suc, List, [], ◌∷◌, ◌++◌, length, take, drop, map, get_or, false, refl, sym, ◌∙◌, ap, subst, arith, append_assoc, length-append, length-drop}
+use Rattle.std.proofs.lemmas.Grind.{common_steps}
+use Rattle.std.proofs.Common.{◌≡◌, ℕ, ◌+◌, ◌-◌, ◌*◌, ◌<◌, ◌≤◌, zero, suc, List, [], ◌∷◌, ◌++◌, length, take, drop, map, get_or, false, refl, sym, ◌∙◌, ap, arith, length-append, length-drop, rules}
 use Rattle.std.proofs.Math.ListN.{get_or-map}
-use Rattle.std.proofs.Math.Nat.{suc-mul, zero-mul}
-use Rattle.std.proofs.Math.Seq.{take-nil, drop-nil}
+use Rattle.std.proofs.Math.Nat.{suc-mul}
 use Rattle.std.specs.List.{All}
-use Rattle.std.proofs.lemmas.List.Elements.{All-nil, All-cons}
+use Rattle.std.proofs.lemmas.List.Elements.{All-cons}
 use Rattle.std.proofs.lemmas.List.{append-nil, take_all, drop-drop, length-map, length-take-le, map-append}
 use Rattle.seg_core.specs.Line.{joined, lines_of, delimiters, after_lines, line_count}
 use Rattle.seg_core.proofs.FirstLines.{joined-append, lines_of-first_lines, lines_of-after, lines_of-after_lines}
@@ -34,9 +34,7 @@ runs_bound low high n xs some few little = refl
 -- a run, and then the runs of what stands after it
 pub runs_next : {X : Type 0} (n : ℕ) (xs : List X) → 0 < n → 0 < length xs → runs_of n xs ≡ take n xs ∷ runs_of n (drop n xs)
 runs_next n [] some has = absurd (omega arith)
-runs_next n (x ∷ xs) some has =
-    ap (λ runs. take n (x ∷ xs) ∷ runs) (runs_bound (length xs) (length (drop n (x ∷ xs))) n (drop n (x ∷ xs)) some (omega (arith, length-drop n (x ∷ xs)))
-    (omega (arith, length-drop n (x ∷ xs))))
+runs_next n (x ∷ xs) some has = grind (arith, common_steps, runs_bound)
 
 -- n members or fewer are one run
 pub runs_last : {X : Type 0} (n : ℕ) (xs : List X) → 0 < length xs → length xs ≤ n → runs_of n xs ≡ xs ∷ []
@@ -48,10 +46,10 @@ runs_last n (x ∷ xs) has few =
       no_runs bound n xs empty = refl
 
 run_within : {X : Type 0} (bound n i : ℕ) (xs : List X) → 0 < n → length xs ≤ bound → get_or (runs_within bound n xs) i [] ≡ take n (drop (i * n) xs)
-run_within zero n i [] some few = sym (ap (take n) (drop-nil (i * n)) ∙ take-nil n)
+run_within zero n i [] some few = grind (arith, common_steps)
 run_within zero n i (x ∷ xs) some few = absurd (omega arith)
-run_within (suc bound) n i [] some few = sym (ap (take n) (drop-nil (i * n)) ∙ take-nil n)
-run_within (suc bound) n zero (x ∷ xs) some few = ap (λ place. take n (drop place (x ∷ xs))) (sym (zero-mul n))
+run_within (suc bound) n i [] some few = grind (arith, common_steps)
+run_within (suc bound) n zero (x ∷ xs) some few = grind (arith, common_steps)
 run_within (suc bound) n (suc i) (x ∷ xs) some few =
     cc (run_within bound n i (drop n (x ∷ xs)) some (omega (arith, length-drop n (x ∷ xs))), drop-drop (i * n) n (x ∷ xs), next_place i n) where
       next_place : (i n : ℕ) → suc i * n ≡ n + i * n
@@ -66,15 +64,14 @@ abbrev AreFewest : ℕ → ℕ → ℕ → Type 0
 AreFewest runs n all = (all ≤ runs * n) × (runs * n < all + n)
 
 one_more : (runs n : ℕ) {left : ℕ} (all : ℕ) → left ≡ all - n → 0 < all → AreFewest runs n left → AreFewest (suc runs) n all
-one_more zero n all is some (low, high) = let none : 0 * n ≡ 0 = zero-mul n in let first : 1 * n ≡ 0 * n + n = suc-mul 0 n in (omega arith, omega arith)
-one_more (suc runs) n all is some (low, high) =
-    let next : suc (suc runs) * n ≡ suc runs * n + n = suc-mul (suc runs) n in (omega (arith, suc-mul runs n), omega (arith, suc-mul runs n))
+one_more zero n all is some (low, high) = grind (arith, common_steps)
+one_more (suc runs) n all is some (low, high) = grind (arith, common_steps)
 
 count_within : {X : Type 0} (bound n : ℕ) (xs : List X) → 0 < n → length xs ≤ bound → AreFewest (length (runs_within bound n xs)) n (length xs)
 count_within zero n (x ∷ xs) some few = absurd (omega arith)
 count_within (suc bound) n (x ∷ xs) some few =
     one_more (length (runs_within bound n (drop n (x ∷ xs)))) n (suc (length xs)) (length-drop n (x ∷ xs)) (omega arith) (count_within bound n (drop n (x ∷ xs)) some (omega (arith, length-drop n (x ∷ xs))))
-count_within bound n xs some few = let none : 0 * n ≡ 0 = zero-mul n in (omega arith, omega arith)
+count_within bound n xs some few = grind (arith, common_steps)
 
 -- there are as few runs as can hold all members
 pub runs_count : {X : Type 0} (n : ℕ) (xs : List X) → 0 < n → AreFewest (length (runs_of n xs)) n (length xs)
@@ -121,11 +118,10 @@ pub part_bytes : (n i : ℕ) (x : List ℕ) → 0 < n → get_or (parts (Bytes n
 part_bytes n i x some = ap (λ those. get_or those i []) (bytes_are_runs n x some) ∙ run_at n i x some
 
 pub lines_count : (delim n : ℕ) (x : List ℕ) → 0 < n → AreFewest (length (parts (Lines n delim) x)) n (line_count delim x)
-lines_count delim n x some =
-    subst (λ count. AreFewest count n (line_count delim x)) (sym (ap length (lines_are_runs delim n x some) ∙ length-map (runs_of n (lines_of delim x)) joined)) (runs_count n (lines_of delim x) some)
+lines_count delim n x some = grind (arith, common_steps, lines_are_runs, length-map, runs_count)
 
 pub bytes_count : (n : ℕ) (x : List ℕ) → 0 < n → AreFewest (length (parts (Bytes n) x)) n (length x)
-bytes_count n x some = subst (λ count. AreFewest count n (length x)) (sym (ap length (bytes_are_runs n x some))) (runs_count n x some)
+bytes_count n x some = grind (arith, common_steps, bytes_are_runs, runs_count)
 
 -- Parts of whole lines within n bytes
 
@@ -144,12 +140,12 @@ line_bytes_are_parts delim n x some = line_bytes_cut some (cuts_up)
 -- no other parts are those
 pub line_bytes_once : {delim n : ℕ} {x : List ℕ} {these those : List (List ℕ)} → 0 < n → AreLineByteParts delim n x these → AreLineByteParts delim n x those → these ≡ those
 line_bytes_once some none none = refl
-line_bytes_once some none (one _ has short) = absurd (omega (arith, has))
-line_bytes_once some none (more _ _ enough past) = absurd (omega (arith, some, enough))
-line_bytes_once some (one _ has short) none = absurd (omega (arith, has))
+line_bytes_once some none (one _ has short) = search rules
+line_bytes_once some none (more _ _ enough past) = search rules
+line_bytes_once some (one _ has short) none = search rules
 line_bytes_once some (one x has short) (one _ _ _) = refl
-line_bytes_once some (one x has short) (more _ _ enough past) = absurd (omega (arith, short, enough))
-line_bytes_once some (more _ _ enough past) none = absurd (omega (arith, some, enough))
+line_bytes_once some (one x has short) (more _ _ enough past) = search rules
+line_bytes_once some (more _ _ enough past) none = search rules
 line_bytes_once some (more x _ enough past) (one _ has short) = absurd (omega (arith, short, enough))
 line_bytes_once {delim} {n} some (more x these enough past) (more _ those _ other) =
     ap (λ rest. whole_lines delim (take n x) ∷ rest) (line_bytes_once some past other)
@@ -161,8 +157,8 @@ line_bytes_first delim n x some enough =
 
 -- none is empty, and none has more than n bytes
 pub line_bytes_within : (delim n : ℕ) (x : List ℕ) (those : List (List ℕ)) → 0 < n → AreLineByteParts delim n x those → All (λ part. (0 < length part) × (length part ≤ n)) those
-line_bytes_within delim n _ _ some none = All-nil (λ part. (0 < length part) × (length part ≤ n))
-line_bytes_within delim n _ _ some (one x has short) = All-cons (λ part. (0 < length part) × (length part ≤ n)) x [] (has, omega (arith, short)) (All-nil (λ part. (0 < length part) × (length part ≤ n)))
+line_bytes_within delim n _ _ some none = grind (arith, common_steps)
+line_bytes_within delim n _ _ some (one x has short) = grind (arith, common_steps)
 line_bytes_within delim n _ _ some (more x those enough past) =
     All-cons (λ part. (0 < length part) × (length part ≤ n)) (whole_lines delim (take n x)) those (line_bytes_first delim n x some enough)
     (line_bytes_within delim n (drop (length (whole_lines delim (take n x))) x) those some past)
@@ -174,7 +170,7 @@ joined_one [] = refl
 joined_one (byte ∷ rest) = append-nil (byte ∷ rest)
 
 pub joined_parts : (limit : Limit) (x : List ℕ) → joined (parts limit x) ≡ x
-joined_parts limit x = cc (joined-append (cut_up limit x).full (unless_empty (cut_up limit x).rest), joined_one (cut_up limit x).rest, cut_all limit {x = x})
+joined_parts limit x = grind (arith, common_steps, joined-append, joined_one, cut_all)
 
 waits_few : (limit : Limit) (rest : List ℕ) → 0 < most limit → is_full limit rest ≡ false → length (waiting_rest limit rest) < most limit
 waits_few (LineBytes n delim) rest some short =
@@ -195,15 +191,7 @@ settled_bytes limit x =
     cc (map-append (λ (file : Share). file.bytes) (map (share Closed) full) (map (share Open) (unless_empty (settled_rest limit rest))), bytes_of_shares Closed full, bytes_of_shares Open (unless_empty (settled_rest limit rest)))
 
 pub list_all : (limit : Limit) (x : List ℕ) → joined (settled_list limit x) ++ waiting_rest limit (cut_up limit x).rest ≡ x
-list_all limit x =
-    let full = (cut_up limit x).full in let rest = (cut_up limit x).rest in
-    cc (
-      joined-append full (unless_empty (settled_rest limit rest)),
-      joined_one (settled_rest limit rest),
-      append_assoc (joined full) (settled_rest limit rest) (waiting_rest limit rest),
-      settled_then_waiting limit rest,
-      cut_all limit {x = x},
-    )
+list_all limit x = grind (arith, common_steps, joined-append, joined_one, settled_then_waiting, cut_all)
 
 -- what is written and what waits are together what came in
 pub settled_all : (limit : Limit) (x : List ℕ) → joined (map (λ (file : Share). file.bytes) (settled_parts limit x)) ++ waiting_rest limit (cut_up limit x).rest ≡ x

@@ -1,14 +1,15 @@
--- What a step of a piece leaves, and a piece that is taken in step by step, and the end of the input.
-use Rattle.std.proofs.Common.{◌≡◌, ℕ, ◌+◌, ◌-◌, ◌<◌, ◌≤◌, List, [], ◌∷◌, ◌++◌, length, map, take, drop, Bool, true, false, Some, None, Result, Ok, Err, OnOk, IfOk, IfErr, inl, refl, sym, ◌∙◌, ap, subst, arith, append_assoc}
+-- What a step of a piece leaves, a piece that is taken in step by step, the end of the input, and what the stage owes.
+use Rattle.std.proofs.lemmas.Grind.{common_steps}
+use Rattle.std.proofs.Common.{◌≡◌, ℕ, ◌+◌, ◌-◌, ◌<◌, ◌≤◌, List, [], ◌∷◌, ◌++◌, length, map, take, drop, Bool, true, false, Some, None, Result, Ok, Err, OnOk, IfOk, IfErr, inl, refl, sym, ◌∙◌, ap, subst, arith, append_assoc, suc, not, cond}
 use Rattle.std.proofs.Math.Seq.{take-length}
-use Rattle.std.proofs.lemmas.List.{append-nil, drop-take, map-append, take-append-drop}
+use Rattle.std.proofs.lemmas.List.{append-nil, drop-take, take-append-drop, length-map}
 use Rattle.std.proofs.lemmas.Bool.{false≢true}
 use Rattle.std.proofs.lemmas.Result.{IfErr-weaker, on_ok_weaker}
 use Rattle.ports_core.specs.Name.{Naming}
 use Rattle.ports_core.specs.Slot.{Slot, is_closable}
 use Rattle.ports_core.specs.inner.Part.{InTurn}
 use Rattle.ports_core.specs.inner.Write.{broke}
-use Rattle.ports_core.proofs.PartLemmas.{begins_itself, turn_next}
+use Rattle.ports_core.proofs.PartLemmas.{begins_itself, turn_next, stopped_in_turn}
 use Rattle.ports_core.proofs.PartSteps.{halts_here}
 use Rattle.ports_core.proofs.SlotSteps.{keeps_same, rose_later, write_rose}
 use Rattle.ports_core.specs.declared.slot.State.TheVariants as file_state
@@ -16,19 +17,29 @@ use Rattle.ports_core.specs.declared.fault.Fault.{Fault}
 use Rattle.ports_core.specs.declared.fault.Fault.TheVariants as fault
 use Rattle.split_core.specs.declared.step.Step.{Step}
 use Rattle.split_core.specs.declared.step.Step.TheVariants.{Goes, Ends, Begins, Waits}
-use Rattle.split_core.specs.Parts.{CutUp, most, cut_up, settled_rest, unless_empty, waiting_rest}
+use Rattle.split_core.specs.Parts.{CutUp, most, cut_up, settled_rest, unless_empty, waiting_rest, parts}
 use Rattle.split_core.specs.inner.CutLaws.{cut_so, AllShut, SharesBegin, whole_parts}
 use Rattle.split_core.specs.laws.CutLaws.{cut_on, cut_none, first_some, settled_some, settled_then_waiting}
 use Rattle.split_core.proofs.CutLaws.{cut_two, shut_map, shares_trans}
-use Rattle.split_core.specs.Split.{Share, share, is_some, are_named, from_start, named, settled_parts}
-use Rattle.split_core.specs.laws.ShareLaws.{part_begins, settled_on, settled_grow, shares_after}
+use Rattle.split_core.specs.Split.{Share, share, is_some, are_named, from_start, named, settled_parts, is_named, only_files}
+use Rattle.split_core.specs.laws.ShareLaws.{part_begins, settled_on, settled_grow, shares_after, are_named_more, settled_count}
 use Rattle.split_core.specs.inner.Step.{IsTurned, Leads}
 use Rattle.split_core.specs.PartsState.{PartsState, Lacks, Stands, IsReady, is_given}
 use Rattle.split_core.specs.inner.Moves as run
-use Rattle.split_core.specs.inner.Moves.{Keeps, Draft, draft, written, Begun, gets, turns, numbers, Moves, Extends, Turns, Shuts, Takes, Steps, Finishes, CannotClose, WritesTo, wants_memory}
+use Rattle.split_core.specs.inner.Moves.{Keeps, Draft, draft, written, Begun, gets, turns, numbers, Moves, Extends, Turns, Shuts, Takes, Steps, Finishes, CannotClose, WritesTo, wants_memory, Breaks, lacks_names}
 use Rattle.split_core.proofs.AgreedLemmas.{one_of}
-use Rattle.split_core.proofs.MoveLemmas.{are_named_same, goes_same, goes_then, goes_wider, keeps_still, keeps_then, last_turn, moves_then, shut_files}
+use Rattle.split_core.proofs.MoveLemmas.{are_named_same, goes_same, goes_then, goes_wider, keeps_still, keeps_then, last_turn, moves_then, shut_files, met_closing, met_files, owns_last, same_files}
 use Rattle.split_core.proofs.PartsLemmas.{count_one, extended, found_there, moves_as, none_begun}
+use Rattle.std.proofs.Math.Nat.{zero-add}
+use Rattle.ports_core.specs.Part.{OutputsAt}
+use Rattle.ports_core.specs.Engine.{CutsOff, EndsWith, EndsThere, is_verdict}
+use Rattle.ports_core.specs.Engine as engine
+use Rattle.ports_core.specs.declared.fault.Fault.TheVariants.{Suffixes}
+use Rattle.ports_core.specs.declared.slot.State.TheVariants.{Closed}
+use Rattle.split_core.specs.PartState.{work}
+use Rattle.split_core.specs.Ways as ways
+use Rattle.split_core.specs.declared.splitter.Splitter.TheVariants as way
+use Rattle.split_core.specs.inner.Ways.{PassesBy, FinishesBy}
 
 -- where the next bytes lead, whatever came in before
 abbrev pub LeadsOn : PartsState → List ℕ → Step → Type 0
@@ -283,7 +294,7 @@ no_rest {state} {x} stands none = by (rest_of state x) (settled_some state.limit
   by (byte ∷ rest) some = absurd (omega (arith, ap length none, some (omega arith)))
 
 whole_is : (state : PartsState) (x : List ℕ) → whole_parts state.limit x ≡ full_of state x ++ map (share file_state.Closed) (unless_empty (rest_of state x))
-whole_is state x = map-append (share file_state.Closed) (cut_up state.limit x).full (unless_empty (rest_of state x))
+whole_is state x = grind (arith, common_steps)
 
 pub finishes_none : (told : Bool) (state : PartsState) {old : List Slot} → IsReady state.current old → state.current ≡ None → Finishes told state old old state (Ok tt)
 finishes_none told state ready none = record {
@@ -329,3 +340,63 @@ module _ (told : Bool) (state : PartsState) {slot : ℕ} {old : List Slot} (held
     caused = IfErr-weaker result _ _ (λ f why. (why.0, why.1, why.2, rose_later why.0 old wet new first.keeps.sound why.3)) shuts.caused;
     goes = λ x stands. subst (λ high. run.Goes told (from_start state.names) state.current (settled_parts state.limit x) high old new result) (whole_so state stands) (moves.goes (draft_of state x) (begun_so stands));
   }
+
+have_names : (state : PartsState) (x : List ℕ) {have : Bool} → are_named (from_start state.names) (length (settled_parts state.limit x)) ≡ have
+    → are_named (from_start state.names) (length (map (share Closed) (parts state.limit x))) ≡ have
+have_names state x is = grind (arith, common_steps, length-map, settled_count)
+
+all_have : {state : PartsState} {x : List ℕ} → Stands state x → are_named (from_start state.names) (length (map (share Closed) (parts state.limit x))) ≡ true
+all_have {state} {x} stands = have_names state x (are_named_same state.names (from_start state.names) _ refl ∙ stands.enough)
+
+-- as long as all parts have names, more can come
+pub never_done : {state : PartsState} {x : List ℕ} → Stands state x → false ≡ (work state).is_complete x
+never_done stands = sym (ap not (all_have stands))
+
+work_by : (state next : PartsState) → next.limit ≡ state.limit → from_start next.names ≡ from_start state.names → work next ≡ work state
+work_by state next limit names = grind (arith, common_steps)
+
+-- a piece
+
+module _ (told : Bool) (state next : PartsState) (piece : List ℕ) (old new : List Slot) where
+  -- names ran out: the files that have a name are written, and nothing can change that
+  settles : (f : Fault) → f ≡ Suffixes → Takes told state piece old new next (Err f) → EndsWith ways.Holds ways.work (way.Parts state) piece f
+  settles f is stop x stands =
+      let ran = (stop.goes x stands).short is in
+      let none = have_names state (x ++ piece) (are_named_more (from_start state.names) (suc (length ran.those)) _ ran.none ran.fewer) in
+      (ap not none, ap (λ (have : Bool). cond (not have) (Some Suffixes) None) none ∙ ap Some (sym is))
+
+  cut_off : {f : Fault} → Breaks old new f → Takes told state piece old new next (Err f) → CutsOff ways.Holds ways.Owns ways.work (way.Parts state) piece told old new f
+  cut_off lacks_names stop before x at =
+      let ran = (stop.goes x at.holds).short refl in
+      engine.judged refl new (subst (λ files. OutputsAt told before (only_files files) new)
+      (sym (same_files (from_start state.names) 0 ran.those _ ran.shut ran.begins (subst (λ n. is_named state.names n ≡ false) (sym (zero-add _)) ran.none)))
+      (ran.moves (owns_last state.current (length before) old at.owns) before at.outputs)) refl
+  cut_off {f} breaks stop before x at =
+      engine.cut refl (stopped_in_turn told before _ _ f new (((stop.goes x at.holds).moves (owns_last state.current (length before) old at.owns)).gets before at.outputs))
+
+  pub passes_by : (result : Result (Unit {0}) Fault) → Takes told state piece old new next result → PassesBy told piece old new result (way.Parts state) (way.Parts next)
+  passes_by (Ok done) takes = record {
+    same = work_by state next takes.keeps.limit takes.keeps.names;
+    holds = takes.stands;
+    outputs = λ before x at. ((takes.goes x at.holds).moves (owns_last state.current (length before) old at.owns)).gets before at.outputs;
+    ready = takes.keeps.ready;
+    owns = takes.keeps.owned;
+    cut = tt;
+    met = tt;
+  }
+  passes_by (Err f) takes = record {
+    same = work_by state next takes.keeps.limit takes.keeps.names;
+    holds = tt;
+    outputs = tt;
+    ready = tt;
+    owns = takes.keeps.owned;
+    cut = cut_off takes.keeps.breaks takes;
+    met = met_files (EndsWith ways.Holds ways.work (way.Parts state) piece) takes.keeps.breaks (λ is x stands. settles f is takes x stands);
+  }
+
+-- the end
+
+pub finishes_by : (told : Bool) (state next : PartsState) (old new : List Slot) (result : Result (Unit {0}) Fault) → Finishes told state old new next result
+    → FinishesBy told old new result (way.Parts state) (way.Parts next)
+finishes_by told state next old new (Ok done) ends = grind (arith, common_steps, work_by, all_have, owns_last)
+finishes_by told state next old new (Err f) ends = grind (arith, common_steps, work_by, stopped_in_turn, owns_last, met_closing)

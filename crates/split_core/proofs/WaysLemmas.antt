@@ -1,14 +1,13 @@
 -- What the engine of `split` owes, in each of its two ways to cut, and what waits.
-use Rattle.std.proofs.Common.{◌≡◌, ℕ, List, length, true, false, refl, sym, [], ◌∷◌, ◌++◌, map, drop, ◌∙◌, ap}
-use Rattle.std.proofs.lemmas.Bool.{false≢true}
+use Rattle.std.proofs.lemmas.Grind.{common_steps}
+use Rattle.std.proofs.Common.{◌≡◌, ℕ, List, length, true, false, refl, sym, [], ◌∷◌, ◌++◌, map, drop, ◌∙◌, ap, arith}
 use Rattle.ports_core.specs.Guard.{GuardState, HoldsIn}
 use Rattle.split_core.specs.declared.splitter.Splitter.{Splitter}
 use Rattle.split_core.specs.declared.splitter.Splitter.TheVariants.{Parts, Round}
 use Rattle.split_core.specs.Ways.{Holds, work}
 use Rattle.split_core.specs.inner.Ways.{held}
-use Rattle.split_core.proofs.PartStageLemmas as part
+use Rattle.split_core.proofs.TakenLemmas as part
 use Rattle.split_core.proofs.RoundLemmas as dealing
-use Rattle.std.proofs.Math.Seq.{drop-append_seam}
 use Rattle.std.proofs.lemmas.List.{length-map}
 use Rattle.seg_core.specs.Line.{joined}
 use Rattle.ports_core.specs.Name.{Naming}
@@ -33,7 +32,7 @@ all_bytes names (one ∷ shares) are = bytes_named (from_start names) 0 (one ∷
 
 -- what follows a beginning
 after : {x : List ℕ} (front : List ℕ) {rest : List ℕ} → front ++ rest ≡ x → drop (length front) x ≡ rest
-after front {rest} is = ap (drop (length front)) (sym is) ∙ drop-append_seam front rest
+after front {rest} is = grind (arith, common_steps)
 
 -- what waits in a stage that cuts off parts
 pub parts_wait : {parts : PartsState} {x : List ℕ} → Stands parts x → length parts.waiting ≡ length ((parts_state.work parts).waiting x)
@@ -51,8 +50,3 @@ never_short engine x holds = all_named engine.stage x holds.within
 pub held_is : (way : Splitter) (x : List ℕ) → Holds way x → held way ≡ length ((work way).waiting x)
 held_is (Parts parts) x holds = parts_wait holds
 held_is (Round round) x holds = dealing.none_waits holds
-
--- it writes to files alone
-pub only_files : (way : Splitter) → (work way).means.output ≡ true → ⊥
-only_files (Parts parts) is = false≢true is
-only_files (Round round) is = false≢true is

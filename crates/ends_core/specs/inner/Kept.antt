@@ -1,8 +1,13 @@
--- What private calls say: what a store of last lines or bytes holds.
-use Rattle.std.specs.Prelude.{◌≡◌, ◌≤◌, false, length}
+-- What private calls say of what waits: how it is written, how that stops, and how it is taken in from an end.
+use Rattle.std.specs.Prelude.{◌≡◌, ◌≤◌, false, length, ℕ, Bool, true, List, ◌++◌}
 use Rattle.seg_core.specs.declared.unit.Unit.TheVariants as unit
 use Rattle.ends_core.specs.declared.kept.Kept.{Kept}
 use Rattle.ends_core.specs.Kept.{unit_of, delim_of, most_of, held_of, may_lack_of}
+use Rattle.ports_core.specs.Slot.{Slot, with_written, told_of, changed_at}
+use Rattle.ports_core.specs.Write.{BrokeAfter}
+use Rattle.ports_core.specs.declared.fault.Fault.{Fault}
+use Rattle.ports_core.specs.declared.fault.Fault.TheVariants as fault
+use Rattle.ports_core.specs.Source.{Source, source_at, skips}
 
 -- if it keeps bytes and is full, no memory can be wanting
 abbrev pub FullLacksNone : Kept → Type 0
@@ -13,3 +18,24 @@ pub record SameKept (old new : Kept) : Type 0 where
   pub unit : unit_of new ≡ unit_of old
   pub delim : delim_of new ≡ delim_of old
   pub most : most_of new ≡ most_of old
+
+-- the output broke among the bytes; or they were written, and there was no room for what has to wait after them, where
+-- there may be none
+pub data Stops (told lacks : Bool) (bytes : List ℕ) (old new : List Slot) : Fault → Type 0 where
+  broke : (n : ℕ) → BrokeAfter told old new 0 bytes n → Stops told lacks bytes old new (fault.Write 0)
+  no_room : lacks ≡ true → new ≡ with_written 0 (told_of told bytes) old → Stops told lacks bytes old new fault.Memory
+
+-- A text of this length is there, of which `Keeps` holds: where inputs tell their bytes, it is the one that is given.
+pub record HasSeen (told : Bool) (text : List ℕ) (len : ℕ) (Keeps : List ℕ → Type 0) : Type 0 where
+  pub seen : List ℕ
+  pub long : length seen ≡ len
+  pub there : told ≡ true → seen ≡ text
+  pub keeps : Keeps seen
+
+-- The next `count` bytes of an input were passed over, and of these `Keeps` holds.
+pub record Passes (told : Bool) (slot count : ℕ) (Keeps : List ℕ → Type 0) (old new : List Source) : Type 0 where
+  pub front : List ℕ
+  pub long : count ≡ length front
+  pub there : told ≡ true → (source_at old slot).left.bytes ≡ front ++ (source_at new slot).left.bytes
+  pub passed : new ≡ changed_at slot (skips count) old
+  pub keeps : Keeps front

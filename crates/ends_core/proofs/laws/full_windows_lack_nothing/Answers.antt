@@ -10,7 +10,6 @@ use Rattle.ports_core.specs.declared.fault.Fault.TheVariants.{Memory, Write, Rea
 use Rattle.ends_core.specs.declared.ends.Ends.{Ends}
 use Rattle.ends_core.specs.Stage.{Holds, IsRefused, count_of, delim_of, keeps, may_lack, stretch_of, unit_of, work}
 use Rattle.ends_core.proofs.EndsLemmas.{always_well, on_means}
-use Rattle.ends_core.proofs.laws.full_windows_lack_nothing.Goals as goal
 
 -- of what writes to standard output alone, lacks no memory and has no fault of its own
 only_writes : (memory : Bool) {lacks : Bool} (Ends : Fault → Type 0) (old new : List Slot) (fault : Fault) → lacks ≡ false → ((other : Fault) → Ends other → ⊥)
@@ -40,4 +39,3 @@ fails engine x piece old new fault holds enough refused =
     only_these (keeps s) (EndsWith Holds work engine.stage piece) holds.live enough
     (λ other ends. none-some other (sym (always_well s delim unit n (x ++ piece)) ∙ (ends x holds.within).1))
     (subst (λ (means : Means). IsCaused (IsMet means means.feeding (may_lack engine.stage ≡ true) (EndsWith Holds work engine.stage piece) old new) engine.is_over engine.fed (length piece) old new fault) (on_means s delim unit n) refused)
-

@@ -1,4 +1,4 @@
-use Rattle.std.proofs.Common.{arith, rules}
+use Rattle.std.proofs.Common.{arith}
 use Rattle.std.proofs.lemmas.Grind.{common_steps}
 use Rattle.ends_core.proofs.load.put_block.Goals as goal
 
@@ -7,6 +7,3 @@ put_front-requires g c = grind (arith, common_steps)
 
 pub returns-then-read_at-clause-held : goal.returns-then-read_at-clause-held
 returns-then-read_at-clause-held g c = grind (arith, common_steps)
-
-pub returns-else-read_at-clause-held : goal.returns-else-read_at-clause-held
-returns-else-read_at-clause-held g c = search rules

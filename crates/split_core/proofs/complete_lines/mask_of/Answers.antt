@@ -1,5 +1,5 @@
 use Rattle.std.proofs.Common.{◌∙◌, arith}
-use Rattle.split_core.proofs.AheadLemmas.{mask_of_padded}
+use Rattle.split_core.proofs.DealLemmas.{mask_of_padded}
 use Rattle.split_core.proofs.complete_lines.mask_of.Goals as goal
 
 pub returns : goal.returns

@@ -1,7 +1,8 @@
-use Rattle.std.proofs.Common.{[]}
+use Rattle.std.proofs.lemmas.Grind.{common_steps}
+use Rattle.std.proofs.Common.{[], arith}
 use Rattle.ports_core.proofs.HandedOn.{result_is}
 use Rattle.split_core.specs.inner.Moves.{WritesTo}
-use Rattle.split_core.proofs.HeldLemmas.{nothing_written, short_later, still_writable, wrote_both}
+use Rattle.split_core.proofs.MoveLemmas.{nothing_written, short_later, still_writable, wrote_both}
 use Rattle.split_core.proofs.files.write_after.Goals as goal
 
 pub returns-in_err-write_held-clause-wrote : goal.returns-in_err-write_held-clause-wrote
@@ -9,7 +10,7 @@ returns-in_err-write_held-clause-wrote g c = result_is (WritesTo _ _ _ _ _) _ _ 
     (short_later g.O.Outs.told [] c.args.window.now.held c.args.bytes.now (nothing_written g.O.Outs.told c.args.slot) c.in_err-write_held.ensures.wrote)
 
 pub write_bytes-requires : goal.write_bytes-requires
-write_bytes-requires g c = record { writable = still_writable g.O.Outs.told c.args.slot c.args.window.now.held _ c.requires.writable c.in_ok-write_held.ensures.wrote }
+write_bytes-requires g c = grind (arith, common_steps, still_writable)
 
 pub returns-clause-wrote : goal.returns-clause-wrote
 returns-clause-wrote g c = wrote_both g.O.Outs.told c.args.slot c.args.window.now.held c.args.bytes.now _ _ c.write_bytes.result c.in_ok-write_held.ensures.wrote c.write_bytes.ensures

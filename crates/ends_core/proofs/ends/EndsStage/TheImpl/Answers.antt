@@ -1,11 +1,11 @@
 use Rattle.std.proofs.lemmas.Grind.{common_steps}
-use Rattle.std.proofs.Common.{◌<◌, ◌∙◌, sym, ap, subst, length, arith, rules}
+use Rattle.std.proofs.Common.{◌<◌, sym, subst, arith, rules}
 use Rattle.std.proofs.lemmas.Result.{on_ok_weaker, IfErr-weaker}
 use Rattle.ports_core.specs.Work.{IsSpare}
 use Rattle.ports_core.specs.Engine.{MayGet}
-use Rattle.ends_core.specs.Stage.{Holds, work, count_of, delim_of, stretch_of, unit_of}
+use Rattle.ends_core.specs.Stage.{Holds, work}
 use Rattle.ends_core.specs.inner.Stage.{due, due_at_end}
-use Rattle.ends_core.proofs.StopLemmas.{writable_still}
+use Rattle.ends_core.proofs.KeptLemmas.{writable_still}
 use Rattle.ends_core.proofs.EndsLemmas.{on_ok_each, same_work, takes_in, puts_out, cuts_off, met, finishes, ends_short, end_met, loads, waits_within, full_is, done_is_exact}
 use Rattle.ends_core.proofs.UsedLemmas.{may_get, spare_here, wants_some}
 use Rattle.ends_core.proofs.ends.EndsStage.TheImpl.Goals as goal
@@ -45,7 +45,10 @@ pub is_done-tells : goal.is_done-tells
 is_done-tells c = grind (arith, common_steps, full_is, done_is_exact)
 
 pub wanted-tells : goal.wanted-tells
-wanted-tells c = grind (arith, common_steps, wants_some, may_get)
+wanted-tells c = record {
+  some = λ x holds going. subst (λ n. 0 < n) (sym c.ensures) (wants_some c.args.self.now holds going);
+  few = subst (MayGet Holds work c.args.self.now) (sym c.ensures) (may_get c.args.self.now);
+}
 
 pub unused-tells : goal.unused-tells
 unused-tells c x holds = subst (IsSpare (work c.args.self.now) x) (sym c.ensures) (spare_here c.args.self.now holds)

@@ -1,7 +1,6 @@
-use Rattle.std.proofs.Common.{◌≡◌, ◌∙◌, ap, sym, refl, arith}
+use Rattle.std.proofs.Common.{arith}
 use Rattle.std.proofs.lemmas.Grind.{common_steps}
 use Rattle.std.proofs.lemmas.List.{drop_all}
-use Rattle.ends_core.specs.Kept.{delim_of, unit_of, most_of, held_of}
 use Rattle.ends_core.proofs.LoadLemmas.{passes_none, passes_seen, last_none}
 use Rattle.ends_core.proofs.kept.Kept.load.Goals.{else-hold_last-via-then-hold_last+else-skip, else-hold_last-via-else-hold_last}
 use Rattle.ends_core.proofs.kept.Kept.load.Goals as goal

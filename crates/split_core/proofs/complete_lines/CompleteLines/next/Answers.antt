@@ -1,7 +1,7 @@
 use Rattle.std.proofs.Common.{ap, sym, refl, subst, ◌∙◌, arith}
 use Rattle.seg_core.specs.Line.{LinesLeft, delimiters}
 use Rattle.split_core.specs.inner.Ahead.{IsFirstLine}
-use Rattle.split_core.proofs.AheadLemmas.{none_seen, seen_at, split_line, split_rest}
+use Rattle.split_core.proofs.DealLemmas.{none_seen, seen_at, split_line, split_rest}
 use Rattle.split_core.proofs.complete_lines.CompleteLines.next.Goals as goal
 
 pub returns-then-ahead-eq0-clause-none : goal.returns-then-ahead-eq0-clause-none

@@ -3,7 +3,7 @@ use Rattle.ports_core.specs.Slot.{changed_at, closes}
 use Rattle.ports_core.proofs.HandedOn.{result_is}
 use Rattle.split_core.specs.FilesState.{FilesState}
 use Rattle.split_core.specs.inner.Sharing.{ClosesAll}
-use Rattle.split_core.proofs.FileSteps.{all_closed, none_closed, not_closed, one_closed, output_is}
+use Rattle.split_core.proofs.FilesLemmas.{all_closed, none_closed, not_closed, one_closed, output_is}
 use Rattle.split_core.proofs.round_files.RoundFiles.close.Goals as goal
 
 pub loop-place-init : goal.loop-place-init

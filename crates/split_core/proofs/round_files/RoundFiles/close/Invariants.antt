@@ -1,4 +1,4 @@
-use Rattle.split_core.proofs.FileSteps.{Closing}
+use Rattle.split_core.proofs.FilesLemmas.{Closing}
 use Rattle.split_core.proofs.round_files.RoundFiles.close.Given as goal
 
 abbrev pub invariant-loop-place : goal.invariant-loop-place

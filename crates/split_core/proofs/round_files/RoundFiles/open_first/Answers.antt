@@ -1,8 +1,7 @@
 use Rattle.std.proofs.Common.{◌≡◌, ◌+◌, [], refl, arith, Ok}
 use Rattle.ports_core.proofs.HandedOn.{result_is}
 use Rattle.split_core.specs.inner.Sharing.{Opens}
-use Rattle.split_core.proofs.FilesLemmas.{adds_idle, adds_then, adds_wider}
-use Rattle.split_core.proofs.FileSteps.{cannot_later}
+use Rattle.split_core.proofs.FilesLemmas.{adds_idle, adds_then, adds_wider, cannot_later}
 use Rattle.split_core.proofs.round_files.RoundFiles.open_first.Goals as goal
 
 pub loop-place-init : goal.loop-place-init

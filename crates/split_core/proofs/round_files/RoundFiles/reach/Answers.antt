@@ -3,7 +3,7 @@ use Rattle.ports_core.proofs.HandedOn.{result_is}
 use Rattle.split_core.specs.FilesState.{FilesState}
 use Rattle.split_core.specs.inner.Sharing.{Opens}
 use Rattle.split_core.specs.inner.Moves.{no_memory}
-use Rattle.split_core.proofs.FileSteps.{reached, reached_before, reached_not}
+use Rattle.split_core.proofs.FilesLemmas.{reached, reached_before, reached_not}
 use Rattle.split_core.proofs.round_files.RoundFiles.reach.Goals as goal
 
 pub returns-then-place-len : goal.returns-then-place-len

@@ -1,5 +1,6 @@
-use Rattle.std.proofs.Common.{◌≡◌, ◌∙◌, ◌<◌, ℕ, List, [], Ok, length, get_or, arith}
-use Rattle.std.proofs.lemmas.List.{get_or_past, get_or_default}
+use Rattle.std.proofs.lemmas.Grind.{common_steps}
+use Rattle.std.proofs.Common.{◌≡◌, ◌<◌, ℕ, List, [], Ok, length, get_or, arith}
+use Rattle.std.proofs.lemmas.List.{get_or_past}
 use Rattle.ports_core.proofs.HandedOn.{result_is}
 use Rattle.split_core.specs.inner.Sharing.{Adds}
 use Rattle.split_core.proofs.FilesLemmas.{sent_none, sent_all, sent_next, sent_stops}
@@ -7,7 +8,7 @@ use Rattle.split_core.proofs.round_files.RoundFiles.write.Goals as goal
 
 -- what the file at a place gets, as the code reads it
 gets : (gathered : List (List ℕ)) (place : ℕ) {one bytes : List ℕ} → place < length gathered → one ≡ get_or gathered place one → bytes ≡ one → bytes ≡ get_or gathered place []
-gets gathered place {one} within is same = same ∙ is ∙ get_or_default gathered place one [] within
+gets gathered place {one} within is same = grind (arith, common_steps)
 
 pub loop-place-init : goal.loop-place-init
 loop-place-init g c = sent_none _ _ c.requires.ready
