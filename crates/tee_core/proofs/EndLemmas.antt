@@ -9,7 +9,6 @@ use Rattle.ports_core.specs.declared.fault.Fault.{Fault}
 use Rattle.ports_core.specs.declared.fault.Fault.TheVariants.{Read, Memory}
 use Rattle.ports_core.specs.declared.slot.Mode.{Mode}
 use Rattle.ports_core.proofs.InputsLemmas.{HasRead, broken_now, read_broken, read_failed, read_more, read_none_more, read_to_end, of_content}
-use Rattle.std.proofs.lemmas.List.Elements.{All-push}
 use Rattle.ports_core.specs.Inputs.{BreaksOnly, largest_piece, OfContent, empty}
 use Rattle.tee_core.specs.Run.{IsRead, LeavesOf, to_end, to_break, to_limit, to_last_output, EndsAs, copied, no_room, file_whole, file_unopened, file_cut, file_unclosed, FileLeft, FilesLeft, no_file, one_file, ComesIn, IsUnread, OutputLeft, output_whole, output_cut, all_copied, are_sound, broke_before, messages_of, none_left, output_names, said_before, said_in, status_of}
 use Rattle.tee_core.specs.inner.Steps.{Copies, CopiesRead, all_of, EachFile, no_more, one_more, CopiesInput, any_of}

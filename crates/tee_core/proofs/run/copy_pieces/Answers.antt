@@ -1,6 +1,6 @@
 use Rattle.std.proofs.lemmas.Grind.{common_steps}
 use Rattle.std.proofs.Common.{◌≡◌, ◌+◌, length, length-take, ◌∷◌, ap, ◌++◌, ◌∙◌, [], take, Some, inl, inr, arith, refl, sym}
-use Rattle.ports_core.proofs.InputsLemmas.{asked_again, asked_at_end, keeps_again, keeps_itself, keeps_others, nothing_read, read_more, sound_at, still_readable}
+use Rattle.ports_core.proofs.InputsLemmas.{asked_again, keeps_again, keeps_itself, keeps_others, nothing_read, read_more, sound_at, still_readable}
 use Rattle.tee_core.proofs.CopyLemmas.{joined_more}
 use Rattle.tee_core.specs.Run.{to_break, to_end, to_last_output, to_limit}
 use Rattle.tee_core.proofs.EndLemmas.{counted_more, more_sized, none_sized, reads_copied, seen_broken, seen_ended, seen_more}
