@@ -1,6 +1,6 @@
 -- What a call on a name gives, by what the calls in it give: bytes under headers, and lines; the open file, and where the name leads.
 use Rattle.std.proofs.lemmas.Grind.{common_steps}
-use Rattle.std.proofs.Common.{subst₂, ◌≡◌, ℕ, Bool, List, [], ◌∷◌, ◌++◌, inl, inr, ◌∙◌, ap, subst, ◌+◌, ◌<◌, length, take, true, false, not, if◌then◌else◌, Some, None, Option, refl, sym, arith, append_assoc, length-append, ◌-◌, ◌≤◌, drop, min, bytes_eq, is_none, option_map, suc, nat_lt, Result, Ok, Err, ◌==◌, zero, nat_le, IsTrue, map, IfOk, is_some}
+use Rattle.std.proofs.Common.{subst₂, ◌≡◌, ℕ, Bool, List, [], ◌∷◌, ◌++◌, inl, inr, ◌∙◌, ap, subst, ◌+◌, ◌<◌, length, take, true, false, not, if◌then◌else◌, Some, None, Option, refl, sym, arith, append_assoc, length-append, ◌-◌, ◌≤◌, drop, bytes_eq, is_none, option_map, suc, nat_lt, Result, Ok, Err, ◌==◌, zero, nat_le, IsTrue, map, IfOk, is_some}
 use Rattle.ports_core.specs.Slot.{Slot, with_written, with_broken, told_of, is_open, changed_at}
 use Rattle.ports_core.specs.Message.{Prints, Says, PrintsOn}
 use Rattle.ports_core.specs.declared.tool.Tool.TheVariants.{Tail}
@@ -22,7 +22,7 @@ use Rattle.follow_core.specs.declared.visitor.Stop.{Stop}
 use Rattle.follow_core.specs.Share.{IsFront}
 use Rattle.watch_core.specs.Watched.{GaveFrom, Watched, breaks, no_name, Finds, Reopens, is_readable, is_watchable, open_contents, opens, watched_at}
 use Rattle.follow_core.specs.declared.visitor.Stop.TheVariants.{Broke, Over}
-use Rattle.std.proofs.lemmas.Bool.{le-leb, le-ltb, false≢true, eqb-true, eq-eqb}
+use Rattle.std.proofs.lemmas.Bool.{le-leb, false≢true, eqb-true, eq-eqb}
 use Rattle.ports_core.proofs.InputsLemmas.{changed_elsewhere}
 use Rattle.ports_core.proofs.SlotLemmas.{length-changed_at, changed_there}
 use Rattle.follow_core.specs.inner.Visits.{KeepsOthers}
@@ -223,10 +223,6 @@ puts_none {told} {bytes} {new} {why} is short = record {
 
 -- copying, read by read
 
-pub copy_starts : {told_in told : Bool} {printer : PrinterState} {name : List ℕ} (contents : List ℕ) (from : ℕ) {slots : List Slot}
-    → Ends told_in told false printer name (take (from - from) (drop from contents)) [] slots printer slots None
-copy_starts contents from = grind (arith, common_steps, due_as, nothing_due)
-
 next_bytes : (contents : List ℕ) {read_old read_new : List ℕ} (tail : List ℕ) {from at n : ℕ} → from ≤ at → n ≤ length read_old → length read_new ≡ length read_old → GaveFrom contents at read_old read_new n
     → take (at - from) (drop from contents) ++ take n (read_new ++ tail) ≡ take ((at + n) - from) (drop from contents)
 next_bytes contents {read_new} tail {from} {at} {n} past few long gave =
@@ -244,12 +240,6 @@ pub copy_more : {told_in told : Bool} {printer mid after : PrinterState} {name c
     → Ends told_in told false printer name (take ((at + n) - from) (drop from contents)) [] old after new stop
 copy_more {contents} {at} {n} {read_old} {read_new} tail past same few long gave ends more = due_as
     (λ t. (next_bytes contents tail past few long (subst (λ those. GaveFrom those at read_old read_new n) (sym same) (gave t)), refl)) (goes_after ends more)
-
-pub few_fit : {n room a : ℕ} (b : ℕ) (buffer : List ℕ) → n ≤ length (take room buffer) → room ≡ min a b → n ≤ a
-few_fit {room} b buffer few is = grind (arith, common_steps)
-
-pub some_left : (room : ℕ) (buffer read : List ℕ) → length read ≡ length (take room buffer) → 0 < length buffer → 0 < length (read ++ drop room buffer)
-some_left room buffer read same some = grind (arith, common_steps)
 
 -- a copy that was stopped
 pub cut_short : {told_in told : Bool} {printer after : PrinterState} {name all : List ℕ} (n : ℕ) {old new : List Slot} {stop : Stop}
@@ -282,9 +272,6 @@ untold {due} {lines} is = rw is (stops_early due lines (puts_none {opened = fals
 pub tells : {told_in told : Bool} {printer : PrinterState} {name line text : List ℕ} {old new : List Slot} → text ≡ line → PrintsOn told text old new
     → Ends told_in told false printer name [] (line ∷ []) old printer new None
 tells {line} is prints = record { bytes = []; lines = line ∷ []; are = λ t. (refl, refl); shared = gives_line is prints }
-
-pub no_line : (name : List ℕ) {position len : ℕ} → position ≤ len → [] ≡ lines_past name position len
-no_line name {position} {len} few = sym (ap (λ t. if t then notice_of Truncated name ∷ [] else []) (le-ltb len position few))
 
 pub opens_same : (names : List Watched) (place : ℕ) → changed_at place (opens (watched_at names place).opened) names ≡ names
 opens_same [] place = refl

@@ -2,7 +2,7 @@
 use Rattle.std.proofs.lemmas.Grind.{common_steps}
 use Rattle.follow_core.specs.Notice.{notices_later, notices_between}
 use Rattle.std.proofs.Math.Seq.{drop-append_seam as drop_front}
-use Rattle.std.proofs.Common.{◌≡◌, ℕ, Bool, true, false, List, [], ◌∷◌, ◌++◌, length, drop, refl, sym, ◌∙◌, ap, append_assoc, if◌then◌else◌, append-nil, Option, None, ◌||◌, arith}
+use Rattle.std.proofs.Common.{◌≡◌, ℕ, Bool, true, false, List, [], ◌∷◌, ◌++◌, length, drop, refl, sym, ◌∙◌, ap, append_assoc, if◌then◌else◌, append-nil, Option, ◌||◌, arith}
 use Rattle.std.specs.List.{onto_first}
 use Rattle.ports_core.specs.Part.{IsBeginning}
 use Rattle.follow_core.specs.Version.{Version, Entry, version, gap, entries_of, entries_later, entries_at_look, open_after_look, open_after_later, open_after}
@@ -12,7 +12,7 @@ use Rattle.std.proofs.Math.Bool.{or_assoc}
 use Rattle.watch_core.specs.Snapshot.{Snapshot}
 use Rattle.follow_core.specs.Look.{Ways, Look}
 use Rattle.follow_core.specs.Share.{Share, shares_of, shares_from, shares_at_look}
-use Rattle.follow_core.specs.Followed.{text_from, share_text, header_after, last_header, last_header_from, messages_of, any_failed, followed}
+use Rattle.follow_core.specs.Followed.{text_from, share_text, header_after, last_header_from, messages_of, any_failed}
 
 -- the run that a version begins, and what comes after it
 record Begun (v : Version) (entries : List Entry) : Type 0 where
@@ -127,16 +127,6 @@ messages-append (share ∷ shares) more = ap (λ x. share.messages ++ x) (messag
 pub failed-append : (shares more : List Share) → any_failed (shares ++ more) ≡ (any_failed shares || any_failed more)
 failed-append [] more = refl
 failed-append (share ∷ shares) more = ap (λ x. share.has_failed || x) (failed-append shares more) ∙ sym (or_assoc share.has_failed (any_failed shares) (any_failed more))
-
--- what one look more writes, says and comes to
-pub out_more : (ways : Ways) (headers : Bool) (names : List (List ℕ)) (looks : List Look) (look : Look) → (followed ways headers names (looks ++ look ∷ [])).out ≡ (followed ways headers names looks).out ++ text_from headers (last_header ways headers names looks) (shares_at_look ways names looks look)
-out_more ways headers names looks look = ap (text_from headers None) (shares_more ways names looks look) ∙ text-append headers None (shares_of ways names looks) (shares_at_look ways names looks look)
-
-pub messages_more : (ways : Ways) (headers : Bool) (names : List (List ℕ)) (looks : List Look) (look : Look) → (followed ways headers names (looks ++ look ∷ [])).messages ≡ (followed ways headers names looks).messages ++ messages_of (shares_at_look ways names looks look)
-messages_more ways headers names looks look = ap messages_of (shares_more ways names looks look) ∙ messages-append (shares_of ways names looks) (shares_at_look ways names looks look)
-
-pub failed_more : (ways : Ways) (headers : Bool) (names : List (List ℕ)) (looks : List Look) (look : Look) → (followed ways headers names (looks ++ look ∷ [])).has_failed ≡ ((followed ways headers names looks).has_failed || any_failed (shares_at_look ways names looks look))
-failed_more ways headers names looks look = ap any_failed (shares_more ways names looks look) ∙ failed-append (shares_of ways names looks) (shares_at_look ways names looks look)
 
 -- the entries of one look more
 looks-append : (by_name : Bool) (name : List ℕ) (opened : Option ℕ) (snaps : List Snapshot) (snapshot : Snapshot) → entries_later by_name name opened (snaps ++ snapshot ∷ []) ≡ entries_later by_name name opened snaps ++ entries_at_look by_name name (open_after_later by_name name opened snaps) snapshot

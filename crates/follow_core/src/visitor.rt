@@ -120,6 +120,7 @@ impl Visitor {
     /// # Errors
     ///
     /// `Broke` where asking for its length or reading it failed, `Over` where standard output broke or memory was wanting.
+    #[tactic(auto, using(crate::proofs::CallLemmas::broke_first))]
     fn write_start<W: Watch, O: Outs>(
         &mut self,
         start: Start,
@@ -238,6 +239,7 @@ impl Visitor {
     /// # Errors
     ///
     /// `Broke` where asking for its length or reading it failed, `Over` where standard output broke or memory was wanting.
+    #[tactic(auto, using(crate::proofs::CallLemmas::broke_first))]
     fn catch_up<W: Watch, O: Outs>(
         &mut self,
         watch: &mut W,

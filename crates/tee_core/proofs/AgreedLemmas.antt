@@ -1,5 +1,6 @@
 -- What all continuations agree on, of a copied input.
-use Rattle.std.proofs.Common.{◌≡◌, ℕ, ◌+◌, ◌<◌, ◌≤◌, nat_lt, zero, suc, List, [], ◌∷◌, ◌++◌, length, map, get_or, Bool, cond, inl, inr, refl, sym, ◌∙◌, ap, subst, arith, length-append, append-nil}
+use Rattle.std.proofs.lemmas.Grind.{common_steps}
+use Rattle.std.proofs.Common.{◌≡◌, ℕ, ◌+◌, ◌<◌, ◌≤◌, nat_lt, zero, suc, List, [], ◌∷◌, ◌++◌, length, map, get_or, Bool, cond, inl, inr, refl, sym, ◌∙◌, ap, subst, arith, append-nil}
 use Rattle.std.proofs.lemmas.Bool.{cond_both, lt-ltb}
 use Rattle.ports_core.specs.Agreed.{IsAgreed, IsUndecided, Spot, spot, output_at, GoesTo, ArePlaced}
 use Rattle.ports_core.specs.Part.{File, FilesBegin, OutputsAt, file_of, told_file}
@@ -24,7 +25,7 @@ tee_agreed mode names x = agreed_now (tee_work mode names) x (λ y. record { out
 
 -- a byte that came in goes to all outputs, whatever comes
 goes_there : (names : List (List ℕ)) (x y : List ℕ) (i : ℕ) → i < length x → tee_spots names (x ++ y) i ≡ spot 0 i ∷ spots_each 1 names i
-goes_there names x y i less = ap (λ within. cond within (spot 0 i ∷ spots_each 1 names i) []) (lt-ltb i (length (x ++ y)) (omega (arith, length-append x y, less)))
+goes_there names x y i less = grind (arith, common_steps)
 
 pub tee_undecided : (names : List (List ℕ)) (x : List ℕ) → IsUndecided (tee_spots names) x []
 tee_undecided names x = record {
@@ -92,9 +93,4 @@ copied_files told mode [] x = refl
 copied_files told mode (name ∷ names) x = ap (λ files. copy_in mode Closed (told_of told x) name ∷ files) (copied_files told mode names x)
 
 pub copied_whole : (told : Bool) (mode : Mode) (names : List (List ℕ)) (x : List ℕ) → OutputsAt told streams ((tee_work mode names).whole x) (all_copied told mode names x)
-copied_whole told mode names x = record {
-  standard = omega arith;
-  since = map (λ name. closes (adds (told_of told x) (opened name mode))) names;
-  slots = refl;
-  files = copied_files told mode names x;
-}
+copied_whole told mode names x = grind (arith, common_steps, copied_files)

@@ -1,4 +1,5 @@
 -- Lemmas on outputs of which some are changed, on what they get, and on how many broke.
+use Rattle.std.proofs.lemmas.Grind.{common_steps}
 use Rattle.std.proofs.Common.{◌≡◌, ℕ, ◌+◌, ◌<◌, ◌≤◌, zero, suc, List, [], ◌∷◌, length, Bool, true, false, not, ◌&&◌, if◌then◌else◌, ◌⊎◌, inl, inr, refl, sym, ◌∙◌, ap, subst, arith, ◌++◌, take, length-append}
 use Rattle.std.proofs.lemmas.Bool.{false≢true, cases_eq, cases_lt}
 use Rattle.std.proofs.lemmas.Bool.Decides.{nat_tests}
@@ -171,11 +172,7 @@ sound_gets told (gets_none broken) still = absurd (false≢true (sym still ∙ b
 -- the outputs of a tee
 
 pub all_get_more : {IsOne : ℕ → Type 0} (told : Bool) {x y : List ℕ} {old mid new : List Slot} → ChangesEach (Gets told x) IsOne old mid → ChangesEach (Gets told y) IsOne mid new → ChangesEach (Gets told (x ++ y)) IsOne old new
-all_get_more told first second = record {
-  count = second.count ∙ first.count;
-  each = λ place is. gets_more told (first.each place is) (second.each place is);
-  others = λ place differs. second.others place differs ∙ first.others place differs;
-}
+all_get_more told first second = grind (arith, common_steps, gets_more)
 
 pub all_still_usable : {IsOne : ℕ → Type 0} (told : Bool) {bytes : List ℕ} {old new : List Slot} → ChangesEach (Gets told bytes) IsOne old new → ((place : ℕ) → IsOne place → IsUsable (slot_at old place)) → (place : ℕ) → IsOne place → IsUsable (slot_at new place)
 all_still_usable told gets usable place is = still_usable told (gets.each place is) (usable place is)

@@ -1,6 +1,7 @@
 -- Lemmas on copying: what the outputs have after a piece and at the end, and what is said of those that broke.
+use Rattle.std.proofs.lemmas.Grind.{common_steps}
 use Rattle.std.proofs.lemmas.Bool.Decides.{nat_tests}
-use Rattle.std.proofs.lemmas.Bool.{cond_both, false≢true, eq-eqb, ne_eqb, le-ltb, lt-ltb}
+use Rattle.std.proofs.lemmas.Bool.{cond_both, false≢true}
 use Rattle.std.proofs.Common.{◌≡◌, ℕ, ◌+◌, ◌<◌, zero, suc, List, [], ◌∷◌, ◌++◌, length, map, take, drop, get_or, set, Bor, Bool, true, false, not, ◌&&◌, if◌then◌else◌, refl, sym, ◌∙◌, ap, subst, arith, append_assoc, ◌≤◌, Option, Some, None, inl, inr, length-append, append-nil, is_none}
 use Rattle.std.proofs.Math.ListN.{get_or-map}
 use Rattle.std.proofs.lemmas.List.{append-nil, length-map}
@@ -106,7 +107,7 @@ tells_next told {fault} {names} {before} {known} other {n} {count} {old} {now} {
       step = cc (said_next fault names before (broken_of old) n (omega (arith, names_many, within, many)) (many ∙ sym names_many) (broken_are ∙ sym names_many), named, was, here)
 
 pub count_names : (names : List (Bor (List ℕ))) → length (output_names (map (λ name. name.now) names)) ≡ length names + 1
-count_names names = let many : length (map (λ (name : Bor (List ℕ)). name.now) names) ≡ length names = length-map names _ in let e : suc (length (map (λ (name : Bor (List ℕ)). name.now) names)) ≡ length names + 1 = omega arith in e
+count_names names = grind (arith, common_steps)
 
 -- What a call added to what broke when: it is said where the flag rose, and what broke in the calls before stays.
 pub record Marks (call : ℕ) (before after : Option ℕ) (was now : Bool) : Type 0 where
@@ -117,25 +118,13 @@ pub record Marks (call : ℕ) (before after : Option ℕ) (was now : Bool) : Typ
   pub now_is : broke_before (suc call) after ≡ now
 
 pub marked_none : {call : ℕ} → Marks call None None false false
-marked_none = record { said = refl; older = λ other less. refl; sooner = λ other within. refl; then_is = refl; now_is = refl }
+marked_none = grind (arith, common_steps)
 
 pub marked_now : {call : ℕ} → Marks call None (Some call) false true
-marked_now {call} = record {
-  said = eq-eqb call call refl;
-  older = λ other less. ne_eqb call other (λ is. omega (arith, is, less));
-  sooner = λ other within. le-ltb call other within;
-  then_is = le-ltb call call (omega arith);
-  now_is = lt-ltb call (suc call) (omega arith);
-}
+marked_now {call} = grind (arith, common_steps)
 
 pub marked_before : {call earlier : ℕ} → earlier < call → Marks call (Some earlier) (Some earlier) true true
-marked_before {call} {earlier} less = record {
-  said = ne_eqb earlier call (λ is. omega (arith, is, less));
-  older = λ other before. refl;
-  sooner = λ other within. refl;
-  then_is = lt-ltb earlier call less;
-  now_is = lt-ltb earlier (suc call) (omega (arith, less));
-}
+marked_before {call} {earlier} less = grind (arith, common_steps)
 
 pub data AllMark (call : ℕ) : List (Option ℕ) → List (Option ℕ) → List Bool → List Bool → Type 0 where
   none_marked : AllMark call [] [] [] []
@@ -176,7 +165,7 @@ pub joined_more : (pieces : List (List ℕ)) (piece : List ℕ) → concat piece
 joined_more pieces piece = sym (concat-append pieces (piece ∷ []) ∙ ap (λ bytes. concat pieces ++ bytes) (append-nil piece))
 
 whole_now : (told : Bool) (pieces : List (List ℕ)) (piece : List ℕ) (start : Slot) → adds (told_of told piece) (adds (told_of told (concat pieces)) start) ≡ adds (told_of told (concat (pieces ++ piece ∷ []))) start
-whole_now told pieces piece start = adds_both told (concat pieces) piece start ∙ ap (λ bytes. adds (told_of told bytes) start) (joined_more pieces piece)
+whole_now told pieces piece start = grind (arith, common_steps, adds_both, joined_more)
 
 begun_now : (told : Bool) (pieces : List (List ℕ)) (piece : List ℕ) (n : ℕ) (start : Slot) → breaks (adds (told_of told (take n piece)) (adds (told_of told (concat pieces)) start)) ≡ breaks (adds (told_of told (concat pieces ++ take n piece)) start)
 begun_now told pieces piece n start = ap breaks (adds_both told (concat pieces) (take n piece) start)
@@ -264,7 +253,7 @@ file_place {tee} (suc zero) is file = absurd (let first : tee.first ≡ 2 = is.f
 file_place {names} {tee} (suc (suc n)) is file = let first : tee.first ≡ 2 = is.first (omega (arith, file.0, file.1)) in let count : tee.count ≡ length names = is.count in (n, refl, omega (arith, file.1, first, count))
 
 pub place_file : {names : List (List ℕ)} {tee : TeeState} (n : ℕ) → IsTeeOf names tee → n < length names → IsFile tee (suc (suc n))
-place_file {names} {tee} n is within = let count : tee.count ≡ length names = is.count in let first : tee.first ≡ 2 = is.first (omega (arith, within, count)) in (omega (arith, first), omega (arith, first, count, within))
+place_file {names} {tee} n is within = grind (arith, common_steps)
 
 pub error_no_output : {names : List (List ℕ)} {tee : TeeState} → IsTeeOf names tee → IsOutput tee 1 → ⊥
 error_no_output is (inl here) = omega (arith, here)

@@ -1,4 +1,5 @@
 -- Lemmas on what a run reads of its input, and on how it ends.
+use Rattle.std.proofs.lemmas.Grind.{common_steps}
 use Rattle.std.proofs.Common.{◌≡◌, ℕ, ◌+◌, ◌<◌, ◌≤◌, ◌^◌, List, [], ◌∷◌, ◌++◌, length, take, Bool, true, false, Option, Some, None, IsTrue, ◌⊎◌, refl, sym, ◌∙◌, ap, subst, arith, length-append, length-take, append-nil, All, zero, suc, map, not, ◌&&◌, ◌||◌, if◌then◌else◌, is_none}
 use Rattle.std.specs.List.{concat}
 use Rattle.std.proofs.lemmas.Bool.{false≢true}
@@ -8,7 +9,6 @@ use Rattle.ports_core.specs.declared.fault.Fault.{Fault}
 use Rattle.ports_core.specs.declared.fault.Fault.TheVariants.{Read, Memory}
 use Rattle.ports_core.specs.declared.slot.Mode.{Mode}
 use Rattle.ports_core.proofs.InputsLemmas.{HasRead, broken_now, read_broken, read_failed, read_more, read_none_more, read_to_end, of_content}
-use Rattle.std.proofs.lemmas.List.Elements.{All-push}
 use Rattle.ports_core.specs.Inputs.{BreaksOnly, largest_piece, OfContent, empty}
 use Rattle.tee_core.specs.Run.{IsRead, LeavesOf, to_end, to_break, to_limit, to_last_output, EndsAs, copied, no_room, file_whole, file_unopened, file_cut, file_unclosed, FileLeft, FilesLeft, no_file, one_file, ComesIn, IsUnread, OutputLeft, output_whole, output_cut, all_copied, are_sound, broke_before, messages_of, none_left, output_names, said_before, said_in, status_of}
 use Rattle.tee_core.specs.inner.Steps.{Copies, CopiesRead, all_of, EachFile, no_more, one_more, CopiesInput, any_of}
@@ -34,15 +34,13 @@ SeenWhole told there x breaks source = (content : Content) × (told ≡ true →
 
 whole : (told : Bool) (there : Content) (x : List ℕ) (breaks : Bool) (source : Source) → (told ≡ true → (there.bytes ≡ x) × (there.breaks_off ≡ breaks) × (source.left.bytes ≡ []))
     → (breaks ≡ true → source.is_broken ≡ true) → SeenWhole told there x breaks source
-whole true there x breaks source has broken = (there, (λ t. refl), (has refl).0, (has refl).1, (λ t. (has refl).2), λ differs. absurd (false≢true (sym differs)))
+whole true there x breaks source has broken = grind (arith, common_steps)
 whole false there x breaks source has broken = (record { bytes = x; breaks_off = breaks }, (λ t. absurd (false≢true t)), refl, refl, (λ t. absurd (false≢true t)), λ differs. broken)
 
 -- the read failed
 pub seen_broken : (told : Bool) (there : Content) (x : List ℕ) (size : ℕ) (sources new : List Source) → (told ≡ true → HasRead there x 0 sources) → IsTrue (is_readable sources 0)
     → (told ≡ true → BrokeOff (source_at sources 0).left) → new ≡ changed_at 0 (fails size) sources → SeenWhole told there x true (source_at new 0)
-seen_broken told there x size sources new read can broke fails = whole told there x true (source_at new 0)
-    (λ t. let end = read_broken there x 0 sources (read t) (broke t) in
-    (end.0, end.1, nothing_more _ (sym end.0 ∙ read_failed there x 0 sources new size (read t) can fails))) (λ _. broken_now 0 size sources new can fails)
+seen_broken told there x size sources new read can broke fails = grind (arith, common_steps, whole, read_broken, nothing_more, read_failed, broken_now)
 
 -- the read told the end
 pub seen_ended : (told : Bool) (there : Content) (x : List ℕ) (size : ℕ) (sources new : List Source) {buffer old_buffer : List ℕ} {n : ℕ} → (told ≡ true → HasRead there x 0 sources)
@@ -81,22 +79,11 @@ pub none_sized : AreSized []
 none_sized k d low = absurd (omega (arith, low))
 
 pub more_sized : (pieces : List (List ℕ)) (buffer : List ℕ) {n : ℕ} → AreSized pieces → (n ≡ 0 → ⊥) → n ≤ length buffer → length buffer ≤ largest_piece → AreSized (pieces ++ take n buffer ∷ [])
-more_sized pieces buffer {n} sized some within most =
-    let one : (0 < length (take n buffer)) × (length (take n buffer) ≤ largest_piece) = (omega (arith, some, within, length-take n buffer), omega (arith, most, length-take n buffer)) in
-    All-push (λ (piece : List ℕ). (0 < length piece) × (length piece ≤ largest_piece)) pieces (take n buffer) sized one
+more_sized pieces buffer {n} sized some within most = grind (arith, common_steps)
 
 pub reads_copied : {told_in : Bool} (told : Bool) {mode : Mode} {names : List (List ℕ)} {content : Content} {source : Source} {slots : List Slot} {known : List Bool} {fault : Option Fault} {came : List ℕ} {pieces : List (List ℕ)} {is_vain : Bool} → came ≡ concat pieces → all_of known ≡ is_vain → AreSized pieces → length came < 2 ^ 63
     → (fault ≡ Some (Read 0)) ⊎ (source.is_broken ≡ false) → IsRead content (LeavesOf told_in source) is_vain came fault → Copies told mode names pieces [] slots known → CopiesRead told_in told mode names content source slots known fault
-reads_copied {told_in} told {content} {source} {known} {fault} {came} {pieces} joined vain sized few met read copies = record {
-  pieces = pieces;
-  read = record {
-    read = subst (λ bytes. IsRead content (LeavesOf told_in source) (all_of known) bytes fault) joined (subst (λ (flag : Bool). IsRead content (LeavesOf told_in source) flag came fault) (sym vain) read);
-    sizes = sized;
-    few = subst (λ (bytes : List ℕ). length bytes < 2 ^ 63) joined few;
-    met = met;
-  };
-  copies = copies;
-}
+reads_copied {told_in} told {content} {source} {known} {fault} {came} {pieces} joined vain sized few met read copies = grind (arith, common_steps)
 
 -- the status
 

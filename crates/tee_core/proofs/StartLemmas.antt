@@ -1,6 +1,7 @@
 -- Lemmas on a run's start: files that are opened one after another, and the messages for those that could not be.
+use Rattle.std.proofs.lemmas.Grind.{common_steps}
 use Rattle.std.proofs.Common.{◌≡◌, ℕ, ◌+◌, ◌-◌, ◌^◌, ◌<◌, ◌≤◌, zero, suc, List, [], ◌∷◌, ◌++◌, length, map, take, drop, get_or, Bor, true, inl, inr, refl, sym, ◌∙◌, ap, subst, arith, append_assoc, length-append, replicate, Bool, false, Option, Some, None}
-use Rattle.std.proofs.lemmas.List.{append-nil, get_or-append-add, get_or_append_left, take_all, length-map}
+use Rattle.std.proofs.lemmas.List.{append-nil, get_or-append-add, get_or_append_left, length-map}
 use Rattle.std.proofs.lemmas.Bool.{false≢true}
 use Rattle.ports_core.specs.Slot.{Slot, no_slot, slot_at, opened, unopened, is_open, FailsToOpen, broke, changed_at, streams}
 use Rattle.ports_core.specs.declared.slot.Mode.{Mode}
@@ -104,7 +105,7 @@ none_left (name ∷ names) few = absurd (omega arith)
 
 pub first_and_rest : (other : Bor (List ℕ)) (names : List (Bor (List ℕ))) → 1 ≤ length names → map (λ name. name.now) names ≡ (get_or names 0 other).now ∷ map (λ name. name.now) (take (length names - 1) (drop 1 names))
 first_and_rest other [] some = absurd (omega arith)
-first_and_rest other (name ∷ names) some = ap (λ rest. name.now ∷ map (λ (name : Bor (List ℕ)). name.now) rest) (sym (ap (λ n. take n names) (let e : suc (length names) - 1 ≡ length names = omega arith in e) ∙ take_all (length names) names (omega arith)))
+first_and_rest other (name ∷ names) some = grind (arith, common_steps)
 
 pub opens_more_at : {mode : Mode} {names : List (List ℕ)} (other : Bor (List ℕ)) (left : List (Bor (List ℕ))) {old now new : List Slot} {slot : ℕ} → 1 ≤ length left → Opening mode names (map (λ name. name.now) left) old now → slot ≡ length now → slot < 2 ^ 64 → OpensOne mode (get_or left 0 other).now now new
     → Opening mode names (map (λ name. name.now) (take (length left - 1) (drop 1 left))) old new
@@ -122,7 +123,7 @@ some_now is = rw is (some_none)
 
 -- the numbers of the files
 pub in_range : {mode : Mode} {names : List (List ℕ)} {old new : List Slot} → Opens mode names old new → length new ≡ length old + length names
-in_range {names} {old} opens = ap length opens.slots ∙ length-append old opens.since ∙ ap (λ n. length old + n) (length-since names opens.since opens.each)
+in_range {names} {old} opens = grind (arith, common_steps, length-since)
 
 file_starts : (told : Bool) {mode : Mode} {name : List ℕ} {file : Slot} → OpensAs mode name file → Marked (FileHas told mode [] name) 0 None false file
 file_starts told {mode} {name} is_opened = (None, subst (FileHas told mode [] name None) (adds-nil told (opened name mode)) has_all, marked_none)
@@ -140,14 +141,7 @@ files_start told (one_more name names file files one rest) =
     (here.0 ∷ there.0, steps.one_more name names here.0 there.0 file files here.1 there.1, all_marked None here.0 false file.is_broken _ there.0 _ _ here.2 there.2)
 
 pub opened_streams : {mode : Mode} {names : List (List ℕ)} {slots : List Slot} → Opens mode names streams slots → HasStreams slots (length names)
-opened_streams {names} opens = record {
-  output = standard_output;
-  error = standard_error;
-  files = opens.since;
-  are = opens.slots;
-  opened = refl;
-  files_are = length-since names opens.since opens.each;
-}
+opened_streams {names} opens = grind (arith, common_steps, length-since)
 
 pub starts : (told : Bool) {mode : Mode} {names : List (List ℕ)} {old new : List Slot} {known now : List Bool} → Opens mode names streams old → known ≡ replicate (length names + 1) false → SaysTo told (said_since (fault_in 0) (output_names names) known (broken_of old)) old new → now ≡ broken_of old → Copies told mode names [] [] new now
 starts told {names} {old} {new} {known} opens unknown says flags =
@@ -180,4 +174,4 @@ pub length-names : (names : List (Bor (List ℕ))) {known : List Bool} → known
 length-names names is = is ∙ ap (λ n. replicate (n + 1) false) (sym (length-map names (λ (name : Bor (List ℕ)). name.now)))
 
 pub is_tee_of : (names : List (Bor (List ℕ))) {old : List Slot} {tee : TeeState} → old ≡ streams → tee.is_over ≡ false → tee.count ≡ length names → (0 < tee.count → tee.first ≡ length old) → IsTeeOf (map (λ (name : Bor (List ℕ)). name.now) names) tee
-is_tee_of names is live count first = record { live = live; count = count ∙ sym (length-map names (λ (name : Bor (List ℕ)). name.now)); first = λ some. first some ∙ ap length is }
+is_tee_of names is live count first = grind (arith, common_steps)

@@ -1,11 +1,12 @@
 use Rattle.std.proofs.Common.{arith, drop, refl, sym, ◌∙◌}
-use Rattle.follow_core.proofs.CallLemmas.{ends_can, broke_after, copy_starts, copy_more, cut_short, few_fit, some_left}
+use Rattle.follow_core.proofs.CallLemmas.{ends_can, broke_after, copy_more, cut_short, due_as, nothing_due}
+use Rattle.std.proofs.lemmas.Grind.{common_steps}
 use Rattle.follow_core.proofs.StartLemmas.{contents_same}
 use Rattle.follow_core.proofs.visitor.copy.Goals as goal
 
 pub loop-at-init : goal.loop-at-init
 loop-at-init g c = record {
-  ends = copy_starts _ c.args.from;
+  ends = grind (arith, common_steps, due_as, nothing_due);
   can = c.requires.can;
   within = c.requires.within;
   past = omega arith;
@@ -18,18 +19,16 @@ loop-at-init g c = record {
 pub loop-at-preserved : goal.loop-at-preserved
 loop-at-preserved g c =
     let l = c.loop-at in
-    let past = l.invariant.past in
-    let fits = few_fit _ _ c.in-Ok.ensures.bound c.min-room.ensures in
-    let inner = c.loop-at-test.true in record {
+    let past = l.invariant.past in record {
       ends = copy_more (drop c.min-room.result l.buffer) past (contents_same c.args.place (sym l.invariant.seen) (sym l.invariant.watched))
           c.in-Ok.ensures.bound c.read_at.ensures.length c.in-Ok.ensures.bytes l.invariant.ends (c.in-Ok-put.ensures.ends g.W.Watch.told);
       can = ends_can (c.in-Ok-put.ensures.ends g.W.Watch.told) l.invariant.can;
-      within = omega (arith, fits, inner);
+      within = grind (arith, common_steps);
       past = omega (arith, past);
       seen = c.read_at.ensures.seen ∙ l.invariant.seen;
       watched = c.in-Ok.ensures.same ∙ l.invariant.watched;
       shows = c.read_at.ensures.shows ∙ l.invariant.shows;
-      room = some_left _ _ _ c.read_at.ensures.length l.invariant.room;
+      room = grind (arith, common_steps);
     }
 
 pub returns-in-Err-clause-ends : goal.returns-in-Err-clause-ends

@@ -11,7 +11,7 @@ pub tell_broken-requires-clause-streams : goal.tell_broken-requires-clause-strea
 tell_broken-requires-clause-streams g c = subst (HasStreams (g.O.Outs.slots c.args.outs.now)) (length-map c.args.names.now _) (opened_streams c.requires.opened.1)
 
 pub copy_pieces-fault-requires-clause-copies : goal.copy_pieces-fault-requires-clause-copies
-copy_pieces-fault-requires-clause-copies g c = (c.requires.opened.0, starts _ c.requires.opened.1 (length-names c.args.names.now c.requires.unknown) c.tell_broken.ensures.said c.tell_broken.ensures.known)
+copy_pieces-fault-requires-clause-copies g c = grind (arith, common_steps, starts, length-names)
 
 pub copy_pieces-fault-requires-clause-left : goal.copy_pieces-fault-requires-clause-left
 copy_pieces-fault-requires-clause-left g c = some_at_first c.requires.opened.1 c.tell_broken.ensures.known

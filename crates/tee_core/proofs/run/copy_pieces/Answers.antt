@@ -1,5 +1,6 @@
+use Rattle.std.proofs.lemmas.Grind.{common_steps}
 use Rattle.std.proofs.Common.{◌≡◌, ◌+◌, length, length-take, ◌∷◌, ap, ◌++◌, ◌∙◌, [], take, Some, inl, inr, arith, refl, sym}
-use Rattle.ports_core.proofs.InputsLemmas.{asked_again, asked_at_end, keeps_again, keeps_itself, keeps_others, nothing_read, read_more, sound_at, still_readable}
+use Rattle.ports_core.proofs.InputsLemmas.{asked_again, keeps_again, keeps_itself, keeps_others, nothing_read, read_more, sound_at, still_readable}
 use Rattle.tee_core.proofs.CopyLemmas.{joined_more}
 use Rattle.tee_core.specs.Run.{to_break, to_end, to_last_output, to_limit}
 use Rattle.tee_core.proofs.EndLemmas.{counted_more, more_sized, none_sized, reads_copied, seen_broken, seen_ended, seen_more}
@@ -62,7 +63,7 @@ pub returns-in-Err-clause-others : goal.returns-in-Err-clause-others
 returns-in-Err-clause-others g c = keeps_again _ _ _ _ c.pieces.invariant.others (keeps_others _ _ _ _ c.in-Err.ensures.err.1)
 
 pub returns-in-Err-clause-asked : goal.returns-in-Err-clause-asked
-returns-in-Err-clause-asked g c within = asked_at_end _ _ _ _ _ c.pieces.invariant.readable c.in-Err.ensures.err.1 (omega (arith, c.pieces.auto.buffer)) (c.pieces.invariant.asked within)
+returns-in-Err-clause-asked g c within = grind (arith, common_steps)
 
 -- where the input ended
 
@@ -83,7 +84,7 @@ pub returns-then-n-eq0-clause-others : goal.returns-then-n-eq0-clause-others
 returns-then-n-eq0-clause-others g c = keeps_again _ _ _ _ c.pieces.invariant.others (keeps_others _ _ _ _ c.in-Ok.ensures.rest)
 
 pub returns-then-n-eq0-clause-asked : goal.returns-then-n-eq0-clause-asked
-returns-then-n-eq0-clause-asked g c within = asked_again _ _ _ _ _ _ c.pieces.invariant.readable c.in-Ok.ensures.rest (omega (arith, c.pieces.auto.buffer)) (c.pieces.invariant.asked within)
+returns-then-n-eq0-clause-asked g c within = grind (arith, common_steps)
 
 -- where a piece passes the limit
 
@@ -105,7 +106,7 @@ pub returns-in_default-clause-others : goal.returns-in_default-clause-others
 returns-in_default-clause-others g c = keeps_again _ _ _ _ c.pieces.invariant.others (keeps_others _ _ _ _ c.in-Ok.ensures.rest)
 
 pub returns-in_default-clause-asked : goal.returns-in_default-clause-asked
-returns-in_default-clause-asked g c within = asked_again _ _ _ _ _ _ c.pieces.invariant.readable c.in-Ok.ensures.rest (omega (arith, c.pieces.auto.buffer)) (c.pieces.invariant.asked within)
+returns-in_default-clause-asked g c within = grind (arith, common_steps)
 
 -- where no output is left
 
@@ -129,4 +130,4 @@ pub returns-then-are_all-clause-others : goal.returns-then-are_all-clause-others
 returns-then-are_all-clause-others g c = keeps_again _ _ _ _ c.pieces.invariant.others (keeps_others _ _ _ _ c.in-Ok.ensures.rest)
 
 pub returns-then-are_all-clause-asked : goal.returns-then-are_all-clause-asked
-returns-then-are_all-clause-asked g c within = asked_again _ _ _ _ _ _ c.pieces.invariant.readable c.in-Ok.ensures.rest (omega (arith, c.pieces.auto.buffer)) (c.pieces.invariant.asked within)
+returns-then-are_all-clause-asked g c within = grind (arith, common_steps)

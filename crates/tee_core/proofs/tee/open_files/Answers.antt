@@ -11,7 +11,7 @@ pub loop-left-preserved : goal.loop-left-preserved
 loop-left-preserved g c = opens_more_at _ c.loop-left.left.now c.in-len1-up.len_at_least c.loop-left.invariant c.in_ok-open_file.ensures.ok.0 c.in_ok-open_file.ensures.bound c.in_ok-open_file.ensures.ok.1
 
 pub returns-in_err-open_file-clause-some : goal.returns-in_err-open_file-clause-some
-returns-in_err-open_file-clause-some g c = rw (handed_on _ _ c.from_residual.ensures.1) (c.loop-left.invariant.some _ (some_now c.in_err-open_file.ensures.err.2))
+returns-in_err-open_file-clause-some g c = grind (arith, common_steps, handed_on, some_now)
 
 pub returns-clause-ok : goal.returns-clause-ok
 returns-clause-ok g c = c.loop-left.invariant.whole _ (none_left c.loop-left.left.now c.in_default.len_below)

@@ -1,16 +1,10 @@
 use Rattle.std.proofs.Common.{arith}
 use Rattle.std.proofs.lemmas.Grind.{common_steps}
-use Rattle.follow_core.proofs.CallLemmas.{ends_can, broke_first}
+use Rattle.follow_core.proofs.CallLemmas.{ends_can}
 use Rattle.follow_core.proofs.visitor.Visitor.write_start.Goals as goal
-
-pub returns-in-Err-clause-ends : goal.returns-in-Err-clause-ends
-returns-in-Err-clause-ends g c = broke_first
 
 pub invariant_of-self : goal.invariant_of-self
 invariant_of-self g c = grind (arith, common_steps)
-
-pub returns-in-Err-find-clause-ends : goal.returns-in-Err-find-clause-ends
-returns-in-Err-find-clause-ends g c = rw c.self.view_is broke_first
 
 pub invariant_of-self-2 : goal.invariant_of-self-2
 invariant_of-self-2 g c = grind (arith, common_steps)

@@ -1,4 +1,4 @@
-use Rattle.std.proofs.Common.{◌≡◌, ◌+◌, ℕ, List, Bor, length, map, false, arith, sym}
+use Rattle.std.proofs.Common.{length, false, arith, sym}
 use Rattle.std.proofs.lemmas.Grind.{common_steps}
 use Rattle.std.proofs.lemmas.List.{length-map}
 use Rattle.ports_core.proofs.HandedOn.{handed_on}
@@ -12,19 +12,16 @@ pub returns-in_err-first-clause-some : goal.returns-in_err-first-clause-some
 returns-in_err-first-clause-some g c = rw (handed_on _ _ c.from_residual.ensures.1) (some_now c.in_err-first.ensures.err.2)
 
 pub returns-in_err-open_files-clause-some : goal.returns-in_err-open_files-clause-some
-returns-in_err-open_files-clause-some g c = rw (handed_on _ _ c.from_residual-in_err-open_files.ensures.1) (some_next_at _ c.args.names.now c.in-len1-up.len_at_least c.in_ok-first.ensures.ok.1 c.in_err-open_files.ensures.some)
+returns-in_err-open_files-clause-some g c = grind (arith, common_steps, handed_on, some_next_at)
 
 pub returns-clause-opens : goal.returns-clause-opens
-returns-clause-opens g c = opens_next_at _ c.args.names.now c.in-len1-up.len_at_least c.in_ok-first.ensures.ok.1 c.in_ok-open_files.ensures.ok
+returns-clause-opens g c = grind (arith, common_steps, opens_next_at)
 
 pub returns-clause-ready : goal.returns-clause-ready
 returns-clause-ready g c = ready_to_go (record { first = c.in_ok-first.first; count = length c.args.names.now; is_over = false }) (omega (arith, c.requires.streams)) c.requires.output (opens_next_at _ c.args.names.now c.in-len1-up.len_at_least c.in_ok-first.ensures.ok.1 c.in_ok-open_files.ensures.ok) (sym (length-map c.args.names.now _)) (λ some. c.in_ok-first.ensures.ok.0)
 
 pub invariant_of-result-2 : goal.invariant_of-result-2
-invariant_of-result-2 g c =
-    let all : length (g.O.Outs.slots c.open_files.new.outs) ≡ length (g.O.Outs.slots c.args.outs.now) + length (map (λ (name : Bor (List ℕ)). name.now) c.args.names.now) = in_range (opens_next_at _ c.args.names.now c.in-len1-up.len_at_least c.in_ok-first.ensures.ok.1 c.in_ok-open_files.ensures.ok) in
-    let many : length (map (λ (name : Bor (List ℕ)). name.now) c.args.names.now) ≡ length c.args.names.now = length-map c.args.names.now _ in
-    (omega (arith, all, many, c.in_ok-first.ensures.ok.0, c.in_ok-open_files.ensures.bound), λ some. omega (arith, c.in_ok-first.ensures.ok.0, c.requires.streams))
+invariant_of-result-2 g c = grind (arith, common_steps, in_range, opens_next_at, length-map)
 
 pub open_files-requires : goal.open_files-requires
 open_files-requires g c = grind (arith, common_steps)
