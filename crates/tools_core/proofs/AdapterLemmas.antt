@@ -53,14 +53,14 @@ pub some_there : (slots : List Slot) → 2 ≤ length slots → 0 < length slots
 some_there slots two = omega (arith, two)
 
 pub head_begins : (delim : ℕ) {told : Bool} (unit : Counted) (but_last : Bool) (n : ℕ) {slots : List Slot} → 2 ≤ length slots → OutputsAt told slots ((head_work delim unit but_last n).settled []) slots
-head_begins delim {told} unit but_last n {slots} two = subst (λ bytes. OutputsAt told slots (only_out bytes) slots) (sym (head_of-nil delim unit but_last n)) (nothing_out told slots (some_there slots two))
+head_begins delim {told} unit but_last n {slots} two = rw (head_of-nil delim unit but_last n) (nothing_out told slots (some_there slots two))
 
 pub tail_starts : (delim : ℕ) {told : Bool} (unit : Counted) (from_nth : Bool) (n : ℕ) {slots : List Slot} → 2 ≤ length slots → OutputsAt told slots ((tail_work delim unit from_nth n).settled []) slots
-tail_starts delim {told} unit from_nth n {slots} two = subst (λ part. OutputsAt told slots part slots) (sym (tail_begins delim from_nth unit n)) (nothing_out told slots (some_there slots two))
+tail_starts delim {told} unit from_nth n {slots} two = rw (tail_begins delim from_nth unit n) (nothing_out told slots (some_there slots two))
 
 -- an engine for which there was no memory
 pub no_memory : {told : Bool} {work : Work} {opening : Needs} {slots : List Slot} {fault : Fault} → opening.memory ≡ true → 2 ≤ length slots → fault ≡ Memory → OpensShort work opening told slots slots fault
-no_memory {told} {work} {opening} {slots} may two is = subst (OpensShort work opening told slots slots) (sym is) (record {
+no_memory {told} {work} {opening} {slots} may two is = rw is (record {
   unjudged = refl;
   reached = slots;
   why = may;
@@ -81,8 +81,7 @@ pub opened_of : {S : Type 0} (Holds : S → List ℕ → Type 0) (Owns : S → �
     → IfOk result (λ e. work e.stage ≡ begun) → IfOk result (λ e. e.fed < 2 ^ 63) → IfOk result (λ e. Ready e.stage new)
     → IfOk result (λ e. Owns e.stage (length old) new) → OnOk result (OutputsAt told old (begun.settled []) new)
     → IfOk result (Opens Holds Owns work Ready asked told old new)
-opened_of Holds Owns work Ready told old new (Ok e) is fresh does bound ready owns at = subst (λ those. Opens Holds Owns work Ready those told old new e) is
-    (record { fresh = fresh; does = does; bound = bound; ready = ready; owns = owns; outputs = at })
+opened_of Holds Owns work Ready told old new (Ok e) is fresh does bound ready owns at = rw (← is) (record { fresh = fresh; does = does; bound = bound; ready = ready; owns = owns; outputs = at })
 opened_of Holds Owns work Ready told old new (Err fault) is fresh does bound ready owns at = tt
 
 -- one that could not be opened
@@ -92,7 +91,7 @@ pub opened_short : {E : Type 0} (told : Bool) {begun asked : Work} {opening : Ne
     → IfErr result (λ fault. (before : List Slot) → OutputsAt told before nothing old → StoppedBetween told before nothing (begun.settled []) fault new)
     → IfErr result Why → IfErr result Left → IfErr result (OpensShort asked opening told old new)
 opened_short told old new (Ok e) Why Left is two stops cut why left = tt
-opened_short told {opening} old new (Err fault) Why Left is two stops cut why left = subst (λ those. OpensShort those opening told old new fault) is (
+opened_short told {opening} old new (Err fault) Why Left is two stops cut why left = rw (← is) (
     let (unjudged, halts, swept) = stops fault why left in
     record { unjudged = unjudged; reached = new; why = halts; stop = cut old (nothing_out told old (some_there old two)); swept = swept })
 

@@ -41,10 +41,10 @@ use Rattle.tools_core.proofs.OutcomeLemmas.{outputs_of, slot_of, slots_of}
 
 -- nothing is a beginning of anything
 pub empty_begins : {output other : Slot} → output.written ≡ [] → BeginsAs output other
-empty_begins {other = other} none = record { bytes = subst (λ bytes. IsBeginning bytes other.written) (sym none) (nothing_begins other.written); named = inr none }
+empty_begins {other = other} none = record { bytes = rw none (nothing_begins other.written); named = inr none }
 
 pub still_begins : {before after : List Slot} (place : ℕ) {other : Slot} → after ≡ before → BeginsAs (slot_at before place) other → BeginsAs (slot_at after place) other
-still_begins place {other} same begins = subst (λ slots. BeginsAs (slot_at slots place) other) (sym same) begins
+still_begins place {other} same begins = rw same begins
 
 -- nothing was written
 pub bare_begins : (error : Slot) {other : Slot} (place : ℕ) → (place ≡ 1 → ⊥) → BeginsAs (slot_at (streams_with error) place) other
@@ -56,13 +56,13 @@ bare_begins error (suc (suc place)) differs = empty_begins refl
 
 pub kept_begins : {sweeps : Bool} {place : ℕ} {old new other : Slot} → Kept sweeps place old new → BeginsAs old other → BeginsAs new other
 kept_begins {other = other} kept begins = record {
-  bytes = subst (λ bytes. IsBeginning bytes other.written) (sym kept.written) begins.bytes;
+  bytes = rw kept.written begins.bytes;
   named = elim begins.named [ inl same ↦ inl (kept.name ∙ same) | inr none ↦ inr (kept.written ∙ none) ];
 }
 
 pub begins_kept : {sweeps : Bool} {place : ℕ} {output whole other : Slot} → Kept sweeps place whole other → BeginsAs output whole → BeginsAs output other
 begins_kept {output = output} kept begins = record {
-  bytes = subst (IsBeginning output.written) (sym kept.written) begins.bytes;
+  bytes = rw kept.written begins.bytes;
   named = elim begins.named [ inl same ↦ inl (same ∙ sym kept.name) | inr none ↦ inr none ];
 }
 
@@ -91,7 +91,7 @@ marked_at IsDue (Open slot) before after place (number, (name, kept, due, is, sl
 marked_at IsDue fault before after place marks = inl (ap (λ slots. slot_at slots place) marks)
 
 mark_begins : (fault : Fault) (place : ℕ) (before : List Slot) {new other : Slot} → IsMarked fault place before new → BeginsAs (slot_at before place) other → BeginsAs new other
-mark_begins (Write slot) place before {other = other} marked begins = subst (λ slot. BeginsAs slot other) (sym marked.2) (record { bytes = begins.bytes; named = begins.named })
+mark_begins (Write slot) place before {other = other} marked begins = rw marked.2 (record { bytes = begins.bytes; named = begins.named })
 mark_begins (Open slot) place before marked begins = empty_begins (ap (λ (slot : Slot). slot.written) marked.1.1)
 mark_begins fault place before marked begins = absurd marked
 
@@ -117,7 +117,7 @@ stopped_begins : (clears : Bool) {high all low : Part} {error : Slot} {fault : F
 stopped_begins clears {high} {all} {fault = fault} {reached} new {place} begins differs between swept =
     let begun = left_begins false between.reached (part_trans between.part high all between.below begins) differs between.outputs refl in
     kept_begins (swept_kept clears reached new swept place) (elim (marked_at _ fault between.reached reached place between.marks) [
-      | inl same ↦ subst (λ slot. BeginsAs slot (slot_at (slots_of all) place)) (sym same) begun
+      | inl same ↦ rw same begun
       | inr marked ↦ mark_begins fault place between.reached marked begun
     ])
 
@@ -162,9 +162,9 @@ pub begins_whole : {task : Task} {input : Input} {bytes : List ℕ} {sources : L
 begins_whole {new = new} is grows differs (as_defined error reached says outputs swept done status_is) = left_begins _ new (part_begins_itself _) differs outputs swept
 begins_whole {task} {input} {bytes} {sources} {new} is grows differs (stopped fault [] other after error step reached are done untouched at stops between swept says status_is) =
     let same : other ≡ input = sym (ap (first_or other) are) in
-    let at_input = subst (λ (which : Input). RunStep true task largest_piece nothing (header_text task.with_header true which.name) which.slot sources which.content step) same at in
-    let at_bytes = subst (λ content. RunStep true task largest_piece nothing (header_text task.with_header true input.name) input.slot sources content step) is at_input in
-    stopped_begins task.work.clears new (subst (Begins step.high) (sym (made_one task input is)) (step_begins input.name grows at_bytes)) differs between swept
+    let at_input = rw same at at in
+    let at_bytes = rw is at at_input in
+    stopped_begins task.work.clears new (rw (made_one task input is) (step_begins input.name grows at_bytes)) differs between swept
 begins_whole is grows differs (stopped fault (first ∷ before) other after error step reached are done untouched at stops between swept says status_is) = absurd
     (let size : 1 ≡ suc (length (before ++ other ∷ after)) = ap length are in let more = length-append before (other ∷ after) in omega (arith, size, more))
 begins_whole {place = place} is grows differs (no_room error says slots untouched count status_is) = still_begins place slots (bare_begins error place differs)
@@ -172,14 +172,14 @@ begins_whole {place = place} is grows differs (no_room error says slots untouche
 -- Works grow.
 
 closed_whole : {work : Work} {bytes : List ℕ} → IsLawful work → (x : List ℕ) → HasAll work (ending bytes) x → Begins (work.whole x) (work.whole bytes)
-closed_whole {work} {bytes} law x (to_end ends is) = subst (λ those. Begins (work.whole those) (work.whole bytes)) is (part_begins_itself (work.whole bytes))
+closed_whole {work} {bytes} law x (to_end ends is) = rw (← is) (part_begins_itself (work.whole bytes))
 closed_whole {work} {bytes} law x (enough rest is complete) =
     let same : work.whole x ≡ work.whole bytes = ap work.whole (sym (append-nil x)) ∙ (law.stays x [] complete).whole_stays ∙ sym (law.stays x rest complete).whole_stays ∙ ap work.whole (sym is) in
-    subst (λ part. Begins part (work.whole bytes)) (sym same) (part_begins_itself (work.whole bytes))
+    rw same (part_begins_itself (work.whole bytes))
 
 settled_whole : {work : Work} {bytes : List ℕ} → IsLawful work → (x rest : List ℕ) → bytes ≡ x ++ rest → Begins (work.settled x) (work.whole bytes)
 settled_whole {work} law x rest is =
-    subst (λ those. Begins (work.settled x) (work.whole those)) (sym is) (part_trans (work.settled x) (work.settled (x ++ rest)) (work.whole (x ++ rest)) (law.grows x rest) (law.ends (x ++ rest)))
+    rw is (part_trans (work.settled x) (work.settled (x ++ rest)) (work.whole (x ++ rest)) (law.grows x rest) (law.ends (x ++ rest)))
 
 pub lawful_grows : {work : Work} {bytes : List ℕ} → IsLawful work → IsGrowing work bytes
 lawful_grows law = record { settled = settled_whole law; closed = closed_whole law }
@@ -195,7 +195,7 @@ named_up_to names (suc last) {n} few all = or_right names.auto _ (grind (arith, 
 
 dealt_closed : (delim : ℕ) {n : ℕ} (elide : Bool) (names : Naming) {bytes : List ℕ} → n ≤ name_count names.alphabet names.width
     → (x : List ℕ) → HasAll (split_work (round_plan delim n elide names)) (ending bytes) x → Begins (whole_by (round_plan delim n elide names) x) (whole_by (round_plan delim n elide names) bytes)
-dealt_closed delim {n} elide names {bytes} all x (to_end ends is) = subst (λ those. Begins (whole_by (round_plan delim n elide names) those) (whole_by (round_plan delim n elide names) bytes)) is (part_begins_itself _)
+dealt_closed delim {n} elide names {bytes} all x (to_end ends is) = rw (← is) (part_begins_itself _)
 dealt_closed delim {n} elide names all x (enough rest is complete) =
     let named = ap (are_named names) (dealt_count delim elide n x) ∙ named_up_to names (opened_by delim elide n x) (opened_by-most delim elide n x) all in
     absurd (false≢true (sym (ap not named) ∙ complete))

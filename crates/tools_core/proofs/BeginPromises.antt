@@ -34,7 +34,7 @@ pub begins_each : (run well : Run) (asked : Settings) (input : List ℕ) → Ran
 begins_each run well asked input ran whole same has =
     let one = has_one ran has in
     let all = completes_left whole in
-    elim (subst (λ found. DoesAsked true true asked found run.inputs run.outputs run.status ⊎ RefusesOperands true run.words asked run.outputs run.status) one.only (ran_over ran)) [
+    elim (rw one.only at (ran_over ran)) [
       | inl does ↦ λ place differs.
           let (made, makes, begins) = begins_made asked one.input run.inputs run.outputs run.status (can_run run.words ran.read) one.content does in
           let same_too = same_made run well ran.read whole.read same (subst (λ inputs. Makes asked inputs made) (sym one.only) makes) all.of in

@@ -82,6 +82,5 @@ is_copied {asked = asked} {input} does has =
     let whole = one.slots ∙ ap (λ (made : Outcome). slots_of made.part) is ∙ ap (λ those. slots_of (tee_made asked those).part) there in
     record {
       output = ap (λ slots. (slot_at slots 0).written) whole;
-      files = subst (AreCopies asked.mode asked.names input) (sym (ap (drop 2) whole ∙ copies_are asked.mode input asked.names))
-          (record { named = copies_named asked.mode input asked.names; each = All-map (λ (file : Slot). IsSound asked.mode file × (file.written ≡ input)) (copy asked.mode input) asked.names (λ k name within. ((refl, refl, refl), refl)) });
+      files = rw (ap (drop 2) whole ∙ copies_are asked.mode input asked.names) (record { named = copies_named asked.mode input asked.names; each = All-map (λ (file : Slot). IsSound asked.mode file × (file.written ≡ input)) (copy asked.mode input) asked.names (λ k name within. ((refl, refl, refl), refl)) });
     }

@@ -71,7 +71,7 @@ versions_kept shows start (suc zero) within grows = (tt, tt)
 versions_kept shows {name} {file} {count} start (suc (suc n)) within grows = ((λ goes. grows.1 start (omega (arith, within))), versions_kept shows (suc start) (suc n) (omega (arith, within)) grows)
 
 pub kept_in : (by_name : Bool) {name : List ℕ} (shows : ℕ → Snapshot) {file count : ℕ} → OnlyGrows count shows name file → AreKept (entries_of by_name name (seen_first shows count))
-kept_in by_name {name} shows {file} {count} grows = subst AreKept (sym (ap (entries_of by_name name) (seen_are shows count) ∙ entries_are by_name shows count (omega arith) grows)) (versions_kept shows 0 count (omega arith) grows)
+kept_in by_name {name} shows {file} {count} grows = rw (ap (entries_of by_name name) (seen_are shows count) ∙ entries_are by_name shows count (omega arith) grows) (versions_kept shows 0 count (omega arith) grows)
 
 -- what they gain is what came
 holds_later : (shows : ℕ → Snapshot) {name : List ℕ} {file count : ℕ} (start n : ℕ) → start + n < count → OnlyGrows count shows name file
@@ -181,7 +181,7 @@ wrote_text ways name shows count seen watched new keeps_bytes (looked looks shar
     let well : any_failed (shares_of ways (name ∷ []) looks) ≡ false = ap any_failed (sym shares_are) ∙ unfailed (any_failed shares) leaves.status_is in
     let count_is : length looks ≡ length seen = sym (ap length seen_is ∙ length-map looks (λ (look : Look). look.snapshot)) in
     let all_kept = keeps_bytes (seen_is ∙ made.saw ∙ ap (seen_first shows) count_is) in
-    let text = is_text ways name looks well (subst (λ those. AreKept (entries_of ways.by_name name those)) seen_is all_kept) in
+    let text = is_text ways name looks well (rw seen_is at all_kept) in
     let (error, tells, slots) = leaves.wrote standard_output standard_error [] refl in record {
       looks = looks;
       count_is = count_is;
@@ -213,7 +213,7 @@ pub tells_all : (run : FollowRun) (options : EndsAsked) (followed : Followed) (n
     → (slot_at run.outputs 0).written ≡ tail_of options.delim options.unit (is_plus options.count.sign) options.count.amount ((run.shows 0).holds file) ++ came
 tells_all run options followed name came file n follows bare named count grows is =
     let ways = ways_of 0 (is_name followed) (start_of options) in
-    let wrote = follows_text follows bare named (λ saw. subst (λ those. AreKept (entries_of (is_name followed) name those)) (sym saw) (kept_in (is_name followed) run.shows grows)) in
+    let wrote = follows_text follows bare named (λ saw. rw saw (kept_in (is_name followed) run.shows grows)) in
     let grew = subst (λ k. OnlyGrows k run.shows name file) (sym wrote.count_is) grows in
     let made : length wrote.looks ≡ run.count = all_made ways run.shows wrote.looks grew wrote.saw wrote.kept wrote.few wrote.full in
     let all : length wrote.looks ≡ suc n = made ∙ count ∙ (let e : n + 1 ≡ suc n = omega arith in e) in

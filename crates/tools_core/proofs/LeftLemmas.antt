@@ -74,7 +74,7 @@ pub record Kept (sweeps : Bool) (place : ℕ) (old new : Slot) : Type 0 where
   pub broke : old.is_broken ≡ false → new.is_broken ≡ true → (sweeps ≡ true) × (new.state ≡ state.Closed)
 
 kept_same : (sweeps : Bool) (place : ℕ) {old new : Slot} → remains sweeps place old ≡ old → new ≡ old → Kept sweeps place old new
-kept_same sweeps place {old} stays same = subst (Kept sweeps place old) (sym same) (record {
+kept_same sweeps place {old} stays same = rw same (record {
   name = refl;
   mode = refl;
   written = refl;
@@ -134,11 +134,11 @@ pub record IsLeft (which : Tool) (made : Outcome) (new : List Slot) (status : �
 
 pub left_at : {which : Tool} {made : Outcome} {new : List Slot} {status : ℕ} → IsLeft which made new status → (place : ℕ) → (place ≡ 1 → ⊥) → Kept made.sweeps place (slot_at (slots_of made.part) place) (slot_at new place)
 left_at {made = made} {new} left place differs =
-    subst (λ old. Kept made.sweeps place old (slot_at new place)) (beside_error (adds made.part.out standard_output) left.error standard_error _ place differs) (swept_kept made.sweeps _ new left.swept place)
+    rw (beside_error (adds made.part.out standard_output) left.error standard_error _ place differs) at (swept_kept made.sweeps _ new left.swept place)
 
 pub left_says : {which : Tool} {clears : Bool} {made : Outcome} {new : List Slot} {status : ℕ} → Fits which clears made → IsLeft which made new status → SaysLines which made.messages (slot_at new 1)
 left_says {which} {made = made} {new} fits left =
-    record { are = fits.are; said = subst (SaysAll true which made.messages standard_error) (sym (swept_error made.sweeps (outputs_of made.part left.error) new (omega arith) left.swept)) left.says }
+    record { are = fits.are; said = rw (swept_error made.sweeps (outputs_of made.part left.error) new (omega arith) left.swept) left.says }
 
 pub unfailed : (failed : Bool) → ◌≡◌ {A = ℕ} 0 (cond failed 1 0) → failed ≡ false
 unfailed true is = absurd (omega (arith, is))
@@ -153,8 +153,8 @@ left_whole {which} {made = made} {new} fits left well =
     let sound = unfailed made.failed (sym well ∙ left.is) in
     let stay : made.sweeps ≡ false = elim (cases_Bool made.sweeps) [ inl is ↦ absurd (false≢true (sym sound ∙ (fits.sweeps is).1)) | inr is ↦ is ] in record {
       sound = sound;
-      slots = subst (λ sweeps. Swept sweeps 2 (outputs_of made.part left.error) new) stay left.swept
-          ∙ ap (outputs_of made.part) (subst (λ texts. SaysAll true which texts standard_error left.error) (fits.quiet sound) left.says);
+      slots = rw stay at left.swept
+          ∙ ap (outputs_of made.part) (rw (fits.quiet sound) at left.says);
     }
 
 -- `tee` where no output broke and all of the input was copied
@@ -213,7 +213,7 @@ tee_left {asked} {content} (tee.copied pieces fault first broke output error fil
     let sounds = sound_first first (are_sound broke) sound in
     let met = met_is _ (some_left (suc (length pieces)) broke sounds.0) all comes.few comes.read in record {
       error = error;
-      says = subst (λ lines. SaysAll true tool.Tee lines standard_error error) (quiet_outputs asked.names (first ∷ broke) (length pieces) fault sound ∙ ap said_of_input met) says;
+      says = rw (quiet_outputs asked.names (first ∷ broke) (length pieces) fault sound ∙ ap said_of_input met) at says;
       swept = slots ∙ ap (λ slot. slot ∷ error ∷ files) (whole_output true pieces first output sounds.0 left)
           ∙ ap (λ those. adds (concat pieces) standard_output ∷ error ∷ those) (whole_files true asked.mode pieces asked.names broke files sounds.1 rest)
           ∙ ap (λ bytes. adds bytes standard_output ∷ error ∷ map (copy asked.mode bytes) asked.names) all
@@ -256,7 +256,7 @@ ends_left {task} {inputs} {new = new} Of living of (as_defined error reached say
   made = made_by task inputs;
   of = of;
   fits = inputs_fit task true inputs living;
-  left = record { error = error; says = says; swept = subst (λ slots. Swept (made_by task inputs).sweeps 2 slots new) (slots_at outputs) swept; is = is };
+  left = record { error = error; says = says; swept = rw (slots_at outputs) at swept; is = is };
 }
 ends_left Of living of ends unstopped = absurd unstopped
 
@@ -284,8 +284,7 @@ not_refused (inr (same, refuses)) = inr refuses
 pub ran_over : {run : Run} {asked : Settings} → Ran run asked → DoesAsked true true asked (inputs_at run.world (names_of asked)) run.inputs run.outputs run.status ⊎ RefusesOperands true run.words asked run.outputs run.status
 ran_over {run} ran =
     let (found, finds, ends) = ran.ends in
-    not_refused (subst (λ (meant : Result Settings Fault). RunEndsAt true true run.words (inputs_at run.world (names_at meant)) (source_of run.world.standard ∷ []) run.inputs run.outputs run.status meant) ran.read
-    (subst (λ those. RunEndsAt true true run.words those (source_of run.world.standard ∷ []) run.inputs run.outputs run.status (settings_of run.words)) (finds.there refl) ends))
+    not_refused (rw ran.read at (rw (finds.there refl) at ends))
 
 -- Two runs that were asked for the same, over the same inputs
 
@@ -296,13 +295,13 @@ found_same one other read read_too same =
 -- what the one made is what the other does
 pub same_made : (one other : Run) {asked : Settings} {made made_too : Outcome} → settings_of one.words ≡ Ok asked → settings_of other.words ≡ Ok asked → FindAlike one other
     → Makes asked (inputs_at one.world (names_of asked)) made → Makes asked (inputs_at other.world (names_of asked)) made_too → made_too ≡ made
-same_made one other {asked} {made} read read_too same makes makes_too = one_made asked _ makes_too (subst (λ inputs. Makes asked inputs made) (found_same one other read read_too same) makes)
+same_made one other {asked} {made} read read_too same makes makes_too = one_made asked _ makes_too (rw (found_same one other read read_too same) at makes)
 
 pub leave_alike : (one other : Run) (asked : Settings) → Completes one asked → Completes other asked → FindAlike one other → LeaveAlike asked one other
 leave_alike one other asked whole whole_too same =
     let here = completes_left whole in
     let there = completes_left whole_too in
-    let two = subst (λ made. IsLeft (tool_of asked) made other.outputs other.status) (same_made one other whole.read whole_too.read same here.of there.of) there.left in record {
+    let two = rw (same_made one other whole.read whole_too.read same here.of there.of) at there.left in record {
       status = here.left.is ∙ sym two.is;
       count = swept_count here.made.sweeps _ _ here.left.swept ∙ sym (swept_count here.made.sweeps _ _ two.swept);
       outputs = λ place differs.

@@ -36,8 +36,7 @@ digits_in_order (suc width) {low} {high} less small =
       | inr reached ↦
           let same : high / 10 ≡ low / 10 = omega (arith, reached, one, two, less, first, second) in
           let last : 48 + low % 10 < 48 + high % 10 = omega (arith, same, one, two, less) in
-          subst (λ front. IsBelow (digits_in width (low / 10) ++ (48 + low % 10) ∷ []) (front ++ (48 + high % 10) ∷ [])) (sym (ap (digits_in width) same))
-          (same_front (digits_in width (low / 10)) ((48 + low % 10) ∷ []) ((48 + high % 10) ∷ []) (first_less (48 + low % 10) (48 + high % 10) [] [] last))
+          rw (ap (digits_in width) same) (same_front (digits_in width (low / 10)) ((48 + low % 10) ∷ []) ((48 + high % 10) ∷ []) (first_less (48 + low % 10) (48 + high % 10) [] [] last))
     ]
 
 one_more : {byte : ℕ} (count : ℕ) → byte ∷ replicate count byte ≡ replicate count byte ++ byte ∷ []

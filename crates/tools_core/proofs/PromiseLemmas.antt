@@ -54,7 +54,7 @@ did_one {asked = asked} does has =
     let one = has_one does.ran has in
     let all = completes_left (completes does) in
     let whole = left_whole all.fits all.left does.well in
-    record { input = one.input; content = one.content; made = all.made; makes = subst (λ inputs. Makes asked inputs all.made) one.only all.of; sound = whole.sound; slots = whole.slots }
+    record { input = one.input; content = one.content; made = all.made; makes = rw one.only at all.of; sound = whole.sound; slots = whole.slots }
 
 not_judged : (verdict : Option Fault) → (is_some verdict || false) ≡ false → verdict ≡ None
 not_judged None sound = refl
@@ -66,6 +66,6 @@ pub record IsMade (task : Task) (name bytes : List ℕ) (new : List Slot) : Type
 
 pub one_made : {run : Run} {asked : Settings} {bytes : List ℕ} (one : DidOne run asked bytes) (task : Task) → one.made ≡ made_by task (one.input ∷ []) → IsMade task one.input.name bytes run.outputs
 one_made {bytes = bytes} one task is = record {
-  unjudged = not_judged (task.work.verdict bytes) (subst (λ content. ((of_content task true one.input.name content).failed || false) ≡ false) one.content (sym (ap (λ (made : Outcome). made.failed) is) ∙ one.sound));
+  unjudged = not_judged (task.work.verdict bytes) (rw one.content at (sym (ap (λ (made : Outcome). made.failed) is) ∙ one.sound));
   slots = one.slots ∙ ap (λ (made : Outcome). slots_of made.part) is ∙ ap slots_of (made_one task one.input one.content);
 }

@@ -172,7 +172,7 @@ refused_memory words fault refuses = record {
 -- what is said of the words is said by the tool that they ask for
 says_as : {told : Bool} (words : List (List ℕ)) {settings : Settings} {new : List Slot} {status : ℕ} → settings_of words ≡ Ok settings → (refuses : RefusesFor told words Memory new status)
     → SaysAll told (tool_of settings) (message_of (tool_of settings) Memory [] ∷ []) standard_error refuses.error
-says_as {told} words is refuses = subst (λ (which : Tool). SaysAll told which (message_of which Memory [] ∷ []) standard_error refuses.error) (runs_as_named words is) (refuses.error, refuses.says, refl)
+says_as {told} words is refuses = rw (← (runs_as_named words is)) (refuses.error, refuses.says, refl)
 
 module _ (told_in told : Bool) (words : List (List ℕ)) (laid : ℕ → List ℕ → Option Content) (sources : List Source) (new : List Slot) (status : ℕ) (fresh : IsFresh sources) where
   -- no input was touched by a run of words that mean this
@@ -198,14 +198,14 @@ module _ (told_in told : Bool) (words : List (List ℕ)) (laid : ℕ → List �
   pub refused_or_memory : {fault : Fault} → IsRefused HasBadOperands (settings_of words) fault → RefusesFor told words fault new status → EndsUnread (settings_of words)
   refused_or_memory (inr (inl is)) refuses = rw is ([], record { are = refl; there = λ t. refl }, (refl, refuses))
   refused_or_memory {fault} (inr (inr (settings, is, bad))) refuses = rw is (operands_refused settings fault bad refuses)
-  refused_or_memory (inl is) refuses = unread_for (settings_of words) refl (subst (λ why. RefusesFor told words why new status) is refuses)
+  refused_or_memory (inl is) refuses = unread_for (settings_of words) refl (rw is at refuses)
 
 -- `csplit` cuts at the operands that were read
 pub csplit_runs : {told_in told : Bool} {world : World} {asked : CsplitAsked} {input : List ℕ} {operands : List Operand} {sources : List Source} {new : List Slot} {status : ℕ} → input ≡ asked.input → Asks asked.operands operands
     → RunsOver told_in world (input ∷ []) (λ found. EndsAs told_in told (csplit_task asked operands) found sources new status)
     → RunsOver told_in world (asked.input ∷ []) (λ found. CsplitEndsAs told_in told asked found sources new status)
 csplit_runs {told_in} {world} {operands} is asks (found, finds, ends) =
-    (found, subst (λ name. Finds told_in world (name ∷ []) found) is finds, record { operands = operands; asks = asks; ends = ends })
+    (found, rw is at finds, record { operands = operands; asks = asks; ends = ends })
 
 pub asked_or_none : (words : List (List ℕ)) {settings : Settings} {fault : Fault} → settings_of words ≡ Ok settings → settings_of words ≡ Err fault → ⊥
 asked_or_none words {settings} {fault} asks refuses = both (sym asks ∙ refuses) where
@@ -235,8 +235,7 @@ module _ (told_in told : Bool) (words : List (List ℕ)) (looks : ℕ) (shows : 
   unread_tail asked None speaks refuses = (unseen, unwatched, refused_memory words (Usage BadFollow 0) refuses)
   unread_tail asked (Some followed) speaks refuses = no_room_yet unseen unwatched (λ output error since are. (
     refuses.error,
-    subst (λ slot. Says told tool.Tail (message_of tool.Tail Memory []) slot refuses.error) (ap (λ slots. slot_at slots 1) are)
-        (subst (λ (which : Tool). Says told which (message_of which Memory []) standard_error refuses.error) speaks refuses.says),
+    rw (ap (λ slots. slot_at slots 1) are) at (rw speaks at refuses.says),
     refuses.slots ∙ ap (changed_at 1 (λ _. refuses.error)) are,
   )) refuses.failed
 
@@ -253,7 +252,7 @@ module _ (told_in told : Bool) (words : List (List ℕ)) (looks : ℕ) (shows : 
   pub refused_words : {fault : Fault} → IsRefused HasBadOperands (settings_of words) fault → RefusesFor told words fault new status → FollowingEnds told_in told words looks shows seen watched new status
   refused_words (inr (inl is)) refuses = rw is (unseen, unwatched, refuses)
   refused_words {fault} (inr (inr (settings, is, bad))) refuses = rw is (operands_unread settings fault bad refuses)
-  refused_words (inl is) refuses = unread_files (settings_of words) refl (subst (λ why. RefusesFor told words why new status) is refuses)
+  refused_words (inl is) refuses = unread_files (settings_of words) refl (rw is at refuses)
 
 -- Which of both runs the words ask for.
 

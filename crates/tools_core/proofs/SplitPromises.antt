@@ -109,7 +109,7 @@ is_split {run} {asked} {input} does has =
     let IsMade = λ (file : File). IsSound Fresh (slot_of file) in
     record {
       can = can;
-      listed = subst (AreListed asked) (sym files) (record {
+      listed = rw files (record {
         named = λ place within. called place (omega (arith, size, within));
         in_order = order_by (name_of names) _ called (λ k next.
             in_order names.prefix names.alphabet names.width names.auto names.ending k (suc k) can.width.0 (omega arith) (named_below names _ are (suc k) (omega (arith, size, count, next))));
@@ -182,7 +182,7 @@ ends_line : (delim : ℕ) {n : ℕ} (bytes : List ℕ) → length bytes ≡ n �
 ends_line delim {n} bytes long = elim (cases_lt 0 (delimiters delim bytes)) [
   | inl lines ↦ inl (ap (ends_with delim) (whole_of_lines delim bytes lines) ∙ lines_end delim bytes _ lines (omega arith) refl)
   | inr few ↦ let none : delimiters delim bytes ≡ 0 = omega (arith, few) in
-      inr (subst (λ piece. (length piece ≡ n) × (delimiters delim piece ≡ 0)) (sym (whole_of_none delim bytes none)) (long, none))
+      inr (rw (whole_of_none delim bytes none) (long, none))
 ]
 
 uncut : (delim n : ℕ) (x : List ℕ) (pieces : List (List ℕ)) → AreLineByteParts delim n x pieces → (place : ℕ) → place + 1 < length pieces → EndsLine delim n (text_at pieces place)
@@ -194,7 +194,7 @@ uncut delim n x pieces are place next = absurd (omega (arith, next))
 
 some_line : (delim : ℕ) (text : List ℕ) → 0 < length text → 0 < length (first_lines delim 1 text)
 some_line delim [] some = absurd (omega (arith, some))
-some_line delim (byte ∷ text) some = subst (λ line. 0 < length line) (sym (first_lines-cons delim byte 0 text)) (omega arith)
+some_line delim (byte ∷ text) some = rw (first_lines-cons delim byte 0 text) (omega arith)
 
 -- the line after the complete ones of a front, which is completed
 line_after : (delim : ℕ) (front rest : List ℕ) {k : ℕ} → k ≡ delimiters delim front → length (first_lines delim (k + 1) ((front ++ rest) ++ delim ∷ [])) ≡ length front + length (first_lines delim 1 (rest ++ delim ∷ []))
@@ -239,7 +239,7 @@ filled_by delim {n} part rest enough filled =
     let count : delimiters delim next ≡ delimiters delim (take n rest) = whole_count delim (take n rest) in
     let whole : next ++ drop (length next) rest ≡ rest = first_then_after (limit.LineBytes n delim) rest in
     elim (cases_lt 0 (delimiters delim (take n rest))) [
-      | inl lines ↦ subst (λ line. n < length part + length line) (ap (λ text. first_lines delim 1 (text ++ delim ∷ [])) (sym whole) ∙ same_line delim next (drop (length next) rest) (omega (arith, lines, count))) filled
+      | inl lines ↦ rw (ap (λ text. first_lines delim 1 (text ++ delim ∷ [])) (sym whole) ∙ same_line delim next (drop (length next) rest) (omega (arith, lines, count))) at filled
       | inr few ↦
           let none : delimiters delim (take n rest) ≡ 0 = omega (arith, few) in
           open_next delim part next (ap length (whole_of_none delim (take n rest) none) ∙ length-take-le n rest enough) (count ∙ none)
@@ -304,7 +304,7 @@ dealt_lines {delim} {n} {elide} {x} some = record {
       ∙ ap (λ place. get_or (lines_of delim x) place []) (let sum = div-add-mod' i n in omega (arith, sum)));
   all = ap length (joined_dealt delim n elide x) ∙ all_dealt delim n x some;
   count = λ is. ap (λ those. length (dealt_files delim those n x)) is ∙ length-map-range_with_len (share_of delim n x) 0 n;
-  left_out = λ is. subst (λ those. All (λ bytes. 0 < length bytes) (dealt_files delim those n x)) (sym is) (all_some (round_robin delim n x));
+  left_out = λ is. rw is (all_some (round_robin delim n x));
 }
 
 -- By the way to split
@@ -313,4 +313,4 @@ dealt_lines {delim} {n} {elide} {x} some = record {
 pub by_cut : {run : Run} {asked : SplitAsked} {cut : Cut} {input : List ℕ} (P : List (List ℕ) → Type 0) → (IsInLimits cut → P (pieces_of asked.delim cut asked.elide input)) → Does run (Split asked) → HasInput run input → asked.cut ≡ cut → P (contents_of run)
 by_cut {asked} {cut} {input} P holds does has is =
     let split = is_split does has in
-    subst P (sym (split.contents ∙ ap (λ those. pieces_of asked.delim those asked.elide input) is)) (holds (subst IsInLimits is split.can.cut))
+    rw (split.contents ∙ ap (λ those. pieces_of asked.delim those asked.elide input) is) (holds (rw is at split.can.cut))

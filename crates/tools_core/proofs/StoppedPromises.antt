@@ -47,7 +47,7 @@ use Rattle.tools_core.proofs.TeeLemmas.{tee_lines, tee_says, unsound_broke}
 call_long : {work : Work} {opening : Needs} {most : ℕ} {content : Content} {call : Step} → IsCall work opening most content call → 2 ^ 63 ≤ length call.read → 2 ^ 63 ≤ length content.bytes
 call_long opens long = absurd (omega (arith, long))
 call_long (feeds x piece rest is short more) long = let size = ap length is in let all = length-append (x ++ piece) rest in omega (arith, size, all, long)
-call_long (ends_call x (to_end ended is) needed) long = subst (λ bytes. 2 ^ 63 ≤ length bytes) (sym is) long
+call_long (ends_call x (to_end ended is) needed) long = rw is long
 call_long (ends_call x (enough rest is complete) needed) long = let size = ap length is in let all = length-append x rest in omega (arith, size, all, long)
 
 abbrev IsLong : Option Content → Type 0
@@ -103,7 +103,7 @@ stop_early {which} fault name {error} stops says slots is = record {
   why = fault;
   name = name;
   stops = stops;
-  line = subst (λ those. SaysLine which (message_of which fault name) (slot_at those 1)) (sym slots) ([], [], record { are = a_message fault name; said = says });
+  line = rw slots ([], [], record { are = a_message fault name; said = says });
   broke = λ place differs broken. still_sound place slots (streams_sound place error differs) broken;
 }
 
@@ -137,7 +137,7 @@ stopped_error : (clears : Bool) {error : Slot} {low high : Part} {fault : Fault}
 stopped_error clears {high = high} {fault} {reached} new between swept =
     swept_error clears reached new (omega arith) swept
     ∙ marked_error (IsNext between.part high) fault between.place (length between.part.files) _ between.outputs.since reached between.from
-    (subst (λ slots. Marks (IsNext between.part high) fault slots reached) between.outputs.slots between.marks)
+    (rw between.outputs.slots at between.marks)
 
 stopped_broke : {which : Tool} {clears : Bool} {error : Slot} {low high : Part} {fault : Fault} {reached : List Slot} (new : List Slot) (lines : List (List ℕ)) → AreLive high.files → StoppedBetween true (streams_with error) low high fault reached → Swept clears 2 reached new
     → SaysLines which (lines ++ message_of which fault (output_named new fault) ∷ []) (slot_at new 1) → (place : ℕ) → (place ≡ 1 → ⊥) → (slot_at new place).is_broken ≡ true → IsToldOf which new place ⊎ IsStuck clears new place
@@ -149,7 +149,7 @@ stopped_broke {which} {clears} {error} {high = high} {fault} {reached} new lines
       | inl was ↦ elim (marked_at (IsNext between.part high) fault between.reached reached place between.marks) [
         | inl same ↦ absurd (false≢true (sym sound.0 ∙ sym (ap (λ (output : Slot). output.is_broken) same) ∙ was))
         | inr marked ↦ let why = blamed fault place between.reached sound marked in
-            inl ((slot_at new place).name, inl refl, (lines, [], subst (λ line. SaysLines which (lines ++ line ∷ []) (slot_at new 1)) (sym (ap (λ what. message_of which what (slot_at new place).name) (kept.fails place ∙ why.is) ∙ ap (message_of which fault) (why.named new))) says))
+            inl ((slot_at new place).name, inl refl, (lines, [], rw (ap (λ what. message_of which what (slot_at new place).name) (kept.fails place ∙ why.is) ∙ ap (message_of which fault) (why.named new)) says))
       ]
     ]
 
@@ -160,7 +160,7 @@ ends_or {run} {asked} {task} living (stopped fault before input after error step
     let lines = (made_by task before).messages in
     let fits = inputs_fit task true before living in
     let told : SaysLines task.tool (lines ++ message_of task.tool fault (output_named run.outputs fault) ∷ []) (slot_at run.outputs 1) =
-    record { are = All-append (IsMessage task.tool) lines _ fits.are (a_message fault _); said = subst (SaysAll true task.tool _ standard_error) (sym (stopped_error task.work.clears run.outputs between swept)) says } in inr (record {
+    record { are = All-append (IsMessage task.tool) lines _ fits.are (a_message fault _); said = rw (stopped_error task.work.clears run.outputs between swept) says } in inr (record {
       failed = is;
       why = fault;
       name = output_named run.outputs fault;
@@ -191,8 +191,8 @@ tee_stop fault left rest says slots failed why name stops line = record {
   why = why;
   name = name;
   stops = stops;
-  line = subst (λ those. SaysLine tool.Tee (message_of tool.Tee why name) (slot_at those 1)) (sym slots) line;
-  broke = λ place differs broken. inl (subst (λ those. IsToldOf tool.Tee those place) (sym slots) (tee_says fault place left rest says differs (subst (λ those. (slot_at those place).is_broken ≡ true) slots broken)));
+  line = rw slots line;
+  broke = λ place differs broken. inl (rw slots (tee_says fault place left rest says differs (rw slots at broken)));
 }
 
 tee_by : {run : Run} {asked : Settings} {mode : Mode} {content : Content} (Leaves : List ℕ → Type 0) {is_vain : Bool} {pieces names : List (List ℕ)} {first : Option ℕ} {broke : List (Option ℕ)} {output error : Slot} {files : List Slot} (fault : Option Fault) (sound : Bool) → are_sound (first ∷ broke) ≡ sound
@@ -203,12 +203,12 @@ tee_by {run} {asked} Leaves {output = output} {error} {files} fault false sound 
     let (place, differs, broken) = unsound_broke left rest sound in
     let (name, called, line) = tee_says fault place left rest says differs broken in
     inr (tee_stop fault left rest says slots (is ∙ ap (λ flag. cond (flag && is_none fault) 0 1) sound) (failing place (slot_at (output ∷ error ∷ files) place).state) name
-    (failing_stops run asked (slot_at (output ∷ error ∷ files) place).state (subst (λ those. (place ≡ 1 → ⊥) × IsCalled (slot_at those place) name × ((slot_at those place).is_broken ≡ true)) (sym slots) (differs, called, broken))) line)
+    (failing_stops run asked (slot_at (output ∷ error ∷ files) place).state (rw slots (differs, called, broken))) line)
 tee_by Leaves {pieces = pieces} {names} {first} {broke} {error = error} fault true sound long vain reads left rest says slots is = elim (read_or Leaves (vain (sound_first first (are_sound broke) sound).0) reads) [
   | inl all ↦ inl (sound, all)
   | inr (met, many) ↦ inr (tee_stop fault left rest says slots (is ∙ ap (λ flag. cond (flag && is_none fault) 0 1) sound ∙ ap (λ why. cond (is_none why) 0 1) met) TooLong (codes "standard input") (long many)
       (says_line (has_before (said_in (suc (length pieces)) (output_names names) (first ∷ broke)) (has_after (said_before (suc (length pieces)) (output_names names) (first ∷ broke)) ([], [], refl)))
-      (tee_lines names (first ∷ broke) (length pieces) (Some TooLong) (subst (λ why. SaysAll true tool.Tee (messages_of names (first ∷ broke) (length pieces) why) standard_error error) met says))))
+      (tee_lines names (first ∷ broke) (length pieces) (Some TooLong) (rw met at says))))
 ]
 
 tee_or : {run : Run} {asked : Settings} {mode : Mode} {names : List (List ℕ)} {content : Content} {source : Source} → inputs_at run.world (names_of asked) ≡ standard_input content ∷ [] → (ends : tee.EndsAs true true mode names content source run.outputs run.status)
@@ -246,7 +246,7 @@ ran_so {run} {asked} ran = elim (ran_over ran) [
     | inr stop ↦ inr stop
   ]
   | inr (fault, bad, refuses) ↦ inr (stop_early fault (word_of run.words fault) (bad_stops run asked fault bad)
-      (subst (λ which. SaysAll true which (message_of which fault (word_of run.words fault) ∷ []) standard_error refuses.error) (runs_as_named run.words ran.read) (refuses.error, refuses.says, refl)) refuses.slots refuses.failed)
+      (rw (← (runs_as_named run.words ran.read)) (refuses.error, refuses.says, refl)) refuses.slots refuses.failed)
 ]
 
 pub completes_or : (run : Run) (asked : Settings) → Ran run asked → Completes run asked ⊎ IsStopped run asked

@@ -82,8 +82,7 @@ said_here {name} {names} {broke} {place = place} {output} (Some call) (within, c
   called = called;
   call = call;
   within = within;
-  line = subst (λ is. HasLine (message_of tool.Tee (failing place output.state) name) (cond is (message_of tool.Tee (fault_in call) name ∷ said_in call names broke) (said_in call names broke))) (sym (eq-eqb call call refl))
-      ([], said_in call names broke, ap (λ line. line ∷ said_in call names broke) (same place));
+  line = rw (eq-eqb call call refl) ([], said_in call names broke, ap (λ line. line ∷ said_in call names broke) (same place));
 }
 
 said_by : (is : Bool) {line : List ℕ} (other : List ℕ) {lines : List (List ℕ)} → HasLine line lines → HasLine line (cond is (other ∷ lines) lines)
@@ -110,7 +109,7 @@ before_line : {line : List ℕ} (last : ℕ) {call : ℕ} (names : List (List �
 before_line zero names broke less has = absurd (omega (arith, less))
 before_line {line} (suc last) {call} names broke less has = elim (cases_lt call last) [
   | inl before ↦ has_before (said_in last names broke) (before_line last names broke before has)
-  | inr past ↦ let same : call ≡ last = omega (arith, less, past) in has_after (said_before last names broke) (subst (λ those. HasLine line (said_in those names broke)) same has)
+  | inr past ↦ let same : call ≡ last = omega (arith, less, past) in has_after (said_before last names broke) (rw same at has)
 ]
 
 call_line : {line : List ℕ} (names : List (List ℕ)) (broke : List (Option ℕ)) {pieces call : ℕ} (fault : Option Fault) → call ≤ suc pieces → HasLine line (said_in call (output_names names) broke) → HasLine line (messages_of names broke pieces fault)
@@ -149,8 +148,8 @@ unsound_broke (tee.output_cut before piece after n is few) rest sound = (0, λ i
 
 -- all that was copied is one
 read_begins : {content : Content} (Leaves : List ℕ → Type 0) {is_vain : Bool} {x : List ℕ} {fault : Option Fault} → IsRead content Leaves is_vain x fault → IsBeginning x content.bytes
-read_begins Leaves (tee.to_end x is ends leaves) = subst (IsBeginning x) (sym is) (begins_itself x)
-read_begins Leaves (tee.to_break x is breaks leaves) = subst (IsBeginning x) (sym is) (begins_itself x)
+read_begins Leaves (tee.to_end x is ends leaves) = rw is (begins_itself x)
+read_begins Leaves (tee.to_break x is breaks leaves) = rw is (begins_itself x)
 read_begins Leaves (tee.to_limit x piece rest is long short leaves) = (piece ++ rest, is ∙ append_assoc x piece rest)
 read_begins Leaves (tee.to_last_output x rest is leaves) = (rest, is)
 
