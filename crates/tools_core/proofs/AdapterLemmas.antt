@@ -73,7 +73,7 @@ pub plan_is : {asked : SplitAsked} {cut : Cut} {alphabet : Alphabet} {width : �
     → names ≡ record { prefix = prefix; alphabet = alphabet; width = width; auto = auto; ending = ending; drawn = 0 }
     → record { cut = cut; alphabet = alphabet; width = width; auto = auto; elide = elide; input = input; prefix = prefix; ending = ending; delim = delim } ≡ asked
     → record { delim = delim; cut = cut; elide = elide; names = names } ≡ plan_of asked
-plan_is {cut} {elide} {delim} {names} made is = ap (λ (those : Naming). record { delim = delim; cut = cut; elide = elide; names = those }) made ∙ ap plan_of is
+plan_is {cut} {elide} {delim} {names} made is = cc (made, is)
 
 -- an engine that was opened, and left the outputs as they were
 

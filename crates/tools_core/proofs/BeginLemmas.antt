@@ -131,7 +131,7 @@ abbrev pub part_of : Task → List ℕ → List ℕ → Part
 part_of task name bytes = after_part (only_out (header_text task.with_header true name)) (task.work.whole bytes)
 
 pub made_one : (task : Task) (input : Input) {bytes : List ℕ} → input.content ≡ Some (ending bytes) → (made_by task (input ∷ [])).part ≡ part_of task input.name bytes
-made_one task input is = ap (λ content. after_part (of_content task true input.name content).part nothing) is ∙ nothing_after
+made_one task input is = cc (is, nothing_after)
 
 -- What a step has written is a beginning of the whole.
 

@@ -284,6 +284,6 @@ are_sections run asked input does has =
       split.asks,
       record {
         all = none_missing asked.style.suppress split.operands split.well;
-        files = ap (map (λ (file : Slot). file.written)) split.files ∙ bytes_written _;
+        files = rw (split.files, bytes_written _);
       },
     )

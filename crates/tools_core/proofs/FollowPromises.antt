@@ -48,7 +48,7 @@ versions shows file start zero = []
 versions shows file start (suc n) = version_in (shows start) file ∷ versions shows file (suc start) n
 
 later_by : (by_name : Bool) (name : List ℕ) {file : ℕ} (snapshot : Snapshot) {led : Option ℕ} {rest : List Entry} → led ≡ Some file → version_in snapshot file ∷ (entries_led snapshot (Some file) led ++ rest) ≡ version_in snapshot file ∷ rest
-later_by by_name name {file} snapshot {rest} is = ap (λ those. version_in snapshot file ∷ (entries_led snapshot (Some file) those ++ rest)) is ∙ ap (λ those. version_in snapshot file ∷ (those ++ rest)) (led_same snapshot file)
+later_by by_name name {file} snapshot {rest} is = rw (is, led_same snapshot file)
 
 later_are : (by_name : Bool) {name : List ℕ} (shows : ℕ → Snapshot) {file count : ℕ} (start n : ℕ) → start + n ≤ count → OnlyGrows count shows name file → entries_later by_name name (Some file) (looks_from shows start n) ≡ versions shows file start n
 later_are by_name shows start zero within grows = refl
@@ -57,13 +57,11 @@ later_are true {name} shows {file} {count} start (suc n) within grows =
     later_by true name (shows start) leads
     ∙ ap (λ opened. version_in (shows start) file ∷ entries_later true name opened (looks_from shows (suc start) n)) leads
     ∙ ap (λ rest. version_in (shows start) file ∷ rest) (later_are true shows (suc start) n (omega (arith, within)) grows)
-later_are false {name} shows {file} {count} start (suc n) within grows = ap (λ rest. version_in (shows start) file ∷ rest) (later_are false shows (suc start) n (omega (arith, within)) grows)
+later_are false {name} shows {file} {count} start (suc n) within grows = rw (later_are false shows (suc start) n (omega (arith, within)) grows)
 
 entries_are : (by_name : Bool) {name : List ℕ} (shows : ℕ → Snapshot) {file count : ℕ} (n : ℕ) → n ≤ count → OnlyGrows count shows name file → entries_of by_name name (looks_from shows 0 n) ≡ versions shows file 0 n
 entries_are by_name shows zero within grows = refl
-entries_are by_name {name} shows {file} {count} (suc n) within grows =
-    ap (λ led. entries_led (shows 0) None led ++ entries_later by_name name led (looks_from shows 1 n)) (grows.0 0 (omega (arith, within)))
-    ∙ ap (λ rest. version_in (shows 0) file ∷ rest) (later_are by_name shows 1 n (omega (arith, within)) grows)
+entries_are by_name {name} shows {file} {count} (suc n) within grows = rw (grows.0 0 (omega (arith, within)), later_are by_name shows 1 n (omega (arith, within)) grows)
 
 versions_kept : (shows : ℕ → Snapshot) {name : List ℕ} {file count : ℕ} (start n : ℕ) → start + n ≤ count → OnlyGrows count shows name file → AreKept (versions shows file start n)
 versions_kept shows start zero within grows = tt
@@ -95,10 +93,7 @@ gains_are shows {file = file} {n = n} {came} within grows is =
 -- the text of such a name
 pub growing_text : (by_name : Bool) {name : List ℕ} (shows : ℕ → Snapshot) {file count n : ℕ} (start : List ℕ → List ℕ) (came : List ℕ) → n < count → OnlyGrows count shows name file → (shows n).holds file ≡ (shows 0).holds file ++ came
     → name_text start (entries_of by_name name (seen_first shows (suc n))) ≡ start ((shows 0).holds file) ++ came
-growing_text by_name {name} shows {file} {count} {n} start came within grows is =
-    ap (name_text start) (ap (entries_of by_name name) (seen_are shows (suc n)) ∙ entries_are by_name shows (suc n) (omega (arith, within)) grows)
-    ∙ text_is_gains start (versions shows file 0 (suc n)) (versions_kept shows 0 (suc n) (omega (arith, within)) grows)
-    ∙ ap (λ more. start ((shows 0).holds file) ++ more) (gains_are shows within grows is)
+growing_text by_name {name} shows {file} {count} {n} start came within grows is = rw (seen_are shows (suc n), entries_are by_name shows (suc n) (omega (arith, within)) grows, text_is_gains start (versions shows file 0 (suc n)) (versions_kept shows 0 (suc n) (omega (arith, within)) grows), gains_are shows within grows is)
 
 -- its file is open after each look
 pub stays_open : (by_name : Bool) {name : List ℕ} (shows : ℕ → Snapshot) {file count : ℕ} (n : ℕ) → n < count → OnlyGrows count shows name file → open_after by_name name (looks_from shows 0 (suc n)) ≡ Some file
@@ -132,8 +127,8 @@ wrote_all ways name before (look ∷ looks) last kept well =
     let both = or_parts (share_of ways before look ways.first name).has_failed (any_failed (shares_from ways (name ∷ []) here looks)) well in
     let fine = fine_share ways name before look (is_dropped ways.first before) (fate_at ways.first look) kept both.0 in
     let rest = wrote_all ways name here looks last (ap is_some (failed_sound ways.first before look fine.0) ∙ kept) both.1 in record {
-      is = ap (λ bytes. bytes ++ text_from false last (shares_from ways (name ∷ []) here looks)) fine.1 ∙ ap (λ more. gain ways name before look ++ more) rest.is;
-      kept = ap (λ fate. is_some (failed_by ways.first fate (failed_in ways.first looks))) fine.0 ∙ rest.kept;
+      is = rw (fine.1, rest.is);
+      kept = rw (fine.0, rest.kept);
     }
 
 -- all of the looks
@@ -152,8 +147,7 @@ alive_by false false kept is = ap (λ those. is_some those || false) is
 
 opens : (by_name : Bool) {name : List ℕ} (shows : ℕ → Snapshot) {file : ℕ} (looks : List Look) → OnlyGrows (length looks) shows name file → snapshots looks ≡ seen_first shows (length looks) → 0 < length looks → open_after by_name name (snapshots looks) ≡ Some file
 opens by_name shows [] grows saw some = absurd (omega (arith, some))
-opens by_name {name} shows {file} (look ∷ looks) grows saw some =
-    ap (open_after by_name name) (saw ∙ seen_are shows (suc (length looks))) ∙ stays_open by_name shows (length looks) (omega arith) grows
+opens by_name {name} shows {file} (look ∷ looks) grows saw some = cc (saw, seen_are shows (suc (length looks)), stays_open by_name shows (length looks) (omega arith) grows)
 
 all_made : (ways : Ways) {name : List ℕ} (shows : ℕ → Snapshot) {file count : ℕ} (looks : List Look) → OnlyGrows (length looks) shows name file → snapshots looks ≡ seen_first shows (length looks) → is_dropped ways.first looks ≡ false → length looks ≤ count
     → (length looks < count → (0 < length looks) × (◌≡◌ {A = Bool} true true → is_alive ways (name ∷ []) looks ≡ false)) → length looks ≡ count
@@ -190,7 +184,7 @@ wrote_text ways name shows count seen watched new keeps_bytes (looked looks shar
       kept = text.kept;
       few = few;
       full = full;
-      is = ap (λ those. (slot_at those 0).written) slots ∙ ap (text_from false None) shares_are ∙ text.is ∙ ap (λ those. name_text ways.start (entries_of ways.by_name name those)) (sym seen_is);
+      is = rw (slots, shares_are, text.is, seen_is);
     }
 wrote_text ways name shows count seen watched new keeps_bytes (stopped mid why stop says failed) = absurd (omega (arith, failed))
 wrote_text ways name shows count seen watched new keeps_bytes (no_room unseen unwatched says failed) = absurd (omega (arith, failed))

@@ -47,8 +47,7 @@ told_again [] = refl
 told_again (file ∷ files) = ap (λ those. file ∷ those) (told_again files)
 
 pub slots_at : {part : Part} {error : Slot} {now : List Slot} → OutputsAt true (streams_with error) part now → now ≡ outputs_of part error
-slots_at {part} {error} at =
-    at.slots ∙ ap (λ files. adds part.out standard_output ∷ error ∷ files) (sym (slots_again at.since) ∙ ap (map slot_of) (at.files ∙ told_again part.files))
+slots_at {part} {error} at = cc (at.slots, slots_again at.since, at.files, told_again part.files)
 
 -- What becomes of an output where files are removed, or stay
 
@@ -177,7 +176,7 @@ tee_made asked content = record {
 
 pub copies_are : (mode : Mode) (bytes : List ℕ) (names : List (List ℕ)) → map slot_of (map (λ name. file_of (copy mode bytes name)) names) ≡ map (copy mode bytes) names
 copies_are mode bytes [] = refl
-copies_are mode bytes (name ∷ names) = ap (λ those. copy mode bytes name ∷ those) (copies_are mode bytes names)
+copies_are mode bytes (name ∷ names) = rw (copies_are mode bytes names)
 
 tee_fits : (asked : TeeAsked) (bytes : List ℕ) (breaks_off : Bool) → Fits tool.Tee false (tee_made asked (record { bytes = bytes; breaks_off = breaks_off }))
 tee_fits asked bytes breaks_off = by breaks_off where
@@ -200,13 +199,11 @@ met_status true = refl
 met_status false = refl
 
 quiet_outputs : (names : List (List ℕ)) (broke : List (Option ℕ)) (pieces : ℕ) (fault : Option Fault) → are_sound broke ≡ true → messages_of names broke pieces fault ≡ said_of_input fault
-quiet_outputs names broke pieces fault sound =
-    ap (λ lines. (lines ++ said_of_input fault) ++ said_in (suc pieces) (output_names names) broke) (nothing_before (suc pieces) (output_names names) broke sound)
-    ∙ ap (λ lines. said_of_input fault ++ lines) (nothing_in (suc pieces) (output_names names) broke sound) ∙ append-nil (said_of_input fault)
+quiet_outputs names broke pieces fault sound = rw (nothing_before (suc pieces) (output_names names) broke sound, nothing_in (suc pieces) (output_names names) broke sound, append-nil (said_of_input fault))
 
 -- no output is left only where the first broke
 pub some_left : (call : ℕ) {first : Option ℕ} (broke : List (Option ℕ)) → first ≡ None → none_left call (first ∷ broke) ≡ false
-some_left call broke none = ap (λ those. broke_before call those && none_left call broke) none
+some_left call broke none = rw none
 
 pub tee_left : {asked : TeeAsked} {content : Content} {source : Source} {new : List Slot} {status : ℕ} (ends : tee.EndsAs true true asked.mode asked.names content source new status) → IsCopied ends → IsLeft tool.Tee (tee_made asked content) new status
 tee_left {asked} {content} (tee.copied pieces fault first broke output error files comes some left rest says slots is) (sound, all) =
@@ -214,11 +211,8 @@ tee_left {asked} {content} (tee.copied pieces fault first broke output error fil
     let met = met_is _ (some_left (suc (length pieces)) broke sounds.0) all comes.few comes.read in record {
       error = error;
       says = rw (quiet_outputs asked.names (first ∷ broke) (length pieces) fault sound ∙ ap said_of_input met) at says;
-      swept = slots ∙ ap (λ slot. slot ∷ error ∷ files) (whole_output true pieces first output sounds.0 left)
-          ∙ ap (λ those. adds (concat pieces) standard_output ∷ error ∷ those) (whole_files true asked.mode pieces asked.names broke files sounds.1 rest)
-          ∙ ap (λ bytes. adds bytes standard_output ∷ error ∷ map (copy asked.mode bytes) asked.names) all
-          ∙ ap (λ those. adds content.bytes standard_output ∷ error ∷ those) (sym (copies_are asked.mode content.bytes asked.names));
-      is = is ∙ ap (λ flag. cond (flag && is_none fault) 0 1) sound ∙ ap (λ why. cond (is_none why) 0 1) met ∙ met_status content.breaks_off;
+      swept = rw (slots, whole_output true pieces first output sounds.0 left, whole_files true asked.mode pieces asked.names broke files sounds.1 rest, all, copies_are asked.mode content.bytes asked.names);
+      is = rw (is, sound, met, met_status content.breaks_off);
     }
 tee_left (tee.no_room error says unread slots is) copied = absurd copied
 
@@ -239,9 +233,8 @@ same_content {content} {other} one two =
     let there : Some content ≡ Some other = ap (λ (input : Input). input.content) first in cc
 
 one_made : (asked : Settings) (inputs : List Input) {made other : Outcome} → Makes asked inputs made → Makes asked inputs other → made ≡ other
-one_made (Csplit asked) inputs (operands, asks, is) (operands_too, asks_too, is_too) =
-    is ∙ ap (λ read. made_by (csplit_task asked read) inputs) (asks_once asked.operands operands operands_too asks asks_too) ∙ sym is_too
-one_made (Tee asked) inputs (content, only, is) (content_too, only_too, is_too) = is ∙ ap (tee_made asked) (same_content only only_too) ∙ sym is_too
+one_made (Csplit asked) inputs (operands, asks, is) (operands_too, asks_too, is_too) = rw (is, asks_once asked.operands operands operands_too asks asks_too, is_too)
+one_made (Tee asked) inputs (content, only, is) (content_too, only_too, is_too) = rw (is, same_content only only_too, is_too)
 one_made asked inputs is is_too = is ∙ sym is_too
 
 pub record Left (which : Tool) (clears : Bool) (Of : Outcome → Type 0) (new : List Slot) (status : ℕ) : Type 0 where
@@ -289,8 +282,7 @@ ran_over {run} ran =
 -- Two runs that were asked for the same, over the same inputs
 
 found_same : (one other : Run) {asked : Settings} → settings_of one.words ≡ Ok asked → settings_of other.words ≡ Ok asked → FindAlike one other → inputs_at one.world (names_of asked) ≡ inputs_at other.world (names_of asked)
-found_same one other read read_too same =
-    sym (ap (λ (meant : Result Settings Fault). inputs_at one.world (names_at meant)) read) ∙ same ∙ ap (λ (meant : Result Settings Fault). inputs_at other.world (names_at meant)) read_too
+found_same one other read read_too same = cc (read, same, read_too)
 
 -- what the one made is what the other does
 pub same_made : (one other : Run) {asked : Settings} {made made_too : Outcome} → settings_of one.words ≡ Ok asked → settings_of other.words ≡ Ok asked → FindAlike one other

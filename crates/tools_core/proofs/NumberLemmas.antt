@@ -45,7 +45,7 @@ one_more {byte} (suc count) = ap (λ rest. byte ∷ rest) (one_more count)
 
 zeros : (width : ℕ) → replicate width 48 ≡ digits_in width 0
 zeros zero = refl
-zeros (suc width) = one_more width ∙ ap (λ front. front ++ 48 ∷ []) (zeros width)
+zeros (suc width) = rw (one_more width, zeros width)
 
 -- a number in decimal, filled with zeros, is its last digits
 

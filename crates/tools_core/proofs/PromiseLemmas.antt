@@ -37,7 +37,7 @@ pub has_one : {run : Run} {asked : Settings} {bytes : List ℕ} → Ran run aske
 has_one {run} ran has = record {
   input = input_of run.world false 1 has.name (is_dash has.name);
   content = content_by run.world has.name (is_dash has.name) ∙ has.holds;
-  only = ap (inputs_at run.world) (sym (ap names_at ran.read) ∙ has.only);
+  only = cc (ran.read, has.only);
 }
 
 -- what was made of it
@@ -67,5 +67,5 @@ pub record IsMade (task : Task) (name bytes : List ℕ) (new : List Slot) : Type
 pub one_made : {run : Run} {asked : Settings} {bytes : List ℕ} (one : DidOne run asked bytes) (task : Task) → one.made ≡ made_by task (one.input ∷ []) → IsMade task one.input.name bytes run.outputs
 one_made {bytes = bytes} one task is = record {
   unjudged = not_judged (task.work.verdict bytes) (rw one.content at (sym (ap (λ (made : Outcome). made.failed) is) ∙ one.sound));
-  slots = one.slots ∙ ap (λ (made : Outcome). slots_of made.part) is ∙ ap slots_of (made_one task one.input one.content);
+  slots = cc (one.slots, is, made_one task one.input one.content);
 }

@@ -117,7 +117,7 @@ runs_names P is runs = rw (← is) runs
 -- the names that a run reads are those of its settings
 pub ends_names : {asked : EndsAsked} {unit : Counted} {count : Count} {headers : Headers} {delim : ℕ} {items now : List (Bor (List ℕ))} → now ≡ items → record { unit = unit; count = count; headers = headers; delim = delim; names = map (λ (name : Bor (List ℕ)). name.now) items } ≡ asked
     → map (λ (name : Bor (List ℕ)). name.now) now ≡ asked.names
-ends_names {now} same is = ap (map (λ (name : Bor (List ℕ)). name.now)) same ∙ ap (λ (those : EndsAsked). those.names) is
+ends_names {now} same is = cc (same, is)
 
 -- `tee` over what is there
 

@@ -57,10 +57,7 @@ bytes_written (file ∷ files) = ap (λ those. file.bytes ∷ those) (bytes_writ
 
 all_named : (names : Naming) {pieces : List (List ℕ)} → are_named names (length (map (share Closed) pieces)) ≡ true
     → map (λ (file : Slot). file.written) (map slot_of (named names 0 (map (share Closed) pieces))) ≡ pieces
-all_named names {pieces} are =
-    bytes_written (named names 0 (map (share Closed) pieces)) ∙ bytes_named names 0 (map (share Closed) pieces)
-    ∙ ap (named_bytes names 0) (bytes_of_shares Closed pieces)
-    ∙ each_named names pieces (ap (are_named names) (sym (length-map pieces (share Closed))) ∙ are)
+all_named names {pieces} are = rw (bytes_written (named names 0 (map (share Closed) pieces)), bytes_named names 0 (map (share Closed) pieces), bytes_of_shares Closed pieces, each_named names pieces (ap (are_named names) (sym (length-map pieces (share Closed))) ∙ are))
 
 -- Their names
 
@@ -115,7 +112,7 @@ is_split {run} {asked} {input} does has =
             in_order names.prefix names.alphabet names.width names.auto names.ending k (suc k) can.width.0 (omega arith) (named_below names _ are (suc k) (omega (arith, size, count, next))));
         sound = All-map (IsSound Fresh) slot_of _ (named_each IsMade names 0 (map (share Closed) pieces) (All-map (λ one. (place : ℕ) → IsMade (file_at names place one)) (share Closed) pieces (λ k bytes within place. (refl, refl, refl))));
       });
-      contents = ap (map (λ (file : Slot). file.written)) files ∙ all_named names are;
+      contents = rw (files, all_named names are);
     }
 
 -- Pieces of n lines or bytes
@@ -161,9 +158,7 @@ more_lines {n} i {count} all few next =
     let step : suc i * n ≡ i * n + n = suc-mul i n in omega (arith, there, step, few)
 
 line_part : (delim : ℕ) {n : ℕ} (i : ℕ) (x : List ℕ) → 0 < n → text_at (parts (limit.Lines n delim) x) i ≡ first_lines delim n (after_lines delim (i * n) x)
-line_part delim {n} i x some =
-    sym (joined-lines_of delim (text_at (parts (limit.Lines n delim) x) i))
-    ∙ ap joined (part_lines delim n i x some ∙ ap (take n) (sym (lines_of-after_lines delim (i * n) x)))
+line_part delim {n} i x some = cc (joined-lines_of delim (text_at (parts (limit.Lines n delim) x) i), part_lines delim n i x some, lines_of-after_lines delim (i * n) x)
 
 pub line_ends : (delim : ℕ) {n : ℕ} (x : List ℕ) → 0 < n → AreUncut delim (parts (limit.Lines n delim) x)
 line_ends delim {n} x some i next =
@@ -223,9 +218,7 @@ whole_count delim text = elim (cases_lt 0 (delimiters delim text)) [
 ]
 
 same_line : (delim : ℕ) (next rest : List ℕ) → 0 < delimiters delim next → first_lines delim 1 ((next ++ rest) ++ delim ∷ []) ≡ first_lines delim 1 (next ++ delim ∷ [])
-same_line delim next rest some =
-    ap (first_lines delim 1) (append_assoc next rest (delim ∷ [])) ∙ first_lines-full delim 1 next (rest ++ delim ∷ []) (omega (arith, some))
-    ∙ sym (first_lines-full delim 1 next (delim ∷ []) (omega (arith, some)))
+same_line delim next rest some = rw (append_assoc next rest (delim ∷ []), first_lines-full delim 1 next (rest ++ delim ∷ []) (omega (arith, some)), first_lines-full delim 1 next (delim ∷ []) (omega (arith, some)))
 
 open_next : (delim : ℕ) {n : ℕ} (part next : List ℕ) → length next ≡ n → delimiters delim next ≡ 0 → IsFilled delim n part next
 open_next delim part next long none =

@@ -115,7 +115,7 @@ record IsBlamed (fault : Fault) (place : ℕ) (old new : Slot) : Type 0 where
 
 blamed : (fault : Fault) (place : ℕ) (before : List Slot) {new : Slot} → IsSoundAt before place → IsMarked fault place before new → IsBlamed fault place (slot_at before place) new
 blamed (Write slot) place before sound (here, there, is) = record {
-  is = ap (λ (output : Slot). failing place output.state) is ∙ failing_file (slot_at before place).state (sound.1 there) ∙ ap Write here;
+  is = rw (is, failing_file (slot_at before place).state (sound.1 there), here);
   named = λ slots. ap (λ which. (slot_at slots which).name) here;
 }
 blamed (Open slot) place before sound (here, (kept, is)) = record { is = ap (λ (output : Slot). failing place output.state) is ∙ ap Open here; named = λ slots. ap (λ which. (slot_at slots which).name) here }
@@ -129,7 +129,7 @@ broken_other (suc zero) place output since (inr from) = absurd (omega (arith, fr
 broken_other slot place output since from = refl
 
 marked_error : (IsDue : List ℕ → Type 0) (fault : Fault) (place count : ℕ) (output : Slot) {error : Slot} (since after : List Slot) → IsAt fault 2 place count → Marks IsDue fault (output ∷ error ∷ since) after → slot_at after 1 ≡ error
-marked_error IsDue (Write slot) place count output {error} since after from marks = ap (λ slots. slot_at slots 1) marks.1 ∙ broken_other slot place output since from
+marked_error IsDue (Write slot) place count output {error} since after from marks = rw (marks.1, broken_other slot place output since from)
 marked_error IsDue (Open slot) place count output since after from (number, (name, kept, due, is, slots)) = ap (λ those. slot_at those 1) slots
 marked_error IsDue fault place count output since after from marks = ap (λ slots. slot_at slots 1) marks
 
