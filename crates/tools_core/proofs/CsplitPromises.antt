@@ -205,7 +205,7 @@ pub record IsCsplit (run : Run) (asked : CsplitAsked) (input : List ℕ) : Type 
   pub files : files_of run ≡ map slot_of (files_by asked.style 0 (map contents_in (whole_sections (all_lines input) (plan asked.style.suppress operands (all_lines input)))))
 
 is_csplit : {run : Run} {asked : CsplitAsked} {input : List ℕ} → Does run (Csplit asked) → HasInput run input → IsCsplit run asked input
-is_csplit {asked = asked} does has =
+is_csplit {asked} does has =
     let one = did_one does has in
     let (operands, asks, is) = one.makes in
     let made = one_made one (csplit_task asked operands) is in

@@ -1,5 +1,5 @@
 -- What `head`, `tail` and `tee` leave of one input.
-use Rattle.std.proofs.Common.{◌≡◌, ℕ, ◌+◌, ◌-◌, Bool, true, List, ◌++◌, refl, sym, ◌∙◌, ap, arith, [], ◌∷◌, map, drop, Option, Some, subst}
+use Rattle.std.proofs.Common.{◌≡◌, ℕ, ◌+◌, ◌-◌, Bool, true, List, ◌++◌, refl, sym, ◌∙◌, ap, arith, [], ◌∷◌, map, drop, Option, Some}
 use Rattle.ports_core.specs.Slot.{slot_at, Slot}
 use Rattle.seg_core.specs.declared.count.Sign.{Sign}
 use Rattle.seg_core.specs.declared.count.Sign.TheVariants.{Plain, Minus, Plus}
@@ -37,7 +37,7 @@ tail_output options {sign} {n} {input} bare (looks, does) has =
 
 -- whatever byte lines end with, bytes are counted alike
 tail_counted : {delim other : ℕ} (unit : Counted) (from_nth : Bool) (n : ℕ) (input : List ℕ) → (unit ≡ Lines → delim ≡ other) → tail_of delim unit from_nth n input ≡ tail_of other unit from_nth n input
-tail_counted {delim} Lines from_nth n input same = rw (same refl)
+tail_counted Lines from_nth n input same = rw (same refl)
 tail_counted Bytes from_nth n input same = refl
 
 tail_alike : {run : Run} {first rest : EndsAsked} {sign : Sign} {n : ℕ} {input : List ℕ} → CountAlike first rest → IsTail run rest sign n → HasInput run input → output_of run ≡ tail_of first.delim first.unit (is_plus sign) n input
@@ -69,7 +69,7 @@ pub record IsCopied (tee : Run) (asked : TeeAsked) (input : List ℕ) : Type 0 w
   pub files : AreCopies asked.mode asked.names input (files_of tee)
 
 pub is_copied : {tee : Run} {asked : TeeAsked} {input : List ℕ} → Does tee (Tee asked) → HasInput tee input → IsCopied tee asked input
-is_copied {asked = asked} {input} does has =
+is_copied {asked} {input} does has =
     let one = did_one does has in
     let (content, only, is) = one.makes in
     let same : Some content ≡ Some (ending input) = ap (first_content content) (sym only) ∙ one.content in

@@ -1,12 +1,11 @@
 -- What a run leaves that no fault stopped: just what its inputs make, but for files that were to be removed.
-use Rattle.std.proofs.Common.{◌≡◌, ℕ, ◌<◌, ◌≤◌, ◌^◌, zero, suc, Bool, true, false, ◌&&◌, cond, is_none, List, [], ◌∷◌, ◌++◌, length, map, Option, Some, None, Result, Ok, codes, inl, inr, ◌⊎◌, refl, sym, ◌∙◌, ap, subst, arith, append-nil, length-append}
-use Rattle.std.specs.List.{concat}
+use Rattle.std.proofs.Common.{◌≡◌, ℕ, ◌<◌, ◌≤◌, ◌^◌, zero, suc, Bool, true, false, cond, is_none, List, [], ◌∷◌, ◌++◌, length, map, Option, Some, None, Ok, codes, inl, inr, ◌⊎◌, refl, sym, ◌∙◌, ap, arith, append-nil, length-append}
 use Rattle.std.proofs.lemmas.Bool.{cases_Bool, false≢true}
 use Rattle.std.proofs.lemmas.List.Elements.{All-map}
 use Rattle.ports_core.specs.Message.{SaysAll}
 use Rattle.ports_core.specs.Part.{File, OutputsAt, Part, file_of, told_file}
 use Rattle.ports_core.specs.Slot.{Slot, adds, closes, has_file, opened, removes, slot_at}
-use Rattle.ports_core.specs.Source.{Content, Source, source_of}
+use Rattle.ports_core.specs.Source.{Content, Source}
 use Rattle.ports_core.specs.Streams.{standard_error, standard_output, streams_with}
 use Rattle.ports_core.specs.Swept.{Cleared, Swept}
 use Rattle.ports_core.specs.Swept as swept_so
@@ -31,7 +30,7 @@ use Rattle.words_core.specs.TeeAsked.{TeeAsked}
 use Rattle.words_core.specs.Words.{settings_of}
 use Rattle.words_core.specs.declared.settings.Settings.{Settings}
 use Rattle.words_core.specs.declared.settings.Settings.TheVariants.{Head, Tail, Split, Csplit, Tee}
-use Rattle.tools_core.specs.Outcome.{DoesAsked, RefusesOperands, RunEndsAt, names_at}
+use Rattle.tools_core.specs.Outcome.{DoesAsked, RefusesOperands}
 use Rattle.tools_core.specs.Tasks.{csplit_task, head_task, is_minus, is_plus, names_of, plan_of, split_task, tail_task, tool_of}
 use Rattle.tools_core.specs.Promises.{Completes, FindAlike, IsCopied, IsGone, IsUnstopped, LeaveAlike, Ran, Run, SaysLines, Unstopped, failing, removes_files}
 use Rattle.tools_core.proofs.OutcomeLemmas.{AreLive, Fits, IsLive, IsLiving, csplit_living, fits_fault, fits_well, head_living, inputs_fit, outputs_of, slot_of, slots_of, split_living, tail_living}
@@ -47,7 +46,7 @@ told_again [] = refl
 told_again (file ∷ files) = ap (λ those. file ∷ those) (told_again files)
 
 pub slots_at : {part : Part} {error : Slot} {now : List Slot} → OutputsAt true (streams_with error) part now → now ≡ outputs_of part error
-slots_at {part} {error} at = cc (at.slots, slots_again at.since, at.files, told_again part.files)
+slots_at {part} at = cc (at.slots, slots_again at.since, at.files, told_again part.files)
 
 -- What becomes of an output where files are removed, or stay
 
@@ -73,7 +72,7 @@ pub record Kept (sweeps : Bool) (place : ℕ) (old new : Slot) : Type 0 where
   pub broke : old.is_broken ≡ false → new.is_broken ≡ true → (sweeps ≡ true) × (new.state ≡ state.Closed)
 
 kept_same : (sweeps : Bool) (place : ℕ) {old new : Slot} → remains sweeps place old ≡ old → new ≡ old → Kept sweeps place old new
-kept_same sweeps place {old} stays same = rw same (record {
+kept_same sweeps place stays same = rw same (record {
   name = refl;
   mode = refl;
   written = refl;
@@ -132,11 +131,11 @@ pub record IsLeft (which : Tool) (made : Outcome) (new : List Slot) (status : �
   pub is : status ≡ status_of made
 
 pub left_at : {which : Tool} {made : Outcome} {new : List Slot} {status : ℕ} → IsLeft which made new status → (place : ℕ) → (place ≡ 1 → ⊥) → Kept made.sweeps place (slot_at (slots_of made.part) place) (slot_at new place)
-left_at {made = made} {new} left place differs =
+left_at {made} {new} left place differs =
     rw (beside_error (adds made.part.out standard_output) left.error standard_error _ place differs) at (swept_kept made.sweeps _ new left.swept place)
 
 pub left_says : {which : Tool} {clears : Bool} {made : Outcome} {new : List Slot} {status : ℕ} → Fits which clears made → IsLeft which made new status → SaysLines which made.messages (slot_at new 1)
-left_says {which} {made = made} {new} fits left =
+left_says {made} {new} fits left =
     record { are = fits.are; said = rw (swept_error made.sweeps (outputs_of made.part left.error) new (omega arith) left.swept) left.says }
 
 pub unfailed : (failed : Bool) → ◌≡◌ {A = ℕ} 0 (cond failed 1 0) → failed ≡ false
@@ -148,7 +147,7 @@ pub record IsWhole (made : Outcome) (new : List Slot) : Type 0 where
   pub slots : new ≡ slots_of made.part
 
 pub left_whole : {which : Tool} {clears : Bool} {made : Outcome} {new : List Slot} {status : ℕ} → Fits which clears made → IsLeft which made new status → status ≡ 0 → IsWhole made new
-left_whole {which} {made = made} {new} fits left well =
+left_whole {made} fits left well =
     let sound = unfailed made.failed (sym well ∙ left.is) in
     let stay : made.sweeps ≡ false = elim (cases_Bool made.sweeps) [ inl is ↦ absurd (false≢true (sym sound ∙ (fits.sweeps is).1)) | inr is ↦ is ] in record {
       sound = sound;
@@ -245,7 +244,7 @@ pub record Left (which : Tool) (clears : Bool) (Of : Outcome → Type 0) (new : 
 
 ends_left : {task : Task} {inputs : List Input} {sources : List Source} {new : List Slot} {status : ℕ} (Of : List Input → Outcome → Type 0) → IsLiving task.work → Of inputs (made_by task inputs) → (ends : EndsAs true true task inputs sources new status) → IsUnstopped ends
     → Left task.tool task.work.clears (Of inputs) new status
-ends_left {task} {inputs} {new = new} Of living of (as_defined error reached says outputs swept done is) unstopped = record {
+ends_left {task} {inputs} Of living of (as_defined error reached says outputs swept done is) unstopped = record {
   made = made_by task inputs;
   of = of;
   fits = inputs_fit task true inputs living;
@@ -275,7 +274,7 @@ not_refused (inl did) = inl did
 not_refused (inr (same, refuses)) = inr refuses
 
 pub ran_over : {run : Run} {asked : Settings} → Ran run asked → DoesAsked true true asked (inputs_at run.world (names_of asked)) run.inputs run.outputs run.status ⊎ RefusesOperands true run.words asked run.outputs run.status
-ran_over {run} ran =
+ran_over ran =
     let (found, finds, ends) = ran.ends in
     not_refused (rw ran.read at (rw (finds.there refl) at ends))
 
@@ -287,7 +286,7 @@ found_same one other read read_too same = cc (read, same, read_too)
 -- what the one made is what the other does
 pub same_made : (one other : Run) {asked : Settings} {made made_too : Outcome} → settings_of one.words ≡ Ok asked → settings_of other.words ≡ Ok asked → FindAlike one other
     → Makes asked (inputs_at one.world (names_of asked)) made → Makes asked (inputs_at other.world (names_of asked)) made_too → made_too ≡ made
-same_made one other {asked} {made} read read_too same makes makes_too = one_made asked _ makes_too (rw (found_same one other read read_too same) at makes)
+same_made one other {asked} read read_too same makes makes_too = one_made asked _ makes_too (rw (found_same one other read read_too same) at makes)
 
 pub leave_alike : (one other : Run) (asked : Settings) → Completes one asked → Completes other asked → FindAlike one other → LeaveAlike asked one other
 leave_alike one other asked whole whole_too same =

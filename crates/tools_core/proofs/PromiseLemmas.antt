@@ -1,11 +1,10 @@
 -- What a run that met no fault leaves: just its part, as its definition says, and nothing on standard error.
-use Rattle.std.proofs.Common.{◌≡◌, ℕ, Bool, true, false, ◌||◌, is_some, cond, List, [], ◌∷◌, Option, Some, None, inl, inr, refl, sym, ◌∙◌, ap, subst, arith}
+use Rattle.std.proofs.Common.{◌≡◌, ℕ, Bool, true, false, ◌||◌, is_some, cond, List, [], ◌∷◌, Option, Some, None, inl, inr, refl, sym, ◌∙◌, ap, arith}
 use Rattle.ports_core.specs.Slot.{Slot}
 use Rattle.ports_core.specs.declared.fault.Fault.{Fault}
 use Rattle.run_core.specs.Input.{Input, World, input_of, inputs_at, is_dash}
-use Rattle.run_core.specs.Task.{Outcome, Task, made_by, of_content}
+use Rattle.run_core.specs.Task.{Outcome, Task, made_by}
 use Rattle.words_core.specs.declared.settings.Settings.{Settings}
-use Rattle.tools_core.specs.Outcome.{names_at}
 use Rattle.tools_core.specs.Tasks.{names_of}
 use Rattle.tools_core.specs.Promises.{Completes, Does, FindAlike, HasInput, Ran, Run}
 use Rattle.tools_core.proofs.BeginLemmas.{ending, made_one, part_of}
@@ -50,7 +49,7 @@ pub record DidOne (run : Run) (asked : Settings) (bytes : List ℕ) : Type 0 whe
   pub slots : run.outputs ≡ slots_of made.part
 
 pub did_one : {run : Run} {asked : Settings} {bytes : List ℕ} → Does run asked → HasInput run bytes → DidOne run asked bytes
-did_one {asked = asked} does has =
+did_one does has =
     let one = has_one does.ran has in
     let all = completes_left (completes does) in
     let whole = left_whole all.fits all.left does.well in
@@ -65,7 +64,7 @@ pub record IsMade (task : Task) (name bytes : List ℕ) (new : List Slot) : Type
   pub slots : new ≡ slots_of (part_of task name bytes)
 
 pub one_made : {run : Run} {asked : Settings} {bytes : List ℕ} (one : DidOne run asked bytes) (task : Task) → one.made ≡ made_by task (one.input ∷ []) → IsMade task one.input.name bytes run.outputs
-one_made {bytes = bytes} one task is = record {
+one_made {bytes} one task is = record {
   unjudged = not_judged (task.work.verdict bytes) (rw one.content at (sym (ap (λ (made : Outcome). made.failed) is) ∙ one.sound));
   slots = cc (one.slots, is, made_one task one.input one.content);
 }

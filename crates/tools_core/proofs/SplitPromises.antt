@@ -1,5 +1,5 @@
 -- What `split` leaves of its input.
-use Rattle.std.proofs.Common.{◌≡◌, ℕ, ◌+◌, ◌-◌, ◌*◌, ◌/◌, ◌%◌, ◌<◌, ◌≤◌, zero, suc, min, Bool, true, false, not, cond, List, [], ◌∷◌, ◌++◌, append_assoc, length-append, length, map, take, drop, filter, get_or, Some, None, inl, inr, refl, sym, ◌∙◌, ap, subst, arith}
+use Rattle.std.proofs.Common.{◌≡◌, ℕ, ◌+◌, ◌-◌, ◌*◌, ◌/◌, ◌%◌, ◌<◌, ◌≤◌, zero, suc, min, Bool, true, false, not, cond, List, [], ◌∷◌, ◌++◌, append_assoc, length-append, length, map, take, drop, filter, get_or, Some, None, inl, inr, refl, sym, ◌∙◌, ap, arith}
 use Rattle.std.specs.List.{All}
 use Rattle.std.proofs.Math.Nat.{mul-le-mul_right, suc-mul}
 use Rattle.std.proofs.lemmas.Bool.{cases_lt}
@@ -29,7 +29,7 @@ use Rattle.split_core.specs.inner.DealLaws.{share_of}
 use Rattle.split_core.specs.laws.CutLaws.{whole_of_lines, whole_of_none}
 use Rattle.split_core.specs.laws.DealLaws.{share_none}
 use Rattle.split_core.proofs.CutLaws.{first_then_after}
-use Rattle.split_core.proofs.AgreedLemmas.{bytes_named, each_named, named_bytes}
+use Rattle.split_core.proofs.AgreedLemmas.{bytes_named, each_named}
 use Rattle.split_core.proofs.MoveLemmas.{named_before}
 use Rattle.split_core.proofs.PlaceLemmas.{line_at, all_dealt, first_files}
 use Rattle.split_core.proofs.SectionLemmas.{joined_parts, part_lines, part_bytes, lines_count, bytes_count, line_bytes_are_parts, line_bytes_within}
@@ -131,7 +131,7 @@ run_size : {X : Type 0} (n i : ℕ) (xs : List X) → length (take n (drop (i * 
 run_size n i xs = length-take n (drop (i * n) xs) ∙ ap (min n) (length-drop (i * n) xs)
 
 run_pieces : (size : List ℕ → ℕ) {n all : ℕ} {x : List ℕ} {pieces : List (List ℕ)} → 0 < n → joined pieces ≡ x → AreFew (length pieces) n all → ((i : ℕ) → size (text_at pieces i) ≡ min n (all - i * n)) → ArePieces size n x pieces
-run_pieces size {n} {pieces = pieces} some are few each = record {
+run_pieces size {n} {pieces} some are few each = record {
   all = are;
   some = λ i within. let here = up_to i (length pieces) n within in let one = each i in omega (arith, one, here, few.1, some);
   most = λ i within. let one = each i in omega (arith, one);
@@ -174,7 +174,7 @@ byte_pieces {n} {x} some = run_pieces length some (joined_parts (limit.Bytes n) 
 -- Pieces of whole lines within n bytes
 
 ends_line : (delim : ℕ) {n : ℕ} (bytes : List ℕ) → length bytes ≡ n → EndsLine delim n (whole_lines delim bytes)
-ends_line delim {n} bytes long = elim (cases_lt 0 (delimiters delim bytes)) [
+ends_line delim bytes long = elim (cases_lt 0 (delimiters delim bytes)) [
   | inl lines ↦ inl (ap (ends_with delim) (whole_of_lines delim bytes lines) ∙ lines_end delim bytes _ lines (omega arith) refl)
   | inr few ↦ let none : delimiters delim bytes ≡ 0 = omega (arith, few) in
       inr (rw (whole_of_none delim bytes none) (long, none))

@@ -98,7 +98,7 @@ still_sound place same sound broken = absurd (false≢true (sym sound ∙ sym (a
 
 stop_early : {which : Tool} {clears : Bool} {run : Run} {asked : Settings} (fault : Fault) (name : List ℕ) {error : Slot} → StopsRun run asked name fault → SaysAll true which (message_of which fault name ∷ []) standard_error error → run.outputs ≡ streams_with error → run.status ≡ 1
     → IsStop which clears run asked
-stop_early {which} fault name {error} stops says slots is = record {
+stop_early fault name {error} stops says slots is = record {
   failed = is;
   why = fault;
   name = name;
@@ -129,19 +129,19 @@ broken_other (suc zero) place output since (inr from) = absurd (omega (arith, fr
 broken_other slot place output since from = refl
 
 marked_error : (IsDue : List ℕ → Type 0) (fault : Fault) (place count : ℕ) (output : Slot) {error : Slot} (since after : List Slot) → IsAt fault 2 place count → Marks IsDue fault (output ∷ error ∷ since) after → slot_at after 1 ≡ error
-marked_error IsDue (Write slot) place count output {error} since after from marks = rw (marks.1, broken_other slot place output since from)
+marked_error IsDue (Write slot) place count output since after from marks = rw (marks.1, broken_other slot place output since from)
 marked_error IsDue (Open slot) place count output since after from (number, (name, kept, due, is, slots)) = ap (λ those. slot_at those 1) slots
 marked_error IsDue fault place count output since after from marks = ap (λ slots. slot_at slots 1) marks
 
 stopped_error : (clears : Bool) {error : Slot} {low high : Part} {fault : Fault} {reached : List Slot} (new : List Slot) → StoppedBetween true (streams_with error) low high fault reached → Swept clears 2 reached new → slot_at new 1 ≡ error
-stopped_error clears {high = high} {fault} {reached} new between swept =
+stopped_error clears {high} {fault} {reached} new between swept =
     swept_error clears reached new (omega arith) swept
     ∙ marked_error (IsNext between.part high) fault between.place (length between.part.files) _ between.outputs.since reached between.from
     (rw between.outputs.slots at between.marks)
 
 stopped_broke : {which : Tool} {clears : Bool} {error : Slot} {low high : Part} {fault : Fault} {reached : List Slot} (new : List Slot) (lines : List (List ℕ)) → AreLive high.files → StoppedBetween true (streams_with error) low high fault reached → Swept clears 2 reached new
     → SaysLines which (lines ++ message_of which fault (output_named new fault) ∷ []) (slot_at new 1) → (place : ℕ) → (place ≡ 1 → ⊥) → (slot_at new place).is_broken ≡ true → IsToldOf which new place ⊎ IsStuck clears new place
-stopped_broke {which} {clears} {error} {high = high} {fault} {reached} new lines live between swept says place differs broken =
+stopped_broke {which} {clears} {error} {high} {fault} {reached} new lines live between swept says place differs broken =
     let kept = swept_kept clears reached new swept place in
     let sound = subst (λ slots. IsSoundAt slots place) (sym (slots_at between.outputs)) (outputs_live between.part error place (live_begin between.part.files high.files between.below.files live) differs) in
     elim (cases_Bool (slot_at reached place).is_broken) [
@@ -199,12 +199,12 @@ tee_by : {run : Run} {asked : Settings} {mode : Mode} {content : Content} (Leave
     → (2 ^ 63 ≤ length content.bytes → HasLong run asked) → (first ≡ None → is_vain ≡ false) → IsRead content Leaves is_vain (concat pieces) fault → OutputLeft true pieces first output → FilesLeft true mode pieces names broke files
     → SaysAll true tool.Tee (messages_of names (first ∷ broke) (length pieces) fault) standard_error error → run.outputs ≡ output ∷ error ∷ files → run.status ≡ cond (are_sound (first ∷ broke) && is_none fault) 0 1
     → ((are_sound (first ∷ broke) ≡ true) × (concat pieces ≡ content.bytes)) ⊎ IsStop tool.Tee false run asked
-tee_by {run} {asked} Leaves {output = output} {error} {files} fault false sound long vain reads left rest says slots is =
+tee_by {run} {asked} Leaves {output} {error} {files} fault false sound long vain reads left rest says slots is =
     let (place, differs, broken) = unsound_broke left rest sound in
     let (name, called, line) = tee_says fault place left rest says differs broken in
     inr (tee_stop fault left rest says slots (is ∙ ap (λ flag. cond (flag && is_none fault) 0 1) sound) (failing place (slot_at (output ∷ error ∷ files) place).state) name
     (failing_stops run asked (slot_at (output ∷ error ∷ files) place).state (rw slots (differs, called, broken))) line)
-tee_by Leaves {pieces = pieces} {names} {first} {broke} {error = error} fault true sound long vain reads left rest says slots is = elim (read_or Leaves (vain (sound_first first (are_sound broke) sound).0) reads) [
+tee_by Leaves {pieces} {names} {first} {broke} fault true sound long vain reads left rest says slots is = elim (read_or Leaves (vain (sound_first first (are_sound broke) sound).0) reads) [
   | inl all ↦ inl (sound, all)
   | inr (met, many) ↦ inr (tee_stop fault left rest says slots (is ∙ ap (λ flag. cond (flag && is_none fault) 0 1) sound ∙ ap (λ why. cond (is_none why) 0 1) met) TooLong (codes "standard input") (long many)
       (says_line (has_before (said_in (suc (length pieces)) (output_names names) (first ∷ broke)) (has_after (said_before (suc (length pieces)) (output_names names) (first ∷ broke)) ([], [], refl)))
@@ -213,7 +213,7 @@ tee_by Leaves {pieces = pieces} {names} {first} {broke} {error = error} fault tr
 
 tee_or : {run : Run} {asked : Settings} {mode : Mode} {names : List (List ℕ)} {content : Content} {source : Source} → inputs_at run.world (names_of asked) ≡ standard_input content ∷ [] → (ends : tee.EndsAs true true mode names content source run.outputs run.status)
     → IsCopied ends ⊎ IsStop tool.Tee false run asked
-tee_or {content = content} only (tee.copied pieces fault first broke output error files comes some left rest says slots is) =
+tee_or {content} only (tee.copied pieces fault first broke output error files comes some left rest says slots is) =
     tee_by _ fault (are_sound (first ∷ broke)) refl (λ many. ([], standard_input content, [], content, only, refl, many)) (λ none. some_left (suc (length pieces)) broke none) comes.read left rest says slots is
 tee_or only (tee.no_room error says unread slots is) = inr (stop_early Memory [] tt says slots is)
 
