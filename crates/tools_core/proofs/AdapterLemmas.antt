@@ -1,5 +1,5 @@
 -- Lemmas on opening a tool's engine.
-use Rattle.std.proofs.Common.{◌≡◌, ℕ, ◌-◌, ◌<◌, ◌≤◌, ◌^◌, zero, Bool, true, false, not, if◌then◌else◌, List, [], length, inl, inr, Result, Ok, Err, IfOk, IfErr, OnOk, refl, sym, ◌∙◌, ap, subst, arith}
+use Rattle.std.proofs.Common.{◌≡◌, ℕ, ◌-◌, ◌<◌, ◌≤◌, ◌^◌, zero, Bool, true, false, not, if◌then◌else◌, List, [], length, inl, inr, Result, Ok, Err, IfOk, IfErr, OnOk, refl, sym, ◌∙◌, ap, arith}
 use Rattle.ports_core.specs.Name.{Naming}
 use Rattle.ports_core.specs.Slot.{Slot}
 use Rattle.ports_core.specs.Part.{OutputsAt, StoppedBetween, nothing, only_out}
@@ -8,7 +8,7 @@ use Rattle.ports_core.specs.Guard.{GuardState, HoldsIn}
 use Rattle.ports_core.specs.Engine.{is_verdict}
 use Rattle.ports_core.specs.declared.alphabet.Alphabet.{Alphabet}
 use Rattle.ports_core.specs.declared.fault.Fault.{Fault}
-use Rattle.ports_core.specs.declared.fault.Fault.TheVariants.{Memory, Write, Open, Suffixes, NoMatch, Range}
+use Rattle.ports_core.specs.declared.fault.Fault.TheVariants.{Memory, Write, Open}
 use Rattle.ports_core.proofs.PartLemmas.{nothing_out, nothing_begins_part, stopped_here}
 use Rattle.ports_core.proofs.SlotSteps.{none_past, swept_none}
 use Rattle.seg_core.specs.declared.unit.Unit.{Unit as Counted}
@@ -22,9 +22,7 @@ use Rattle.split_core.specs.Sharing.{CannotOpen}
 use Rattle.split_core.specs.Split.{Plan, split_work}
 use Rattle.run_core.specs.Feeding.{Stops, call_of}
 use Rattle.run_core.specs.RunSteps.{Opens, OpensShort}
-use Rattle.seg_core.specs.declared.count.Count.{Count}
 use Rattle.words_core.specs.EndsAsked.{EndsAsked}
-use Rattle.words_core.specs.declared.settings.Headers.{Headers}
 use Rattle.words_core.specs.SplitAsked.{SplitAsked}
 use Rattle.tools_core.specs.Tasks.{plan_of, is_minus, is_plus, head_task, tail_task}
 use Rattle.std.proofs.lemmas.Bool.{false≢true}
@@ -53,14 +51,14 @@ pub some_there : (slots : List Slot) → 2 ≤ length slots → 0 < length slots
 some_there slots two = omega (arith, two)
 
 pub head_begins : (delim : ℕ) {told : Bool} (unit : Counted) (but_last : Bool) (n : ℕ) {slots : List Slot} → 2 ≤ length slots → OutputsAt told slots ((head_work delim unit but_last n).settled []) slots
-head_begins delim {told} unit but_last n {slots} two = subst (λ bytes. OutputsAt told slots (only_out bytes) slots) (sym (head_of-nil delim unit but_last n)) (nothing_out told slots (some_there slots two))
+head_begins delim {told} unit but_last n {slots} two = rw (head_of-nil delim unit but_last n) (nothing_out told slots (some_there slots two))
 
 pub tail_starts : (delim : ℕ) {told : Bool} (unit : Counted) (from_nth : Bool) (n : ℕ) {slots : List Slot} → 2 ≤ length slots → OutputsAt told slots ((tail_work delim unit from_nth n).settled []) slots
-tail_starts delim {told} unit from_nth n {slots} two = subst (λ part. OutputsAt told slots part slots) (sym (tail_begins delim from_nth unit n)) (nothing_out told slots (some_there slots two))
+tail_starts delim {told} unit from_nth n {slots} two = rw (tail_begins delim from_nth unit n) (nothing_out told slots (some_there slots two))
 
 -- an engine for which there was no memory
 pub no_memory : {told : Bool} {work : Work} {opening : Needs} {slots : List Slot} {fault : Fault} → opening.memory ≡ true → 2 ≤ length slots → fault ≡ Memory → OpensShort work opening told slots slots fault
-no_memory {told} {work} {opening} {slots} may two is = subst (OpensShort work opening told slots slots) (sym is) (record {
+no_memory {told} {work} {slots} may two is = rw is (record {
   unjudged = refl;
   reached = slots;
   why = may;
@@ -73,7 +71,7 @@ pub plan_is : {asked : SplitAsked} {cut : Cut} {alphabet : Alphabet} {width : �
     → names ≡ record { prefix = prefix; alphabet = alphabet; width = width; auto = auto; ending = ending; drawn = 0 }
     → record { cut = cut; alphabet = alphabet; width = width; auto = auto; elide = elide; input = input; prefix = prefix; ending = ending; delim = delim } ≡ asked
     → record { delim = delim; cut = cut; elide = elide; names = names } ≡ plan_of asked
-plan_is {cut} {elide} {delim} {names} made is = ap (λ (those : Naming). record { delim = delim; cut = cut; elide = elide; names = those }) made ∙ ap plan_of is
+plan_is made is = cc (made, is)
 
 -- an engine that was opened, and left the outputs as they were
 
@@ -81,8 +79,7 @@ pub opened_of : {S : Type 0} (Holds : S → List ℕ → Type 0) (Owns : S → �
     → IfOk result (λ e. work e.stage ≡ begun) → IfOk result (λ e. e.fed < 2 ^ 63) → IfOk result (λ e. Ready e.stage new)
     → IfOk result (λ e. Owns e.stage (length old) new) → OnOk result (OutputsAt told old (begun.settled []) new)
     → IfOk result (Opens Holds Owns work Ready asked told old new)
-opened_of Holds Owns work Ready told old new (Ok e) is fresh does bound ready owns at = subst (λ those. Opens Holds Owns work Ready those told old new e) is
-    (record { fresh = fresh; does = does; bound = bound; ready = ready; owns = owns; outputs = at })
+opened_of Holds Owns work Ready told old new (Ok e) is fresh does bound ready owns at = rw (← is) (record { fresh = fresh; does = does; bound = bound; ready = ready; owns = owns; outputs = at })
 opened_of Holds Owns work Ready told old new (Err fault) is fresh does bound ready owns at = tt
 
 -- one that could not be opened
@@ -92,7 +89,7 @@ pub opened_short : {E : Type 0} (told : Bool) {begun asked : Work} {opening : Ne
     → IfErr result (λ fault. (before : List Slot) → OutputsAt told before nothing old → StoppedBetween told before nothing (begun.settled []) fault new)
     → IfErr result Why → IfErr result Left → IfErr result (OpensShort asked opening told old new)
 opened_short told old new (Ok e) Why Left is two stops cut why left = tt
-opened_short told {opening} old new (Err fault) Why Left is two stops cut why left = subst (λ those. OpensShort those opening told old new fault) is (
+opened_short told old new (Err fault) Why Left is two stops cut why left = rw (← is) (
     let (unjudged, halts, swept) = stops fault why left in
     record { unjudged = unjudged; reached = new; why = halts; stop = cut old (nothing_out told old (some_there old two)); swept = swept })
 

@@ -1,5 +1,5 @@
 -- What any run leaves is a beginning of what one leaves that no fault stopped.
-use Rattle.std.proofs.Common.{◌≡◌, ℕ, true, List, [], ◌∷◌, Some, inl, inr, ◌⊎◌, refl, sym, subst}
+use Rattle.std.proofs.Common.{◌≡◌, ℕ, true, List, [], ◌∷◌, Some, inl, inr, refl, sym, subst}
 use Rattle.ports_core.specs.Slot.{Slot, slot_at}
 use Rattle.ports_core.specs.Source.{Source}
 use Rattle.ends_core.specs.laws.WorkLaws.{head_lawful, tail_lawful}
@@ -9,7 +9,7 @@ use Rattle.run_core.specs.Task.{Outcome}
 use Rattle.words_core.specs.Words.{CanRun}
 use Rattle.words_core.specs.declared.settings.Settings.{Settings}
 use Rattle.words_core.specs.declared.settings.Settings.TheVariants.{Head, Tail, Split, Csplit, Tee}
-use Rattle.tools_core.specs.Outcome.{DoesAsked, RefusesOperands}
+use Rattle.tools_core.specs.Outcome.{DoesAsked}
 use Rattle.tools_core.specs.Tasks.{naming_of}
 use Rattle.tools_core.specs.Promises.{BeginsAs, BeginsEach, Completes, FindAlike, HasInput, Ran, Run}
 use Rattle.tools_core.proofs.BeginLemmas.{bare_begins, begins_kept, begins_whole, ending, lawful_grows, split_grows, still_begins}
@@ -34,7 +34,7 @@ pub begins_each : (run well : Run) (asked : Settings) (input : List ℕ) → Ran
 begins_each run well asked input ran whole same has =
     let one = has_one ran has in
     let all = completes_left whole in
-    elim (subst (λ found. DoesAsked true true asked found run.inputs run.outputs run.status ⊎ RefusesOperands true run.words asked run.outputs run.status) one.only (ran_over ran)) [
+    elim (rw one.only at (ran_over ran)) [
       | inl does ↦ λ place differs.
           let (made, makes, begins) = begins_made asked one.input run.inputs run.outputs run.status (can_run run.words ran.read) one.content does in
           let same_too = same_made run well ran.read whole.read same (subst (λ inputs. Makes asked inputs made) (sym one.only) makes) all.of in

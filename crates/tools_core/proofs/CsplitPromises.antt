@@ -143,11 +143,11 @@ record Kept (lines : List Line) (steps : List Step) (ending : Ending) : Type 0 w
 
 runs_keep : {suppress : Bool} {lines : List Line} {state : State} {steps : List Step} {last : State} {ending : Ending} → Runs suppress lines state steps last ending → KeepTargets state.operands → Kept lines steps ending
 runs_keep (is_used_up state none) keep = record { sections = tt; final = refl }
-runs_keep (misses state operand operands is none) keep = record { sections = tt; final = (subst KeepTargets is keep).0 }
-runs_keep (is_above state operand operands matched cut is at far) keep = record { sections = tt; final = (subst KeepTargets is keep).0 }
-runs_keep (is_below state operand operands matched cut is at within low) keep = record { sections = tt; final = (subst KeepTargets is keep).0 }
+runs_keep (misses state operand operands is none) keep = record { sections = tt; final = (rw is at keep).0 }
+runs_keep (is_above state operand operands matched cut is at far) keep = record { sections = tt; final = (rw is at keep).0 }
+runs_keep (is_below state operand operands matched cut is at within low) keep = record { sections = tt; final = (rw is at keep).0 }
 runs_keep (cuts state operand operands matched cut steps last ending is at from within rest) keep =
-    let these = subst KeepTargets is keep in
+    let these = rw is at keep in
     let past = runs_keep rest (kept_after (has_more operand.times state.repetition) operand operands these) in
     record { sections = (these.0, past.sections); final = past.final }
 
@@ -205,7 +205,7 @@ pub record IsCsplit (run : Run) (asked : CsplitAsked) (input : List ℕ) : Type 
   pub files : files_of run ≡ map slot_of (files_by asked.style 0 (map contents_in (whole_sections (all_lines input) (plan asked.style.suppress operands (all_lines input)))))
 
 is_csplit : {run : Run} {asked : CsplitAsked} {input : List ℕ} → Does run (Csplit asked) → HasInput run input → IsCsplit run asked input
-is_csplit {asked = asked} does has =
+is_csplit {asked} does has =
     let one = did_one does has in
     let (operands, asks, is) = one.makes in
     let made = one_made one (csplit_task asked operands) is in
@@ -222,7 +222,7 @@ are_numbered run asked input does has =
     let size : length (map (λ (file : Slot). file.name) files) ≡ length files = length-map files (λ (file : Slot). file.name) in
     let named : (place : ℕ) → place < length files → text_at (map (λ (file : Slot). file.name) files) place ≡ numbered_name asked.style.prefix asked.style.digits place =
     λ place within. numbered_from asked.style 0 (map contents_in sections) place within ∙ ap (numbered_name asked.style.prefix asked.style.digits) (omega arith) in
-    subst (AreNumbered asked.style.prefix asked.style.digits) (sym split.files) (record {
+    rw split.files (record {
       named = named;
       in_order = λ few least. numbered_in_order asked.style.prefix asked.style.digits (map (λ (file : Slot). file.name) files) (λ place within. named place (omega (arith, size, within))) (omega (arith, size, few)) (omega (arith, size, least));
       sound = All-map (IsSound Fresh) slot_of _ (numbered_each (λ (file : File). IsSound Fresh (slot_of file)) asked.style 0 (map contents_in sections)
@@ -284,6 +284,6 @@ are_sections run asked input does has =
       split.asks,
       record {
         all = none_missing asked.style.suppress split.operands split.well;
-        files = ap (map (λ (file : Slot). file.written)) split.files ∙ bytes_written _;
+        files = rw (split.files, bytes_written _);
       },
     )

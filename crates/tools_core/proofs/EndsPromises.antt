@@ -1,5 +1,5 @@
 -- What `head`, `tail` and `tee` leave of one input.
-use Rattle.std.proofs.Common.{◌≡◌, ℕ, ◌+◌, ◌-◌, Bool, true, List, ◌++◌, refl, sym, ◌∙◌, ap, arith, [], ◌∷◌, map, drop, Option, Some, subst}
+use Rattle.std.proofs.Common.{◌≡◌, ℕ, ◌+◌, ◌-◌, Bool, true, List, ◌++◌, refl, sym, ◌∙◌, ap, arith, [], ◌∷◌, map, drop, Option, Some}
 use Rattle.ports_core.specs.Slot.{slot_at, Slot}
 use Rattle.seg_core.specs.declared.count.Sign.{Sign}
 use Rattle.seg_core.specs.declared.count.Sign.TheVariants.{Plain, Minus, Plus}
@@ -37,13 +37,11 @@ tail_output options {sign} {n} {input} bare (looks, does) has =
 
 -- whatever byte lines end with, bytes are counted alike
 tail_counted : {delim other : ℕ} (unit : Counted) (from_nth : Bool) (n : ℕ) (input : List ℕ) → (unit ≡ Lines → delim ≡ other) → tail_of delim unit from_nth n input ≡ tail_of other unit from_nth n input
-tail_counted {delim} Lines from_nth n input same = ap (λ delim. tail_of delim Lines from_nth n input) (same refl)
+tail_counted Lines from_nth n input same = rw (same refl)
 tail_counted Bytes from_nth n input same = refl
 
 tail_alike : {run : Run} {first rest : EndsAsked} {sign : Sign} {n : ℕ} {input : List ℕ} → CountAlike first rest → IsTail run rest sign n → HasInput run input → output_of run ≡ tail_of first.delim first.unit (is_plus sign) n input
-tail_alike {first} {rest} {sign} {n} {input} alike does has =
-    tail_output rest alike.bare.1 does has ∙ ap (λ unit. tail_of rest.delim unit (is_plus sign) n input) (sym alike.unit)
-    ∙ tail_counted first.unit (is_plus sign) n input (λ lines. sym (alike.delim lines))
+tail_alike {first} {rest} {sign} {n} {input} alike does has = cc (tail_output rest alike.bare.1 does has, alike.unit, tail_counted first.unit (is_plus sign) n input (λ lines. sym (alike.delim lines)))
 
 pub first_meet : (head tail : Run) (first rest : EndsAsked) (n : ℕ) (input : List ℕ) → CountAlike first rest → IsHead head first Plain n → IsTail tail rest Plus (n + 1) → HasInput head input → HasInput tail input → output_of head ++ output_of tail ≡ input
 first_meet head tail first rest n input alike one other has has_too =
@@ -54,10 +52,7 @@ first_meet head tail first rest n input alike one other has has_too =
       same k = omega arith
 
 pub last_meet : (head tail : Run) (first rest : EndsAsked) (n : ℕ) (input : List ℕ) → CountAlike first rest → IsHead head first Minus n → IsTail tail rest Plain n → HasInput head input → HasInput tail input → output_of head ++ output_of tail ≡ input
-last_meet head tail first rest n input alike one other has has_too =
-    ap (λ front. front ++ output_of tail) (head_output first alike.bare.0 one has)
-    ∙ ap (λ back. head_of first.delim first.unit true n input ++ back) (tail_alike alike other has_too)
-    ∙ ends_together first.delim first.unit n input
+last_meet head tail first rest n input alike one other has has_too = rw (head_output first alike.bare.0 one has, tail_alike alike other has_too, ends_together first.delim first.unit n input)
 
 -- What `tee` leaves of its input.
 
@@ -74,7 +69,7 @@ pub record IsCopied (tee : Run) (asked : TeeAsked) (input : List ℕ) : Type 0 w
   pub files : AreCopies asked.mode asked.names input (files_of tee)
 
 pub is_copied : {tee : Run} {asked : TeeAsked} {input : List ℕ} → Does tee (Tee asked) → HasInput tee input → IsCopied tee asked input
-is_copied {asked = asked} {input} does has =
+is_copied {asked} {input} does has =
     let one = did_one does has in
     let (content, only, is) = one.makes in
     let same : Some content ≡ Some (ending input) = ap (first_content content) (sym only) ∙ one.content in
@@ -82,6 +77,5 @@ is_copied {asked = asked} {input} does has =
     let whole = one.slots ∙ ap (λ (made : Outcome). slots_of made.part) is ∙ ap (λ those. slots_of (tee_made asked those).part) there in
     record {
       output = ap (λ slots. (slot_at slots 0).written) whole;
-      files = subst (AreCopies asked.mode asked.names input) (sym (ap (drop 2) whole ∙ copies_are asked.mode input asked.names))
-          (record { named = copies_named asked.mode input asked.names; each = All-map (λ (file : Slot). IsSound asked.mode file × (file.written ≡ input)) (copy asked.mode input) asked.names (λ k name within. ((refl, refl, refl), refl)) });
+      files = rw (ap (drop 2) whole ∙ copies_are asked.mode input asked.names) (record { named = copies_named asked.mode input asked.names; each = All-map (λ (file : Slot). IsSound asked.mode file × (file.written ≡ input)) (copy asked.mode input) asked.names (λ k name within. ((refl, refl, refl), refl)) });
     }

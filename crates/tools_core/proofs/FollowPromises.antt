@@ -11,7 +11,7 @@ use Rattle.follow_core.proofs.RunLemmas.{text_is_gains}
 use Rattle.tools_core.specs.Promises.{OnlyGrows, FollowRun, Follows, IsBare}
 use Rattle.std.proofs.lemmas.Bool.{cond_both, or_parts, cases_lt, false≢true}
 use Rattle.follow_core.specs.Followed.{any_failed, text_from}
-use Rattle.follow_core.specs.Look.{Fate, Look, Ways, entries_in, failed_by, failed_in, fate_at, is_dropped, is_first, sound, snapshots, ways_of}
+use Rattle.follow_core.specs.Look.{Fate, Look, Ways, entries_in, fate_at, is_dropped, is_first, sound, snapshots, ways_of}
 use Rattle.follow_core.specs.Notice.{is_missing}
 use Rattle.follow_core.specs.Share.{Share, gain, gains_from, missing_share, no_share, share_by, share_of, shares_from, shares_of}
 use Rattle.follow_core.proofs.LookLemmas.{failed_sound, looks_give_text}
@@ -48,36 +48,34 @@ versions shows file start zero = []
 versions shows file start (suc n) = version_in (shows start) file ∷ versions shows file (suc start) n
 
 later_by : (by_name : Bool) (name : List ℕ) {file : ℕ} (snapshot : Snapshot) {led : Option ℕ} {rest : List Entry} → led ≡ Some file → version_in snapshot file ∷ (entries_led snapshot (Some file) led ++ rest) ≡ version_in snapshot file ∷ rest
-later_by by_name name {file} snapshot {rest} is = ap (λ those. version_in snapshot file ∷ (entries_led snapshot (Some file) those ++ rest)) is ∙ ap (λ those. version_in snapshot file ∷ (those ++ rest)) (led_same snapshot file)
+later_by by_name name {file} snapshot is = rw (is, led_same snapshot file)
 
 later_are : (by_name : Bool) {name : List ℕ} (shows : ℕ → Snapshot) {file count : ℕ} (start n : ℕ) → start + n ≤ count → OnlyGrows count shows name file → entries_later by_name name (Some file) (looks_from shows start n) ≡ versions shows file start n
 later_are by_name shows start zero within grows = refl
-later_are true {name} shows {file} {count} start (suc n) within grows =
+later_are true {name} shows {file} start (suc n) within grows =
     let leads = grows.0 start (omega (arith, within)) in
     later_by true name (shows start) leads
     ∙ ap (λ opened. version_in (shows start) file ∷ entries_later true name opened (looks_from shows (suc start) n)) leads
     ∙ ap (λ rest. version_in (shows start) file ∷ rest) (later_are true shows (suc start) n (omega (arith, within)) grows)
-later_are false {name} shows {file} {count} start (suc n) within grows = ap (λ rest. version_in (shows start) file ∷ rest) (later_are false shows (suc start) n (omega (arith, within)) grows)
+later_are false shows start (suc n) within grows = rw (later_are false shows (suc start) n (omega (arith, within)) grows)
 
 entries_are : (by_name : Bool) {name : List ℕ} (shows : ℕ → Snapshot) {file count : ℕ} (n : ℕ) → n ≤ count → OnlyGrows count shows name file → entries_of by_name name (looks_from shows 0 n) ≡ versions shows file 0 n
 entries_are by_name shows zero within grows = refl
-entries_are by_name {name} shows {file} {count} (suc n) within grows =
-    ap (λ led. entries_led (shows 0) None led ++ entries_later by_name name led (looks_from shows 1 n)) (grows.0 0 (omega (arith, within)))
-    ∙ ap (λ rest. version_in (shows 0) file ∷ rest) (later_are by_name shows 1 n (omega (arith, within)) grows)
+entries_are by_name shows (suc n) within grows = rw (grows.0 0 (omega (arith, within)), later_are by_name shows 1 n (omega (arith, within)) grows)
 
 versions_kept : (shows : ℕ → Snapshot) {name : List ℕ} {file count : ℕ} (start n : ℕ) → start + n ≤ count → OnlyGrows count shows name file → AreKept (versions shows file start n)
 versions_kept shows start zero within grows = tt
 versions_kept shows start (suc zero) within grows = (tt, tt)
-versions_kept shows {name} {file} {count} start (suc (suc n)) within grows = ((λ goes. grows.1 start (omega (arith, within))), versions_kept shows (suc start) (suc n) (omega (arith, within)) grows)
+versions_kept shows start (suc (suc n)) within grows = ((λ goes. grows.1 start (omega (arith, within))), versions_kept shows (suc start) (suc n) (omega (arith, within)) grows)
 
 pub kept_in : (by_name : Bool) {name : List ℕ} (shows : ℕ → Snapshot) {file count : ℕ} → OnlyGrows count shows name file → AreKept (entries_of by_name name (seen_first shows count))
-kept_in by_name {name} shows {file} {count} grows = subst AreKept (sym (ap (entries_of by_name name) (seen_are shows count) ∙ entries_are by_name shows count (omega arith) grows)) (versions_kept shows 0 count (omega arith) grows)
+kept_in by_name {name} shows {count} grows = rw (ap (entries_of by_name name) (seen_are shows count) ∙ entries_are by_name shows count (omega arith) grows) (versions_kept shows 0 count (omega arith) grows)
 
 -- what they gain is what came
 holds_later : (shows : ℕ → Snapshot) {name : List ℕ} {file count : ℕ} (start n : ℕ) → start + n < count → OnlyGrows count shows name file
     → (shows (start + n)).holds file ≡ (shows start).holds file ++ gains_later (version_in (shows start) file) (versions shows file (suc start) n)
-holds_later shows {file = file} start zero within grows = ap (λ k. (shows k).holds file) (let e : start + 0 ≡ start = omega arith in e) ∙ sym (append-nil ((shows start).holds file))
-holds_later shows {file = file} start (suc n) within grows =
+holds_later shows {file} start zero within grows = ap (λ k. (shows k).holds file) (let e : start + 0 ≡ start = omega arith in e) ∙ sym (append-nil ((shows start).holds file))
+holds_later shows {file} start (suc n) within grows =
     let (piece, next) = grows.1 start (omega (arith, within)) in
     let front = (shows start).holds file in
     let later = gains_later (version_in (shows (suc start)) file) (versions shows file (suc (suc start)) n) in
@@ -86,7 +84,7 @@ holds_later shows {file = file} start (suc n) within grows =
 
 gains_are : (shows : ℕ → Snapshot) {name : List ℕ} {file count n : ℕ} {came : List ℕ} → n < count → OnlyGrows count shows name file → (shows n).holds file ≡ (shows 0).holds file ++ came
     → gains_later (version_in (shows 0) file) (versions shows file 1 n) ≡ came
-gains_are shows {file = file} {n = n} {came} within grows is =
+gains_are shows {file} {n} {came} within grows is =
     let front = (shows 0).holds file in
     let gained = gains_later (version_in (shows 0) file) (versions shows file 1 n) in
     let both : front ++ gained ≡ front ++ came = sym (holds_later shows 0 n (omega (arith, within)) grows) ∙ ap (λ k. (shows k).holds file) (let e : 0 + n ≡ n = omega arith in e) ∙ is in
@@ -95,10 +93,7 @@ gains_are shows {file = file} {n = n} {came} within grows is =
 -- the text of such a name
 pub growing_text : (by_name : Bool) {name : List ℕ} (shows : ℕ → Snapshot) {file count n : ℕ} (start : List ℕ → List ℕ) (came : List ℕ) → n < count → OnlyGrows count shows name file → (shows n).holds file ≡ (shows 0).holds file ++ came
     → name_text start (entries_of by_name name (seen_first shows (suc n))) ≡ start ((shows 0).holds file) ++ came
-growing_text by_name {name} shows {file} {count} {n} start came within grows is =
-    ap (name_text start) (ap (entries_of by_name name) (seen_are shows (suc n)) ∙ entries_are by_name shows (suc n) (omega (arith, within)) grows)
-    ∙ text_is_gains start (versions shows file 0 (suc n)) (versions_kept shows 0 (suc n) (omega (arith, within)) grows)
-    ∙ ap (λ more. start ((shows 0).holds file) ++ more) (gains_are shows within grows is)
+growing_text by_name shows {file} {n} start came within grows is = rw (seen_are shows (suc n), entries_are by_name shows (suc n) (omega (arith, within)) grows, text_is_gains start (versions shows file 0 (suc n)) (versions_kept shows 0 (suc n) (omega (arith, within)) grows), gains_are shows within grows is)
 
 -- its file is open after each look
 pub stays_open : (by_name : Bool) {name : List ℕ} (shows : ℕ → Snapshot) {file count : ℕ} (n : ℕ) → n < count → OnlyGrows count shows name file → open_after by_name name (looks_from shows 0 (suc n)) ≡ Some file
@@ -132,8 +127,8 @@ wrote_all ways name before (look ∷ looks) last kept well =
     let both = or_parts (share_of ways before look ways.first name).has_failed (any_failed (shares_from ways (name ∷ []) here looks)) well in
     let fine = fine_share ways name before look (is_dropped ways.first before) (fate_at ways.first look) kept both.0 in
     let rest = wrote_all ways name here looks last (ap is_some (failed_sound ways.first before look fine.0) ∙ kept) both.1 in record {
-      is = ap (λ bytes. bytes ++ text_from false last (shares_from ways (name ∷ []) here looks)) fine.1 ∙ ap (λ more. gain ways name before look ++ more) rest.is;
-      kept = ap (λ fate. is_some (failed_by ways.first fate (failed_in ways.first looks))) fine.0 ∙ rest.kept;
+      is = rw (fine.1, rest.is);
+      kept = rw (fine.0, rest.kept);
     }
 
 -- all of the looks
@@ -152,12 +147,11 @@ alive_by false false kept is = ap (λ those. is_some those || false) is
 
 opens : (by_name : Bool) {name : List ℕ} (shows : ℕ → Snapshot) {file : ℕ} (looks : List Look) → OnlyGrows (length looks) shows name file → snapshots looks ≡ seen_first shows (length looks) → 0 < length looks → open_after by_name name (snapshots looks) ≡ Some file
 opens by_name shows [] grows saw some = absurd (omega (arith, some))
-opens by_name {name} shows {file} (look ∷ looks) grows saw some =
-    ap (open_after by_name name) (saw ∙ seen_are shows (suc (length looks))) ∙ stays_open by_name shows (length looks) (omega arith) grows
+opens by_name shows (look ∷ looks) grows saw some = cc (saw, seen_are shows (suc (length looks)), stays_open by_name shows (length looks) (omega arith) grows)
 
 all_made : (ways : Ways) {name : List ℕ} (shows : ℕ → Snapshot) {file count : ℕ} (looks : List Look) → OnlyGrows (length looks) shows name file → snapshots looks ≡ seen_first shows (length looks) → is_dropped ways.first looks ≡ false → length looks ≤ count
     → (length looks < count → (0 < length looks) × (◌≡◌ {A = Bool} true true → is_alive ways (name ∷ []) looks ≡ false)) → length looks ≡ count
-all_made ways {name} shows {file} {count} looks grows saw kept few full = elim (cases_lt (length looks) count) [
+all_made ways shows {count} looks grows saw kept few full = elim (cases_lt (length looks) count) [
   | inl less ↦ let why = full less in absurd
       (false≢true (sym (why.1 refl) ∙ alive_by (is_dropped ways.first looks) ways.by_name kept (opens ways.by_name shows looks grows saw why.0)))
   | inr enough ↦ omega (arith, few, enough)
@@ -181,7 +175,7 @@ wrote_text ways name shows count seen watched new keeps_bytes (looked looks shar
     let well : any_failed (shares_of ways (name ∷ []) looks) ≡ false = ap any_failed (sym shares_are) ∙ unfailed (any_failed shares) leaves.status_is in
     let count_is : length looks ≡ length seen = sym (ap length seen_is ∙ length-map looks (λ (look : Look). look.snapshot)) in
     let all_kept = keeps_bytes (seen_is ∙ made.saw ∙ ap (seen_first shows) count_is) in
-    let text = is_text ways name looks well (subst (λ those. AreKept (entries_of ways.by_name name those)) seen_is all_kept) in
+    let text = is_text ways name looks well (rw seen_is at all_kept) in
     let (error, tells, slots) = leaves.wrote standard_output standard_error [] refl in record {
       looks = looks;
       count_is = count_is;
@@ -190,7 +184,7 @@ wrote_text ways name shows count seen watched new keeps_bytes (looked looks shar
       kept = text.kept;
       few = few;
       full = full;
-      is = ap (λ those. (slot_at those 0).written) slots ∙ ap (text_from false None) shares_are ∙ text.is ∙ ap (λ those. name_text ways.start (entries_of ways.by_name name those)) (sym seen_is);
+      is = rw (slots, shares_are, text.is, seen_is);
     }
 wrote_text ways name shows count seen watched new keeps_bytes (stopped mid why stop says failed) = absurd (omega (arith, failed))
 wrote_text ways name shows count seen watched new keeps_bytes (no_room unseen unwatched says failed) = absurd (omega (arith, failed))
@@ -213,7 +207,7 @@ pub tells_all : (run : FollowRun) (options : EndsAsked) (followed : Followed) (n
     → (slot_at run.outputs 0).written ≡ tail_of options.delim options.unit (is_plus options.count.sign) options.count.amount ((run.shows 0).holds file) ++ came
 tells_all run options followed name came file n follows bare named count grows is =
     let ways = ways_of 0 (is_name followed) (start_of options) in
-    let wrote = follows_text follows bare named (λ saw. subst (λ those. AreKept (entries_of (is_name followed) name those)) (sym saw) (kept_in (is_name followed) run.shows grows)) in
+    let wrote = follows_text follows bare named (λ saw. rw saw (kept_in (is_name followed) run.shows grows)) in
     let grew = subst (λ k. OnlyGrows k run.shows name file) (sym wrote.count_is) grows in
     let made : length wrote.looks ≡ run.count = all_made ways run.shows wrote.looks grew wrote.saw wrote.kept wrote.few wrote.full in
     let all : length wrote.looks ≡ suc n = made ∙ count ∙ (let e : n + 1 ≡ suc n = omega arith in e) in

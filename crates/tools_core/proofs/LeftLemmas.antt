@@ -1,12 +1,11 @@
 -- What a run leaves that no fault stopped: just what its inputs make, but for files that were to be removed.
-use Rattle.std.proofs.Common.{◌≡◌, ℕ, ◌<◌, ◌≤◌, ◌^◌, zero, suc, Bool, true, false, ◌&&◌, cond, is_none, List, [], ◌∷◌, ◌++◌, length, map, Option, Some, None, Result, Ok, codes, inl, inr, ◌⊎◌, refl, sym, ◌∙◌, ap, subst, arith, append-nil, length-append}
-use Rattle.std.specs.List.{concat}
+use Rattle.std.proofs.Common.{◌≡◌, ℕ, ◌<◌, ◌≤◌, ◌^◌, zero, suc, Bool, true, false, cond, is_none, List, [], ◌∷◌, ◌++◌, length, map, Option, Some, None, Ok, codes, inl, inr, ◌⊎◌, refl, sym, ◌∙◌, ap, arith, append-nil, length-append}
 use Rattle.std.proofs.lemmas.Bool.{cases_Bool, false≢true}
 use Rattle.std.proofs.lemmas.List.Elements.{All-map}
 use Rattle.ports_core.specs.Message.{SaysAll}
 use Rattle.ports_core.specs.Part.{File, OutputsAt, Part, file_of, told_file}
 use Rattle.ports_core.specs.Slot.{Slot, adds, closes, has_file, opened, removes, slot_at}
-use Rattle.ports_core.specs.Source.{Content, Source, source_of}
+use Rattle.ports_core.specs.Source.{Content, Source}
 use Rattle.ports_core.specs.Streams.{standard_error, standard_output, streams_with}
 use Rattle.ports_core.specs.Swept.{Cleared, Swept}
 use Rattle.ports_core.specs.Swept as swept_so
@@ -31,7 +30,7 @@ use Rattle.words_core.specs.TeeAsked.{TeeAsked}
 use Rattle.words_core.specs.Words.{settings_of}
 use Rattle.words_core.specs.declared.settings.Settings.{Settings}
 use Rattle.words_core.specs.declared.settings.Settings.TheVariants.{Head, Tail, Split, Csplit, Tee}
-use Rattle.tools_core.specs.Outcome.{DoesAsked, RefusesOperands, RunEndsAt, names_at}
+use Rattle.tools_core.specs.Outcome.{DoesAsked, RefusesOperands}
 use Rattle.tools_core.specs.Tasks.{csplit_task, head_task, is_minus, is_plus, names_of, plan_of, split_task, tail_task, tool_of}
 use Rattle.tools_core.specs.Promises.{Completes, FindAlike, IsCopied, IsGone, IsUnstopped, LeaveAlike, Ran, Run, SaysLines, Unstopped, failing, removes_files}
 use Rattle.tools_core.proofs.OutcomeLemmas.{AreLive, Fits, IsLive, IsLiving, csplit_living, fits_fault, fits_well, head_living, inputs_fit, outputs_of, slot_of, slots_of, split_living, tail_living}
@@ -47,8 +46,7 @@ told_again [] = refl
 told_again (file ∷ files) = ap (λ those. file ∷ those) (told_again files)
 
 pub slots_at : {part : Part} {error : Slot} {now : List Slot} → OutputsAt true (streams_with error) part now → now ≡ outputs_of part error
-slots_at {part} {error} at =
-    at.slots ∙ ap (λ files. adds part.out standard_output ∷ error ∷ files) (sym (slots_again at.since) ∙ ap (map slot_of) (at.files ∙ told_again part.files))
+slots_at {part} at = cc (at.slots, slots_again at.since, at.files, told_again part.files)
 
 -- What becomes of an output where files are removed, or stay
 
@@ -74,7 +72,7 @@ pub record Kept (sweeps : Bool) (place : ℕ) (old new : Slot) : Type 0 where
   pub broke : old.is_broken ≡ false → new.is_broken ≡ true → (sweeps ≡ true) × (new.state ≡ state.Closed)
 
 kept_same : (sweeps : Bool) (place : ℕ) {old new : Slot} → remains sweeps place old ≡ old → new ≡ old → Kept sweeps place old new
-kept_same sweeps place {old} stays same = subst (Kept sweeps place old) (sym same) (record {
+kept_same sweeps place stays same = rw same (record {
   name = refl;
   mode = refl;
   written = refl;
@@ -133,12 +131,12 @@ pub record IsLeft (which : Tool) (made : Outcome) (new : List Slot) (status : �
   pub is : status ≡ status_of made
 
 pub left_at : {which : Tool} {made : Outcome} {new : List Slot} {status : ℕ} → IsLeft which made new status → (place : ℕ) → (place ≡ 1 → ⊥) → Kept made.sweeps place (slot_at (slots_of made.part) place) (slot_at new place)
-left_at {made = made} {new} left place differs =
-    subst (λ old. Kept made.sweeps place old (slot_at new place)) (beside_error (adds made.part.out standard_output) left.error standard_error _ place differs) (swept_kept made.sweeps _ new left.swept place)
+left_at {made} {new} left place differs =
+    rw (beside_error (adds made.part.out standard_output) left.error standard_error _ place differs) at (swept_kept made.sweeps _ new left.swept place)
 
 pub left_says : {which : Tool} {clears : Bool} {made : Outcome} {new : List Slot} {status : ℕ} → Fits which clears made → IsLeft which made new status → SaysLines which made.messages (slot_at new 1)
-left_says {which} {made = made} {new} fits left =
-    record { are = fits.are; said = subst (SaysAll true which made.messages standard_error) (sym (swept_error made.sweeps (outputs_of made.part left.error) new (omega arith) left.swept)) left.says }
+left_says {made} {new} fits left =
+    record { are = fits.are; said = rw (swept_error made.sweeps (outputs_of made.part left.error) new (omega arith) left.swept) left.says }
 
 pub unfailed : (failed : Bool) → ◌≡◌ {A = ℕ} 0 (cond failed 1 0) → failed ≡ false
 unfailed true is = absurd (omega (arith, is))
@@ -149,12 +147,12 @@ pub record IsWhole (made : Outcome) (new : List Slot) : Type 0 where
   pub slots : new ≡ slots_of made.part
 
 pub left_whole : {which : Tool} {clears : Bool} {made : Outcome} {new : List Slot} {status : ℕ} → Fits which clears made → IsLeft which made new status → status ≡ 0 → IsWhole made new
-left_whole {which} {made = made} {new} fits left well =
+left_whole {made} fits left well =
     let sound = unfailed made.failed (sym well ∙ left.is) in
     let stay : made.sweeps ≡ false = elim (cases_Bool made.sweeps) [ inl is ↦ absurd (false≢true (sym sound ∙ (fits.sweeps is).1)) | inr is ↦ is ] in record {
       sound = sound;
-      slots = subst (λ sweeps. Swept sweeps 2 (outputs_of made.part left.error) new) stay left.swept
-          ∙ ap (outputs_of made.part) (subst (λ texts. SaysAll true which texts standard_error left.error) (fits.quiet sound) left.says);
+      slots = rw stay at left.swept
+          ∙ ap (outputs_of made.part) (rw (fits.quiet sound) at left.says);
     }
 
 -- `tee` where no output broke and all of the input was copied
@@ -177,7 +175,7 @@ tee_made asked content = record {
 
 pub copies_are : (mode : Mode) (bytes : List ℕ) (names : List (List ℕ)) → map slot_of (map (λ name. file_of (copy mode bytes name)) names) ≡ map (copy mode bytes) names
 copies_are mode bytes [] = refl
-copies_are mode bytes (name ∷ names) = ap (λ those. copy mode bytes name ∷ those) (copies_are mode bytes names)
+copies_are mode bytes (name ∷ names) = rw (copies_are mode bytes names)
 
 tee_fits : (asked : TeeAsked) (bytes : List ℕ) (breaks_off : Bool) → Fits tool.Tee false (tee_made asked (record { bytes = bytes; breaks_off = breaks_off }))
 tee_fits asked bytes breaks_off = by breaks_off where
@@ -200,25 +198,20 @@ met_status true = refl
 met_status false = refl
 
 quiet_outputs : (names : List (List ℕ)) (broke : List (Option ℕ)) (pieces : ℕ) (fault : Option Fault) → are_sound broke ≡ true → messages_of names broke pieces fault ≡ said_of_input fault
-quiet_outputs names broke pieces fault sound =
-    ap (λ lines. (lines ++ said_of_input fault) ++ said_in (suc pieces) (output_names names) broke) (nothing_before (suc pieces) (output_names names) broke sound)
-    ∙ ap (λ lines. said_of_input fault ++ lines) (nothing_in (suc pieces) (output_names names) broke sound) ∙ append-nil (said_of_input fault)
+quiet_outputs names broke pieces fault sound = rw (nothing_before (suc pieces) (output_names names) broke sound, nothing_in (suc pieces) (output_names names) broke sound, append-nil (said_of_input fault))
 
 -- no output is left only where the first broke
 pub some_left : (call : ℕ) {first : Option ℕ} (broke : List (Option ℕ)) → first ≡ None → none_left call (first ∷ broke) ≡ false
-some_left call broke none = ap (λ those. broke_before call those && none_left call broke) none
+some_left call broke none = rw none
 
 pub tee_left : {asked : TeeAsked} {content : Content} {source : Source} {new : List Slot} {status : ℕ} (ends : tee.EndsAs true true asked.mode asked.names content source new status) → IsCopied ends → IsLeft tool.Tee (tee_made asked content) new status
 tee_left {asked} {content} (tee.copied pieces fault first broke output error files comes some left rest says slots is) (sound, all) =
     let sounds = sound_first first (are_sound broke) sound in
     let met = met_is _ (some_left (suc (length pieces)) broke sounds.0) all comes.few comes.read in record {
       error = error;
-      says = subst (λ lines. SaysAll true tool.Tee lines standard_error error) (quiet_outputs asked.names (first ∷ broke) (length pieces) fault sound ∙ ap said_of_input met) says;
-      swept = slots ∙ ap (λ slot. slot ∷ error ∷ files) (whole_output true pieces first output sounds.0 left)
-          ∙ ap (λ those. adds (concat pieces) standard_output ∷ error ∷ those) (whole_files true asked.mode pieces asked.names broke files sounds.1 rest)
-          ∙ ap (λ bytes. adds bytes standard_output ∷ error ∷ map (copy asked.mode bytes) asked.names) all
-          ∙ ap (λ those. adds content.bytes standard_output ∷ error ∷ those) (sym (copies_are asked.mode content.bytes asked.names));
-      is = is ∙ ap (λ flag. cond (flag && is_none fault) 0 1) sound ∙ ap (λ why. cond (is_none why) 0 1) met ∙ met_status content.breaks_off;
+      says = rw (quiet_outputs asked.names (first ∷ broke) (length pieces) fault sound ∙ ap said_of_input met) at says;
+      swept = rw (slots, whole_output true pieces first output sounds.0 left, whole_files true asked.mode pieces asked.names broke files sounds.1 rest, all, copies_are asked.mode content.bytes asked.names);
+      is = rw (is, sound, met, met_status content.breaks_off);
     }
 tee_left (tee.no_room error says unread slots is) copied = absurd copied
 
@@ -239,9 +232,8 @@ same_content {content} {other} one two =
     let there : Some content ≡ Some other = ap (λ (input : Input). input.content) first in cc
 
 one_made : (asked : Settings) (inputs : List Input) {made other : Outcome} → Makes asked inputs made → Makes asked inputs other → made ≡ other
-one_made (Csplit asked) inputs (operands, asks, is) (operands_too, asks_too, is_too) =
-    is ∙ ap (λ read. made_by (csplit_task asked read) inputs) (asks_once asked.operands operands operands_too asks asks_too) ∙ sym is_too
-one_made (Tee asked) inputs (content, only, is) (content_too, only_too, is_too) = is ∙ ap (tee_made asked) (same_content only only_too) ∙ sym is_too
+one_made (Csplit asked) inputs (operands, asks, is) (operands_too, asks_too, is_too) = rw (is, asks_once asked.operands operands operands_too asks asks_too, is_too)
+one_made (Tee asked) inputs (content, only, is) (content_too, only_too, is_too) = rw (is, same_content only only_too, is_too)
 one_made asked inputs is is_too = is ∙ sym is_too
 
 pub record Left (which : Tool) (clears : Bool) (Of : Outcome → Type 0) (new : List Slot) (status : ℕ) : Type 0 where
@@ -252,11 +244,11 @@ pub record Left (which : Tool) (clears : Bool) (Of : Outcome → Type 0) (new : 
 
 ends_left : {task : Task} {inputs : List Input} {sources : List Source} {new : List Slot} {status : ℕ} (Of : List Input → Outcome → Type 0) → IsLiving task.work → Of inputs (made_by task inputs) → (ends : EndsAs true true task inputs sources new status) → IsUnstopped ends
     → Left task.tool task.work.clears (Of inputs) new status
-ends_left {task} {inputs} {new = new} Of living of (as_defined error reached says outputs swept done is) unstopped = record {
+ends_left {task} {inputs} Of living of (as_defined error reached says outputs swept done is) unstopped = record {
   made = made_by task inputs;
   of = of;
   fits = inputs_fit task true inputs living;
-  left = record { error = error; says = says; swept = subst (λ slots. Swept (made_by task inputs).sweeps 2 slots new) (slots_at outputs) swept; is = is };
+  left = record { error = error; says = says; swept = rw (slots_at outputs) at swept; is = is };
 }
 ends_left Of living of ends unstopped = absurd unstopped
 
@@ -282,27 +274,25 @@ not_refused (inl did) = inl did
 not_refused (inr (same, refuses)) = inr refuses
 
 pub ran_over : {run : Run} {asked : Settings} → Ran run asked → DoesAsked true true asked (inputs_at run.world (names_of asked)) run.inputs run.outputs run.status ⊎ RefusesOperands true run.words asked run.outputs run.status
-ran_over {run} ran =
+ran_over ran =
     let (found, finds, ends) = ran.ends in
-    not_refused (subst (λ (meant : Result Settings Fault). RunEndsAt true true run.words (inputs_at run.world (names_at meant)) (source_of run.world.standard ∷ []) run.inputs run.outputs run.status meant) ran.read
-    (subst (λ those. RunEndsAt true true run.words those (source_of run.world.standard ∷ []) run.inputs run.outputs run.status (settings_of run.words)) (finds.there refl) ends))
+    not_refused (rw ran.read at (rw (finds.there refl) at ends))
 
 -- Two runs that were asked for the same, over the same inputs
 
 found_same : (one other : Run) {asked : Settings} → settings_of one.words ≡ Ok asked → settings_of other.words ≡ Ok asked → FindAlike one other → inputs_at one.world (names_of asked) ≡ inputs_at other.world (names_of asked)
-found_same one other read read_too same =
-    sym (ap (λ (meant : Result Settings Fault). inputs_at one.world (names_at meant)) read) ∙ same ∙ ap (λ (meant : Result Settings Fault). inputs_at other.world (names_at meant)) read_too
+found_same one other read read_too same = cc (read, same, read_too)
 
 -- what the one made is what the other does
 pub same_made : (one other : Run) {asked : Settings} {made made_too : Outcome} → settings_of one.words ≡ Ok asked → settings_of other.words ≡ Ok asked → FindAlike one other
     → Makes asked (inputs_at one.world (names_of asked)) made → Makes asked (inputs_at other.world (names_of asked)) made_too → made_too ≡ made
-same_made one other {asked} {made} read read_too same makes makes_too = one_made asked _ makes_too (subst (λ inputs. Makes asked inputs made) (found_same one other read read_too same) makes)
+same_made one other {asked} read read_too same makes makes_too = one_made asked _ makes_too (rw (found_same one other read read_too same) at makes)
 
 pub leave_alike : (one other : Run) (asked : Settings) → Completes one asked → Completes other asked → FindAlike one other → LeaveAlike asked one other
 leave_alike one other asked whole whole_too same =
     let here = completes_left whole in
     let there = completes_left whole_too in
-    let two = subst (λ made. IsLeft (tool_of asked) made other.outputs other.status) (same_made one other whole.read whole_too.read same here.of there.of) there.left in record {
+    let two = rw (same_made one other whole.read whole_too.read same here.of there.of) at there.left in record {
       status = here.left.is ∙ sym two.is;
       count = swept_count here.made.sweeps _ _ here.left.swept ∙ sym (swept_count here.made.sweeps _ _ two.swept);
       outputs = λ place differs.

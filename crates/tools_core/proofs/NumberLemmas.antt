@@ -1,5 +1,5 @@
 -- Numbered names are in the order of their numbers, while none has more digits than it is filled to.
-use Rattle.std.proofs.Common.{◌≡◌, ℕ, ◌+◌, ◌-◌, ◌/◌, ◌%◌, ◌^◌, ◌<◌, ◌≤◌, zero, suc, List, [], ◌∷◌, ◌++◌, length, replicate, inl, inr, refl, sym, ◌∙◌, ap, subst, arith, append_assoc, length-append, decimal, Less}
+use Rattle.std.proofs.Common.{◌≡◌, ℕ, ◌+◌, ◌-◌, ◌/◌, ◌%◌, ◌^◌, ◌<◌, ◌≤◌, zero, suc, List, [], ◌∷◌, ◌++◌, length, replicate, inl, inr, refl, sym, ◌∙◌, ap, arith, append_assoc, length-append, decimal, Less}
 use Rattle.std.specs.Ordering.{nat_cmp}
 use Rattle.std.specs.Cmp.Lexicographic.{slice_cmp}
 use Rattle.std.proofs.Math.Nat.{mod-lt, pow-suc, pow-zero}
@@ -36,8 +36,7 @@ digits_in_order (suc width) {low} {high} less small =
       | inr reached ↦
           let same : high / 10 ≡ low / 10 = omega (arith, reached, one, two, less, first, second) in
           let last : 48 + low % 10 < 48 + high % 10 = omega (arith, same, one, two, less) in
-          subst (λ front. IsBelow (digits_in width (low / 10) ++ (48 + low % 10) ∷ []) (front ++ (48 + high % 10) ∷ [])) (sym (ap (digits_in width) same))
-          (same_front (digits_in width (low / 10)) ((48 + low % 10) ∷ []) ((48 + high % 10) ∷ []) (first_less (48 + low % 10) (48 + high % 10) [] [] last))
+          rw (ap (digits_in width) same) (same_front (digits_in width (low / 10)) ((48 + low % 10) ∷ []) ((48 + high % 10) ∷ []) (first_less (48 + low % 10) (48 + high % 10) [] [] last))
     ]
 
 one_more : {byte : ℕ} (count : ℕ) → byte ∷ replicate count byte ≡ replicate count byte ++ byte ∷ []
@@ -46,7 +45,7 @@ one_more {byte} (suc count) = ap (λ rest. byte ∷ rest) (one_more count)
 
 zeros : (width : ℕ) → replicate width 48 ≡ digits_in width 0
 zeros zero = refl
-zeros (suc width) = one_more width ∙ ap (λ front. front ++ 48 ∷ []) (zeros width)
+zeros (suc width) = rw (one_more width, zeros width)
 
 -- a number in decimal, filled with zeros, is its last digits
 

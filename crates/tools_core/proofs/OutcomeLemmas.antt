@@ -1,5 +1,5 @@
 -- What is true of the outcome of any inputs: which messages it has, and that its files are live.
-use Rattle.std.proofs.Common.{◌≡◌, ℕ, ◌+◌, ◌<◌, zero, suc, Bool, true, false, ◌&&◌, cond, is_some, List, [], ◌∷◌, ◌++◌, length, map, slice_index_or, Option, Some, None, inl, inr, ◌⊎◌, refl, sym, ◌∙◌, ap, subst, arith, append_assoc}
+use Rattle.std.proofs.Common.{◌≡◌, ℕ, ◌+◌, ◌<◌, zero, suc, Bool, true, false, ◌&&◌, cond, is_some, List, [], ◌∷◌, ◌++◌, length, map, slice_index_or, Option, Some, None, inl, inr, ◌⊎◌, refl, sym, ◌∙◌, ap, arith, append_assoc}
 use Rattle.std.specs.List.{All}
 use Rattle.std.proofs.Math.Bool.{and-false}
 use Rattle.std.proofs.lemmas.Bool.{and_parts, cases_lt, false≢true, or_cases, or_left, or_parts, or_right}
@@ -58,7 +58,7 @@ abbrev pub SaysLine : Tool → List ℕ → Slot → Type 0
 SaysLine tool line error = (before : List (List ℕ)) × (after : List (List ℕ)) × SaysLines tool (before ++ line ∷ after) error
 
 pub says_line : {tool : Tool} {line : List ℕ} {lines : List (List ℕ)} {error : Slot} → HasLine line lines → SaysLines tool lines error → SaysLine tool line error
-says_line {tool} {error} (before, after, is) says = (before, after, subst (λ those. SaysLines tool those error) is says)
+says_line (before, after, is) says = (before, after, rw is at says)
 
 abbrev pub IsMessage : Tool → List ℕ → Type 0
 IsMessage tool line = (fault : Fault) × (name : List ℕ) × (line ≡ message_of tool fault name)
@@ -168,7 +168,7 @@ files_there names shares all = named_each (λ (file : File). IsLive (slot_of fil
 pub split_living : (plan : Plan) → IsLiving (split_work plan)
 split_living plan = record {
   settled = λ x. files_there plan.names _ (settled_there plan.delim plan.cut plan.elide x);
-  whole = λ x. files_there plan.names _ (subst (All IsThere) (sym (shares_are plan.delim plan.cut plan.elide x)) (shares_there Closed refl (pieces_of plan.delim plan.cut plan.elide x)));
+  whole = λ x. files_there plan.names _ (rw (shares_are plan.delim plan.cut plan.elide x) (shares_there Closed refl (pieces_of plan.delim plan.cut plan.elide x)));
 }
 
 section_has : (is_closed : Bool) → has_file (cond is_closed Closed Open) ≡ true

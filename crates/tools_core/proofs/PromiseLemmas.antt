@@ -1,11 +1,10 @@
 -- What a run that met no fault leaves: just its part, as its definition says, and nothing on standard error.
-use Rattle.std.proofs.Common.{◌≡◌, ℕ, Bool, true, false, ◌||◌, is_some, cond, List, [], ◌∷◌, Option, Some, None, inl, inr, refl, sym, ◌∙◌, ap, subst, arith}
+use Rattle.std.proofs.Common.{◌≡◌, ℕ, Bool, true, false, ◌||◌, is_some, cond, List, [], ◌∷◌, Option, Some, None, inl, inr, refl, sym, ◌∙◌, ap, arith}
 use Rattle.ports_core.specs.Slot.{Slot}
 use Rattle.ports_core.specs.declared.fault.Fault.{Fault}
 use Rattle.run_core.specs.Input.{Input, World, input_of, inputs_at, is_dash}
-use Rattle.run_core.specs.Task.{Outcome, Task, made_by, of_content}
+use Rattle.run_core.specs.Task.{Outcome, Task, made_by}
 use Rattle.words_core.specs.declared.settings.Settings.{Settings}
-use Rattle.tools_core.specs.Outcome.{names_at}
 use Rattle.tools_core.specs.Tasks.{names_of}
 use Rattle.tools_core.specs.Promises.{Completes, Does, FindAlike, HasInput, Ran, Run}
 use Rattle.tools_core.proofs.BeginLemmas.{ending, made_one, part_of}
@@ -37,7 +36,7 @@ pub has_one : {run : Run} {asked : Settings} {bytes : List ℕ} → Ran run aske
 has_one {run} ran has = record {
   input = input_of run.world false 1 has.name (is_dash has.name);
   content = content_by run.world has.name (is_dash has.name) ∙ has.holds;
-  only = ap (inputs_at run.world) (sym (ap names_at ran.read) ∙ has.only);
+  only = cc (ran.read, has.only);
 }
 
 -- what was made of it
@@ -50,11 +49,11 @@ pub record DidOne (run : Run) (asked : Settings) (bytes : List ℕ) : Type 0 whe
   pub slots : run.outputs ≡ slots_of made.part
 
 pub did_one : {run : Run} {asked : Settings} {bytes : List ℕ} → Does run asked → HasInput run bytes → DidOne run asked bytes
-did_one {asked = asked} does has =
+did_one does has =
     let one = has_one does.ran has in
     let all = completes_left (completes does) in
     let whole = left_whole all.fits all.left does.well in
-    record { input = one.input; content = one.content; made = all.made; makes = subst (λ inputs. Makes asked inputs all.made) one.only all.of; sound = whole.sound; slots = whole.slots }
+    record { input = one.input; content = one.content; made = all.made; makes = rw one.only at all.of; sound = whole.sound; slots = whole.slots }
 
 not_judged : (verdict : Option Fault) → (is_some verdict || false) ≡ false → verdict ≡ None
 not_judged None sound = refl
@@ -65,7 +64,7 @@ pub record IsMade (task : Task) (name bytes : List ℕ) (new : List Slot) : Type
   pub slots : new ≡ slots_of (part_of task name bytes)
 
 pub one_made : {run : Run} {asked : Settings} {bytes : List ℕ} (one : DidOne run asked bytes) (task : Task) → one.made ≡ made_by task (one.input ∷ []) → IsMade task one.input.name bytes run.outputs
-one_made {bytes = bytes} one task is = record {
-  unjudged = not_judged (task.work.verdict bytes) (subst (λ content. ((of_content task true one.input.name content).failed || false) ≡ false) one.content (sym (ap (λ (made : Outcome). made.failed) is) ∙ one.sound));
-  slots = one.slots ∙ ap (λ (made : Outcome). slots_of made.part) is ∙ ap slots_of (made_one task one.input one.content);
+one_made {bytes} one task is = record {
+  unjudged = not_judged (task.work.verdict bytes) (rw one.content at (sym (ap (λ (made : Outcome). made.failed) is) ∙ one.sound));
+  slots = cc (one.slots, is, made_one task one.input one.content);
 }

@@ -1,5 +1,5 @@
 -- How a run ends, by its words.
-use Rattle.std.proofs.Common.{◌≡◌, ℕ, List, [], ◌∷◌, Option, Some, None, option_map, Result, Ok, Err, refl, sym, ◌∙◌, ap, ◌≤◌, Bool, true, false, length, map, Bor, inl, inr, codes, subst, arith, if◌then◌else◌}
+use Rattle.std.proofs.Common.{◌≡◌, ℕ, List, [], ◌∷◌, Option, Some, None, option_map, Result, Ok, Err, refl, sym, ◌∙◌, ap, ◌≤◌, Bool, true, false, length, map, Bor, inl, inr, codes, arith, if◌then◌else◌}
 use Rattle.ports_core.specs.declared.fault.Fault.{Fault}
 use Rattle.ports_core.specs.declared.tool.Tool.{Tool}
 use Rattle.words_core.specs.declared.settings.Settings.{Settings}
@@ -19,7 +19,7 @@ use Rattle.std.proofs.lemmas.Bool.{false≢true}
 use Rattle.ports_core.specs.Slot.{Slot, changed_at, slot_at, streams}
 use Rattle.ports_core.specs.Source.{Content, Source, source_at, IsFresh}
 use Rattle.ports_core.specs.Text.{message_of}
-use Rattle.ports_core.specs.Message.{Says, SaysAll}
+use Rattle.ports_core.specs.Message.{SaysAll}
 use Rattle.ports_core.specs.declared.fault.Fault.TheVariants.{Memory, Usage}
 use Rattle.ports_core.specs.declared.slot.Mode.{Mode}
 use Rattle.ports_core.specs.Inputs.{BreaksOnly, KeepsOthers, OfContent, empty}
@@ -91,12 +91,12 @@ can_given row words {settings} (Ok given) read is = read-can row words given row
 can_given row words (Err fault) read is = absurd (cc)
 
 can_tool : (words : List (List ℕ)) {settings : Settings} (row : Option ToolRow) → tool_settings words row ≡ Ok settings → CanRun settings
-can_tool words {settings} (Some row) is = can_given row words (given_by row words) refl is
+can_tool words (Some row) is = can_given row words (given_by row words) refl is
 can_tool words None is = absurd (cc)
 
 pub can_run : (words : List (List ℕ)) {settings : Settings} → settings_of words ≡ Ok settings → CanRun settings
 can_run [] is = absurd (cc)
-can_run (name ∷ words) {settings} is = can_tool words (row_named tools name) is
+can_run (name ∷ words) is = can_tool words (row_named tools name) is
 
 -- Lemmas on how a run ends, by its words.
 
@@ -117,7 +117,7 @@ runs_names P is runs = rw (← is) runs
 -- the names that a run reads are those of its settings
 pub ends_names : {asked : EndsAsked} {unit : Counted} {count : Count} {headers : Headers} {delim : ℕ} {items now : List (Bor (List ℕ))} → now ≡ items → record { unit = unit; count = count; headers = headers; delim = delim; names = map (λ (name : Bor (List ℕ)). name.now) items } ≡ asked
     → map (λ (name : Bor (List ℕ)). name.now) now ≡ asked.names
-ends_names {now} same is = ap (map (λ (name : Bor (List ℕ)). name.now)) same ∙ ap (λ (those : EndsAsked). those.names) is
+ends_names same is = cc (same, is)
 
 -- `tee` over what is there
 
@@ -131,7 +131,7 @@ finds_standard {laid} sources {content} there = record {
 pub tee_runs : {told_in told : Bool} {laid : ℕ → List ℕ → Option Content} {asked : TeeAsked} {mode : Mode} {names : List (List ℕ)} (old : List Source) {sources : List Source} {new : List Slot} {status : ℕ} → mode ≡ asked.mode → names ≡ asked.names
     → OfContent told_in (source_at old 0).left (λ content. TeeCopies told_in told mode names content (source_at sources 0) new status × BreaksOnly told_in content (source_at sources 0))
     → (told_in ≡ true → status ≡ 0 → new ≡ all_copied told mode names (source_at old 0).left.bytes) → RunsOver told_in (world_of laid old) (codes "-" ∷ []) (λ found. TeeEndsAs told_in told asked found sources new status)
-tee_runs {told = told} {mode = mode} {names} old mode_is names_is (content, there, (ends, breaks)) whole = (
+tee_runs {told} {mode} {names} old mode_is names_is (content, there, (ends, breaks)) whole = (
   standard_input content ∷ [],
   finds_standard old there,
   record {
@@ -172,7 +172,7 @@ refused_memory words fault refuses = record {
 -- what is said of the words is said by the tool that they ask for
 says_as : {told : Bool} (words : List (List ℕ)) {settings : Settings} {new : List Slot} {status : ℕ} → settings_of words ≡ Ok settings → (refuses : RefusesFor told words Memory new status)
     → SaysAll told (tool_of settings) (message_of (tool_of settings) Memory [] ∷ []) standard_error refuses.error
-says_as {told} words is refuses = subst (λ (which : Tool). SaysAll told which (message_of which Memory [] ∷ []) standard_error refuses.error) (runs_as_named words is) (refuses.error, refuses.says, refl)
+says_as words is refuses = rw (← (runs_as_named words is)) (refuses.error, refuses.says, refl)
 
 module _ (told_in told : Bool) (words : List (List ℕ)) (laid : ℕ → List ℕ → Option Content) (sources : List Source) (new : List Slot) (status : ℕ) (fresh : IsFresh sources) where
   -- no input was touched by a run of words that mean this
@@ -198,14 +198,14 @@ module _ (told_in told : Bool) (words : List (List ℕ)) (laid : ℕ → List �
   pub refused_or_memory : {fault : Fault} → IsRefused HasBadOperands (settings_of words) fault → RefusesFor told words fault new status → EndsUnread (settings_of words)
   refused_or_memory (inr (inl is)) refuses = rw is ([], record { are = refl; there = λ t. refl }, (refl, refuses))
   refused_or_memory {fault} (inr (inr (settings, is, bad))) refuses = rw is (operands_refused settings fault bad refuses)
-  refused_or_memory (inl is) refuses = unread_for (settings_of words) refl (subst (λ why. RefusesFor told words why new status) is refuses)
+  refused_or_memory (inl is) refuses = unread_for (settings_of words) refl (rw is at refuses)
 
 -- `csplit` cuts at the operands that were read
 pub csplit_runs : {told_in told : Bool} {world : World} {asked : CsplitAsked} {input : List ℕ} {operands : List Operand} {sources : List Source} {new : List Slot} {status : ℕ} → input ≡ asked.input → Asks asked.operands operands
     → RunsOver told_in world (input ∷ []) (λ found. EndsAs told_in told (csplit_task asked operands) found sources new status)
     → RunsOver told_in world (asked.input ∷ []) (λ found. CsplitEndsAs told_in told asked found sources new status)
-csplit_runs {told_in} {world} {operands} is asks (found, finds, ends) =
-    (found, subst (λ name. Finds told_in world (name ∷ []) found) is finds, record { operands = operands; asks = asks; ends = ends })
+csplit_runs {operands} is asks (found, finds, ends) =
+    (found, rw is at finds, record { operands = operands; asks = asks; ends = ends })
 
 pub asked_or_none : (words : List (List ℕ)) {settings : Settings} {fault : Fault} → settings_of words ≡ Ok settings → settings_of words ≡ Err fault → ⊥
 asked_or_none words {settings} {fault} asks refuses = both (sym asks ∙ refuses) where
@@ -235,8 +235,7 @@ module _ (told_in told : Bool) (words : List (List ℕ)) (looks : ℕ) (shows : 
   unread_tail asked None speaks refuses = (unseen, unwatched, refused_memory words (Usage BadFollow 0) refuses)
   unread_tail asked (Some followed) speaks refuses = no_room_yet unseen unwatched (λ output error since are. (
     refuses.error,
-    subst (λ slot. Says told tool.Tail (message_of tool.Tail Memory []) slot refuses.error) (ap (λ slots. slot_at slots 1) are)
-        (subst (λ (which : Tool). Says told which (message_of which Memory []) standard_error refuses.error) speaks refuses.says),
+    rw (ap (λ slots. slot_at slots 1) are) at (rw speaks at refuses.says),
     refuses.slots ∙ ap (changed_at 1 (λ _. refuses.error)) are,
   )) refuses.failed
 
@@ -253,7 +252,7 @@ module _ (told_in told : Bool) (words : List (List ℕ)) (looks : ℕ) (shows : 
   pub refused_words : {fault : Fault} → IsRefused HasBadOperands (settings_of words) fault → RefusesFor told words fault new status → FollowingEnds told_in told words looks shows seen watched new status
   refused_words (inr (inl is)) refuses = rw is (unseen, unwatched, refuses)
   refused_words {fault} (inr (inr (settings, is, bad))) refuses = rw is (operands_unread settings fault bad refuses)
-  refused_words (inl is) refuses = unread_files (settings_of words) refl (subst (λ why. RefusesFor told words why new status) is refuses)
+  refused_words (inl is) refuses = unread_files (settings_of words) refl (rw is at refuses)
 
 -- Which of both runs the words ask for.
 
@@ -272,7 +271,7 @@ program_runs told_watched told words {settings} sources sources_new shows new st
 -- what words leave that are refused, whichever run they ask for
 pub program_refuses : (told_in told_watched : Bool) {told : Bool} (words : List (List ℕ)) (laid : ℕ → List ℕ → Option Content) {sources : List Source} (shows : ℕ → Snapshot) {seen : List Snapshot} {watched : List Watched} {fault : Fault} {new : List Slot} {status : ℕ} → IsFresh sources → seen ≡ [] → watched ≡ [] → IsRefused HasBadOperands (settings_of words) fault → RefusesFor told words fault new status
     → ProgramEnds told_in told_watched told words laid sources sources shows seen watched new status
-program_refuses told_in told_watched {told} words laid {sources} shows {seen} {watched} {fault} {new} {status} fresh unseen unwatched refused refuses = by (looks_at (settings_of words)) where
+program_refuses told_in told_watched {told} words laid {sources} shows {seen} {watched} {new} {status} fresh unseen unwatched refused refuses = by (looks_at (settings_of words)) where
   by : (asked : Option ℕ) → ProgramEndsAt told_in told_watched told words laid sources sources shows seen watched new status asked
   by (Some looks) = (refl, refused_words told_watched told words looks shows seen watched new status unseen unwatched refused refuses)
   by None = (unseen, unwatched, refused_or_memory told_in told words laid sources new status fresh refused refuses)

@@ -1,5 +1,5 @@
 -- What `split` leaves of its input.
-use Rattle.std.proofs.Common.{◌≡◌, ℕ, ◌+◌, ◌-◌, ◌*◌, ◌/◌, ◌%◌, ◌<◌, ◌≤◌, zero, suc, min, Bool, true, false, not, cond, List, [], ◌∷◌, ◌++◌, append_assoc, length-append, length, map, take, drop, filter, get_or, Some, None, inl, inr, refl, sym, ◌∙◌, ap, subst, arith}
+use Rattle.std.proofs.Common.{◌≡◌, ℕ, ◌+◌, ◌-◌, ◌*◌, ◌/◌, ◌%◌, ◌<◌, ◌≤◌, zero, suc, min, Bool, true, false, not, cond, List, [], ◌∷◌, ◌++◌, append_assoc, length-append, length, map, take, drop, filter, get_or, Some, None, inl, inr, refl, sym, ◌∙◌, ap, arith}
 use Rattle.std.specs.List.{All}
 use Rattle.std.proofs.Math.Nat.{mul-le-mul_right, suc-mul}
 use Rattle.std.proofs.lemmas.Bool.{cases_lt}
@@ -29,7 +29,7 @@ use Rattle.split_core.specs.inner.DealLaws.{share_of}
 use Rattle.split_core.specs.laws.CutLaws.{whole_of_lines, whole_of_none}
 use Rattle.split_core.specs.laws.DealLaws.{share_none}
 use Rattle.split_core.proofs.CutLaws.{first_then_after}
-use Rattle.split_core.proofs.AgreedLemmas.{bytes_named, each_named, named_bytes}
+use Rattle.split_core.proofs.AgreedLemmas.{bytes_named, each_named}
 use Rattle.split_core.proofs.MoveLemmas.{named_before}
 use Rattle.split_core.proofs.PlaceLemmas.{line_at, all_dealt, first_files}
 use Rattle.split_core.proofs.SectionLemmas.{joined_parts, part_lines, part_bytes, lines_count, bytes_count, line_bytes_are_parts, line_bytes_within}
@@ -57,10 +57,7 @@ bytes_written (file ∷ files) = ap (λ those. file.bytes ∷ those) (bytes_writ
 
 all_named : (names : Naming) {pieces : List (List ℕ)} → are_named names (length (map (share Closed) pieces)) ≡ true
     → map (λ (file : Slot). file.written) (map slot_of (named names 0 (map (share Closed) pieces))) ≡ pieces
-all_named names {pieces} are =
-    bytes_written (named names 0 (map (share Closed) pieces)) ∙ bytes_named names 0 (map (share Closed) pieces)
-    ∙ ap (named_bytes names 0) (bytes_of_shares Closed pieces)
-    ∙ each_named names pieces (ap (are_named names) (sym (length-map pieces (share Closed))) ∙ are)
+all_named names {pieces} are = rw (bytes_written (named names 0 (map (share Closed) pieces)), bytes_named names 0 (map (share Closed) pieces), bytes_of_shares Closed pieces, each_named names pieces (ap (are_named names) (sym (length-map pieces (share Closed))) ∙ are))
 
 -- Their names
 
@@ -109,13 +106,13 @@ is_split {run} {asked} {input} does has =
     let IsMade = λ (file : File). IsSound Fresh (slot_of file) in
     record {
       can = can;
-      listed = subst (AreListed asked) (sym files) (record {
+      listed = rw files (record {
         named = λ place within. called place (omega (arith, size, within));
         in_order = order_by (name_of names) _ called (λ k next.
             in_order names.prefix names.alphabet names.width names.auto names.ending k (suc k) can.width.0 (omega arith) (named_below names _ are (suc k) (omega (arith, size, count, next))));
         sound = All-map (IsSound Fresh) slot_of _ (named_each IsMade names 0 (map (share Closed) pieces) (All-map (λ one. (place : ℕ) → IsMade (file_at names place one)) (share Closed) pieces (λ k bytes within place. (refl, refl, refl))));
       });
-      contents = ap (map (λ (file : Slot). file.written)) files ∙ all_named names are;
+      contents = rw (files, all_named names are);
     }
 
 -- Pieces of n lines or bytes
@@ -134,7 +131,7 @@ run_size : {X : Type 0} (n i : ℕ) (xs : List X) → length (take n (drop (i * 
 run_size n i xs = length-take n (drop (i * n) xs) ∙ ap (min n) (length-drop (i * n) xs)
 
 run_pieces : (size : List ℕ → ℕ) {n all : ℕ} {x : List ℕ} {pieces : List (List ℕ)} → 0 < n → joined pieces ≡ x → AreFew (length pieces) n all → ((i : ℕ) → size (text_at pieces i) ≡ min n (all - i * n)) → ArePieces size n x pieces
-run_pieces size {n} {pieces = pieces} some are few each = record {
+run_pieces size {n} {pieces} some are few each = record {
   all = are;
   some = λ i within. let here = up_to i (length pieces) n within in let one = each i in omega (arith, one, here, few.1, some);
   most = λ i within. let one = each i in omega (arith, one);
@@ -161,9 +158,7 @@ more_lines {n} i {count} all few next =
     let step : suc i * n ≡ i * n + n = suc-mul i n in omega (arith, there, step, few)
 
 line_part : (delim : ℕ) {n : ℕ} (i : ℕ) (x : List ℕ) → 0 < n → text_at (parts (limit.Lines n delim) x) i ≡ first_lines delim n (after_lines delim (i * n) x)
-line_part delim {n} i x some =
-    sym (joined-lines_of delim (text_at (parts (limit.Lines n delim) x) i))
-    ∙ ap joined (part_lines delim n i x some ∙ ap (take n) (sym (lines_of-after_lines delim (i * n) x)))
+line_part delim {n} i x some = cc (joined-lines_of delim (text_at (parts (limit.Lines n delim) x) i), part_lines delim n i x some, lines_of-after_lines delim (i * n) x)
 
 pub line_ends : (delim : ℕ) {n : ℕ} (x : List ℕ) → 0 < n → AreUncut delim (parts (limit.Lines n delim) x)
 line_ends delim {n} x some i next =
@@ -179,10 +174,10 @@ byte_pieces {n} {x} some = run_pieces length some (joined_parts (limit.Bytes n) 
 -- Pieces of whole lines within n bytes
 
 ends_line : (delim : ℕ) {n : ℕ} (bytes : List ℕ) → length bytes ≡ n → EndsLine delim n (whole_lines delim bytes)
-ends_line delim {n} bytes long = elim (cases_lt 0 (delimiters delim bytes)) [
+ends_line delim bytes long = elim (cases_lt 0 (delimiters delim bytes)) [
   | inl lines ↦ inl (ap (ends_with delim) (whole_of_lines delim bytes lines) ∙ lines_end delim bytes _ lines (omega arith) refl)
   | inr few ↦ let none : delimiters delim bytes ≡ 0 = omega (arith, few) in
-      inr (subst (λ piece. (length piece ≡ n) × (delimiters delim piece ≡ 0)) (sym (whole_of_none delim bytes none)) (long, none))
+      inr (rw (whole_of_none delim bytes none) (long, none))
 ]
 
 uncut : (delim n : ℕ) (x : List ℕ) (pieces : List (List ℕ)) → AreLineByteParts delim n x pieces → (place : ℕ) → place + 1 < length pieces → EndsLine delim n (text_at pieces place)
@@ -194,7 +189,7 @@ uncut delim n x pieces are place next = absurd (omega (arith, next))
 
 some_line : (delim : ℕ) (text : List ℕ) → 0 < length text → 0 < length (first_lines delim 1 text)
 some_line delim [] some = absurd (omega (arith, some))
-some_line delim (byte ∷ text) some = subst (λ line. 0 < length line) (sym (first_lines-cons delim byte 0 text)) (omega arith)
+some_line delim (byte ∷ text) some = rw (first_lines-cons delim byte 0 text) (omega arith)
 
 -- the line after the complete ones of a front, which is completed
 line_after : (delim : ℕ) (front rest : List ℕ) {k : ℕ} → k ≡ delimiters delim front → length (first_lines delim (k + 1) ((front ++ rest) ++ delim ∷ [])) ≡ length front + length (first_lines delim 1 (rest ++ delim ∷ []))
@@ -223,9 +218,7 @@ whole_count delim text = elim (cases_lt 0 (delimiters delim text)) [
 ]
 
 same_line : (delim : ℕ) (next rest : List ℕ) → 0 < delimiters delim next → first_lines delim 1 ((next ++ rest) ++ delim ∷ []) ≡ first_lines delim 1 (next ++ delim ∷ [])
-same_line delim next rest some =
-    ap (first_lines delim 1) (append_assoc next rest (delim ∷ [])) ∙ first_lines-full delim 1 next (rest ++ delim ∷ []) (omega (arith, some))
-    ∙ sym (first_lines-full delim 1 next (delim ∷ []) (omega (arith, some)))
+same_line delim next rest some = rw (append_assoc next rest (delim ∷ []), first_lines-full delim 1 next (rest ++ delim ∷ []) (omega (arith, some)), first_lines-full delim 1 next (delim ∷ []) (omega (arith, some)))
 
 open_next : (delim : ℕ) {n : ℕ} (part next : List ℕ) → length next ≡ n → delimiters delim next ≡ 0 → IsFilled delim n part next
 open_next delim part next long none =
@@ -239,7 +232,7 @@ filled_by delim {n} part rest enough filled =
     let count : delimiters delim next ≡ delimiters delim (take n rest) = whole_count delim (take n rest) in
     let whole : next ++ drop (length next) rest ≡ rest = first_then_after (limit.LineBytes n delim) rest in
     elim (cases_lt 0 (delimiters delim (take n rest))) [
-      | inl lines ↦ subst (λ line. n < length part + length line) (ap (λ text. first_lines delim 1 (text ++ delim ∷ [])) (sym whole) ∙ same_line delim next (drop (length next) rest) (omega (arith, lines, count))) filled
+      | inl lines ↦ rw (ap (λ text. first_lines delim 1 (text ++ delim ∷ [])) (sym whole) ∙ same_line delim next (drop (length next) rest) (omega (arith, lines, count))) at filled
       | inr few ↦
           let none : delimiters delim (take n rest) ≡ 0 = omega (arith, few) in
           open_next delim part next (ap length (whole_of_none delim (take n rest) none) ∙ length-take-le n rest enough) (count ∙ none)
@@ -304,7 +297,7 @@ dealt_lines {delim} {n} {elide} {x} some = record {
       ∙ ap (λ place. get_or (lines_of delim x) place []) (let sum = div-add-mod' i n in omega (arith, sum)));
   all = ap length (joined_dealt delim n elide x) ∙ all_dealt delim n x some;
   count = λ is. ap (λ those. length (dealt_files delim those n x)) is ∙ length-map-range_with_len (share_of delim n x) 0 n;
-  left_out = λ is. subst (λ those. All (λ bytes. 0 < length bytes) (dealt_files delim those n x)) (sym is) (all_some (round_robin delim n x));
+  left_out = λ is. rw is (all_some (round_robin delim n x));
 }
 
 -- By the way to split
@@ -313,4 +306,4 @@ dealt_lines {delim} {n} {elide} {x} some = record {
 pub by_cut : {run : Run} {asked : SplitAsked} {cut : Cut} {input : List ℕ} (P : List (List ℕ) → Type 0) → (IsInLimits cut → P (pieces_of asked.delim cut asked.elide input)) → Does run (Split asked) → HasInput run input → asked.cut ≡ cut → P (contents_of run)
 by_cut {asked} {cut} {input} P holds does has is =
     let split = is_split does has in
-    subst P (sym (split.contents ∙ ap (λ those. pieces_of asked.delim those asked.elide input) is)) (holds (subst IsInLimits is split.can.cut))
+    rw (split.contents ∙ ap (λ those. pieces_of asked.delim those asked.elide input) is) (holds (rw is at split.can.cut))

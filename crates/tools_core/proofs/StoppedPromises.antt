@@ -47,7 +47,7 @@ use Rattle.tools_core.proofs.TeeLemmas.{tee_lines, tee_says, unsound_broke}
 call_long : {work : Work} {opening : Needs} {most : ℕ} {content : Content} {call : Step} → IsCall work opening most content call → 2 ^ 63 ≤ length call.read → 2 ^ 63 ≤ length content.bytes
 call_long opens long = absurd (omega (arith, long))
 call_long (feeds x piece rest is short more) long = let size = ap length is in let all = length-append (x ++ piece) rest in omega (arith, size, all, long)
-call_long (ends_call x (to_end ended is) needed) long = subst (λ bytes. 2 ^ 63 ≤ length bytes) (sym is) long
+call_long (ends_call x (to_end ended is) needed) long = rw is long
 call_long (ends_call x (enough rest is complete) needed) long = let size = ap length is in let all = length-append x rest in omega (arith, size, all, long)
 
 abbrev IsLong : Option Content → Type 0
@@ -98,12 +98,12 @@ still_sound place same sound broken = absurd (false≢true (sym sound ∙ sym (a
 
 stop_early : {which : Tool} {clears : Bool} {run : Run} {asked : Settings} (fault : Fault) (name : List ℕ) {error : Slot} → StopsRun run asked name fault → SaysAll true which (message_of which fault name ∷ []) standard_error error → run.outputs ≡ streams_with error → run.status ≡ 1
     → IsStop which clears run asked
-stop_early {which} fault name {error} stops says slots is = record {
+stop_early fault name {error} stops says slots is = record {
   failed = is;
   why = fault;
   name = name;
   stops = stops;
-  line = subst (λ those. SaysLine which (message_of which fault name) (slot_at those 1)) (sym slots) ([], [], record { are = a_message fault name; said = says });
+  line = rw slots ([], [], record { are = a_message fault name; said = says });
   broke = λ place differs broken. still_sound place slots (streams_sound place error differs) broken;
 }
 
@@ -115,7 +115,7 @@ record IsBlamed (fault : Fault) (place : ℕ) (old new : Slot) : Type 0 where
 
 blamed : (fault : Fault) (place : ℕ) (before : List Slot) {new : Slot} → IsSoundAt before place → IsMarked fault place before new → IsBlamed fault place (slot_at before place) new
 blamed (Write slot) place before sound (here, there, is) = record {
-  is = ap (λ (output : Slot). failing place output.state) is ∙ failing_file (slot_at before place).state (sound.1 there) ∙ ap Write here;
+  is = rw (is, failing_file (slot_at before place).state (sound.1 there), here);
   named = λ slots. ap (λ which. (slot_at slots which).name) here;
 }
 blamed (Open slot) place before sound (here, (kept, is)) = record { is = ap (λ (output : Slot). failing place output.state) is ∙ ap Open here; named = λ slots. ap (λ which. (slot_at slots which).name) here }
@@ -129,19 +129,19 @@ broken_other (suc zero) place output since (inr from) = absurd (omega (arith, fr
 broken_other slot place output since from = refl
 
 marked_error : (IsDue : List ℕ → Type 0) (fault : Fault) (place count : ℕ) (output : Slot) {error : Slot} (since after : List Slot) → IsAt fault 2 place count → Marks IsDue fault (output ∷ error ∷ since) after → slot_at after 1 ≡ error
-marked_error IsDue (Write slot) place count output {error} since after from marks = ap (λ slots. slot_at slots 1) marks.1 ∙ broken_other slot place output since from
+marked_error IsDue (Write slot) place count output since after from marks = rw (marks.1, broken_other slot place output since from)
 marked_error IsDue (Open slot) place count output since after from (number, (name, kept, due, is, slots)) = ap (λ those. slot_at those 1) slots
 marked_error IsDue fault place count output since after from marks = ap (λ slots. slot_at slots 1) marks
 
 stopped_error : (clears : Bool) {error : Slot} {low high : Part} {fault : Fault} {reached : List Slot} (new : List Slot) → StoppedBetween true (streams_with error) low high fault reached → Swept clears 2 reached new → slot_at new 1 ≡ error
-stopped_error clears {high = high} {fault} {reached} new between swept =
+stopped_error clears {high} {fault} {reached} new between swept =
     swept_error clears reached new (omega arith) swept
     ∙ marked_error (IsNext between.part high) fault between.place (length between.part.files) _ between.outputs.since reached between.from
-    (subst (λ slots. Marks (IsNext between.part high) fault slots reached) between.outputs.slots between.marks)
+    (rw between.outputs.slots at between.marks)
 
 stopped_broke : {which : Tool} {clears : Bool} {error : Slot} {low high : Part} {fault : Fault} {reached : List Slot} (new : List Slot) (lines : List (List ℕ)) → AreLive high.files → StoppedBetween true (streams_with error) low high fault reached → Swept clears 2 reached new
     → SaysLines which (lines ++ message_of which fault (output_named new fault) ∷ []) (slot_at new 1) → (place : ℕ) → (place ≡ 1 → ⊥) → (slot_at new place).is_broken ≡ true → IsToldOf which new place ⊎ IsStuck clears new place
-stopped_broke {which} {clears} {error} {high = high} {fault} {reached} new lines live between swept says place differs broken =
+stopped_broke {which} {clears} {error} {high} {fault} {reached} new lines live between swept says place differs broken =
     let kept = swept_kept clears reached new swept place in
     let sound = subst (λ slots. IsSoundAt slots place) (sym (slots_at between.outputs)) (outputs_live between.part error place (live_begin between.part.files high.files between.below.files live) differs) in
     elim (cases_Bool (slot_at reached place).is_broken) [
@@ -149,7 +149,7 @@ stopped_broke {which} {clears} {error} {high = high} {fault} {reached} new lines
       | inl was ↦ elim (marked_at (IsNext between.part high) fault between.reached reached place between.marks) [
         | inl same ↦ absurd (false≢true (sym sound.0 ∙ sym (ap (λ (output : Slot). output.is_broken) same) ∙ was))
         | inr marked ↦ let why = blamed fault place between.reached sound marked in
-            inl ((slot_at new place).name, inl refl, (lines, [], subst (λ line. SaysLines which (lines ++ line ∷ []) (slot_at new 1)) (sym (ap (λ what. message_of which what (slot_at new place).name) (kept.fails place ∙ why.is) ∙ ap (message_of which fault) (why.named new))) says))
+            inl ((slot_at new place).name, inl refl, (lines, [], rw (ap (λ what. message_of which what (slot_at new place).name) (kept.fails place ∙ why.is) ∙ ap (message_of which fault) (why.named new)) says))
       ]
     ]
 
@@ -160,7 +160,7 @@ ends_or {run} {asked} {task} living (stopped fault before input after error step
     let lines = (made_by task before).messages in
     let fits = inputs_fit task true before living in
     let told : SaysLines task.tool (lines ++ message_of task.tool fault (output_named run.outputs fault) ∷ []) (slot_at run.outputs 1) =
-    record { are = All-append (IsMessage task.tool) lines _ fits.are (a_message fault _); said = subst (SaysAll true task.tool _ standard_error) (sym (stopped_error task.work.clears run.outputs between swept)) says } in inr (record {
+    record { are = All-append (IsMessage task.tool) lines _ fits.are (a_message fault _); said = rw (stopped_error task.work.clears run.outputs between swept) says } in inr (record {
       failed = is;
       why = fault;
       name = output_named run.outputs fault;
@@ -191,29 +191,29 @@ tee_stop fault left rest says slots failed why name stops line = record {
   why = why;
   name = name;
   stops = stops;
-  line = subst (λ those. SaysLine tool.Tee (message_of tool.Tee why name) (slot_at those 1)) (sym slots) line;
-  broke = λ place differs broken. inl (subst (λ those. IsToldOf tool.Tee those place) (sym slots) (tee_says fault place left rest says differs (subst (λ those. (slot_at those place).is_broken ≡ true) slots broken)));
+  line = rw slots line;
+  broke = λ place differs broken. inl (rw slots (tee_says fault place left rest says differs (rw slots at broken)));
 }
 
 tee_by : {run : Run} {asked : Settings} {mode : Mode} {content : Content} (Leaves : List ℕ → Type 0) {is_vain : Bool} {pieces names : List (List ℕ)} {first : Option ℕ} {broke : List (Option ℕ)} {output error : Slot} {files : List Slot} (fault : Option Fault) (sound : Bool) → are_sound (first ∷ broke) ≡ sound
     → (2 ^ 63 ≤ length content.bytes → HasLong run asked) → (first ≡ None → is_vain ≡ false) → IsRead content Leaves is_vain (concat pieces) fault → OutputLeft true pieces first output → FilesLeft true mode pieces names broke files
     → SaysAll true tool.Tee (messages_of names (first ∷ broke) (length pieces) fault) standard_error error → run.outputs ≡ output ∷ error ∷ files → run.status ≡ cond (are_sound (first ∷ broke) && is_none fault) 0 1
     → ((are_sound (first ∷ broke) ≡ true) × (concat pieces ≡ content.bytes)) ⊎ IsStop tool.Tee false run asked
-tee_by {run} {asked} Leaves {output = output} {error} {files} fault false sound long vain reads left rest says slots is =
+tee_by {run} {asked} Leaves {output} {error} {files} fault false sound long vain reads left rest says slots is =
     let (place, differs, broken) = unsound_broke left rest sound in
     let (name, called, line) = tee_says fault place left rest says differs broken in
     inr (tee_stop fault left rest says slots (is ∙ ap (λ flag. cond (flag && is_none fault) 0 1) sound) (failing place (slot_at (output ∷ error ∷ files) place).state) name
-    (failing_stops run asked (slot_at (output ∷ error ∷ files) place).state (subst (λ those. (place ≡ 1 → ⊥) × IsCalled (slot_at those place) name × ((slot_at those place).is_broken ≡ true)) (sym slots) (differs, called, broken))) line)
-tee_by Leaves {pieces = pieces} {names} {first} {broke} {error = error} fault true sound long vain reads left rest says slots is = elim (read_or Leaves (vain (sound_first first (are_sound broke) sound).0) reads) [
+    (failing_stops run asked (slot_at (output ∷ error ∷ files) place).state (rw slots (differs, called, broken))) line)
+tee_by Leaves {pieces} {names} {first} {broke} fault true sound long vain reads left rest says slots is = elim (read_or Leaves (vain (sound_first first (are_sound broke) sound).0) reads) [
   | inl all ↦ inl (sound, all)
   | inr (met, many) ↦ inr (tee_stop fault left rest says slots (is ∙ ap (λ flag. cond (flag && is_none fault) 0 1) sound ∙ ap (λ why. cond (is_none why) 0 1) met) TooLong (codes "standard input") (long many)
       (says_line (has_before (said_in (suc (length pieces)) (output_names names) (first ∷ broke)) (has_after (said_before (suc (length pieces)) (output_names names) (first ∷ broke)) ([], [], refl)))
-      (tee_lines names (first ∷ broke) (length pieces) (Some TooLong) (subst (λ why. SaysAll true tool.Tee (messages_of names (first ∷ broke) (length pieces) why) standard_error error) met says))))
+      (tee_lines names (first ∷ broke) (length pieces) (Some TooLong) (rw met at says))))
 ]
 
 tee_or : {run : Run} {asked : Settings} {mode : Mode} {names : List (List ℕ)} {content : Content} {source : Source} → inputs_at run.world (names_of asked) ≡ standard_input content ∷ [] → (ends : tee.EndsAs true true mode names content source run.outputs run.status)
     → IsCopied ends ⊎ IsStop tool.Tee false run asked
-tee_or {content = content} only (tee.copied pieces fault first broke output error files comes some left rest says slots is) =
+tee_or {content} only (tee.copied pieces fault first broke output error files comes some left rest says slots is) =
     tee_by _ fault (are_sound (first ∷ broke)) refl (λ many. ([], standard_input content, [], content, only, refl, many)) (λ none. some_left (suc (length pieces)) broke none) comes.read left rest says slots is
 tee_or only (tee.no_room error says unread slots is) = inr (stop_early Memory [] tt says slots is)
 
@@ -246,7 +246,7 @@ ran_so {run} {asked} ran = elim (ran_over ran) [
     | inr stop ↦ inr stop
   ]
   | inr (fault, bad, refuses) ↦ inr (stop_early fault (word_of run.words fault) (bad_stops run asked fault bad)
-      (subst (λ which. SaysAll true which (message_of which fault (word_of run.words fault) ∷ []) standard_error refuses.error) (runs_as_named run.words ran.read) (refuses.error, refuses.says, refl)) refuses.slots refuses.failed)
+      (rw (← (runs_as_named run.words ran.read)) (refuses.error, refuses.says, refl)) refuses.slots refuses.failed)
 ]
 
 pub completes_or : (run : Run) (asked : Settings) → Ran run asked → Completes run asked ⊎ IsStopped run asked

@@ -77,13 +77,12 @@ record HasSaid (names : List (List ℕ)) (broke : List (Option ℕ)) (last : ℕ
 
 said_here : {name : List ℕ} {names : List (List ℕ)} {broke : List (Option ℕ)} {last place : ℕ} {output : Slot} (when : Option ℕ) → Broke last name output when → output.is_broken ≡ true → HasSaid (name ∷ names) (when ∷ broke) last output place
 said_here None sound broken = absurd (false≢true (sym sound ∙ broken))
-said_here {name} {names} {broke} {place = place} {output} (Some call) (within, called, same) broken = record {
+said_here {name} {names} {broke} {place} (Some call) (within, called, same) broken = record {
   name = name;
   called = called;
   call = call;
   within = within;
-  line = subst (λ is. HasLine (message_of tool.Tee (failing place output.state) name) (cond is (message_of tool.Tee (fault_in call) name ∷ said_in call names broke) (said_in call names broke))) (sym (eq-eqb call call refl))
-      ([], said_in call names broke, ap (λ line. line ∷ said_in call names broke) (same place));
+  line = rw (eq-eqb call call refl) ([], said_in call names broke, ap (λ line. line ∷ said_in call names broke) (same place));
 }
 
 said_by : (is : Bool) {line : List ℕ} (other : List ℕ) {lines : List (List ℕ)} → HasLine line lines → HasLine line (cond is (other ∷ lines) lines)
@@ -91,7 +90,7 @@ said_by true other has = has_after (other ∷ []) has
 said_by false other has = has
 
 said_past : {name : List ℕ} {names : List (List ℕ)} {first : Option ℕ} {broke : List (Option ℕ)} {last place : ℕ} {output : Slot} → HasSaid names broke last output place → HasSaid (name ∷ names) (first ∷ broke) last output place
-said_past {name} {first = first} has = record { name = has.name; called = has.called; call = has.call; within = has.within; line = said_by (tee.broke_in has.call first) (message_of tool.Tee (fault_in has.call) name) has.line }
+said_past {name} {first} has = record { name = has.name; called = has.called; call = has.call; within = has.within; line = said_by (tee.broke_in has.call first) (message_of tool.Tee (fault_in has.call) name) has.line }
 
 -- the place of a file among the outputs that are there, and among those of the run
 files_said : {mode : Mode} {pieces names : List (List ℕ)} {broke : List (Option ℕ)} {files : List Slot} (at : ℕ) {place : ℕ} → FilesLeft true mode pieces names broke files → (slot_at files at).is_broken ≡ true
@@ -102,15 +101,15 @@ files_said (suc at) (tee.one_file name names when broke file files left rest) br
 
 outputs_said : {mode : Mode} {pieces names : List (List ℕ)} {first : Option ℕ} {broke : List (Option ℕ)} {output : Slot} (error : Slot) {files : List Slot} (place : ℕ) → OutputLeft true pieces first output → FilesLeft true mode pieces names broke files
     → (place ≡ 1 → ⊥) → (slot_at (output ∷ error ∷ files) place).is_broken ≡ true → HasSaid (output_names names) (first ∷ broke) (suc (length pieces)) (slot_at (output ∷ error ∷ files) place) place
-outputs_said {first = first} error zero left rest differs broken = said_here first (output_broke refl left) broken
+outputs_said {first} error zero left rest differs broken = said_here first (output_broke refl left) broken
 outputs_said error (suc zero) left rest differs broken = absurd (differs refl)
 outputs_said error (suc (suc at)) left rest differs broken = said_past (files_said at rest broken)
 
 before_line : {line : List ℕ} (last : ℕ) {call : ℕ} (names : List (List ℕ)) (broke : List (Option ℕ)) → call < last → HasLine line (said_in call names broke) → HasLine line (said_before last names broke)
 before_line zero names broke less has = absurd (omega (arith, less))
-before_line {line} (suc last) {call} names broke less has = elim (cases_lt call last) [
+before_line (suc last) {call} names broke less has = elim (cases_lt call last) [
   | inl before ↦ has_before (said_in last names broke) (before_line last names broke before has)
-  | inr past ↦ let same : call ≡ last = omega (arith, less, past) in has_after (said_before last names broke) (subst (λ those. HasLine line (said_in those names broke)) same has)
+  | inr past ↦ let same : call ≡ last = omega (arith, less, past) in has_after (said_before last names broke) (rw same at has)
 ]
 
 call_line : {line : List ℕ} (names : List (List ℕ)) (broke : List (Option ℕ)) {pieces call : ℕ} (fault : Option Fault) → call ≤ suc pieces → HasLine line (said_in call (output_names names) broke) → HasLine line (messages_of names broke pieces fault)
@@ -123,7 +122,7 @@ call_line {line} names broke {pieces} {call} fault within has = elim (cases_lt c
 pub tee_says : {mode : Mode} {pieces names : List (List ℕ)} {first : Option ℕ} {broke : List (Option ℕ)} {output error : Slot} {files : List Slot} (fault : Option Fault) (place : ℕ) → OutputLeft true pieces first output → FilesLeft true mode pieces names broke files
     → SaysAll true tool.Tee (messages_of names (first ∷ broke) (length pieces) fault) standard_error error → (place ≡ 1 → ⊥) → (slot_at (output ∷ error ∷ files) place).is_broken ≡ true
     → (name : List ℕ) × IsCalled (slot_at (output ∷ error ∷ files) place) name × SaysLine tool.Tee (message_of tool.Tee (failing place (slot_at (output ∷ error ∷ files) place).state) name) error
-tee_says {pieces = pieces} {names} {first} {broke} {error = error} fault place left rest says differs broken =
+tee_says {pieces} {names} {first} {broke} {error} fault place left rest says differs broken =
     let said = outputs_said error place left rest differs broken in
     (said.name, said.called, says_line (call_line names (first ∷ broke) fault said.within said.line) (tee_lines names (first ∷ broke) (length pieces) fault says))
 
@@ -149,8 +148,8 @@ unsound_broke (tee.output_cut before piece after n is few) rest sound = (0, λ i
 
 -- all that was copied is one
 read_begins : {content : Content} (Leaves : List ℕ → Type 0) {is_vain : Bool} {x : List ℕ} {fault : Option Fault} → IsRead content Leaves is_vain x fault → IsBeginning x content.bytes
-read_begins Leaves (tee.to_end x is ends leaves) = subst (IsBeginning x) (sym is) (begins_itself x)
-read_begins Leaves (tee.to_break x is breaks leaves) = subst (IsBeginning x) (sym is) (begins_itself x)
+read_begins Leaves (tee.to_end x is ends leaves) = rw is (begins_itself x)
+read_begins Leaves (tee.to_break x is breaks leaves) = rw is (begins_itself x)
 read_begins Leaves (tee.to_limit x piece rest is long short leaves) = (piece ++ rest, is ∙ append_assoc x piece rest)
 read_begins Leaves (tee.to_last_output x rest is leaves) = (rest, is)
 
@@ -168,7 +167,7 @@ files_begin : {mode : Mode} {pieces : List (List ℕ)} {bytes : List ℕ} {names
     → (place : ℕ) → BeginsAs (slot_at files place) (slot_at (map slot_of (map (λ name. file_of (copy mode bytes name)) names)) place)
 files_begin all tee.no_file place = empty_begins refl
 files_begin all (tee.one_file name names first broke file files left rest) (suc place) = files_begin all rest place
-files_begin {pieces = pieces} all (tee.one_file name names _ broke _ files (tee.file_cut before piece after n is few) rest) zero = record { bytes = begins_trans _ (concat pieces) _ (cut_begins before piece after n is) all; named = inl refl }
+files_begin {pieces} all (tee.one_file name names _ broke _ files (tee.file_cut before piece after n is few) rest) zero = record { bytes = begins_trans _ (concat pieces) _ (cut_begins before piece after n is) all; named = inl refl }
 files_begin all (tee.one_file name names _ broke _ files (tee.file_unopened kept is) rest) zero = empty_begins refl
 files_begin all (tee.one_file name names first broke file files tee.file_whole rest) zero = record { bytes = all; named = inl refl }
 files_begin all (tee.one_file name names first broke file files tee.file_unclosed rest) zero = record { bytes = all; named = inl refl }

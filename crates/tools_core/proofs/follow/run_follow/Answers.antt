@@ -1,7 +1,4 @@
-use Rattle.std.proofs.Common.{Result, map, sym, subst}
-use Rattle.ports_core.specs.declared.fault.Fault.{Fault}
-use Rattle.words_core.specs.declared.settings.Settings.{Settings}
-use Rattle.tools_core.specs.Following.{FollowingEndsAt}
+use Rattle.std.proofs.Common.{map}
 use Rattle.tools_core.proofs.RunLemmas.{refused_words}
 use Rattle.tools_core.proofs.follow.run_follow.Goals as goal
 
