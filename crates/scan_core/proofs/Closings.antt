@@ -8,7 +8,7 @@ use Rattle.scan_core.specs.declared.hops.Hop.{Hop}
 use Rattle.scan_core.specs.inner.Hops.{Hopped, HoppedBy, no_hop, AreHops}
 use Rattle.scan_core.specs.inner.Words.{IsIn, Grows, Adds, unset, Visits, width, SpreadsOut}
 use Rattle.scan_core.proofs.Insides.{grows_one, grows_by, bit_is, is_in_word, fresh_bit, left_bit, right_bit, either_bit, goes_both, Visiting, adds_anywhere, adds_both, adds_none, entered_one, flows_join, is_within, spreading_ends}
-use Rattle.std.proofs.lemmas.Bool.{cases_eq, false≢true, eqb-false, not-true, ne_eqb, cases_lt}
+use Rattle.std.proofs.lemmas.Bool.{cases_eq, eqb-false, not-true, ne_eqb, cases_lt}
 use Rattle.std.proofs.lemmas.List.{get_or-set_same, length-set, get_or_default, set-get_or}
 use Rattle.scan_core.proofs.Enterings.{flow_anywhere, each_more, each_to}
 use Rattle.scan_core.specs.declared.base.Base.{Base}

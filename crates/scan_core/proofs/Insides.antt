@@ -5,7 +5,7 @@ use Rattle.std.specs.Int.Bits.{or_zero_r, or_zero_l}
 use mir.Val.{bool_byte}
 use Rattle.std.proofs.lemmas.List.{get_or-set_same, get_or-set_other, length-set, set-get_or}
 use Rattle.std.proofs.lemmas.Nat.{le_or_l, or_lt, and_le_l}
-use Rattle.std.proofs.lemmas.Nat.Bits.{shr_and_one, bit_at_set_same, bit_at_set_other, bit_at_clear_same, bit_at_clear_other, and_high, bit_at_and, bit_at_or, bit_at_not, bit_at-lt, bit_at-zero, bit_at_mask_inside, bit_at_ones, bit_at_above, bit_at_cat_low, bit_at_cat_high, same_from_bits_below, bit_at-pow_other}
+use Rattle.std.proofs.lemmas.Nat.Bits.{shr_and_one, bit_at_set_same, bit_at_set_other, bit_at_clear_same, bit_at_clear_other, and_high, bit_at_and, bit_at_or, bit_at_not, bit_at-lt, bit_at-zero, bit_at_mask_inside, bit_at_ones, bit_at_above, bit_at_cat_low, bit_at_cat_high, bit_at-pow_other}
 use Rattle.std.specs.Prelude.{bit_and, bit_or}
 use Rattle.std.specs.Int.{bit_at, bit_not}
 use Rattle.scan_core.specs.inner.Sets.{Flows, FlowsOn}
@@ -149,19 +149,6 @@ is_in_word words at bit h = search rules
 pub is_within : (words : List ℕ) (number : ℕ) → IsIn words number → number < 64 * length words
 unfolding IsIn
 is_within words number h = grind (arith, common_steps)
-
--- clearing a bit that is set makes a word smaller, and leaves the others
-pub cleared : (word : ℕ) {k : ℕ} → k < 64 → bit_at word k ≡ 1 → let left = bit_and word (bit_not w64 (1 * 2 ^ k % 2 ^ 64)) in (left < word) × ((j : ℕ) → j < 64 → (j ≡ k → ⊥) → bit_at left j ≡ bit_at word j) × (bit_at left k ≡ 0)
-cleared word {k} within set =
-    let left : ℕ = bit_and word (bit_not w64 (1 * 2 ^ k % 2 ^ 64)) in
-    let gone : bit_at left k ≡ 0 = bit_at_clear_same w64 word k within in (
-      elim (cases_eq left word) [
-        | inl same ↦ absurd (let both : bit_at left k ≡ bit_at word k = ap (λ x. bit_at x k) same in omega (arith, both, gone, set))
-        | inr other ↦ let l = and_le_l word (bit_not w64 (1 * 2 ^ k % 2 ^ 64)) in omega (arith, l, other)
-      ],
-      λ j small other. bit_at_clear_other w64 word k within j small other,
-      gone,
-    )
 
 pub flows_join : (code : List Node) (at_first at_last : Bool) (count start middle number : ℕ) → FlowsOn code at_first at_last start middle → Parts (Flows code at_first at_last) count middle number → FlowsOn code at_first at_last start number
 flows_join code at_first at_last zero start middle number f p = subst (FlowsOn code at_first at_last start) p f
