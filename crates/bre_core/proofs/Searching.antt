@@ -103,11 +103,7 @@ at_most_no (Some high) count h = le-leb count high h
 
 mutual
   tells : (pattern : Pattern) (line : List ℕ) → Tells (matches pattern line) (Matches pattern line)
-  tells nothing line = record {
-    yes = λ from to e. eqb-true from to e;
-    no = λ from to e. eq-eqb from to e;
-    forward = λ from to e. omega (arith, e);
-  }
+  tells nothing line = search (rules, eqb-true, eq-eqb)
   tells (append pattern item) line = let one = tells pattern line in let other = item_tells item line in record {
     yes = λ from to e.
         let found = any_found (suc to) (λ middle. matches pattern line from middle && matches_item item line middle to) e in
@@ -121,21 +117,9 @@ mutual
   }
 
   item_tells : (item : Item) (line : List ℕ) → Tells (matches_item item line) (MatchesItem item line)
-  item_tells (set bytes) line = record {
-    yes = λ from to e. let a = and_parts _ _ e in let b = and_parts _ _ a.1 in (eqb-true to (from + 1) a.0, ltb-true from (length line) b.0, b.1);
-    no = λ from to m. and_from _ _ (eq-eqb to (from + 1) m.0) (and_from _ _ (lt-ltb from (length line) m.1) m.2);
-    forward = λ from to m. omega (arith, m.0);
-  }
-  item_tells front line = record {
-    yes = λ from to e. let a = and_parts _ _ e in (eqb-true from 0 a.0, eqb-true to 0 a.1);
-    no = λ from to m. and_from _ _ (eq-eqb from 0 m.0) (eq-eqb to 0 m.1);
-    forward = λ from to m. omega (arith, m.0, m.1);
-  }
-  item_tells end line = record {
-    yes = λ from to e. let a = and_parts _ _ e in (eqb-true from (length line) a.0, eqb-true to (length line) a.1);
-    no = λ from to m. and_from _ _ (eq-eqb from (length line) m.0) (eq-eqb to (length line) m.1);
-    forward = λ from to m. omega (arith, m.0, m.1);
-  }
+  item_tells (set bytes) line = search (rules, and_parts, eqb-true, ltb-true, and_from, eq-eqb, lt-ltb)
+  item_tells front line = search (rules, and_parts, eqb-true, and_from, eq-eqb)
+  item_tells end line = search (rules, and_parts, eqb-true, and_from, eq-eqb)
   item_tells (group pattern) line = let inner = tells pattern line in record { yes = inner.yes; no = inner.no; forward = inner.forward }
   item_tells (repeat item low high) line = let one = item_tells item line in record {
     yes = λ from to e.

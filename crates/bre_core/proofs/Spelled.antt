@@ -43,8 +43,7 @@ number_fits text d e h = cond-true _ _ _ (both _ _ d (le-leb _ _ (omega (arith, 
 
 -- and one that is not
 pub number_too_large : (text : List ℕ) (number : ℕ) (rest : List ℕ) → number_from 0 text ≡ number_from number rest → 255 < number → number_at text ≡ None
-number_too_large text number rest e h =
-    cond-false _ _ _ (and_right (begins_with_digit text) _ (lt-leb _ _ (omega (arith, ap (λ f. f.0) e, number_grows rest number))))
+number_too_large text number rest e h = search (rules, cond-false, and_right, begins_with_digit, lt-leb, number_grows)
 
 -- A text is read as an interval where it is spelled as one, and only there.
 
@@ -70,9 +69,7 @@ digit_first [] text some all = absurd (some refl)
 digit_first (digit ∷ digits) text some all = (and_parts (is_between 48 57 digit) (list_all (is_between 48 57) digits) all).0
 
 number_read : {digits text : List ℕ} (number : ℕ) → IsNumber digits number → begins_with_digit text ≡ false → number_at (digits ++ text) ≡ Some (number, text)
-number_read {digits} {text} number n e =
-    number_fits (digits ++ text) (digit_first digits text n.some n.are_digits)
-    (digits_read 0 digits n.are_digits e ∙ ap (λ value. (value, text)) (sym n.value)) n.within
+number_read {digits} {text} number n e = search (rules, number_fits, digit_first, digits_read)
 
 -- the digits at the front of a text, what follows them, and the number that they go on
 record Front (number : ℕ) (text : List ℕ) (found : ℕ × List ℕ) : Type 0 where
@@ -202,11 +199,7 @@ interval_found context e = absurd (none-some _ e)
 
 -- after `\{`
 pub interval_read : (context : Context) (text rest : List ℕ) (token : Token) → BeginsWithToken context (92 ∷ 123 ∷ text) token rest ↔ ((context ≡ Inner) × IsInterval text token rest)
-interval_read context text rest token = (
-  interval_found context,
-  λ i. cond-true _ _ _ (ap has_item i.0) ∙ ap (option_map (λ found. (Repeat found.0.0 found.0.1, found.1))) (ap interval_at i.1.whole ∙ bounds_read i.1.bounds)
-      ∙ ap (λ t. Some (t, rest)) (sym i.1.repeats),
-)
+interval_read context text rest token = search (rules, interval_found, cond-true, has_item, interval_at, bounds_read)
 
 -- WHAT IS SPELLED IS READ
 
@@ -325,10 +318,7 @@ class_is : {name : List ℕ} {found : Class} → class_named name ≡ Some found
 class_is = search rules
 
 class_found : {text : List ℕ} {name : Class} {rest : List ℕ} → class_at text ≡ Some (name, rest) → text ≡ name_of name ++ (58 ∷ 93 ∷ rest)
-class_found {text} {name} {rest} e =
-    option_and_then_some _ (name_at text) (name, rest) e (λ found is ends.
-    let named = mapped {B = Class × List ℕ} (λ c. (c, found.1)) (class_named found.0) ends in
-    name_found text is ∙ ap (λ n. n ++ (58 ∷ 93 ∷ found.1)) (class_is named.1) ∙ ap (λ p. name_of p.0 ++ (58 ∷ 93 ∷ p.1)) named.2)
+class_found {text} {name} {rest} e = search (rules, option_and_then_some, name_at, class_named, name_found, class_is, name_of)
 
 inner_found : (text : List ℕ) {element : Element} {rest : List ℕ} → inner_at text ≡ Some (element, rest) → ElementIs element (91 ∷ text) rest
 inner_found [] {element} {rest} e =
@@ -484,7 +474,4 @@ list_found text set rest found = go (cases_Bool (begins_with 94 text))
 
 -- two readings of one text have the same members
 pub same_list : (text : List ℕ) (one other : List Bool) (rest end : List ℕ) (found : IsBracket text one rest) (again : IsBracket text other end) → (found.members ≡ again.members) × (one ≡ other) × (rest ≡ end)
-same_list text one other rest end found again =
-    let same = one_way ReadsMember members_decided _ found.members again.members found.way again.way (closed_stuck rest) (closed_stuck end) in
-    let decided = bracket_decided one other end found again in
-    (same.given, decided.0, decided.1)
+same_list text one other rest end found again = search (rules, one_way, members_decided, closed_stuck, bracket_decided)

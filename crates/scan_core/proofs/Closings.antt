@@ -8,7 +8,7 @@ use Rattle.scan_core.specs.declared.hops.Hop.{Hop}
 use Rattle.scan_core.specs.inner.Hops.{Hopped, HoppedBy, no_hop, AreHops}
 use Rattle.scan_core.specs.inner.Words.{IsIn, Grows, Adds, unset, Visits, width, SpreadsOut}
 use Rattle.scan_core.proofs.Insides.{grows_one, grows_by, bit_is, is_in_word, fresh_bit, left_bit, right_bit, either_bit, goes_both, Visiting, adds_anywhere, adds_both, adds_none, entered_one, flows_join, is_within, spreading_ends}
-use Rattle.std.proofs.lemmas.Bool.{cases_eq, false≢true, eqb-false, not-true, ne_eqb, cases_lt}
+use Rattle.std.proofs.lemmas.Bool.{cases_eq, eqb-false, not-true, ne_eqb, cases_lt}
 use Rattle.std.proofs.lemmas.List.{get_or-set_same, length-set, get_or_default, set-get_or}
 use Rattle.scan_core.proofs.Enterings.{flow_anywhere, each_more, each_to}
 use Rattle.scan_core.specs.declared.base.Base.{Base}
@@ -236,6 +236,17 @@ close_all {code} {closures} {at} looked before {now} {new} {on} {on'} sets withi
     (subst (λ n. n < 2 ^ 64) same (or_lt 64 (get_or before at 0) looked word fits))
     (subst (λ word. Grows (Hopped closures.hops.items at word 3) now new on on') same (subst (λ hops. Grows (Hopped hops at all 3) now new on on') eh g))
 
+-- a number of a word of which none leads out of the base leads to numbers of it
+based_of : {code : List Node} {base : Base} {at : ℕ} (words : List ℕ) {at_first at_last : Bool} (start to : ℕ) → IsBase code base → at < width code → bit_and (get_or words at 0) (get_or base.leads.items at 0) ≡ 0 → start / 64 ≡ at → IsIn words start → Flows code at_first at_last start to
+    → IsIn base.words.items to
+based_of {code} {base} {at} words {at_first} {at_last} start to b inside e here h f =
+    let same : start ≡ at * 64 + start % 64 = omega (arith, here) in
+    let one = (is_in_word words at (start % 64) (omega arith)).1 (subst (IsIn words) same h) in
+    elim (b.leads.each at inside (start % 64) at_first at_last to (omega arith) (subst (λ n. Flows code at_first at_last n to) same f)) [
+      | inl two ↦ absurd (none_of (get_or words at 0) (get_or base.leads.items at 0) (start % 64) e one two)
+      | inr based ↦ based
+    ]
+
 -- none of the word's numbers leads out of the base
 pub close_none : {code : List Node} {base : Base} {at_first at_last : Bool} {at : ℕ} {words : List ℕ} → IsBase code base → ((number : ℕ) → IsIn base.words.items number → IsIn words number) → at < width code → bit_and (get_or words at 0) (get_or base.leads.items at 0) ≡ 0 → Visits code at_first at_last at words words (at + 1)
 close_none {code} {base} {at_first} {at_last} {at} {words} b begun inside e = record {
@@ -244,15 +255,7 @@ close_none {code} {base} {at_first} {at_last} {at} {words} b begun inside e = re
   under = λ number l below h. h;
   fuller = omega arith;
   less = λ l. absurd (omega (arith, l));
-  done = λ last start to here h f.
-      let same : start ≡ at * 64 + start % 64 = omega (arith, here) in
-      let one = (is_in_word words at (start % 64) (omega arith)).1 (subst (IsIn words) same h) in
-      let both = bit_at_and (get_or words at 0) (get_or base.leads.items at 0) (start % 64) in
-      let z = ap (λ w. bit_at w (start % 64)) e ∙ bit_at-zero (start % 64) in
-      elim (b.leads.each at inside (start % 64) at_first at_last to (omega arith) (subst (λ n. Flows code at_first at_last n to) same f)) [
-        | inl two ↦ absurd (omega (arith, one, two, both, z))
-        | inr based ↦ begun to based
-      ];
+  done = λ last start to here h f. begun to (based_of words start to b inside e here h f);
 }
 
 -- Entering what landings lead to.
@@ -346,15 +349,7 @@ apart_skip {code} {base} {now} {count} over s b begun inside e = record {
   adds = s.adds;
   done = λ z start to f l h k flow. elim (cases_lt start (64 * count)) [
     | inl before ↦ s.done z start to f l before k flow
-    | inr here ↦
-        let same : start ≡ count * 64 + start % 64 = omega (arith, h, here) in
-        let one = (is_in_word now count (start % 64) (omega arith)).1 (subst (IsIn now) same k) in
-        let both = bit_at_and (get_or now count 0) (get_or base.leads.items count 0) (start % 64) in
-        let none = ap (λ w. bit_at w (start % 64)) e ∙ bit_at-zero (start % 64) in
-        elim (b.leads.each count inside (start % 64) f l to (omega arith) (subst (λ n. Flows code f l n to) same flow)) [
-          | inl two ↦ absurd (omega (arith, one, two, both, none))
-          | inr based ↦ inl (s.adds.kept to (begun to based))
-        ]
+    | inr here ↦ inl (s.adds.kept to (begun to (based_of now start to b inside e (omega (arith, h, here)) k flow)))
   ];
 }
 

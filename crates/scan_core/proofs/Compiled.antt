@@ -21,11 +21,6 @@ use Rattle.scan_core.specs.Code.{code_of, code_of_item, IsOrdered, IsOrderedItem
 
 -- Items that are complete, and what waits for them.
 
--- what waits where there are more nodes
-waits_wider : (high : Option ℕ) (low start : ℕ) {size wider : ℕ} → size ≤ wider → IsBegun high low start size → IsBegun high low start wider
-waits_wider None low start h w = omega (arith, h, w)
-waits_wider (Some high) low start h w = (omega (arith, h, w.0), w.1, w.2)
-
 pub begun_wider : (pending : List Pending) {size wider : ℕ} → size ≤ wider → All (Waits size) pending → All (Waits wider) pending
 begun_wider pending {size} {wider} h = search rules
 
@@ -56,10 +51,6 @@ finished_group {nodes} {pending} around {new} f e = grind (arith, common_steps)
 
 pub finished_all : {nodes : List Node} {pending : List Pending} {new : Compiling} → Finishes nodes pending new → pending ≡ [] → IsNow nodes [] None new
 finished_all {nodes} {new} f e = subst (λ p. FinishesBy (reverse p) nodes new) e f
-
-pub finished_repeated : (nodes : List Node) {pending : List Pending} (around : List Pending) (d : Duplication) (new : Compiling) → Finishes nodes pending new → pending ≡ around ++ Repeated d ∷ []
-    → (written : List Node) × Repeats d nodes written × Finishes written around new
-finished_repeated nodes around d new f e = subst (λ stack. FinishesBy stack nodes new) (turned around (Repeated d) e) f
 
 parted : (one other : List Token) (old new : Compiling) → TakesAll old (one ++ other) new → (now : Compiling) × TakesAll old other now × TakesAll now one new
 parted [] other old new s = (new, s, refl)

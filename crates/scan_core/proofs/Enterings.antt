@@ -75,19 +75,8 @@ target_in n skip c here = c.fits n (Choose skip) here
 pub pass_found : (code : List Node) (n byte to : ℕ) (bytes : List Bool) → At code n (Take bytes) → Passes code byte n to → IsTrue (has bytes byte)
 pass_found code n byte to bytes here p = search (rules, at_once)
 
-pub pass_never : (code : List Node) (n byte to : ℕ) (node : Node) → At code n node → ((bytes : List Bool) → Take bytes ≡ node → ⊥) → Passes code byte n to → ⊥
-pass_never code n byte to node here never p = never p.0 (at_once code n (Take p.0) node p.1 here)
-
 pub pass_least : (code : List Node) {n byte to : ℕ} → Passes code byte n to → n < length code
 pass_least code {n} p = at_least code n (Take p.0) p.1
-
--- the other nodes take no byte
-pub takes_none : (code : List Node) {n byte to : ℕ} {read : Node} → n < length code → read ≡ get_or code n read
-    → (read ≡ First) ⊎ ((read ≡ Last) ⊎ (((skip : ℕ) × (read ≡ Choose skip)) ⊎ ((by : ℕ) × (read ≡ Back by)))) → Passes code byte n to → ⊥
-takes_none code {n} {byte} {to} {read} h is (inl e) p = pass_never code n byte to read (node_here code h refl is) (λ bytes q. cc) p
-takes_none code {n} {byte} {to} {read} h is (inr (inl e)) p = pass_never code n byte to read (node_here code h refl is) (λ bytes q. cc) p
-takes_none code {n} {byte} {to} {read} h is (inr (inr (inl (skip, e)))) p = pass_never code n byte to read (node_here code h refl is) (λ bytes q. cc) p
-takes_none code {n} {byte} {to} {read} h is (inr (inr (inr (by, e)))) p = pass_never code n byte to read (node_here code h refl is) (λ bytes q. cc) p
 
 pub weight_length : (code : List Node) → weight code ≤ length code
 weight_length [] = omega arith

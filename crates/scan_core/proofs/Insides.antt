@@ -5,7 +5,7 @@ use Rattle.std.specs.Int.Bits.{or_zero_r, or_zero_l}
 use mir.Val.{bool_byte}
 use Rattle.std.proofs.lemmas.List.{get_or-set_same, get_or-set_other, length-set, set-get_or}
 use Rattle.std.proofs.lemmas.Nat.{le_or_l, or_lt, and_le_l}
-use Rattle.std.proofs.lemmas.Nat.Bits.{shr_and_one, bit_at_set_same, bit_at_set_other, bit_at_clear_same, bit_at_clear_other, and_high, bit_at_and, bit_at_or, bit_at_not, bit_at-lt, bit_at-zero, bit_at_mask_inside, bit_at_ones, bit_at_above, bit_at_cat_low, bit_at_cat_high, same_from_bits_below, bit_at-pow_other}
+use Rattle.std.proofs.lemmas.Nat.Bits.{shr_and_one, bit_at_set_same, bit_at_set_other, bit_at_clear_same, bit_at_clear_other, and_high, bit_at_and, bit_at_or, bit_at_not, bit_at-lt, bit_at-zero, bit_at_mask_inside, bit_at_ones, bit_at_above, bit_at_cat_low, bit_at_cat_high, bit_at-pow_other}
 use Rattle.std.specs.Prelude.{bit_and, bit_or}
 use Rattle.std.specs.Int.{bit_at, bit_not}
 use Rattle.scan_core.specs.inner.Sets.{Flows, FlowsOn}
@@ -150,19 +150,6 @@ pub is_within : (words : List ℕ) (number : ℕ) → IsIn words number → numb
 unfolding IsIn
 is_within words number h = grind (arith, common_steps)
 
--- clearing a bit that is set makes a word smaller, and leaves the others
-pub cleared : (word : ℕ) {k : ℕ} → k < 64 → bit_at word k ≡ 1 → let left = bit_and word (bit_not w64 (1 * 2 ^ k % 2 ^ 64)) in (left < word) × ((j : ℕ) → j < 64 → (j ≡ k → ⊥) → bit_at left j ≡ bit_at word j) × (bit_at left k ≡ 0)
-cleared word {k} within set =
-    let left : ℕ = bit_and word (bit_not w64 (1 * 2 ^ k % 2 ^ 64)) in
-    let gone : bit_at left k ≡ 0 = bit_at_clear_same w64 word k within in (
-      elim (cases_eq left word) [
-        | inl same ↦ absurd (let both : bit_at left k ≡ bit_at word k = ap (λ x. bit_at x k) same in omega (arith, both, gone, set))
-        | inr other ↦ let l = and_le_l word (bit_not w64 (1 * 2 ^ k % 2 ^ 64)) in omega (arith, l, other)
-      ],
-      λ j small other. bit_at_clear_other w64 word k within j small other,
-      gone,
-    )
-
 pub flows_join : (code : List Node) (at_first at_last : Bool) (count start middle number : ℕ) → FlowsOn code at_first at_last start middle → Parts (Flows code at_first at_last) count middle number → FlowsOn code at_first at_last start number
 flows_join code at_first at_last zero start middle number f p = subst (FlowsOn code at_first at_last start) p f
 flows_join code at_first at_last (suc count) start middle number f p = let r = flows_join code at_first at_last count start middle p.0 f p.1 in (suc r.0, (p.0, r.1, p.2))
@@ -266,96 +253,49 @@ both_led {to} one other bit w o a b = (
 pub none_led : (code : List Node) (number to bit : ℕ) → (Flows code false false number to → ⊥) → (bit_at 0 bit ≡ 1) ↔ Flows code false false number to
 none_led code number to bit never = (λ k. let z = bit_at-zero bit in absurd (omega (arith, z, k)), λ f. absurd (never f))
 
--- some of the numbers are still to be looked at
-pub record Insiding (code : List Node) (at word all left : ℕ) : Type 0 where
+-- what some of the numbers lead to is there
+pub record Insiding (code : List Node) (at word all done : ℕ) : Type 0 where
   pub kept : (bit : ℕ) → bit < 64 → bit_at word bit ≡ 1 → bit_at all bit ≡ 1
   pub from_word : (number : ℕ) → number < 64 → bit_at all number ≡ 1 → (bit : ℕ) × (bit < 64) × (bit_at word bit ≡ 1) × FlowsOn code false false (at * 64 + bit) (at * 64 + number)
-  pub within : (bit : ℕ) → bit < 64 → bit_at left bit ≡ 1 → bit_at all bit ≡ 1
-  pub rest : (bit : ℕ) → bit < 64 → bit_at all bit ≡ 1 → (bit_at left bit ≡ 1) ⊎ ((to : ℕ) → to < 64 → Flows code false false (at * 64 + bit) (at * 64 + to) → bit_at all to ≡ 1)
+  pub looked : (bit to : ℕ) → bit < 64 → to < 64 → bit_at done bit ≡ 1 → Flows code false false (at * 64 + bit) (at * 64 + to) → bit_at all to ≡ 1
 
 -- what isn't in a word yet
 pub fresh_bit : (found all bit : ℕ) → all < 2 ^ 64 → bit < 64 → bit_at (bit_and found (bit_not w64 all)) bit ≡ min (bit_at found bit) (1 - bit_at all bit)
 fresh_bit found all bit m l = bit_at_and found (bit_not w64 all) bit ∙ ap (min (bit_at found bit)) (bit_at_not w64 all bit m l)
 
-pub inside_more : {code : List Node} {at word : ℕ} (all : ℕ) {left bit : ℕ} (found : ℕ) → Insiding code at word all left → all < 2 ^ 64 → bit < 64 → bit_at left bit ≡ 1 → ((to : ℕ) → to < 64 → (bit_at found to ≡ 1) ↔ Flows code false false (at * 64 + bit) (at * 64 + to))
-    → Insiding code at word (bit_or all (bit_and found (bit_not w64 all))) (bit_or (bit_and left (bit_not w64 (1 * 2 ^ bit % 2 ^ 64))) (bit_and found (bit_not w64 all)))
-inside_more {code} {at} all {left} {bit} found i m small here is = record {
-  kept = λ b h k. left_bit all more b (i.kept b h k);
-  from_word = λ n h k. elim (either_bit all more n k) [
+pub inside_more : {code : List Node} {at word : ℕ} (all done found : ℕ) {bit : ℕ} → Insiding code at word all done → bit < 64 → done < 2 ^ 64 → bit_at (bit_and all (bit_not w64 done)) bit ≡ 1
+    → ((to : ℕ) → to < 64 → (bit_at found to ≡ 1) ↔ Flows code false false (at * 64 + bit) (at * 64 + to)) → Insiding code at word (bit_or all found) (bit_or done (1 * 2 ^ bit % 2 ^ 64))
+inside_more {code} {at} all done found {bit} i small fits here is = record {
+  kept = λ b h k. left_bit all found b (i.kept b h k);
+  from_word = λ n h k. elim (either_bit all found n k) [
     | inl old ↦ i.from_word n h old
     | inr new ↦
-        let f = (is n h).0 (let e = fresh_bit found all n m h in let l = bit_at-lt found n in omega (arith, e, new, l)) in
-        let was = i.from_word bit small (i.within bit small here) in
-        (was.0, was.1, was.2, (suc was.3.0, (at * 64 + bit, was.3.1, f)))
+        let e = fresh_bit all done bit fits small in
+        let was = i.from_word bit small (omega (arith, e, here, bit_at-lt all bit)) in
+        (was.0, was.1, was.2, (suc was.3.0, (at * 64 + bit, was.3.1, (is n h).0 new)))
   ];
-  within = λ b h k. elim (either_bit less more b k) [
-    | inl old ↦
-        let e = bit_at_and left (bit_not w64 (1 * 2 ^ bit % 2 ^ 64)) b in
-        let l = bit_at-lt left b in
-        left_bit all more b (i.within b h (omega (arith, e, old, l)))
-    | inr new ↦ right_bit all more b new
-  ];
-  rest = λ b h k. elim (either_bit all more b k) [
-    | inl old ↦ elim (i.rest b h old) [
-      | inl waits ↦ elim (cases_eq b bit) [
-        | inl same ↦ inr (λ to l f. found_in to l ((is to l).1 (subst (λ n. Flows code false false (at * 64 + n) (at * 64 + to)) same f)))
-        | inr other ↦ inl (left_bit less more b ((cleared left small here).1 b h other ∙ waits))
-      ]
-      | inr led ↦ inr (λ to l f. left_bit all more to (led to l f))
-    ]
-    | inr new ↦ inl (right_bit less more b new)
+  looked = λ b to h l k f. elim (cases_eq b bit) [
+    | inl same ↦ right_bit all found to ((is to l).1 (subst (λ n. Flows code false false (at * 64 + n) (at * 64 + to)) same f))
+    | inr other ↦ left_bit all found to (i.looked b to h l (sym (bit_at_set_other w64 done bit small b other) ∙ k) f)
   ];
 }
-  where
-    more : ℕ
-    more = bit_and found (bit_not w64 all)
 
-    less : ℕ
-    less = bit_and left (bit_not w64 (1 * 2 ^ bit % 2 ^ 64))
+pub inside_ends : {code : List Node} {at word : ℕ} (all done : ℕ) → Insiding code at word all done → done < 2 ^ 64 → bit_and all (bit_not w64 done) ≡ 0 → Closes code at word all
+inside_ends all done i fits none = record {
+  kept = i.kept;
+  from_chosen = i.from_word;
+  closed = λ n to h l k f. i.looked n to h l (let e = fresh_bit all done n fits h in let z = ap (λ w. bit_at w n) none ∙ bit_at-zero n in let b = bit_at-lt done n in omega (arith, e, z, k, b)) f;
+}
 
-    found_in : (to : ℕ) → to < 64 → bit_at found to ≡ 1 → bit_at (bit_or all (bit_and found (bit_not w64 all))) to ≡ 1
-    found_in to h k = elim (cases_eq (bit_at all to) 1) [
-      | inl old ↦ left_bit all (bit_and found (bit_not w64 all)) to old
-      | inr other ↦ right_bit all (bit_and found (bit_not w64 all)) to (let e = fresh_bit found all to m h in let l = bit_at-lt all to in omega (arith, e, k, l, other))
-    ]
-
--- the word grows, or fewer are left
-pub inside_smaller : (all left found : ℕ) {bit : ℕ} → all < 2 ^ 64 → found < 2 ^ 64 → left < 2 ^ 64 → bit < 64 → bit_at left bit ≡ 1
-    → (2 ^ 64 - bit_or all (bit_and found (bit_not w64 all))) * 2 ^ 64 + bit_or (bit_and left (bit_not w64 (1 * 2 ^ bit % 2 ^ 64))) (bit_and found (bit_not w64 all)) < (2 ^ 64 - all) * 2 ^ 64 + left
-inside_smaller all left found {bit} m f l small here = elim (cases_eq (bit_or all more) all) [
+-- one more was looked at
+pub inside_smaller : (all done : ℕ) {bit : ℕ} → bit < 64 → done < 2 ^ 64 → bit_at (bit_and all (bit_not w64 done)) bit ≡ 1 → 2 ^ 64 - bit_or done (1 * 2 ^ bit % 2 ^ 64) < 2 ^ 64 - done
+inside_smaller all done {bit} small fits here = elim (cases_eq (bit_or done (1 * 2 ^ bit % 2 ^ 64)) done) [
   | inl same ↦
-      let none : more ≡ 0 = same_from_bits_below 64 more 0 more_fits (omega arith) (λ b h. absent same b h) in
-      let e : bit_or less more ≡ less = ap (bit_or less) none ∙ or_zero_r less in
-      let c = (cleared left small here).0 in
-      let p = ap (λ x. (2 ^ 64 - x) * 2 ^ 64) same in
-      omega (arith, e, c, p)
-  | inr grown ↦
-      let g = le_or_l all more in
-      let a = or_lt 64 all more m more_fits in
-      let b = or_lt 64 less more less_fits more_fits in
-      omega (arith, g, a, b, grown, m)
+      let e = fresh_bit all done bit fits small in
+      let s = sym (bit_at_set_same w64 done bit small) ∙ ap (λ w. bit_at w bit) same in
+      absurd (omega (arith, e, s, here))
+  | inr grown ↦ let l = le_or_l done (1 * 2 ^ bit % 2 ^ 64) in let m = or_lt 64 done (1 * 2 ^ bit % 2 ^ 64) fits (omega arith) in omega (arith, l, m, grown)
 ]
-  where
-    more : ℕ
-    more = bit_and found (bit_not w64 all)
-
-    less : ℕ
-    less = bit_and left (bit_not w64 (1 * 2 ^ bit % 2 ^ 64))
-
-    more_fits : bit_and found (bit_not w64 all) < 2 ^ 64
-    more_fits = let q = and_le_l found (bit_not w64 all) in omega (arith, q, f)
-
-    less_fits : bit_and left (bit_not w64 (1 * 2 ^ bit % 2 ^ 64)) < 2 ^ 64
-    less_fits = let q = and_le_l left (bit_not w64 (1 * 2 ^ bit % 2 ^ 64)) in omega (arith, q, l)
-
-    absent : bit_or all (bit_and found (bit_not w64 all)) ≡ all → (b : ℕ) → b < 64 → bit_at (bit_and found (bit_not w64 all)) b ≡ bit_at 0 b
-    absent same b h =
-        let e = fresh_bit found all b m h in
-        let o = bit_at_or all (bit_and found (bit_not w64 all)) b in
-        let q = ap (λ x. bit_at x b) same in
-        let z = bit_at-zero b in
-        let k = bit_at-lt all b in
-        omega (arith, e, o, q, z, k)
 
 -- the first eights of a word are joined
 pub record Joining (code : List Node) (at word eight all : ℕ) : Type 0 where

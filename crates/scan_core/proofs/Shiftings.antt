@@ -122,9 +122,6 @@ steps_more place steps count size h k = let e : (place + 1) * size ≡ place * s
 pub steps_wider : (place most steps size : ℕ) → steps ≤ place * size → place ≤ most → steps ≤ most * size
 steps_wider place most steps size h k = search rules
 
-pub counted_starts : (code : List Node) (line : List ℕ) → IsCounted code line 0 0
-counted_starts code line = search rules
-
 pub counted_more : {code : List Node} {line : List ℕ} {place steps : ℕ} (set : List Bool) → IsCounted code line place steps → ((number : ℕ) → IsMarked set number ↔ Entered code line number place)
     → (IsMarked set (length code) → ⊥) → IsCounted code line (place + 1) (steps + positions_among code set)
 counted_more {code} {line} {place} {steps} set s here never = record {

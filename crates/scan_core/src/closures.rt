@@ -147,13 +147,11 @@ fn inside_of(nodes: &[Node], at: usize, word: u64) -> u64
     ensures { Closes nodes.now at word result }
 {
     let mut all = word;
-    let mut left = word;
-    'bits: while left != 0 {
-        let bit = left.trailing_zeros();
-        left &= !(1u64 << bit);
-        let more = targets(nodes, at, bit as usize) & !all;
-        all |= more;
-        left |= more;
+    let mut done: u64 = 0;
+    'bits: while all & !done != 0 {
+        let bit = (all & !done).trailing_zeros();
+        all |= targets(nodes, at, bit as usize);
+        done |= 1u64 << bit;
     }
     all
 }

@@ -36,7 +36,7 @@ fn passes(nodes: &[Node], number: usize, byte: u8) -> bool
     if number < nodes.len() {
         match &nodes[number] {
             Node::Take(set) => set.contains(byte),
-            Node::First | Node::Last | Node::Choose(_) | Node::Back(_) => false,
+            _ => false,
         }
     } else {
         false
