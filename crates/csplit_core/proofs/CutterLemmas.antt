@@ -224,9 +224,6 @@ lacks_memory style draft closed = let turn = draft_turn style draft closed (make
 again : (draft : Draft) (a b : List ℕ) → with_bytes b (with_bytes a draft) ≡ with_bytes (a ++ b) draft
 again draft a b = grind (arith, common_steps)
 
-goes_none : {told : Bool} {writer : WriterState} {slots : List Slot} → IsReady writer slots → Goes told writer (with_bytes []) slots slots writer None
-goes_none {writer = writer} ready = grind (arith, common_steps)
-
 goes_more : {told : Bool} {one two three : WriterState} (a b : List ℕ) {old mid new : List Slot} {fault : Option Fault} → Goes told one (with_bytes a) old mid two None → Goes told two (with_bytes b) mid new three fault → Goes told one (with_bytes (a ++ b)) old new three fault
 goes_more {one = one} a b first second = goes_again (with_bytes (a ++ b)) (λ draft. again draft a b) (bytes_begin one.style a) first second
 
@@ -245,12 +242,7 @@ pub record Emptying (told : Bool) (writer now : WriterState) (window left_in : W
   pub went : Goes told writer (with_bytes (take (n - left) window.held)) old new now None
   pub size : size_of now.current + length left_in.held ≤ size_of writer.current + length window.held
 
-pub starts : {told : Bool} {writer : WriterState} {window : Window} {n : ℕ} {slots : List Slot} → IsReady writer slots → Emptying told writer writer window window n n slots slots
-starts {window = window} {n} ready = grind (arith, common_steps)
-
 -- the first bytes of what stands at the front are the first of all
-front_bytes : (bytes : ℕ) {held : List ℕ} (front rest : List ℕ) → held ≡ front ++ rest → bytes ≤ length front → take bytes front ≡ take bytes held
-front_bytes bytes front rest is within = grind (arith, common_steps)
 
 front_within : {held : List ℕ} (front rest : List ℕ) → held ≡ front ++ rest → length front ≤ length held
 front_within {held} front rest is = grind (arith, common_steps)
@@ -271,7 +263,7 @@ module _ {told : Bool} {writer now : WriterState} {window left_in : Window} {n l
   -- what went, with more bytes of what stands at the front
   taken_more : (bytes : ℕ) (front rest : List ℕ) → left_in.held ≡ front ++ rest → bytes ≤ length front → take (n - left) window.held ++ take bytes front ≡ take (n - left + bytes) window.held
   taken_more bytes front rest is within =
-      ap (λ those. take (n - left) window.held ++ those) (front_bytes bytes front rest is within ∙ ap (λ (w : Window). take bytes w.held) so_far.rest) ∙ sym (take-add (n - left) bytes window.held)
+      ap (λ those. take (n - left) window.held ++ those) ((grind (arith, common_steps)) ∙ ap (λ (w : Window). take bytes w.held) so_far.rest) ∙ sym (take-add (n - left) bytes window.held)
 
   pub empties : (bytes : ℕ) (front rest : List ℕ) {next : WriterState} {after : Window} {new : List Slot} → left_in.held ≡ front ++ rest → bytes ≤ length front → bytes ≤ left → after ≡ without_first left_in bytes
       → Goes told now (with_bytes (take bytes front)) mid new next None → size_of next.current ≤ size_of now.current + length (take bytes front) → Emptying told writer next window after n (left - bytes) old new
@@ -350,7 +342,7 @@ goes_or_lacks {told} {writer} {next} {bytes} {old} {new} (Err fault) went lacks 
 })
 
 pub goes_lacking : {told : Bool} {writer : WriterState} {bytes : List ℕ} {slots : List Slot} {fault : Fault} → IsReady writer slots → fault ≡ Memory → Goes told writer (with_bytes bytes) slots slots writer (Some fault)
-goes_lacking {bytes = bytes} {fault = fault} ready lacks = stops_among [] bytes (goes_or_lacks (Err fault) (goes_none ready) lacks)
+goes_lacking {bytes = bytes} {fault = fault} ready lacks = stops_among [] bytes (goes_or_lacks (Err fault) (grind (arith, common_steps)) lacks)
 
 pub kept_window : {window mid : Window} (new : Window) {over front : ℕ} {text : List ℕ} (result : Result (Unit {0}) Fault) → Parted window.delim window.most over front window.held text → mid ≡ without_first window front
     → OnOk result (new ≡ record { most = mid.most; delim = mid.delim; held = mid.held ++ drop (over - front) text }) → OnOk result (new ≡ record { most = window.most; delim = window.delim; held = last_lines window.delim window.most (window.held ++ text) })

@@ -209,15 +209,12 @@ none_open rest piece none also = tail_is [] (inl refl) (no_newline rest piece no
 
 -- a piece with one
 
-take_some : (n : ℕ) (x : List ℕ) → 0 < n → n ≤ length x → 0 < length (take n x)
-take_some n x some within = grind (arith, common_steps)
-
 pub ends_by : (x : List ℕ) → IsWhole x → 0 < length x → ends_with newline x ≡ true
 ends_by x (inl empty) some = grind (arith, common_steps)
 ends_by x (inr ends) some = ends
 
 pub piece_ends : {piece : List ℕ} (end : ℕ) → LastEndsAt newline piece end → ends_with newline (take end piece) ≡ true
-piece_ends {piece} end last = ends_by (take end piece) (subst IsWhole (sym last.complete) (lines_whole piece)) (take_some end piece last.some last.within)
+piece_ends {piece} end last = ends_by (take end piece) (subst IsWhole (sym last.complete) (lines_whole piece)) (grind (arith, common_steps))
 
 some_ends : (rest text : List ℕ) → ends_with newline text ≡ true → ends_with newline (rest ++ text) ≡ true
 some_ends rest text ends = ends_with-append newline rest text (ends_with-some newline text ends) ∙ ends

@@ -30,9 +30,6 @@ use Rattle.seg_core.proofs.LinesOf.{AreLines-lines_of, joined-lines_of}
 
 -- What stays so of a state when more lines come
 
-fits_more : {total : ℕ} (more : ℕ) {state : State} → total ≤ more → Fits total state → Fits more state
-fits_more {total} more {state} less fits = grind (arith, common_steps)
-
 aim_more : (cutter : CutterState) (text : List ℕ) (lines : ℕ) (aim : Turn) → cutter.lines ≤ lines → AimHolds cutter.operands cutter.lines cutter.progress aim → StaysOver cutter text lines aim → AimHolds cutter.operands lines cutter.progress aim
 aim_more cutter text lines (Above matched line) less will stays = grind (arith, common_steps)
 aim_more cutter text lines (Cuts matched line) less holds stays = holds
@@ -47,7 +44,7 @@ passes {cutter} {text} {lines} {n} sound within whole count stays = record {
   few = let few : line_count newline (take n text) ≤ length (take n text) = line_count-le-length newline (take n text) in let long = length-take-le n text within in omega (arith, count, few, long);
   sound = record {
     fit = record {
-      fits = fits_more lines (omega (arith, count)) sound.fit.fits;
+      fits = (grind (arith, common_steps));
       most = sound.fit.most;
       delim = sound.fit.delim;
       sought = sound.fit.sought;
@@ -103,9 +100,6 @@ pub record Unmatched (cutter : CutterState) (text left : List ℕ) (next : Cutte
   pub same : next ≡ record cutter { lines = next.lines }
   pub count : next.lines ≡ cutter.lines + line_count newline front
   pub none : StaysOver cutter front next.lines Missed
-
-pub none_yet : {cutter : CutterState} {text : List ℕ} → Unmatched cutter text text cutter
-none_yet = grind (arith, common_steps)
 
 -- the line up to the first newline
 
@@ -230,9 +224,6 @@ fits_clear {cutter} {now} text {n} is fits within counted =
     let less : delimiters newline (take n text) ≤ length (take n text) = delimiters-le-length newline (take n text) in
     let long : length (take n text) ≡ n = length-take-le n text within in
     omega (arith, same, less, long, fits, within, counted)
-
-pub few_left : {cutter : CutterState} {text left : List ℕ} {next : CutterState} → Unmatched cutter text left next → cutter.lines + length text < 2 ^ 63 → next.lines + length left < 2 ^ 64
-few_left so fits = let less = few_counted so in omega (arith, less, fits)
 
 pub stops_unfound : {cutter : CutterState} {text : List ℕ} {next : CutterState} {n : ℕ} (passed : Passed) → PassesOver cutter text next n → passed.size ≡ n → passed.found ≡ None → StopsAt cutter text next passed
 stops_unfound {cutter} {text} {next} passed over size_is found_is = grind (arith, common_steps)

@@ -574,8 +574,6 @@ cut_not_on complete spread kept_is tail_is goes =
     let gone = gone_left kept_is tail_is goes in record { n = gone.n; within = gone.over.within; whole = gone.over.whole; all = spread_passes spread complete gone.over gone.held; size = tt; found = tt }
 
 -- a fault at the cut
-pub cut_stopped_on : {told : Bool} {cutter next : CutterState} {cut : Cut} {line rest : List ℕ} {old new : List Slot} {fault : Fault} → CutsAll told cutter cut cutter.lines line line [] old new next (Some fault) → CutsOn told cutter cut line rest old new next (Err fault)
-cut_stopped_on stopped = grind (arith, common_steps)
 
 -- What `stretch` owes. The first line isn't cut.
 

@@ -81,14 +81,11 @@ stays suppress operands a b so =
 pub capped : (real cap most total : ℕ) → most ≡ min real cap → most ≤ total → total < cap → most ≡ real
 capped real cap most total is within low = grind (arith, common_steps)
 
-capped_less : (real cap : ℕ) {most : ℕ} → most ≡ min real cap → most ≤ real
-capped_less real cap is = grind (arith, common_steps)
-
 pub falls : (suppress : Bool) (all : List Line) {total : ℕ} (state : State) {operand : Operand} {operands : List Operand} (matched real : ℕ) {most : ℕ} → length all ≡ total → state.operands ≡ operand ∷ operands
     → CutsAt suppress all state operand operand.target matched real → most ≡ min real (2 ^ 64 - 1) → total < 2 ^ 64 - 1 → (turn : Turn) → FallsAt total state.current matched most turn → Turns suppress all state turn
 falls suppress all state {operand} {operands} matched real {most} count are at_cut is few (Above line cap) at = record {
   ending = above operand state.repetition matched real;
-  runs = is_above state operand operands matched real are at_cut (let less : most ≤ real = capped_less real (2 ^ 64 - 1) is in omega (arith, less, at.2, count));
+  runs = is_above state operand operands matched real are at_cut (let less : most ≤ real = (grind (arith, common_steps)) in omega (arith, less, at.2, count));
   aims = (at.0, at.1 ∙ is);
 }
 falls suppress all {total} state {operand} {operands} matched real {most} count are at_cut is few Below at =
@@ -226,9 +223,6 @@ pub found_is : {cutter : CutterState} (line : List ℕ) {text : List ℕ} (numbe
 found_is line number (Number n) is sought says near = sym (says.none sought)
 found_is line number (Search pattern kept offset) is sought says near = grind (arith, common_steps)
 
-seen_all : {cutter : CutterState} {x : List ℕ} (line : List ℕ) {found : Bool} → IsFit cutter → IsFound cutter (without_newline line) cutter.lines found → Looked cutter x line → AreSeen (suppress_in cutter) (all_lines x) cutter.lines (state_in cutter) found
-seen_all {cutter} {x} line fit says looked = grind (arith, common_steps)
-
 pub turn_ends : {suppress : Bool} {lines : List Line} {state : State} (turn : Turn) → IsNoCut turn → Turns suppress lines state turn → EndsHere suppress lines state turn
 turn_ends (Cuts matched line) no_cut ends = absurd no_cut
 turn_ends _ no_cut ends = ends
@@ -251,7 +245,7 @@ cut_near {cutter} {x} line cut is fit looked turns = search rules
 module _ {cutter : CutterState} (line : List ℕ) {found : Bool} (turn : Turn) (fit : IsFit cutter) (says : IsFound cutter (without_newline line) cutter.lines found)
     (turns : (lines : List Line) → AreSeen (suppress_in cutter) lines cutter.lines (state_in cutter) found → Turns (suppress_in cutter) lines (state_in cutter) turn) (x : List ℕ) (looked : Looked cutter x line) where
   turned : Turns (suppress_in cutter) (all_lines x) (state_in cutter) turn
-  turned = turns (all_lines x) (seen_all line fit says looked)
+  turned = turns (all_lines x) (grind (arith, common_steps))
 
   pub tries_cut : (cut : Cut) → turn ≡ Cuts cut.matched cut.line → GoesPast (suppress_in cutter) (all_lines x) (state_in cutter) cut.matched cut.line × StaysNear cutter cut
   tries_cut cut is = (subst (Turns (suppress_in cutter) (all_lines x) (state_in cutter)) is turned, cut_near line cut is fit looked turned)
