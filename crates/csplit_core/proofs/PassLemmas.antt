@@ -1,9 +1,8 @@
 -- Lines over which the next operand stands as it does, and those that are seen to have no match.
 use Rattle.std.proofs.lemmas.Grind.{common_steps}
-use Rattle.std.proofs.Common.{◌≡◌, inl, inr, ℕ, zero, suc, ◌+◌, ◌-◌, ◌^◌, ◌<◌, ◌≤◌, Bool, true, false, cond, List, [], ◌∷◌, ◌++◌, length, take, drop, get_or, refl, sym, ◌∙◌, ap, subst, arith, Some, None, IfSome, append_assoc, length-append}
+use Rattle.std.proofs.Common.{◌≡◌, inl, inr, ℕ, zero, suc, ◌+◌, ◌-◌, ◌^◌, ◌<◌, ◌≤◌, Bool, true, false, cond, List, [], ◌∷◌, ◌++◌, length, take, drop, get_or, refl, sym, ◌∙◌, ap, subst, arith, Some, None, append_assoc, length-append}
 use Rattle.std.proofs.lemmas.Bool.{cases_lt, eq-eqb, eqb-true, ne_eqb, false≢true}
-use Rattle.std.proofs.lemmas.List.{get_or-map, drop_at, take_all, take_at, length-drop, take-append-drop, length-take-le, get_or_append_left, append-nil}
-use Rattle.std.proofs.Math.Seq.{get_or-append_right}
+use Rattle.std.proofs.lemmas.List.{get_or-map, drop_at, take_all, take_at, take-append-drop, length-take-le, append-nil}
 use Rattle.memchr.specs.Find.{Nowhere, Passes, is_byte}
 use Rattle.bre_core.specs.Pattern.{Pattern}
 use Rattle.bre_core.specs.Search.{contains}
@@ -14,9 +13,8 @@ use Rattle.seg_core.proofs.LineCounts.{line_count-le-length, line_count_near, en
 use Rattle.csplit_core.specs.Cutter.{CutterState, suppress_in, state_in, pattern_in, AimHolds, IsSound}
 use Rattle.csplit_core.specs.inner.Cutter.{AreClear, IsWhole, IsLine, IsFound, IsNextFound, PassesClear, PassesOver, StopsAt}
 use Rattle.csplit_core.specs.Input.{newline, without_newline, is_match_of, marked, all_lines}
-use Rattle.csplit_core.specs.Measure.{Moves, IsRepeatedBy, IsRepeated, Fits}
 use Rattle.csplit_core.specs.Operand.{Target, Number, Search, Operand, Line, unmarked}
-use Rattle.csplit_core.specs.Plan.{State, search_line}
+use Rattle.csplit_core.specs.Plan.{search_line}
 use Rattle.csplit_core.specs.Progress.{WillMove}
 use Rattle.csplit_core.specs.declared.line_cutter.Passed.{Passed}
 use Rattle.csplit_core.specs.declared.progress.Turn.{Turn}

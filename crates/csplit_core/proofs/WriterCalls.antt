@@ -1,5 +1,5 @@
 -- What is written of a draft, whose the files are, and what the calls of the writer of sections do.
-use Rattle.std.proofs.Common.{◌≡◌, ℕ, ◌+◌, suc, Bool, true, false, cond, not, ◌&&◌, List, [], ◌∷◌, ◌++◌, length, decimal, refl, sym, ◌∙◌, ap, subst, arith, length-append, ◌⊎◌, inl, inr, ◌<◌, ◌≤◌, eqb, eq-eqb, ne_eqb, ◌||◌, IsTrue, zero, take, drop, replicate, Option, Some, None, Err, rules}
+use Rattle.std.proofs.Common.{◌≡◌, ℕ, ◌+◌, suc, Bool, true, false, cond, not, ◌&&◌, List, [], ◌∷◌, ◌++◌, length, decimal, refl, sym, ◌∙◌, ap, subst, arith, length-append, ◌⊎◌, inl, inr, ◌<◌, ◌≤◌, eqb, eq-eqb, ne_eqb, ◌||◌, IsTrue, zero, take, drop, replicate, Option, Some, None, Err}
 use Rattle.std.proofs.lemmas.List.{append-nil}
 use Rattle.ports_core.specs.Name.{numbered_name}
 use Rattle.ports_core.specs.Part.{Part, Begins, IsBeginning, OutputsAt, IsNext, File as PartFile}
@@ -12,7 +12,7 @@ use Rattle.csplit_core.specs.inner.Writer.{with_section, KeepsFiles, MakesNone, 
 use Rattle.csplit_core.specs.laws.SectionLaws.{size_lines-append}
 use Rattle.csplit_core.proofs.WriterLemmas.{file_of, with_last, more_files, reaches_as, reaches_by, where_well, writes_to, leaves_again, Becomes, becomes_again, file_begins, opens, opens_not, reaches_again, stops_wider, section_begins, in_any, falls_wider, line_begins, close_begins, closes_last, closes_not, tells_line}
 use Rattle.std.proofs.lemmas.Bool.{false≢true, cases_lt, eq-eqb}
-use Rattle.ports_core.specs.Slot.{Slot, has_file, slot_at, changed_at, opened, unopened, closes, with_broken, is_writable, is_removable, broke, numberless, FailsToOpen, told_of}
+use Rattle.ports_core.specs.Slot.{Slot, has_file, slot_at, changed_at, opened, closes, with_broken, is_writable, broke, numberless, FailsToOpen, told_of}
 use Rattle.ports_core.specs.Swept.{AreThere, is_among, SweptFrom, Removes}
 use Rattle.ports_core.specs.declared.fault.Fault.{Fault}
 use Rattle.ports_core.specs.declared.fault.Fault.TheVariants as fault
@@ -20,7 +20,7 @@ use Rattle.ports_core.specs.declared.slot.Mode.TheVariants.{Fresh}
 use Rattle.csplit_core.specs.Writer.{WriterState, IsReady, IsOpenAt, IsLast, Breaks, Writes, IsCurrent, OwnsFiles}
 use Rattle.ports_core.specs.inner.Write as short
 use Rattle.csplit_core.specs.declared.section_writer.Current.TheVariants.{File, Unopened, Skipped, Unmade}
-use Rattle.ports_core.proofs.SlotSteps.{KeepsMade, none_past, none_opened, file_before, at_end, opened_last, writable_within, open_rose, write_rose, close_rose, keeps_write, made_write, written_writable, made_short, keeps_same, keeps_open, writable_before, opened_writable, made_same, made_again, made_close, made_break, keeps_close, writable_elsewhere}
+use Rattle.ports_core.proofs.SlotSteps.{KeepsMade, none_past, file_before, at_end, opened_last, writable_within, write_rose, close_rose, keeps_write, made_write, written_writable, made_short, keeps_open, writable_before, opened_writable, made_again, made_close, made_break, keeps_close, writable_elsewhere}
 use Rattle.ports_core.proofs.SweepLemmas.{by_place, all_cleared, left_apart, left_has, left_there, same_size}
 use Rattle.ports_core.specs.inner.Write.{WritesShort}
 use Rattle.std.proofs.Math.Seq.{take-append-add}
