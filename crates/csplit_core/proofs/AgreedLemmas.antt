@@ -1,21 +1,16 @@
 -- What is settled is what all continuations agree on, and where lines go.
-use Rattle.std.proofs.Common.{◌≡◌, inl, inr, ℕ, suc, ◌+◌, ◌-◌, ◌<◌, ◌≤◌, max, eqb, ◌&&◌, Bool, true, false, cond, List, [], ◌∷◌, ◌++◌, All, length, get_or, refl, sym, ◌∙◌, ap, subst, arith, length-append, lit<, zero, map, take, drop, append_assoc, nat_lt, nat_le, min, length-take, ◌⊎◌, ne_eqb, eq-eqb, length-drop, length-take-le, take_all, rules}
-use Rattle.std.proofs.lemmas.List.Elements.{All-nil, All-cons}
-use Rattle.seg_core.specs.Line.{IsComplete}
+use Rattle.std.proofs.Common.{◌≡◌, inl, inr, ℕ, suc, ◌+◌, ◌-◌, ◌<◌, ◌≤◌, ◌&&◌, Bool, true, false, cond, List, [], ◌∷◌, ◌++◌, length, get_or, refl, sym, ◌∙◌, ap, subst, arith, length-append, zero, map, take, drop, append_assoc, nat_lt, nat_le, min, length-take, ◌⊎◌, ne_eqb, eq-eqb, length-drop, length-take-le, take_all, rules}
 use Rattle.csplit_core.specs.Agreed.{CanCome, kept_lines, whole_outputs, settled_outputs, IsFront, AreFronts, output_at, IsAgreed}
-use Rattle.csplit_core.specs.Input.{newline}
-use Rattle.std.proofs.lemmas.Bool.{cases_lt, false≢true, and_parts}
-use Rattle.std.proofs.Math.Nat.{max-le}
-use Rattle.std.proofs.Math.Seq.{get_or-append_seam}
+use Rattle.std.proofs.lemmas.Bool.{cases_lt, false≢true}
 use Rattle.bre_core.specs.Pattern.{Pattern}
-use Rattle.csplit_core.specs.Operand.{Minus, Target, Number, Search, Operand, Line, unmarked, Plus, most_held, is_kept}
-use Rattle.csplit_core.specs.Plan.{State, start, Step, Ending, below, search_line, IsFirst, MatchesNone, CutsAt, line_after, state_after, step_of, Runs, is_below, cuts, missed, Misses, used_up, above, is_used_up, misses, is_above}
-use Rattle.csplit_core.specs.laws.PlanLaws.{search_some, line_some, runs, goes_on, plan_runs, plan_once, cuts_still, from_not_less, less_test, not_less_test}
+use Rattle.csplit_core.specs.Operand.{Minus, Target, Number, Search, Operand, Line, Plus, most_held, is_kept}
+use Rattle.csplit_core.specs.Plan.{State, start, Step, Ending, below, search_line, MatchesNone, CutsAt, line_after, state_after, step_of, Runs, is_below, cuts, missed, Misses, is_used_up, misses, is_above}
+use Rattle.csplit_core.specs.laws.PlanLaws.{line_some, runs, goes_on, plan_runs, plan_once, cuts_still, less_test, not_less_test}
 use Rattle.csplit_core.specs.inner.PlanLaws.{needed, EndsAs, Grow}
 use Rattle.std.proofs.lemmas.List.{append-nil, map-append, take-append-drop, drop-drop}
 use Rattle.csplit_core.specs.Planned.{plan, Plan}
 use Rattle.csplit_core.specs.Section.{Section, section, section_of, lines_between, is_last_kept, whole_end, settled_end, sections_by, whole_sections, is_final, waiting_lines}
-use Rattle.csplit_core.specs.laws.SectionLaws.{between_still, ends_as, are_within, closed_still, plan_grows, whole_covers, plan_goes_on, cuts_from, settled_most}
+use Rattle.csplit_core.specs.laws.SectionLaws.{between_still, ends_as, are_within, closed_still, plan_grows, whole_covers, plan_goes_on}
 use Rattle.std.specs.Prelude.{◌≢◌}
 use Rattle.std.proofs.lemmas.Bool.Decides.{nat_tests}
 use Rattle.csplit_core.specs.Place.{Place, in_section, left_out, nowhere, place_from, place_of, IsUndecided, is_in, lines_into, ArePlaced}
@@ -55,10 +50,6 @@ none_comes = grind (arith, common_steps)
 pub matching_comes : CanCome (matching_line ∷ [])
 matching_comes = grind (arith, common_steps)
 
-matches_first : (suppress : Bool) (x : List Line) (state : State) {operand : Operand} → MatchesNone operand x (search_line suppress state) → search_line suppress state ≤ suc (length x)
-    → IsFirst operand (x ++ matching_line ∷ []) (search_line suppress state) (suc (length x))
-matches_first suppress x state {operand} none within = grind (arith, common_steps)
-
 -- the cut falls within the lines that are there: the section ends there, or the cut is below it
 pub data Turned (suppress : Bool) (x : List Line) (state : State) (operand : Operand) (cut : ℕ) : Type 0 where
   too_low : cut < state.current → Runs suppress (x ++ matching_line ∷ []) state [] state (below operand state.repetition) → Turned suppress x state operand cut
@@ -79,7 +70,7 @@ turned : {suppress : Bool} {x : List Line} {state : State} {operand : Operand} {
     → MatchesNone operand x (search_line suppress state) → search_line suppress state ≤ suc (length x) → Turned suppress x state operand (suc (length x) - k)
 turned {suppress} {x} {state} {operand} pattern kept k some is target none within =
     turned_by (suc (length x) - k) some is
-    (subst (λ t. CutsAt suppress (x ++ matching_line ∷ []) state operand t (suc (length x)) (suc (length x) - k)) (sym target) (matches_first suppress x state none within, refl))
+    (subst (λ t. CutsAt suppress (x ++ matching_line ∷ []) state operand t (suc (length x)) (suc (length x) - k)) (sym target) ((grind (arith, common_steps)), refl))
     (let e : length (x ++ matching_line ∷ []) ≡ length x + 1 = length-append x (matching_line ∷ []) in omega (arith, e))
 
 -- at the end of a plan either nothing waits, or one line more makes a cut that stands back
@@ -274,9 +265,6 @@ place_after {suppress} run total index line more how from = ap (λ i. place_from
 
 -- What is settled of the open section is in it whatever comes
 
-in_rest : (total : ℕ) {index : ℕ} (line : ℕ) (how : Ending) → line < whole_end total how → cond (nat_lt line (whole_end total how)) (in_section index) nowhere ≡ in_section index
-in_rest total {index} line how less = grind (arith, common_steps)
-
 settled_place : {suppress : Bool} (a b : List Line) {last : State} (ending : Ending) → EndsAs suppress a last ending → (more : List Step) (end : State) {how : Ending} → Runs suppress (a ++ b) last more end how
     → {index : ℕ} (line : ℕ) → last.current ≤ line → line < settled_end (length a) ending → place_from suppress (length (a ++ b)) index more how line ≡ in_section index
 settled_place a b ending ends more end (is_used_up state none) line from before = grind (arith, common_steps)
@@ -340,8 +328,6 @@ in_later suppress total other line (step ∷ steps) how less is =
     step_later other less (λ same. in_later suppress total (other + 1) line steps how (omega (arith, less)) same) (nat_lt line step.cut) (suppress && nat_le line step.cut) is
 
 -- a line after the cut isn't in the section
-cut_before : (suppress : Bool) (total : ℕ) {index : ℕ} (line : ℕ) (step : Step) (steps : List Step) (how : Ending) → step.cut ≤ line → place_from suppress total index (step ∷ steps) how line ≡ in_section index → ⊥
-cut_before suppress total {index} line step steps how before is = grind (arith, common_steps, not_less_test, in_later)
 
 turned_away : {suppress : Bool} {x : List Line} {state : State} {operand : Operand} (k line : ℕ) → Turned suppress x state operand (suc (length x) - k) → suc (length x) - k ≤ line
     → (steps : List Step) × (end : State) × (how : Ending) × Runs suppress (x ++ matching_line ∷ []) state steps end how × ((index : ℕ) → place_from suppress (length (x ++ matching_line ∷ [])) index steps how line ≡ in_section index → ⊥)
@@ -357,15 +343,10 @@ turned_away {suppress} {x} {state} {operand} k line (turns least steps end how r
   end,
   how,
   rest,
-  λ index is. cut_before suppress (length (x ++ matching_line ∷ [])) line (step_of state operand (suc (length x)) (suc (length x) - k)) steps how from is,
+  λ index is. (grind (arith, common_steps, not_less_test, in_later)),
 )
 
 -- the rest as it is puts the line into its section
-here_in : (suppress : Bool) (operands : List Operand) (x : List Line) (line : ℕ) → (plan suppress operands x).last.current ≤ line → line < whole_end (length x) (plan suppress operands x).ending
-    → place_of suppress operands x line ≡ in_section (0 + length (plan suppress operands x).steps)
-here_in suppress operands x line from less =
-    ap (λ those. place_from suppress (length x) 0 those (plan suppress operands x).ending line) (sym (append-nil (plan suppress operands x).steps))
-    ∙ place_after (plan_runs suppress operands x) (length x) 0 line [] (plan suppress operands x).ending from ∙ in_rest (length x) line (plan suppress operands x).ending less
 
 differ_line : (suppress : Bool) (operands : List Operand) (x : List Line) (line : ℕ) → WaitsAt (length x) (plan suppress operands x) line → Waits suppress x (plan suppress operands x).last (plan suppress operands x).ending
     → (y : List Line) × (z : List Line) × CanCome y × CanCome z × (place_of suppress operands (x ++ y) line ≢ place_of suppress operands (x ++ z) line)
@@ -381,7 +362,7 @@ differ_line suppress operands x line (live, from, past, within) (some_wait k kep
           (plan_once suppress operands (x ++ matching_line ∷ []) _ _ _ (goes_on (matching_line ∷ []) _ _ (plan_runs suppress operands x) away.3))
           ∙ place_after (plan_runs suppress operands x) (length (x ++ matching_line ∷ [])) 0 line away.0 away.2 from)
           ∙ sym same ∙ ap (λ those. place_of suppress operands those line) (append-nil x)
-          ∙ here_in suppress operands x line from (omega (arith, ends_after_all (length x) (plan suppress operands x).ending live, within))),
+          ∙ (ap (λ those. place_from suppress (length x) 0 those (plan suppress operands x).ending line) (sym (append-nil (plan suppress operands x).steps)) ∙ place_after (plan_runs suppress operands x) (length x) 0 line [] (plan suppress operands x).ending from ∙ (grind (arith, common_steps)))),
     )
 
 same_line : (suppress : Bool) (operands : List Operand) (x y z : List Line) (line : ℕ) → 1 ≤ line → line ≤ length x → (WaitsAt (length x) (plan suppress operands x) line → ⊥)
@@ -557,9 +538,6 @@ left_at suppress total index cut line [] ending same = absurd (rest_not_left (na
 left_at suppress total index cut line (step ∷ steps) ending same =
     left_by_step {suppress = suppress} {index = index} cut line {step = step} {steps = steps} {later = place_from suppress total (index + 1) steps ending line} (nat_lt line step.cut) (suppress && nat_le line step.cut) refl refl (left_at suppress total (index + 1) cut line steps ending) same
 
-rest_not_nowhere : (index line end : ℕ) → line < end → cond (nat_lt line end) (in_section index) nowhere ≡ nowhere → ⊥
-rest_not_nowhere index line end less same = grind (arith, common_steps)
-
 nowhere_by_step : (lt le : Bool) (index : ℕ) {later : Place} (A : Type 0) → (lt ≡ false → le ≡ false → later ≡ nowhere → A) → cond lt (in_section index) (cond le (left_out index) later) ≡ nowhere → A
 nowhere_by_step false false index A rest same = rest refl refl same
 nowhere_by_step lt le index A rest same = absurd (cc)
@@ -570,7 +548,7 @@ nowhere_at (is_below state operand operands matched cut is cuts_at in_lines low)
 nowhere_at {suppress} (cuts state operand operands matched cut steps' last' ending' is cuts_at least in_lines rest) index line from within same =
     nowhere_by_step (nat_lt line cut) (suppress && nat_le line cut) index ((is_final ending' ≡ true) × (last'.current ≤ line))
     (λ lt le later. nowhere_at rest (index + 1) line (left_by suppress line cut lt le) within later) same
-nowhere_at {lines} run index line from within same = absurd (rest_not_nowhere index line (suc (length lines)) (omega (arith, within)) same)
+nowhere_at {lines} run index line from within same = absurd (grind (arith, common_steps))
 
 pub are_placed : (suppress : Bool) (operands : List Operand) (x : List Line) → ArePlaced (place_of suppress operands x) suppress (plan suppress operands x) x
 are_placed suppress operands x =

@@ -1,6 +1,6 @@
 -- A cut ends the open section, and the next one begins.
 use Rattle.std.proofs.lemmas.Grind.{common_steps}
-use Rattle.std.proofs.Common.{◌≡◌, ℕ, suc, ◌+◌, ◌-◌, ◌≤◌, max, eqb, ◌&&◌, cond, Bool, true, false, List, [], ◌∷◌, ◌++◌, length, map, Option, Some, None, Err, refl, sym, ◌∙◌, ap, subst, arith, append_assoc}
+use Rattle.std.proofs.Common.{◌≡◌, ℕ, suc, ◌+◌, ◌-◌, ◌≤◌, Bool, true, false, List, [], ◌∷◌, ◌++◌, length, map, Option, Some, None, Err, refl, sym, ◌∙◌, ap, subst, arith, append_assoc}
 use Rattle.std.proofs.lemmas.List.{map-append, append-nil}
 use Rattle.seg_core.specs.Line.{first_lines, after_lines}
 use Rattle.seg_core.proofs.FirstLines.{first_lines-zero, first_lines_then_rest}
@@ -62,13 +62,6 @@ begun_by style operands {lines} steps {state} (step ∷ more) {last} {ending} re
     ∙ ap (λ those. part_by style (map contents_of those)) (append_assoc (map (section_of lines) steps) (section_of lines step ∷ map (section_of lines) more) _)))
     (begins_with style (map (section_of lines) steps) (section_of lines step) tail (kept_by state.operands) (first_kept rest))
 
-pub begun_begins : (style : Style) (operands : List Operand) (lines : List Line) (steps : List Step) (state : State) → Leads style.suppress lines operands steps state → 1 ≤ state.current
-    → Begins (draft_part style (draft_by lines steps (kept_by state.operands) [])) (settled_of style operands lines)
-begun_begins style operands lines steps state leads some =
-    let p = plan_within (needed (length lines) state) style.suppress lines state in
-    let rest = runs (needed (length lines) state) style.suppress lines state (omega arith) some in
-    begun_by style operands {lines = lines} steps {state = state} p.steps {last = p.last} {ending = p.ending} rest (leads p.steps p.last p.ending rest)
-
 -- The sections once one more ended
 
 -- the step of a cut
@@ -106,7 +99,7 @@ cut_begins {cutter} {x} {left} line {at} cut now fit will before_is =
     let some : 1 ≤ state.current = (let least = Rattle.csplit_core.specs.laws.PlanLaws.line_some (suppress_in cutter) cut.line in let s = fit.fits.some in let f = will.from in omega (arith, least, s, f)) in
     subst (λ draft. Begins (draft_part cutter.writer.style draft) (settled_part cutter x))
     (sym (cut_draft at cut (kept_by state.operands) now.goes.are fit.fits.some on (before_is ∙ ap (λ n. first_lines newline (cut.line - n) left) now.place_is)))
-    (begun_begins cutter.writer.style cutter.operands (all_lines x) (at.steps ++ step_at cutter now.goes.operand cut ∷ []) state (leads_on at cut now.goes) some)
+    (let p = plan_within (needed (length (all_lines x)) state) cutter.writer.style.suppress (all_lines x) state in let rest = runs (needed (length (all_lines x)) state) cutter.writer.style.suppress (all_lines x) state (omega arith) some in begun_by cutter.writer.style cutter.operands {lines = (all_lines x)} (at.steps ++ step_at cutter now.goes.operand cut ∷ []) {state = state} p.steps {last = p.last} {ending = p.ending} rest ((leads_on at cut now.goes) p.steps p.last p.ending rest))
 
 -- What `cut_at` owes, by how far it came. First the lines before the cut are written; then the run goes on; then the next section begins.
 

@@ -1,17 +1,17 @@
 -- Lemmas on the cutter of lines: what is settled, and what holding lines leaves.
 use Rattle.std.proofs.lemmas.Grind.{common_steps}
-use Rattle.std.proofs.Common.{◌≡◌, ℕ, ◌+◌, ◌-◌, ◌≤◌, Bool, true, false, List, [], ◌∷◌, ◌++◌, length, map, refl, sym, ◌∙◌, ap, arith, ◌⊎◌, inl, inr, Option, None, subst, ◌<◌, min, Some, Result, Ok, Err, OnOk, IfErr, take, drop, append_assoc, length-append}
+use Rattle.std.proofs.Common.{◌≡◌, ℕ, ◌+◌, ◌-◌, ◌≤◌, Bool, true, false, List, [], ◌++◌, length, map, refl, sym, ◌∙◌, ap, arith, ◌⊎◌, inl, inr, Option, None, subst, ◌<◌, min, Some, Result, Ok, Err, OnOk, IfErr, take, drop}
 use Rattle.std.proofs.lemmas.Bool.{false≢true, cases_lt}
-use Rattle.std.proofs.lemmas.List.{map-append, append-nil, length-take-le, length-drop, take-append-drop, take-append-le, take_all, drop_all, take_at, drop_at, drop-drop}
+use Rattle.std.proofs.lemmas.List.{append-nil, length-take-le, length-drop, take-append-le, take_all, drop_all, drop-drop}
 use Rattle.seg_core.specs.Line.{line_count, first_lines, after_lines, but_last_lines, last_lines}
 use Rattle.csplit_core.specs.Csplit.{settled_of}
 use Rattle.csplit_core.specs.Draft.{draft_part, Draft, last_contents, AreClosed}
 use Rattle.csplit_core.specs.Input.{newline, all_lines}
-use Rattle.csplit_core.specs.Operand.{Plus, Minus, Target, Number, Search, Operand, Line, most_held}
-use Rattle.csplit_core.specs.Output.{Style, contents_of, part_by, makes_file, files_of}
-use Rattle.csplit_core.specs.Plan.{State, start, Step, Ending, used_up, missed, above, below, CutsAt, Runs}
+use Rattle.csplit_core.specs.Operand.{Operand, Line}
+use Rattle.csplit_core.specs.Output.{Style, contents_of, makes_file, files_of}
+use Rattle.csplit_core.specs.Plan.{State, start, Step, Ending, used_up, missed, above, below, Runs}
 use Rattle.csplit_core.specs.Planned.{Plan, plan}
-use Rattle.csplit_core.specs.Section.{section, section_of, lines_between, is_last_kept, settled_end, is_final, most_waiting, bytes_of}
+use Rattle.csplit_core.specs.Section.{section_of, lines_between, is_last_kept, settled_end, is_final, most_waiting, bytes_of}
 use Rattle.csplit_core.specs.Progress.{AimsAt}
 use Rattle.csplit_core.specs.declared.progress.Turn.{Turn}
 use Rattle.csplit_core.specs.declared.progress.Turn.TheVariants.{Below}
@@ -23,9 +23,14 @@ use Rattle.csplit_core.specs.inner.Cutter.{Joins, settled_part, Keeps, part_at, 
 use Rattle.csplit_core.proofs.LineLemmas.{all_lines-append, bytes_between, length-all_lines, count-append, count_from, first_still, rest_more, from_further, first_further}
 use Rattle.ports_core.specs.Slot.{Slot}
 use Rattle.ports_core.specs.declared.fault.Fault.{Fault}
+<<<<<<< HEAD
 use Rattle.csplit_core.specs.inner.Writer.{with_bytes, Goes, Reaches}
 use Rattle.ports_core.specs.inner.Part.{fault_in}
 use Rattle.csplit_core.specs.Writer.{WriterState, Writes, IsCurrent, IsReady, size_of}
+=======
+use Rattle.csplit_core.specs.inner.Writer.{with_bytes, Goes, Reaches, fault_in}
+use Rattle.csplit_core.specs.Writer.{WriterState, Writes, IsReady, size_of}
+>>>>>>> ce248b026b25229868cc05097ff3ecdab5ef6ae7
 use Rattle.csplit_core.proofs.WriterLemmas.{leaves_again, bytes_begin, leaves_lacking, leaves_still, reaches_again, reaches_as, reaches_still, where_three}
 use Rattle.std.proofs.Math.Nat.{min-eq_left, min-eq_right}
 use Rattle.std.proofs.Math.Seq.{take-add, take-append-add}
@@ -36,7 +41,7 @@ use Rattle.ports_core.specs.Part.{Begins, Part}
 use Rattle.ports_core.specs.inner.Part.{InTurn}
 use Rattle.ports_core.specs.declared.fault.Fault.TheVariants.{Memory}
 use Rattle.ports_core.proofs.PartLemmas.{part_begins_itself, turn_last, turn_next}
-use Rattle.csplit_core.proofs.WriterCalls.{goes_again, goes_still, goes_wider, open_part, part_none, closed_files}
+use Rattle.csplit_core.proofs.WriterCalls.{goes_again, goes_wider, open_part, part_none, closed_files}
 use Rattle.std.specs.Prelude.{IfNone}
 
 -- Lemmas on the cutter of lines, and on what is settled of complete lines, by where the plan over them ends.
@@ -225,9 +230,6 @@ lacks_memory style draft closed = let turn = draft_turn style draft closed (make
 again : (draft : Draft) (a b : List ℕ) → with_bytes b (with_bytes a draft) ≡ with_bytes (a ++ b) draft
 again draft a b = grind (arith, common_steps)
 
-goes_none : {told : Bool} {writer : WriterState} {slots : List Slot} → IsReady writer slots → Goes told writer (with_bytes []) slots slots writer None
-goes_none {writer = writer} ready = grind (arith, common_steps)
-
 goes_more : {told : Bool} {one two three : WriterState} (a b : List ℕ) {old mid new : List Slot} {fault : Option Fault} → Goes told one (with_bytes a) old mid two None → Goes told two (with_bytes b) mid new three fault → Goes told one (with_bytes (a ++ b)) old new three fault
 goes_more {one = one} a b first second = goes_again (with_bytes (a ++ b)) (λ draft. again draft a b) (bytes_begin one.style a) first second
 
@@ -246,12 +248,7 @@ pub record Emptying (told : Bool) (writer now : WriterState) (window left_in : W
   pub went : Goes told writer (with_bytes (take (n - left) window.held)) old new now None
   pub size : size_of now.current + length left_in.held ≤ size_of writer.current + length window.held
 
-pub starts : {told : Bool} {writer : WriterState} {window : Window} {n : ℕ} {slots : List Slot} → IsReady writer slots → Emptying told writer writer window window n n slots slots
-starts {window = window} {n} ready = grind (arith, common_steps)
-
 -- the first bytes of what stands at the front are the first of all
-front_bytes : (bytes : ℕ) {held : List ℕ} (front rest : List ℕ) → held ≡ front ++ rest → bytes ≤ length front → take bytes front ≡ take bytes held
-front_bytes bytes front rest is within = grind (arith, common_steps)
 
 front_within : {held : List ℕ} (front rest : List ℕ) → held ≡ front ++ rest → length front ≤ length held
 front_within {held} front rest is = grind (arith, common_steps)
@@ -272,7 +269,7 @@ module _ {told : Bool} {writer now : WriterState} {window left_in : Window} {n l
   -- what went, with more bytes of what stands at the front
   taken_more : (bytes : ℕ) (front rest : List ℕ) → left_in.held ≡ front ++ rest → bytes ≤ length front → take (n - left) window.held ++ take bytes front ≡ take (n - left + bytes) window.held
   taken_more bytes front rest is within =
-      ap (λ those. take (n - left) window.held ++ those) (front_bytes bytes front rest is within ∙ ap (λ (w : Window). take bytes w.held) so_far.rest) ∙ sym (take-add (n - left) bytes window.held)
+      ap (λ those. take (n - left) window.held ++ those) ((grind (arith, common_steps)) ∙ ap (λ (w : Window). take bytes w.held) so_far.rest) ∙ sym (take-add (n - left) bytes window.held)
 
   pub empties : (bytes : ℕ) (front rest : List ℕ) {next : WriterState} {after : Window} {new : List Slot} → left_in.held ≡ front ++ rest → bytes ≤ length front → bytes ≤ left → after ≡ without_first left_in bytes
       → Goes told now (with_bytes (take bytes front)) mid new next None → size_of next.current ≤ size_of now.current + length (take bytes front) → Emptying told writer next window after n (left - bytes) old new
@@ -351,7 +348,7 @@ goes_or_lacks {told} {writer} {next} {bytes} {old} {new} (Err fault) went lacks 
 })
 
 pub goes_lacking : {told : Bool} {writer : WriterState} {bytes : List ℕ} {slots : List Slot} {fault : Fault} → IsReady writer slots → fault ≡ Memory → Goes told writer (with_bytes bytes) slots slots writer (Some fault)
-goes_lacking {bytes = bytes} {fault = fault} ready lacks = stops_among [] bytes (goes_or_lacks (Err fault) (goes_none ready) lacks)
+goes_lacking {bytes = bytes} {fault = fault} ready lacks = stops_among [] bytes (goes_or_lacks (Err fault) (grind (arith, common_steps)) lacks)
 
 pub kept_window : {window mid : Window} (new : Window) {over front : ℕ} {text : List ℕ} (result : Result (Unit {0}) Fault) → Parted window.delim window.most over front window.held text → mid ≡ without_first window front
     → OnOk result (new ≡ record { most = mid.most; delim = mid.delim; held = mid.held ++ drop (over - front) text }) → OnOk result (new ≡ record { most = window.most; delim = window.delim; held = last_lines window.delim window.most (window.held ++ text) })

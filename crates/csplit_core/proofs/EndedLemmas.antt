@@ -19,7 +19,7 @@ use Rattle.csplit_core.specs.Planned.{Plan, plan}
 use Rattle.csplit_core.specs.laws.PlanLaws.{plan_runs, plan_once}
 use Rattle.csplit_core.specs.Progress.{state_of, AimsAt, EndsHere}
 use Rattle.csplit_core.specs.inner.Cutter.{AreSeen, Turns, MovesOn, IsNoCut, Opened, settled_part, whole_part, IsJudged, EndsAll}
-use Rattle.csplit_core.specs.Section.{settled_end, is_final, section, section_of, lines_between, is_last_kept, whole_end, bytes_of}
+use Rattle.csplit_core.specs.Section.{settled_end, is_final, section, section_of, lines_between, is_last_kept, whole_end}
 use Rattle.csplit_core.specs.declared.progress.Progress.{Progress}
 use Rattle.csplit_core.specs.declared.progress.Turn.{Turn}
 use Rattle.csplit_core.specs.declared.progress.Turn.TheVariants.{Below, Cuts, UsedUp, Missed, Above}
@@ -29,12 +29,12 @@ use Rattle.csplit_core.proofs.TryLemmas.{turn_ends, no_cut_aims, left_is}
 use Rattle.ports_core.proofs.SlotSteps.{none_past}
 use Rattle.csplit_core.proofs.WriterCalls.{begun_not, new_owns, new_writes, no_draft, ended_part}
 use Rattle.csplit_core.proofs.WriterLemmas.{reaches_as, stops_wider, bytes_begin, section_begins, in_any, leaves_again, reaches_again}
-use Rattle.std.proofs.lemmas.List.{append-nil, map-append, take_all, drop_all}
+use Rattle.std.proofs.lemmas.List.{map-append, take_all, drop_all}
 use Rattle.seg_core.specs.Line.{lines_of, line_count, joined, first_lines, after_lines}
 use Rattle.seg_core.proofs.LinesOf.{joined-lines_of}
 use Rattle.seg_core.proofs.FirstLines.{first_lines_then_rest}
 use Rattle.csplit_core.specs.inner.PlanLaws.{EndsAs}
-use Rattle.csplit_core.specs.laws.SectionLaws.{ends_as, front_of}
+use Rattle.csplit_core.specs.laws.SectionLaws.{ends_as}
 use Rattle.csplit_core.proofs.LineLemmas.{count_from, from_further}
 use Rattle.csplit_core.proofs.WholeLemmas.{ends_after_all}
 use Rattle.std.proofs.lemmas.Bool.Decides.{nat_tests}
@@ -65,9 +65,6 @@ first_part style operands = ap (draft_part style) (first_settled style.suppress 
 abbrev pub first_progress : Progress
 first_progress = record { done = 0; repetition = 0; current = 1; matched = 0 }
 
-seen_none : {suppress : Bool} (operands : List Operand) → AreSeen suppress [] 0 (start operands) false
-seen_none operands = grind (arith, common_steps)
-
 first_no_cut : (operands : List Operand) (turn : Turn) → MovesOn operands 0 first_progress turn → IsNoCut turn
 first_no_cut operands (Cuts matched line) moves = grind (arith, common_steps)
 first_no_cut operands _ moves = tt
@@ -77,7 +74,7 @@ SaysFirst suppress operands turn = (lines : List Line) → AreSeen suppress line
 
 first_ends : {suppress : Bool} (operands : List Operand) {turn : Turn} → SaysFirst suppress operands turn → MovesOn operands 0 first_progress turn → EndsHere suppress [] (start operands) turn
 first_ends {suppress} operands {turn} says moves =
-    turn_ends turn (first_no_cut operands turn moves) (says [] (seen_none operands))
+    turn_ends turn (first_no_cut operands turn moves) (says [] (grind (arith, common_steps)))
 
 final_below : (turn : Turn) (ending : Ending) → AimsAt turn ending → is_final ending ≡ true → turn ≡ Below
 final_below Below (below operand repetition) aims past = refl
@@ -121,9 +118,6 @@ first_stands operands {writer} {aim} writes ends true past =
       writes = subst (Writes writer) (first_settled writer.style.suppress operands) writes;
     })
 
-first_fit : (operands : List Operand) (writer : WriterState) (aim : Turn) → IsFit (first_cutter operands writer aim)
-first_fit operands writer aim = grind (arith, common_steps)
-
 first_opened : (told : Bool) {style : Style} {operands : List Operand} {old new : List Slot} {writer : WriterState} (aim : Turn) → 2 ≤ length old → Goes told (new_writer style) (with_kept (kept_by operands)) old new writer None → size_of writer.current ≡ 0 → SaysFirst style.suppress operands aim → MovesOn operands 0 first_progress aim
     → Opened told style operands old new (first_cutter operands writer aim)
 first_opened told {style} {operands} {old} {new} {writer} aim two begun none says moves =
@@ -135,7 +129,7 @@ first_opened told {style} {operands} {old} {new} {writer} aim two begun none say
       reaches = reaches_as refl (sym (first_part style operands)) (begun.reaches no_draft (new_writes style));
       owns = begun.leaves.owns.owns (length old) (new_owns style two);
       ready = begun.leaves.ready;
-      sound = record { fit = first_fit operands writer aim; aim = no_cut_aims operands 0 first_progress aim (first_no_cut operands aim moves) moves };
+      sound = record { fit = (grind (arith, common_steps)); aim = no_cut_aims operands 0 first_progress aim (first_no_cut operands aim moves) moves };
       size = ap (max 0) none';
     }
 

@@ -1,6 +1,6 @@
 -- Lines of a text as operands see them, their bytes, and what follows the last newline, where more bytes come.
-use Rattle.std.proofs.Common.{◌≡◌, ◌⊎◌, inl, inr, ℕ, suc, ◌+◌, ◌-◌, ◌<◌, ◌≤◌, List, [], ◌∷◌, ◌++◌, length, map, take, drop, refl, sym, ◌∙◌, ap, subst, arith, length-append, Bool, true, false, cond, append_assoc, rules}
-use Rattle.std.proofs.lemmas.Bool.{cases_lt, false≢true, cases_eq, eq-eqb, ne_eqb}
+use Rattle.std.proofs.Common.{◌≡◌, ◌⊎◌, inl, inr, ℕ, suc, ◌+◌, ◌-◌, ◌<◌, ◌≤◌, List, [], ◌∷◌, ◌++◌, length, map, take, drop, refl, sym, ◌∙◌, ap, subst, arith, length-append, Bool, true, false, cond, append_assoc}
+use Rattle.std.proofs.lemmas.Bool.{cases_lt, cases_eq, eq-eqb, ne_eqb}
 use Rattle.std.proofs.lemmas.List.{take-append-drop, take_all, map-append, take-map, drop-map, length-map, length-drop, drop_at, drop_all, drop-append-le, take-append-le, drop-drop, append-nil, append_cancel_left, length-take, length-take-le}
 use Rattle.std.proofs.Math.Seq.{take-add}
 use Rattle.seg_core.specs.Line.{lines_of, line_count, delimiters, joined, first_lines, after_lines, ends_with, EndsAt, FallsShort, HasNone, AreLines, LastEndsAt}
@@ -15,7 +15,6 @@ use Rattle.csplit_core.specs.Cutter.{text_from}
 use Rattle.seg_core.proofs.Delimiters.{delimiters-append}
 use Rattle.seg_core.proofs.LastLines.{first_lines-whole}
 use Rattle.csplit_core.specs.CsplitState.{whole_lines}
-use Rattle.std.proofs.Math.Nat.{min-le_left}
 use Rattle.std.proofs.lemmas.Grind.{common_steps}
 
 -- Lines of a text as operands see them, and their bytes.
@@ -209,15 +208,12 @@ none_open rest piece none also = tail_is [] (inl refl) (no_newline rest piece no
 
 -- a piece with one
 
-take_some : (n : ℕ) (x : List ℕ) → 0 < n → n ≤ length x → 0 < length (take n x)
-take_some n x some within = grind (arith, common_steps)
-
 pub ends_by : (x : List ℕ) → IsWhole x → 0 < length x → ends_with newline x ≡ true
 ends_by x (inl empty) some = grind (arith, common_steps)
 ends_by x (inr ends) some = ends
 
 pub piece_ends : {piece : List ℕ} (end : ℕ) → LastEndsAt newline piece end → ends_with newline (take end piece) ≡ true
-piece_ends {piece} end last = ends_by (take end piece) (subst IsWhole (sym last.complete) (lines_whole piece)) (take_some end piece last.some last.within)
+piece_ends {piece} end last = ends_by (take end piece) (subst IsWhole (sym last.complete) (lines_whole piece)) (grind (arith, common_steps))
 
 some_ends : (rest text : List ℕ) → ends_with newline text ≡ true → ends_with newline (rest ++ text) ≡ true
 some_ends rest text ends = ends_with-append newline rest text (ends_with-some newline text ends) ∙ ends

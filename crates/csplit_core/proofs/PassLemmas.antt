@@ -1,9 +1,8 @@
 -- Lines over which the next operand stands as it does, and those that are seen to have no match.
 use Rattle.std.proofs.lemmas.Grind.{common_steps}
-use Rattle.std.proofs.Common.{◌≡◌, inl, inr, ℕ, zero, suc, ◌+◌, ◌-◌, ◌^◌, ◌<◌, ◌≤◌, Bool, true, false, cond, List, [], ◌∷◌, ◌++◌, length, take, drop, get_or, refl, sym, ◌∙◌, ap, subst, arith, Some, None, IfSome, append_assoc, length-append}
+use Rattle.std.proofs.Common.{◌≡◌, inl, inr, ℕ, zero, suc, ◌+◌, ◌-◌, ◌^◌, ◌<◌, ◌≤◌, Bool, true, false, cond, List, [], ◌∷◌, ◌++◌, length, take, drop, get_or, refl, sym, ◌∙◌, ap, subst, arith, Some, None, append_assoc, length-append}
 use Rattle.std.proofs.lemmas.Bool.{cases_lt, eq-eqb, eqb-true, ne_eqb, false≢true}
-use Rattle.std.proofs.lemmas.List.{get_or-map, drop_at, take_all, take_at, length-drop, take-append-drop, length-take-le, get_or_append_left, append-nil}
-use Rattle.std.proofs.Math.Seq.{get_or-append_right}
+use Rattle.std.proofs.lemmas.List.{get_or-map, drop_at, take_all, take_at, take-append-drop, length-take-le, append-nil}
 use Rattle.memchr.specs.Find.{Nowhere, Passes, is_byte}
 use Rattle.bre_core.specs.Pattern.{Pattern}
 use Rattle.bre_core.specs.Search.{contains}
@@ -14,9 +13,8 @@ use Rattle.seg_core.proofs.LineCounts.{line_count-le-length, line_count_near, en
 use Rattle.csplit_core.specs.Cutter.{CutterState, suppress_in, state_in, pattern_in, AimHolds, IsSound}
 use Rattle.csplit_core.specs.inner.Cutter.{AreClear, IsWhole, IsLine, IsFound, IsNextFound, PassesClear, PassesOver, StopsAt}
 use Rattle.csplit_core.specs.Input.{newline, without_newline, is_match_of, marked, all_lines}
-use Rattle.csplit_core.specs.Measure.{Moves, IsRepeatedBy, IsRepeated, Fits}
 use Rattle.csplit_core.specs.Operand.{Target, Number, Search, Operand, Line, unmarked}
-use Rattle.csplit_core.specs.Plan.{State, search_line}
+use Rattle.csplit_core.specs.Plan.{search_line}
 use Rattle.csplit_core.specs.Progress.{WillMove}
 use Rattle.csplit_core.specs.declared.line_cutter.Passed.{Passed}
 use Rattle.csplit_core.specs.declared.progress.Turn.{Turn}
@@ -29,9 +27,6 @@ use Rattle.seg_core.proofs.LinesOf.{AreLines-lines_of, joined-lines_of}
 -- Lines over which the next operand stands as it does.
 
 -- What stays so of a state when more lines come
-
-fits_more : {total : ℕ} (more : ℕ) {state : State} → total ≤ more → Fits total state → Fits more state
-fits_more {total} more {state} less fits = grind (arith, common_steps)
 
 aim_more : (cutter : CutterState) (text : List ℕ) (lines : ℕ) (aim : Turn) → cutter.lines ≤ lines → AimHolds cutter.operands cutter.lines cutter.progress aim → StaysOver cutter text lines aim → AimHolds cutter.operands lines cutter.progress aim
 aim_more cutter text lines (Above matched line) less will stays = grind (arith, common_steps)
@@ -47,7 +42,7 @@ passes {cutter} {text} {lines} {n} sound within whole count stays = record {
   few = let few : line_count newline (take n text) ≤ length (take n text) = line_count-le-length newline (take n text) in let long = length-take-le n text within in omega (arith, count, few, long);
   sound = record {
     fit = record {
-      fits = fits_more lines (omega (arith, count)) sound.fit.fits;
+      fits = (grind (arith, common_steps));
       most = sound.fit.most;
       delim = sound.fit.delim;
       sought = sound.fit.sought;
@@ -103,9 +98,6 @@ pub record Unmatched (cutter : CutterState) (text left : List ℕ) (next : Cutte
   pub same : next ≡ record cutter { lines = next.lines }
   pub count : next.lines ≡ cutter.lines + line_count newline front
   pub none : StaysOver cutter front next.lines Missed
-
-pub none_yet : {cutter : CutterState} {text : List ℕ} → Unmatched cutter text text cutter
-none_yet = grind (arith, common_steps)
 
 -- the line up to the first newline
 
@@ -230,9 +222,6 @@ fits_clear {cutter} {now} text {n} is fits within counted =
     let less : delimiters newline (take n text) ≤ length (take n text) = delimiters-le-length newline (take n text) in
     let long : length (take n text) ≡ n = length-take-le n text within in
     omega (arith, same, less, long, fits, within, counted)
-
-pub few_left : {cutter : CutterState} {text left : List ℕ} {next : CutterState} → Unmatched cutter text left next → cutter.lines + length text < 2 ^ 63 → next.lines + length left < 2 ^ 64
-few_left so fits = let less = few_counted so in omega (arith, less, fits)
 
 pub stops_unfound : {cutter : CutterState} {text : List ℕ} {next : CutterState} {n : ℕ} (passed : Passed) → PassesOver cutter text next n → passed.size ≡ n → passed.found ≡ None → StopsAt cutter text next passed
 stops_unfound {cutter} {text} {next} passed over size_is found_is = grind (arith, common_steps)

@@ -80,11 +80,6 @@ live_waiting stage x live rest_is =
     ∙ ap (λ final. cond final [] (bytes_of (waiting_lines (all_lines (whole_lines x)) (plan (suppress_in stage.cutter) stage.cutter.operands (all_lines (whole_lines x)))) ++ open_line x)) (live_ending live)
     ∙ ap (λ those. those ++ open_line x) (waiting_live live) ∙ ap (λ those. stage.cutter.window.held ++ those) (sym rest_is)
 
-past_waiting : (stage : CsplitState) (x : List ℕ) → IsPast stage.cutter (whole_lines x) → waiting stage.cutter.writer.style stage.cutter.operands x ≡ []
-past_waiting stage x past =
-    ap (λ lines. waiting_of lines (plan (suppress_in stage.cutter) stage.cutter.operands lines) (open_line x)) (sym (all_complete x))
-    ∙ ap (λ final. cond final [] (bytes_of (waiting_lines (all_lines (whole_lines x)) (plan (suppress_in stage.cutter) stage.cutter.operands (all_lines (whole_lines x)))) ++ open_line x)) past.past
-
 pub held_is : {stage : CsplitState} {x : List ℕ} {result : ℕ} → Holds stage x → length x < 2 ^ 63 → result ≡ min (length stage.cutter.window.held + length stage.rest) (2 ^ 64 - 1) → result ≡ length (waiting stage.cutter.writer.style stage.cutter.operands x)
 held_is {stage} {x} {result} holds few is = by holds.stands where
   by : Stands stage.cutter (whole_lines x) → result ≡ length (waiting stage.cutter.writer.style stage.cutter.operands x)
@@ -99,7 +94,7 @@ held_is {stage} {x} {result} holds few is = by holds.stands where
       let none : length stage.cutter.window.held ≡ 0 = ap length past.none in
       let rest_none : length stage.rest ≡ 0 = ap length (holds.past past.aim) in
       is ∙ min-eq_left (omega (arith, none, rest_none))
-      ∙ (let e : length stage.cutter.window.held + length stage.rest ≡ 0 = omega (arith, none, rest_none) in e) ∙ sym (ap length (past_waiting stage x past))
+      ∙ (let e : length stage.cutter.window.held + length stage.rest ≡ 0 = omega (arith, none, rest_none) in e) ∙ sym (ap length (ap (λ lines. waiting_of lines (plan (suppress_in stage.cutter) stage.cutter.operands lines) (open_line x)) (sym (all_complete x)) ∙ ap (λ final. cond final [] (bytes_of (waiting_lines (all_lines (whole_lines x)) (plan (suppress_in stage.cutter) stage.cutter.operands (all_lines (whole_lines x)))) ++ open_line x)) past.past))
 
 -- What the stage that takes in bytes does with the cutter of lines, and what it owes.
 
@@ -111,15 +106,10 @@ closed_steps : (lines : List Line) (steps : List Step) → AreClosed (map conten
 closed_steps lines [] = tt
 closed_steps lines (step ∷ steps) = (refl, closed_steps lines steps)
 
-settled_lacks : {told : Bool} (cutter : CutterState) (x : List ℕ) {slots : List Slot} {writer next : WriterState} → Reaches told writer next (settled_part cutter x) (settled_part cutter x) slots slots (Some Memory)
-settled_lacks cutter x =
-    let is = sym (settled_part_is cutter.writer.style cutter.operands (all_lines x)) in
-    reaches_as is is (lacks_memory cutter.writer.style (settled_draft (suppress_in cutter) cutter.operands (all_lines x)) (closed_steps (all_lines x) (plan (suppress_in cutter) cutter.operands (all_lines x)).steps))
-
 pub takes_lacking : {told : Bool} {cutter next : CutterState} {t : List ℕ} {old new : List Slot} → Takes told cutter t old new next None → Takes told cutter t old new next (Some Memory)
 takes_lacking {cutter = cutter} {t = t} took = record {
   keeps = keeps_on took.keeps (record { operands = refl; writer = leaves_lacking });
-  reaches = λ x whole stands. reaches_again (more_settled cutter t whole) (took.reaches x whole stands) (settled_lacks cutter (x ++ t));
+  reaches = λ x whole stands. reaches_again (more_settled cutter t whole) (took.reaches x whole stands) (let is = sym (settled_part_is cutter.writer.style cutter.operands (all_lines (x ++ t))) in reaches_as is is (lacks_memory cutter.writer.style (settled_draft (suppress_in cutter) cutter.operands (all_lines (x ++ t))) (closed_steps (all_lines (x ++ t)) (plan (suppress_in cutter) cutter.operands (all_lines (x ++ t))).steps)));
   went = tt;
 }
 
@@ -129,9 +119,6 @@ takes_or_lacks (Ok done) took lacks = took
 takes_or_lacks {told} {cutter} {next} {t} {old} {new} (Err fault) took lacks = subst (λ why. Takes told cutter t old new next (Some why)) (sym lacks) (takes_lacking took)
 
 -- The end
-
-pub whole_begins : (cutter : CutterState) (x : List ℕ) → Begins (settled_part cutter x) (whole_part cutter x)
-whole_begins cutter x = subst (λ lines. Begins (settled_part cutter x) (whole_of cutter.writer.style cutter.operands lines)) (append-nil (all_lines x)) (whole_grows cutter.writer.style cutter.operands (all_lines x) [])
 
 pub closed_on : {told : Bool} {stage : CsplitState} (last : CsplitState) {next : CsplitState} {two : CutterState} {old mid new : List Slot} {fault : Option Fault} → two ≡ last.cutter → Takes told stage.cutter stage.rest old mid last.cutter None → EndsAll told two mid new next.cutter fault → Closed told stage old new next fault
 closed_on {told} {stage} last {old = old} {mid} {fault = fault} is took second = let first = subst (λ c. Takes told stage.cutter stage.rest old mid c None) (sym is) took in record {
@@ -143,7 +130,7 @@ closed_on {told} {stage} last {old = old} {mid} {fault = fault} is took second =
 
 -- the open line could not be taken in
 pub closed_short : {told : Bool} {stage next : CsplitState} {old new : List Slot} {fault : Fault} → Takes told stage.cutter stage.rest old new next.cutter (Some fault) → Closed told stage old new next (Some fault)
-closed_short {stage = stage} stopped = record { keeps = stopped.keeps; reaches = λ x front stands. stops_wider (stopped.reaches x front stands) (whole_begins stage.cutter (x ++ stage.rest)); judged = tt }
+closed_short {stage = stage} stopped = record { keeps = stopped.keeps; reaches = λ x front stands. stops_wider (stopped.reaches x front stands) (subst (λ lines. Begins (settled_part stage.cutter (x ++ stage.rest)) (whole_of stage.cutter.writer.style stage.cutter.operands lines)) (append-nil (all_lines (x ++ stage.rest))) (whole_grows stage.cutter.writer.style stage.cutter.operands (all_lines (x ++ stage.rest)) [])); judged = tt }
 
 -- Where later input goes nowhere, it changes nothing of the end either.
 

@@ -1,18 +1,16 @@
 -- Taking lines in, one by one and stretch by stretch, and cutting them as often as operands cut.
 use Rattle.std.proofs.lemmas.Grind.{common_steps}
 use Rattle.std.proofs.Common.{◌≡◌, ◌⊎◌, inl, inr, ℕ, ◌+◌, ◌-◌, ◌<◌, ◌≤◌, max, Bool, true, Option, Some, None, List, [], ◌∷◌, ◌++◌, length, refl, sym, ◌∙◌, ap, subst, arith, append_assoc, length-append, IfSome, Ok, Err, take, drop, eqb, Result}
-use Rattle.std.proofs.lemmas.List.{take_all, append-nil, take-append-drop, length-drop, take_at, nil_from_length, length-take-le, drop_at, drop-drop}
-use Rattle.std.proofs.lemmas.Bool.{false≢true, cases_lt, eqb-true}
+use Rattle.std.proofs.lemmas.List.{take_all, append-nil, take-append-drop, length-drop, length-take-le, drop_at, drop-drop}
+use Rattle.std.proofs.lemmas.Bool.{false≢true, cases_lt}
 use Rattle.seg_core.specs.Line.{line_count, delimiters, ends_with}
 use Rattle.seg_core.specs.Window.{Window}
-use Rattle.std.proofs.Math.Nat.{max-le, le-max_left, le-max_right}
-use Rattle.seg_core.proofs.LineCounts.{line_count-le-length}
 use Rattle.ports_core.specs.Part.{Part, Begins}
 use Rattle.ports_core.specs.Slot.{Slot}
 use Rattle.ports_core.specs.declared.fault.Fault.{Fault}
 use Rattle.csplit_core.specs.Input.{newline, all_lines, without_newline}
 use Rattle.csplit_core.specs.Operand.{Operand, Line}
-use Rattle.csplit_core.specs.Plan.{State, Ending, below, CutsAt, Runs, search_line}
+use Rattle.csplit_core.specs.Plan.{State, Ending, below, CutsAt, Runs}
 use Rattle.std.specs.Option.{is_some}
 use Rattle.csplit_core.specs.Draft.{draft_part}
 use Rattle.csplit_core.specs.Output.{Style}
@@ -20,7 +18,6 @@ use Rattle.csplit_core.specs.Planned.{Plan, plan}
 use Rattle.csplit_core.specs.laws.PlanLaws.{plan_runs}
 use Rattle.seg_core.proofs.EndLines.{line_count-grows}
 use Rattle.csplit_core.specs.inner.Cutter.{GoesPast, IsFound, settled_part, part_at, IsWhole, IsLine, Joins, Arrives, Held, Holds, CutsNow, CutsAll, WillCut, TriesNext, search_after, Takes, IsNextFound, Stretches, IsEnd, Tries, IsAfter, CutAt, Spreading, Spread, PassesOver, StopsAt, CutsOn, GoesOn}
-use Rattle.csplit_core.specs.Progress.{AimsAt}
 use Rattle.csplit_core.specs.Section.{is_final, most_waiting, settled_end}
 use Rattle.csplit_core.specs.laws.SectionLaws.{ends_as, cuts_from, grows}
 use Rattle.csplit_core.specs.Writer.{Writes, IsReady, size_of}
@@ -28,7 +25,7 @@ use Rattle.csplit_core.specs.declared.line_cutter.Cut.{Cut}
 use Rattle.csplit_core.specs.declared.progress.Turn.{Turn}
 use Rattle.csplit_core.specs.declared.progress.Turn.TheVariants.{Below}
 use Rattle.csplit_core.specs.Cutter.{CutterState, suppress_in, state_in, settled_draft, draft_by, IsFit, IsSound, IsAt, IsLive, IsPast, Stands, EndsNow, kept_by, load}
-use Rattle.csplit_core.proofs.CutterLemmas.{at_more, part_more, live_part, left_count, few_taken, live_taken, settled_part_is, most_is, aims_past, draft_is, final_count, ended_still, keeps_on, settled_same}
+use Rattle.csplit_core.proofs.CutterLemmas.{at_more, part_more, live_part, left_count, few_taken, live_taken, settled_part_is, most_is, draft_is, final_count, ended_still, keeps_on, settled_same}
 use Rattle.csplit_core.proofs.LineLemmas.{all_lines-append, all_lines-line, length-all_lines, count-line, whole_count, whole_from, whole-append, whole_drop, rest_all}
 use Rattle.csplit_core.proofs.WriterLemmas.{leaves_still, reaches_as, reaches_still, where_well, reaches_again, stops_wider}
 use Rattle.csplit_core.proofs.TryLemmas.{EndsStill, stays}
@@ -574,8 +571,6 @@ cut_not_on complete spread kept_is tail_is goes =
     let gone = gone_left kept_is tail_is goes in record { n = gone.n; within = gone.over.within; whole = gone.over.whole; all = spread_passes spread complete gone.over gone.held; size = tt; found = tt }
 
 -- a fault at the cut
-pub cut_stopped_on : {told : Bool} {cutter next : CutterState} {cut : Cut} {line rest : List ℕ} {old new : List Slot} {fault : Fault} → CutsAll told cutter cut cutter.lines line line [] old new next (Some fault) → CutsOn told cutter cut line rest old new next (Err fault)
-cut_stopped_on stopped = grind (arith, common_steps)
 
 -- What `stretch` owes. The first line isn't cut.
 

@@ -1,14 +1,11 @@
 -- What stays of a plan when more lines come, what a turn says of it, and what trying the next operand with the last line says.
-use Rattle.std.proofs.Common.{◌≡◌, inl, inr, ℕ, suc, ◌+◌, ◌-◌, ◌<◌, ◌≤◌, max, eqb, ◌&&◌, Bool, true, false, cond, List, [], ◌∷◌, ◌++◌, length, get_or, refl, ◌∙◌, ap, arith, length-append, zero, ◌*◌, ◌^◌, drop, sym, subst, None, Result, Ok, Err, OnOk, IfErr, Option, Some, rules}
-use Rattle.std.proofs.lemmas.Bool.{cases_lt, cases_eq, eqb-true, and_parts, false≢true}
-use Rattle.std.proofs.lemmas.List.{append-nil, drop_more}
-use Rattle.std.proofs.Math.Nat.{max-le, le-max_left, le-max_right, min-eq_left, min-eq_right, min-le_left}
-use Rattle.std.proofs.Math.Seq.{get_or-append_right, get_or-append_seam}
+use Rattle.std.proofs.Common.{◌≡◌, inl, inr, ℕ, suc, ◌+◌, ◌-◌, ◌<◌, ◌≤◌, Bool, true, false, List, [], ◌∷◌, ◌++◌, length, get_or, refl, ◌∙◌, ap, arith, length-append, zero, ◌*◌, ◌^◌, drop, sym, subst, None, Result, Ok, Err, OnOk, IfErr, Option, Some, rules}
+use Rattle.std.proofs.lemmas.List.{append-nil}
 use Rattle.csplit_core.specs.Operand.{Target, Number, Search, Operand, Line, unmarked, is_match, Offset, moved, has_more}
 use Rattle.csplit_core.specs.Plan.{State, Step, Ending, missed, above, search_line, IsFirst, MatchesNone, Misses, line_after, Runs, is_used_up, misses, is_above, is_below, cuts, used_up, below, CutsAt, operands_after, repetition_after, state_after}
 use Rattle.csplit_core.specs.Planned.{plan}
-use Rattle.csplit_core.specs.laws.PlanLaws.{search_some, cuts_still, goes_on, plan_runs, plan_once, line_some, fewer_left, fewer_moves}
-use Rattle.std.specs.Prelude.{min, max, eqb, ◌&&◌}
+use Rattle.csplit_core.specs.laws.PlanLaws.{cuts_still, goes_on, plan_runs, plan_once, line_some, fewer_left, fewer_moves}
+use Rattle.std.specs.Prelude.{min}
 use Rattle.bre_core.specs.Pattern.{Pattern}
 use Rattle.csplit_core.specs.Progress.{state_of, EndsHere, AimsAt}
 use Rattle.csplit_core.specs.inner.Cutter.{AreSeen, Turns, FallsAt, MovesOn, GoesPast, WillCut, PassesOn, WentOn, PassesCut, IsWhole, IsLine, Joins, Looked, IsFound, IsNoCut, search_after, StaysNear, Tries, TriesNext}
@@ -25,7 +22,6 @@ use Rattle.csplit_core.specs.declared.line_cutter.Cut.{Cut}
 use Rattle.csplit_core.specs.Cutter.{CutterState, state_in, most_by, pattern_by, suppress_in, IsFit, pattern_in, AimHolds, IsLive, EndsNow}
 use Rattle.ports_core.specs.inner.Part.{fault_in}
 use Rattle.ports_core.specs.declared.fault.Fault.TheVariants.{Memory}
-use Rattle.bre_core.specs.Search.{contains}
 use Rattle.seg_core.specs.Line.{line_count}
 use Rattle.csplit_core.proofs.LineLemmas.{all_lines-append, all_lines-line, length-all_lines, count-append, count-line, whole-append}
 use Rattle.std.proofs.lemmas.Grind.{common_steps}
@@ -81,14 +77,11 @@ stays suppress operands a b so =
 pub capped : (real cap most total : ℕ) → most ≡ min real cap → most ≤ total → total < cap → most ≡ real
 capped real cap most total is within low = grind (arith, common_steps)
 
-capped_less : (real cap : ℕ) {most : ℕ} → most ≡ min real cap → most ≤ real
-capped_less real cap is = grind (arith, common_steps)
-
 pub falls : (suppress : Bool) (all : List Line) {total : ℕ} (state : State) {operand : Operand} {operands : List Operand} (matched real : ℕ) {most : ℕ} → length all ≡ total → state.operands ≡ operand ∷ operands
     → CutsAt suppress all state operand operand.target matched real → most ≡ min real (2 ^ 64 - 1) → total < 2 ^ 64 - 1 → (turn : Turn) → FallsAt total state.current matched most turn → Turns suppress all state turn
 falls suppress all state {operand} {operands} matched real {most} count are at_cut is few (Above line cap) at = record {
   ending = above operand state.repetition matched real;
-  runs = is_above state operand operands matched real are at_cut (let less : most ≤ real = capped_less real (2 ^ 64 - 1) is in omega (arith, less, at.2, count));
+  runs = is_above state operand operands matched real are at_cut (let less : most ≤ real = (grind (arith, common_steps)) in omega (arith, less, at.2, count));
   aims = (at.0, at.1 ∙ is);
 }
 falls suppress all {total} state {operand} {operands} matched real {most} count are at_cut is few Below at =
@@ -226,9 +219,6 @@ pub found_is : {cutter : CutterState} (line : List ℕ) {text : List ℕ} (numbe
 found_is line number (Number n) is sought says near = sym (says.none sought)
 found_is line number (Search pattern kept offset) is sought says near = grind (arith, common_steps)
 
-seen_all : {cutter : CutterState} {x : List ℕ} (line : List ℕ) {found : Bool} → IsFit cutter → IsFound cutter (without_newline line) cutter.lines found → Looked cutter x line → AreSeen (suppress_in cutter) (all_lines x) cutter.lines (state_in cutter) found
-seen_all {cutter} {x} line fit says looked = grind (arith, common_steps)
-
 pub turn_ends : {suppress : Bool} {lines : List Line} {state : State} (turn : Turn) → IsNoCut turn → Turns suppress lines state turn → EndsHere suppress lines state turn
 turn_ends (Cuts matched line) no_cut ends = absurd no_cut
 turn_ends _ no_cut ends = ends
@@ -251,7 +241,7 @@ cut_near {cutter} {x} line cut is fit looked turns = search rules
 module _ {cutter : CutterState} (line : List ℕ) {found : Bool} (turn : Turn) (fit : IsFit cutter) (says : IsFound cutter (without_newline line) cutter.lines found)
     (turns : (lines : List Line) → AreSeen (suppress_in cutter) lines cutter.lines (state_in cutter) found → Turns (suppress_in cutter) lines (state_in cutter) turn) (x : List ℕ) (looked : Looked cutter x line) where
   turned : Turns (suppress_in cutter) (all_lines x) (state_in cutter) turn
-  turned = turns (all_lines x) (seen_all line fit says looked)
+  turned = turns (all_lines x) (grind (arith, common_steps))
 
   pub tries_cut : (cut : Cut) → turn ≡ Cuts cut.matched cut.line → GoesPast (suppress_in cutter) (all_lines x) (state_in cutter) cut.matched cut.line × StaysNear cutter cut
   tries_cut cut is = (subst (Turns (suppress_in cutter) (all_lines x) (state_in cutter)) is turned, cut_near line cut is fit looked turned)

@@ -1,5 +1,5 @@
 -- What is written of a draft, whose the files are, and what the calls of the writer of sections do.
-use Rattle.std.proofs.Common.{◌≡◌, ℕ, ◌+◌, suc, Bool, true, false, cond, not, ◌&&◌, List, [], ◌∷◌, ◌++◌, length, decimal, refl, sym, ◌∙◌, ap, subst, arith, length-append, ◌⊎◌, inl, inr, ◌<◌, ◌≤◌, eqb, eq-eqb, ne_eqb, ◌||◌, IsTrue, zero, take, drop, replicate, Option, Some, None, Err, rules}
+use Rattle.std.proofs.Common.{◌≡◌, ℕ, ◌+◌, suc, Bool, true, false, cond, not, ◌&&◌, List, [], ◌∷◌, ◌++◌, length, decimal, refl, sym, ◌∙◌, ap, subst, arith, length-append, ◌⊎◌, inl, inr, ◌<◌, ◌≤◌, eqb, eq-eqb, ne_eqb, ◌||◌, IsTrue, zero, take, drop, replicate, Option, Some, None, Err}
 use Rattle.std.proofs.lemmas.List.{append-nil}
 use Rattle.ports_core.specs.Name.{numbered_name}
 use Rattle.ports_core.specs.Part.{Part, Begins, IsBeginning, OutputsAt, IsNext, File as PartFile}
@@ -11,10 +11,14 @@ use Rattle.csplit_core.specs.Draft.{Draft, draft_part, last_contents, AreClosed}
 use Rattle.csplit_core.specs.inner.Writer.{with_section, KeepsFiles, MakesNone, unnamed, failed, Made, next_name, Appends, Makes, with_bytes, with_kept, first_draft, Goes, KeepsOrBreaks, Leaves, BegunNot, new_writer}
 use Rattle.ports_core.specs.inner.Write.{Wrote}
 use Rattle.csplit_core.specs.laws.SectionLaws.{size_lines-append}
-use Rattle.csplit_core.proofs.WriterLemmas.{more_files, reaches_as, reaches_by, where_well, leaves_again, stops_in, file_begins, opens_not, reaches_again, stops_wider, section_begins, in_any, line_begins, tells_line}
+<<<<<<< HEAD
+use Rattle.csplit_core.proofs.WriterLemmas.{more_files, reaches_as, reaches_by, where_well, leaves_again, file_begins, opens_not, reaches_again, stops_wider, section_begins, in_any, line_begins, tells_line}
 use Rattle.ports_core.proofs.PartSteps.{file_of, with_last, writes_to, Becomes, becomes_again, opens, falls_wider, close_begins, closes_last, closes_not}
+=======
+use Rattle.csplit_core.proofs.WriterLemmas.{file_of, with_last, more_files, reaches_as, reaches_by, where_well, writes_to, leaves_again, Becomes, becomes_again, file_begins, opens, opens_not, reaches_again, stops_wider, section_begins, in_any, falls_wider, line_begins, close_begins, closes_last, closes_not, tells_line}
+>>>>>>> ce248b026b25229868cc05097ff3ecdab5ef6ae7
 use Rattle.std.proofs.lemmas.Bool.{false≢true, cases_lt, eq-eqb}
-use Rattle.ports_core.specs.Slot.{Slot, has_file, slot_at, changed_at, opened, unopened, closes, with_broken, is_writable, is_removable, broke, numberless, FailsToOpen, told_of}
+use Rattle.ports_core.specs.Slot.{Slot, has_file, slot_at, changed_at, opened, closes, with_broken, is_writable, broke, numberless, FailsToOpen, told_of}
 use Rattle.ports_core.specs.Swept.{AreThere, is_among, SweptFrom, Removes}
 use Rattle.ports_core.specs.declared.fault.Fault.{Fault}
 use Rattle.ports_core.specs.declared.fault.Fault.TheVariants as fault
@@ -22,7 +26,7 @@ use Rattle.ports_core.specs.declared.slot.Mode.TheVariants.{Fresh}
 use Rattle.csplit_core.specs.Writer.{WriterState, IsReady, IsOpenAt, IsLast, Breaks, Writes, IsCurrent, OwnsFiles}
 use Rattle.ports_core.specs.inner.Write as short
 use Rattle.csplit_core.specs.declared.section_writer.Current.TheVariants.{File, Unopened, Skipped, Unmade}
-use Rattle.ports_core.proofs.SlotSteps.{KeepsMade, none_past, none_opened, file_before, at_end, opened_last, writable_within, open_rose, write_rose, close_rose, keeps_write, made_write, written_writable, made_short, keeps_same, keeps_open, writable_before, opened_writable, made_same, made_again, made_close, made_break, keeps_close, writable_elsewhere}
+use Rattle.ports_core.proofs.SlotSteps.{KeepsMade, none_past, file_before, at_end, opened_last, writable_within, write_rose, close_rose, keeps_write, made_write, written_writable, made_short, keeps_open, writable_before, opened_writable, made_again, made_close, made_break, keeps_close, writable_elsewhere}
 use Rattle.ports_core.proofs.SweepLemmas.{by_place, all_cleared, left_apart, left_has, left_there, same_size}
 use Rattle.ports_core.specs.inner.Write.{WritesShort}
 use Rattle.std.proofs.Math.Seq.{take-append-add}
@@ -106,9 +110,6 @@ line_of style draft quiet makes is = grind (arith, common_steps)
 pub count_made : (style : Style) (ended : List Contents) (one : Contents) → makes_file style one ≡ true → length (files_of style 0 (ended ++ one ∷ [])) ≡ length (files_of style 0 ended) + 1
 count_made style ended one makes = ap (λ (part : Part). length part.files) (part_made style ended one makes) ∙ length-append (files_of style 0 ended) (file_at style (length (files_of style 0 ended)) one ∷ [])
 
-pub count_none : (style : Style) (ended : List Contents) (one : Contents) → makes_file style one ≡ false → length (files_of style 0 (ended ++ one ∷ [])) ≡ length (files_of style 0 ended)
-count_none style ended one none = ap (λ (part : Part). length part.files) (part_none style ended one none)
-
 -- the files of sections that ended are closed
 
 closed_by : (style : Style) (place : ℕ) (one : Contents) (makes : Bool) (rest other : List PartFile) → one.is_closed ≡ true → AllClosed rest → AllClosed other → AllClosed (cond makes (file_at style place one ∷ rest) other)
@@ -176,14 +177,12 @@ among_more place slot (one ∷ files) = ap (λ b. eqb place one || b) (among_mor
   regroup false b c = refl
 
 -- a file that is there stands before the end
-there_within : (place : ℕ) (slots : List Slot) → is_removable slots place → place < length slots
-there_within place slots can = grind (arith, common_steps)
 
 there_more : (files : List ℕ) (slots : List Slot) (name : List ℕ) {slot : ℕ} → slot ≡ length slots → 2 ≤ length slots → AreThere files slots → AreThere (files ++ slot ∷ []) (slots ++ opened name Fresh ∷ [])
 there_more [] slots name at two are =
     ((omega (arith, at, two), subst (λ (one : Slot). IsTrue (has_file one.state)) (sym (ap (slot_at (slots ++ opened name Fresh ∷ [])) at ∙ at_end slots (opened name Fresh))) refl), refl, tt)
 there_more (place ∷ files) slots name {slot} at two are =
-    let within : place < length slots = there_within place slots are.0 in (
+    let within : place < length slots = (grind (arith, common_steps)) in (
       (are.0.0, subst IsTrue (sym (file_before slots (opened name Fresh) place within)) are.0.1),
       among_more place slot files ∙ ap (λ b. b || eqb place slot) are.1 ∙ ne_eqb place slot (λ same. omega (arith, within, at, same)),
       there_more files slots name at two are.2,
@@ -447,7 +446,7 @@ record Unwritten (writer : WriterState) (draft next : Draft) : Type 0 where
   makes : makes_file writer.style (last_contents false next) ≡ true
 
 made_count : {writer : WriterState} {draft : Draft} → makes_file writer.style (last_contents false draft) ≡ false → Writes writer draft → length writer.files ≡ length (files_of writer.style 0 draft.ended)
-made_count {writer} {draft} none writes = writes.made ∙ count_none writer.style draft.ended (last_contents false draft) none
+made_count {writer} {draft} none writes = writes.made ∙ (ap (λ (part : Part). length part.files) (part_none writer.style draft.ended (last_contents false draft) none))
 
 unwritten : {writer : WriterState} (bytes : List ℕ) {draft : Draft} → writer.current ≡ Unmade → is_empty bytes ≡ false → Writes writer draft → Unwritten writer draft (with_bytes bytes draft)
 unwritten {writer} bytes {draft} is some writes = grind (arith, common_steps)
@@ -528,7 +527,7 @@ new_owns style {slots} two = grind (arith, common_steps)
 pub begun_not : {told : Bool} {style : Style} {kept : Bool} {old new : List Slot} {next : WriterState} {f : Fault} → 2 ≤ length old → Goes told (new_writer style) (with_kept kept) old new next (Some f) → next.files ≡ []
     → BegunNot told style (draft_part style (first_draft kept)) old new f
 begun_not {style = style} {old = old} two goes none = record {
-  reaches = stops_in (goes.reaches no_draft (new_writes style));
+  reaches = (record { there = (goes.reaches no_draft (new_writes style)).there });
   breaks = goes.leaves.slots;
   none = λ place past. (goes.leaves.owns.owns (length old) (new_owns style two)).own place past ∙ ap (is_among place) none;
 }

@@ -82,8 +82,6 @@ stops_wider {told} {low} {middle} {high} {new = new} {fault = fault} stops begin
     record { there = λ before at. turn_between told before low low middle high fault new (part_begins_itself low) (stops.there before at) begins }
 
 -- which writer is left then doesn't matter
-pub stops_in : {told : Bool} {low high : Part} {old new : List Slot} {fault : Fault} {writer next other : WriterState} → Reaches told writer next low high old new (Some fault) → Reaches told writer other low high old new (Some fault)
-stops_in stops = record { there = stops.there }
 
 -- a step that is known of the outputs alone, as long as the file of the open section is the last
 pub reaches_by : {told : Bool} {low high : Part} {old new : List Slot} {fault : Option Fault} {writer next : WriterState} → KeepsFiles writer next old new → (IsLast writer.current old → Becomes told low high old new fault) → Reaches told writer next low high old new fault

@@ -1,22 +1,75 @@
--- What a word aims at.
-use Rattle.std.proofs.Common.{◌≡◌, ℕ, ◌<◌, ◌≤◌, Bool, cond, List, refl, sym, ◌∙◌, ap, subst, Result, Ok, Err}
-use Rattle.std.proofs.lemmas.Bool.{lt-ltb, le-ltb}
+-- What a word spells and aims at, and how deep counts go.
+use Rattle.std.proofs.Common.{◌≡◌, ℕ, suc, ◌+◌, ◌-◌, take, drop, add-one, ◌<◌, ◌&&◌, Bool, true, false, not, cond, List, [], ◌∷◌, ◌++◌, Option, Some, None, refl, sym, ◌∙◌, ap, arith, rules, ◌≤◌, subst, Result, Ok, Err, zero, inl, inr, append_assoc, append-nil}
+use Rattle.std.proofs.lemmas.Bool.{eq-eqb, ne_eqb, lt-ltb, le-ltb}
+use Rattle.std.proofs.lemmas.List.{take_rest}
+use Rattle.std.specs.Prelude.{◌==◌, ◌≢◌, option_map, length, IfSome}
+use Rattle.operand_core.specs.Operand.{Offset, Target, Number, Search, Times}
+use Rattle.operand_core.specs.Word.{is_escape, closing, before_brace, closed_at, searched, offset_of, number, spelling}
 use Rattle.std.specs.Result.{IsErrAnd}
 use Rattle.std.proofs.lemmas.Result.{err_from_is_err_and}
-use Rattle.bre_core.specs.Pattern.{Pattern, Reads, depth_of, positions_of}
+use Rattle.bre_core.specs.Pattern.{Pattern, Reads, depth_of, positions_of, nothing, append, Item, set, front, end, group, repeat, written, written_item, depth_after, depth_of_item}
 use Rattle.bre_core.specs.Refusal.{IsOfText, IsTooLarge}
 use Rattle.bre_core.specs.declared.fault.BreFault.{BreFault}
 use Rattle.bre_core.specs.declared.fault.BreFault.TheVariants.{TooLarge, Memory}
-use Rattle.operand_core.specs.Operand.{Offset, Target, Number, Search, Times}
-use Rattle.operand_core.specs.Word.{number, spelling}
 use Rattle.operand_core.specs.inner.Seen.{seen}
-use Rattle.operand_core.specs.Reading.{line, match, Aimed, aims, fails, aim_of}
+use Rattle.operand_core.specs.Reading.{line, match, Aimed, aims, fails, aim_of, IsPattern}
 use Rattle.operand_core.specs.Aiming.{refusal_of}
 use Rattle.operand_core.specs.inner.Aiming.{IsAimed, is_target, is_wrong, is_refused, no_memory}
 use Rattle.operand_core.specs.declared.word.Word.{Word}
 use Rattle.operand_core.specs.declared.word.Word.TheVariants as word_is
 use Rattle.operand_core.specs.declared.operand_fault.OperandFaultKind.{OperandFaultKind}
 use Rattle.operand_core.specs.declared.operand_fault.OperandFaultKind.TheVariants as kind
+use Rattle.bre_core.specs.Token.{ReadsToken}
+use Rattle.bre_core.specs.declared.token.Context.TheVariants.{Opening}
+use Rattle.bre_core.specs.declared.token.Token.{Token}
+use Rattle.bre_core.specs.declared.token.Token.TheVariants.{Open, Close, Repeat}
+use Rattle.bre_core.proofs.Chains.{left_of_way}
+use Rattle.bre_core.proofs.Existence.{one_tree_alone}
+use Rattle.bre_core.proofs.Tokens.{tokens_decided, end_stuck}
+
+-- Lemmas on what a word spells.
+
+-- the last place, where those from `place` on are still to be looked at
+abbrev pub last_of : (last : Option ℕ) (place : ℕ) → Option ℕ → Option ℕ
+last_of last place None = last
+last_of last place (Some further) = Some (place + further)
+
+within_next : (count : ℕ) (here : Bool) (rest : Option ℕ) → IfSome rest (λ place. place < count)
+    → IfSome (elim rest [ Some place ↦ Some (suc place) | None ↦ cond here (Some 0) None ]) (λ place. place < suc count)
+within_next count here (Some place) less = omega (arith, less)
+within_next count true None less = omega arith
+within_next count false None less = tt
+
+pub closing_within : (delimiter : ℕ) (escaped : Bool) (text : List ℕ) → IfSome (closing delimiter escaped text) (λ place. place < length text)
+closing_within delimiter escaped [] = tt
+closing_within delimiter escaped (byte ∷ text) =
+    within_next (length text) (byte == delimiter && not escaped) (closing delimiter (is_escape escaped byte) text) (closing_within delimiter (is_escape escaped byte) text)
+
+one_more : (first : ℕ) (inner : List ℕ) (is : Bool) → option_map (λ those. first ∷ those) (cond is (Some inner) None) ≡ cond is (Some (first ∷ inner)) None
+one_more first inner true = refl
+one_more first inner false = refl
+
+before_brace_at : (inner : List ℕ) (byte : ℕ) → before_brace (inner ++ byte ∷ []) ≡ cond (byte == 125) (Some inner) None
+before_brace_at [] byte = refl
+before_brace_at (first ∷ []) byte = search rules
+before_brace_at (first ∷ next ∷ inner) byte =
+    ap (option_map (λ those. first ∷ those)) (before_brace_at (next ∷ inner) byte) ∙ one_more first (next ∷ inner) (byte == 125)
+
+pub is_brace : (inner : List ℕ) {byte : ℕ} → byte ≡ 125 → before_brace (inner ++ byte ∷ []) ≡ Some inner
+is_brace inner {byte} is = before_brace_at inner byte ∙ ap (λ b. cond b (Some inner) None) (eq-eqb byte 125 is)
+
+pub is_no_brace : (inner : List ℕ) (byte : ℕ) → byte ≢ 125 → before_brace (inner ++ byte ∷ []) ≡ None
+is_no_brace inner byte differ = before_brace_at inner byte ∙ ap (λ b. cond b (Some inner) None) (ne_eqb byte 125 differ)
+
+-- the pattern and the offset that a closing delimiter stands between
+pub search_closed : (delimiter : ℕ) (text : List ℕ) {place : ℕ} {found : Option ℕ} {offset now : Option Offset} → found ≡ closing delimiter false text
+    → found ≡ Some place → offset ≡ offset_of (take (length text - (place + 1)) (drop (place + 1) text)) → offset ≡ now
+    → searched delimiter (take place text) now ≡ closed_at delimiter text (closing delimiter false text)
+search_closed delimiter text {place} is at read then =
+    let after = take_rest text (place + 1) ∙ ap (λ n. drop n text) (add-one place) in
+    ap (searched delimiter (take place text)) (sym then ∙ read ∙ ap offset_of after) ∙ ap (closed_at delimiter text) (sym at ∙ is)
+
+-- What a word aims at.
 
 pub below_last : (least n : ℕ) → n < least → IsAimed (aim_of least (number n)) (Err kind.LineOrder)
 below_last least n less = is_wrong kind.LineOrder (ap (λ b. cond b (fails kind.LineOrder) (aims (line n))) (lt-ltb n least less))
@@ -52,3 +105,57 @@ is_read kept text plain offset pattern is reads groups size =
 
 pub no_target : (least : ℕ) (word : Word) (text : List ℕ) (times : Times) → seen word ≡ spelling text → word ≡ word_is.Again times → IsAimed (aim_of least (spelling text)) (Err kind.RepeatFirst)
 no_target least word text times is at = is_wrong kind.RepeatFirst (ap (aim_of least) (sym is ∙ ap seen at))
+
+-- A pattern that is too large is none that is read: no more groups are open after any of its first tokens than its tree has
+-- within one another.
+
+-- no more than `most` groups are open at any of these tokens, nor after them
+abbrev Stays : ℕ → ℕ → List Token → Type 0
+Stays most depth [] = depth ≤ most
+Stays most depth (Open ∷ tokens) = (depth ≤ most) × Stays most (suc depth) tokens
+Stays most zero (Close ∷ tokens) = Unit {0}
+Stays most (suc depth) (Close ∷ tokens) = (suc depth ≤ most) × Stays most depth tokens
+Stays most depth (token ∷ tokens) = Stays most depth tokens
+
+stays_now : {most : ℕ} (depth : ℕ) (tokens : List Token) → Stays most depth tokens → depth ≤ most
+stays_now depth [] stays = stays
+stays_now depth (Open ∷ tokens) stays = stays.0
+stays_now zero (Close ∷ tokens) stays = omega arith
+stays_now (suc depth) (Close ∷ tokens) stays = stays.0
+stays_now depth (token ∷ tokens) stays = stays_now depth tokens stays
+
+within : {most : ℕ} (depth : ℕ) {n : ℕ} (first rest : List Token) → Stays most depth (first ++ rest) → depth_after depth first ≡ Some n → n ≤ most
+within depth {n} [] rest stays is = let now = stays_now depth rest stays in let e : depth ≡ n = cc in omega (arith, now, e)
+within depth (Open ∷ first) rest stays is = within (suc depth) first rest stays.1 is
+within zero (Close ∷ first) rest stays is = cc
+within (suc depth) (Close ∷ first) rest stays is = within depth first rest stays.1 is
+within depth (token ∷ first) rest stays is = within depth first rest stays is
+
+mutual
+  stays_written : (pattern : Pattern) {most : ℕ} (depth : ℕ) (tokens : List Token) → depth + depth_of pattern ≤ most → Stays most depth tokens → Stays most depth (written pattern ++ tokens)
+  stays_written nothing depth tokens few stays = stays
+  stays_written (append pattern item) {most} depth tokens few stays =
+      subst (Stays most depth) (sym (append_assoc (written pattern) (written_item item) tokens))
+      (stays_written pattern depth (written_item item ++ tokens) (omega (arith, few)) (stays_written_item item most depth tokens (omega (arith, few)) stays))
+
+  stays_written_item : (item : Item) (most depth : ℕ) (tokens : List Token) → depth + depth_of_item item ≤ most → Stays most depth tokens → Stays most depth (written_item item ++ tokens)
+  stays_written_item (set bytes) most depth tokens few stays = stays
+  stays_written_item front most depth tokens few stays = stays
+  stays_written_item end most depth tokens few stays = stays
+  stays_written_item (group pattern) most depth tokens few stays = (
+    omega (arith, few),
+    subst (Stays most (suc depth)) (sym (append_assoc (written pattern) (Close ∷ []) tokens))
+        (stays_written pattern {most = most} (suc depth) (Close ∷ tokens) (omega (arith, few)) (omega (arith, few), stays)),
+  )
+  stays_written_item (repeat item low high) most depth tokens few stays =
+      subst (Stays most depth) (sym (append_assoc (written_item item) (Repeat low high ∷ []) tokens))
+      (stays_written_item item most depth (Repeat low high ∷ tokens) few stays)
+
+pub read_or_too_large : {text : List ℕ} {pattern : Pattern} → IsPattern text pattern → IsTooLarge text → ⊥
+read_or_too_large {text} {pattern} is (inl large) =
+    let same = ap positions_of (one_tree_alone text pattern large.pattern is.reads large.reads) in omega (arith, same, large.positions, is.size)
+read_or_too_large {text} {pattern} is (inr opens) =
+    let left = left_of_way ReadsToken tokens_decided (Opening, text) (opens.context, opens.rest) (is.reads.tokens.0, []) opens.tokens (written pattern) opens.way is.reads.tokens.1 (end_stuck is.reads.tokens.0) in
+    let all : Stays 255 0 (written pattern ++ []) = stays_written pattern 0 [] (let few = is.groups in omega (arith, few)) (omega arith) in
+    let many : 256 ≤ 255 = within 0 opens.tokens left.0 (subst (Stays 255 0) left.1 (subst (Stays 255 0) (append-nil (written pattern)) all)) opens.depth in
+    omega (arith, many)

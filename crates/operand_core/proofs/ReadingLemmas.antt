@@ -1,4 +1,4 @@
--- Reading a list of words.
+-- Reading operands, and that there is one reading.
 use Rattle.std.proofs.lemmas.Grind.{common_steps}
 use Rattle.std.proofs.Common.{◌≡◌, ℕ, suc, ◌+◌, ◌-◌, ◌<◌, ◌≤◌, Bor, get_or, List, [], ◌∷◌, ◌++◌, map, length, drop, length-drop, Option, Some, None, Result, Ok, Err, refl, sym, ◌∙◌, ap, subst, arith, append_assoc, rules}
 use Rattle.std.proofs.lemmas.List.{append-nil, drop-map}
@@ -6,12 +6,19 @@ use Rattle.std.proofs.lemmas.Bool.{eqb-true}
 use Rattle.std.specs.Prelude.{◌==◌, true}
 use Rattle.operand_core.specs.Operand.{Target, Number, Search, Times, Count, Operand}
 use Rattle.operand_core.specs.Word.{spelling}
-use Rattle.operand_core.specs.Reading.{Aim, line, match, Spelled, aims, fails, aim_of, least_after, times_by, Words, failed, with_operand, words_from, words_of, IsTarget, IsRead, AreRead, IsFault}
+use Rattle.operand_core.specs.Reading.{Aim, line, match, Spelled, aims, fails, aim_of, least_after, times_by, Words, failed, with_operand, words_from, words_of, IsTarget, IsRead, AreRead, IsFault, Asks, HasRefused, is_wrong, is_refused, no_memory, IsOfWords}
 use Rattle.operand_core.specs.Reading as reading
 use Rattle.operand_core.specs.inner.Aiming.{IsAimed, is_target, is_wrong, is_refused, no_memory}
 use Rattle.operand_core.specs.inner.Repeating.{least_by, SayTimes, no_word, again, other}
 use Rattle.operand_core.specs.declared.operand_fault.OperandFaultKind.{OperandFaultKind}
 use Rattle.operand_core.specs.declared.operand_fault.OperandFaultKind.TheVariants as kind
+use Rattle.bre_core.specs.declared.fault.BreFault.{BreFault}
+use Rattle.bre_core.specs.declared.fault.BreFault.TheVariants.{TooLarge, Memory}
+use Rattle.bre_core.proofs.Existence.{one_tree_alone}
+use Rattle.operand_core.specs.declared.operand_fault.OperandFault.{OperandFault}
+use Rattle.operand_core.proofs.AimLemmas.{read_or_too_large}
+
+-- Reading a list of words.
 
 -- the operands before these words, and what these ask for
 abbrev pub after_front : List Spelled → Words → Words
@@ -119,3 +126,48 @@ pub reads_next : {words : List (Bor (List ℕ))} {read : List Operand} {least : 
     → after ≡ drop said rest → least' ≡ least_by least target → Reads words now least' after
 reads_next [] default reads some is aimed at rest_is says within now_is after_is least_is = search rules
 reads_next {words} {read} {least} (word ∷ left) default {result} {target} {times} {said} {after} {least'} reads some is aimed at rest_is says within now_is after_is least_is = grind (arith, common_steps, next_by, says, drop-map)
+
+-- Words are read in one way.
+
+target_once : (aim : Aim) (one another : Target) → IsTarget aim one → IsTarget aim another → one ≡ another
+target_once (line n) (Number a) (Number b) is are = cc
+target_once (match has text by) (Search pattern kept offset) (Search pattern' kept' offset') is are =
+    let same = one_tree_alone text pattern pattern' is.0.reads are.0.reads in cc (is.1, is.2, are.1, are.2)
+target_once (line n) (Search pattern kept offset) another is are = absurd is
+target_once (match has text by) (Number a) another is are = absurd is
+target_once aim one another is are = absurd are
+
+operand_once : {spelled : Spelled} (one another : Operand) → IsRead spelled one → IsRead spelled another → one ≡ another
+operand_once {spelled} one another is are =
+    let same = target_once spelled.aim one.target another.target is.target are.target in
+    let by : ◌≡◌ {A = Operand} (record { index = one.index; target = one.target; times = one.times }) (record { index = another.index; target = another.target; times = another.times }) = cc in by
+
+read_once : (spelled : List Spelled) (one another : List Operand) → AreRead spelled one → AreRead spelled another → one ≡ another
+read_once [] [] [] is are = refl
+read_once (first ∷ spelled) (a ∷ one) (b ∷ another) is are = let here = operand_once a b is.0 are.0 in let rest = read_once spelled one another is.1 are.1 in cc
+read_once [] (a ∷ one) another is are = absurd is
+read_once (first ∷ spelled) [] another is are = absurd is
+read_once spelled one another is are = absurd are
+
+pub asks_once : (words : List (List ℕ)) (one another : List Operand) → Asks words one → Asks words another → one ≡ another
+asks_once words one another is are = read_once (words_of words).operands one another is.read are.read
+
+-- an operand that is read isn't refused
+
+read_at : (front : List Spelled) {spelled : Spelled} (rest : List Spelled) (operands : List Operand) → AreRead (front ++ spelled ∷ rest) operands → (operand : Operand) × IsRead spelled operand
+read_at [] rest (operand ∷ operands) are = (operand, are.0)
+read_at (first ∷ front) rest (operand ∷ operands) are = read_at front rest operands are.1
+read_at front rest operands are = absurd are
+
+aim_not_both : (aim : Aim) (target : Target) (fault : BreFault) → IsTarget aim target → HasRefused aim fault → ⊥
+aim_not_both (line n) target fault hits refused = refused
+aim_not_both (match has text by) (Number a) fault hits refused = hits
+aim_not_both (match has text by) (Search pattern kept offset) TooLarge hits large = read_or_too_large hits.0 large
+aim_not_both (match has text by) (Search pattern kept offset) Memory hits refused = refused
+aim_not_both (match has text by) (Search pattern kept offset) fault hits none = search rules
+
+pub reads_or_fails : (words : List (List ℕ)) (operands : List Operand) (fault : OperandFault) → Asks words operands → IsFault words fault → IsOfWords fault.kind → ⊥
+reads_or_fails words operands fault asks (is_wrong another read at are) is = cc (asks.well, at)
+reads_or_fails words operands fault asks (is_refused another front refused rest read at are has) is =
+    let found = read_at front rest operands (subst (λ those. AreRead those operands) at asks.read) in aim_not_both refused.aim found.0.target another found.1.target has
+reads_or_fails words operands fault asks (no_memory index) is = is

@@ -16,7 +16,7 @@ use Rattle.ports_core.specs.declared.slot.State.{State}
 use Rattle.ports_core.specs.declared.slot.State.TheVariants as state
 use Rattle.ports_core.specs.declared.tool.Tool.{Tool}
 use Rattle.ports_core.specs.declared.tool.Tool.TheVariants as tool
-use Rattle.operand_core.proofs.OneReading.{asks_once}
+use Rattle.operand_core.proofs.ReadingLemmas.{asks_once}
 use Rattle.operand_core.specs.Reading.{Asks}
 use Rattle.operand_core.specs.declared.operand.Operand.{Operand}
 use Rattle.run_core.specs.Input.{Input, inputs_at, standard_input}

@@ -1,17 +1,15 @@
 -- Laws that traits cite: what sections are when more lines come.
 use Rattle.std.proofs.lemmas.Grind.{common_steps}
-use Rattle.std.proofs.Common.{◌≡◌, ◌⊎◌, inl, inr, ℕ, zero, suc, ◌+◌, ◌-◌, ◌<◌, ◌≤◌, Bool, true, false, cond, not, ◌&&◌, List, [], ◌∷◌, ◌++◌, length, map, take, drop, refl, sym, ◌∙◌, ap, subst, arith, append_assoc, length-append, length-drop}
-use Rattle.std.proofs.lemmas.Bool.{false≢true, cases_lt}
-use Rattle.std.proofs.lemmas.List.{append-nil, map-append, drop-append-le, take-append-le}
+use Rattle.std.proofs.Common.{◌≡◌, ◌⊎◌, inl, inr, ℕ, zero, suc, ◌+◌, ◌-◌, ◌≤◌, Bool, true, false, cond, not, ◌&&◌, List, [], ◌∷◌, ◌++◌, length, map, take, drop, refl, sym, ◌∙◌, ap, subst, arith, append_assoc, length-append}
+use Rattle.std.proofs.lemmas.List.{append-nil, map-append}
 use Rattle.ports_core.specs.Part.{File, IsBeginning, FilesBegin, Begins}
-use Rattle.ports_core.proofs.PartLemmas.{begins_itself}
-use Rattle.csplit_core.specs.Operand.{Plus, Minus, Target, Number, Search, Operand, Line, moved, most_held, is_kept}
-use Rattle.csplit_core.specs.Plan.{State, start, Step, Ending, used_up, missed, above, below, CutsAt, Misses, line_after, state_after, Runs, is_used_up, misses, is_above, is_below, cuts}
+use Rattle.csplit_core.specs.Operand.{Operand, Line, most_held, is_kept}
+use Rattle.csplit_core.specs.Plan.{State, start, Step, Ending, used_up, missed, above, below, line_after, state_after, Runs, is_used_up, misses, is_above, is_below, cuts}
 use Rattle.csplit_core.specs.Planned.{plan_within, plan}
 use Rattle.csplit_core.specs.Section.{Section, section, section_of, lines_between, bytes_of, is_last_kept, whole_end, settled_end, sections_by, settled_sections}
-use Rattle.csplit_core.specs.Output.{Style, Contents, contents_of, is_empty, makes_file, file_at, files_of, size_line, size_lines, part_by, part_of}
+use Rattle.csplit_core.specs.Output.{Style, Contents, contents_of, makes_file, file_at, files_of, size_line, size_lines, part_by, part_of}
 use Rattle.csplit_core.specs.Csplit.{settled_of, whole_of}
-use Rattle.csplit_core.specs.laws.PlanLaws.{one_first, search_some, line_some, cuts_still, goes_on, runs, plan_runs, plan_once}
+use Rattle.csplit_core.specs.laws.PlanLaws.{line_some, goes_on, runs, plan_runs, plan_once}
 use Rattle.csplit_core.specs.inner.PlanLaws.{needed, EndsAs, AreWithin, Next, Covers, Grow, GoesOn, CutsFrom}
 
 -- Stretches of lines

@@ -1,4 +1,4 @@
-use Rattle.operand_core.proofs.OneReading.{asks_once, reads_or_fails}
+use Rattle.operand_core.proofs.ReadingLemmas.{asks_once, reads_or_fails}
 use Rattle.operand_core.proofs.laws.one_reading.Goals as goal
 
 pub returns : goal.returns

@@ -1,6 +1,6 @@
 use Rattle.std.proofs.Common.{arith}
 use Rattle.std.proofs.lemmas.Grind.{common_steps}
-use Rattle.operand_core.proofs.WordLemmas.{search_closed}
+use Rattle.operand_core.proofs.AimLemmas.{search_closed}
 use Rattle.operand_core.proofs.word.read_search.Goals as goal
 
 pub returns-in-Some-read_offset : goal.returns-in-Some-read_offset

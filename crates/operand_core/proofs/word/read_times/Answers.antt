@@ -1,7 +1,7 @@
 use Rattle.std.proofs.lemmas.Grind.{common_steps}
 use Rattle.std.proofs.Common.{sym, ◌∙◌, ap, arith}
 use Rattle.operand_core.specs.Word.{before_brace, braced}
-use Rattle.operand_core.proofs.WordLemmas.{is_brace, is_no_brace}
+use Rattle.operand_core.proofs.AimLemmas.{is_brace, is_no_brace}
 use Rattle.operand_core.proofs.word.read_times.Goals as goal
 
 pub returns-then-last-eq125 : goal.returns-then-last-eq125

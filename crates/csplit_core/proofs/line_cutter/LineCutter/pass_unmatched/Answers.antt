@@ -2,11 +2,11 @@ use Rattle.std.proofs.Common.{refl, ap, arith}
 use Rattle.std.proofs.lemmas.Grind.{common_steps}
 use Rattle.csplit_core.specs.Cutter.{CutterState}
 use Rattle.csplit_core.proofs.LineLemmas.{rest_all}
-use Rattle.csplit_core.proofs.PassLemmas.{none_yet, few_counted, all_left, one_more_at, more_clear, few_left, left_whole, all_passed_at, next_found, stops_unfound}
+use Rattle.csplit_core.proofs.PassLemmas.{few_counted, all_left, one_more_at, more_clear, left_whole, all_passed_at, next_found, stops_unfound}
 use Rattle.csplit_core.proofs.line_cutter.LineCutter.pass_unmatched.Goals as goal
 
 pub loop-end-init : goal.loop-end-init
-loop-end-init c = more_clear (none_yet) c.pass_clear-clear.ensures (rest_all c.pass_clear-clear.result c.args.text.now)
+loop-end-init c = more_clear (grind (arith, common_steps)) c.pass_clear-clear.ensures (rest_all c.pass_clear-clear.result c.args.text.now)
 
 pub overflow_sub-result : goal.overflow_sub-result
 overflow_sub-result c = grind (arith, common_steps)
@@ -33,7 +33,7 @@ pub pass_clear-clear-requires-in-Some : goal.pass_clear-clear-requires-in-Some
 pass_clear-clear-requires-in-Some c =
     let place = c.in-Some.ensures in
     let so = one_more_at c.in-Some.end c.loop-end.invariant c.is_match.ensures.same place.0.high place.1 place.0.before c.is_match.ensures.found c.if-is_match.false (all_left c.loop-end.left.now c.in-Some.end refl) in
-    record { whole = left_whole c.requires.whole so; fits = few_left so c.requires.fits }
+    record { whole = left_whole c.requires.whole so; fits = (let less = few_counted so in omega (arith, less, c.requires.fits)) }
 
 pub overflow_add-left : goal.overflow_add-left
 overflow_add-left c = grind (arith, common_steps)
