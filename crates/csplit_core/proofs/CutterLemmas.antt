@@ -23,14 +23,10 @@ use Rattle.csplit_core.specs.inner.Cutter.{Joins, settled_part, Keeps, part_at, 
 use Rattle.csplit_core.proofs.LineLemmas.{all_lines-append, bytes_between, length-all_lines, count-append, count_from, first_still, rest_more, from_further, first_further}
 use Rattle.ports_core.specs.Slot.{Slot}
 use Rattle.ports_core.specs.declared.fault.Fault.{Fault}
-<<<<<<< HEAD
 use Rattle.csplit_core.specs.inner.Writer.{with_bytes, Goes, Reaches}
 use Rattle.ports_core.specs.inner.Part.{fault_in}
+use Rattle.ports_core.specs.inner.Part.{fault_in}
 use Rattle.csplit_core.specs.Writer.{WriterState, Writes, IsCurrent, IsReady, size_of}
-=======
-use Rattle.csplit_core.specs.inner.Writer.{with_bytes, Goes, Reaches, fault_in}
-use Rattle.csplit_core.specs.Writer.{WriterState, Writes, IsReady, size_of}
->>>>>>> ce248b026b25229868cc05097ff3ecdab5ef6ae7
 use Rattle.csplit_core.proofs.WriterLemmas.{leaves_again, bytes_begin, leaves_lacking, leaves_still, reaches_again, reaches_as, reaches_still, where_three}
 use Rattle.std.proofs.Math.Nat.{min-eq_left, min-eq_right}
 use Rattle.std.proofs.Math.Seq.{take-add, take-append-add}
