@@ -35,7 +35,7 @@ use Rattle.split_core.proofs.AgreedLemmas.{dealt_settled, each_named}
 use Rattle.split_core.proofs.CutLaws.{dealt_same, dealt_past, opened_by-most}
 use Rattle.split_core.proofs.FilesLemmas.{same_by, stopped_as, stops_in_order, shut_now}
 use Rattle.split_core.proofs.MoveLemmas.{are_named_same, met_closing, met_files, named_before, unjudged}
-use Rattle.split_core.proofs.PlaceLemmas.{all_dealt}
+use Rattle.split_core.proofs.SectionLemmas.{all_dealt}
 
 -- Names
 
