@@ -279,14 +279,6 @@ module _ {told : Bool} {parts shut mid : PartsState} (bytes : List ℕ) {old wet
   closed : Moves told parts (left, false, parts.waiting) (turns []) old wet mid (Ok tt)
   closed = subst (λ those. Moves told parts (left, false, parts.waiting) (turns []) old wet those (Ok tt)) (sym is) (moves_as left false shuts.moves)
 
-  pub ready_next : IsReady mid.current wet
-  ready_next = closed.keeps.ready
-
-  pub turned_alone : bytes ≡ [] → parts.waiting ≡ [] → Turns told parts bytes old wet mid (Ok tt)
-  turned_alone no_bytes none_wait = rw (← left_is, none) (subst (λ waits. Moves told parts (left, false, waits) (turns []) old wet mid (Ok tt)) none_wait closed) where
-    none : parts.waiting ++ bytes ≡ []
-    none = ap (λ those. those ++ bytes) none_wait ∙ no_bytes
-
   pub turned : {next : PartsState} {new : List Slot} (result : Result (Unit {0}) Fault) → Extends told mid bytes wet new next result → Turns told parts bytes old new next result
   turned {next} {new} result extends = rw (← left_is) (subst (λ waits. Moves told parts (left, false, []) (turns (waits ++ bytes)) old new next result) (ap (λ (those : ℕ × Bool × List ℕ). those.2) closed.same)
       (subst (λ (n : ℕ). Moves told parts (n, false, []) (turns (mid.waiting ++ bytes)) old new next result) (ap (λ (those : ℕ × Bool × List ℕ). those.0) closed.same)
