@@ -310,9 +310,6 @@ ends_open {delim} {n} {start} {piece} {gathered} {next} {reached} line so_far sa
 pub first_taken : {delim : ℕ} {left x : List ℕ} (line : List ℕ) {rest : List ℕ} → IsFirstLine delim x line rest → left ≡ x → take (length line) left ≡ line
 first_taken line {rest} cut same = grind (arith, common_steps)
 
-pub no_longer : {delim : ℕ} {left x : List ℕ} (line : List ℕ) {rest : List ℕ} → IsFirstLine delim x line rest → left ≡ x → length line ≤ length left
-no_longer line cut same = grind (arith, common_steps)
-
 pub by_delimiter : (one other : ℕ) {x : List ℕ} (line : List ℕ) {rest : List ℕ} → one ≡ other → IsFirstLine one x line rest → IsFirstLine other x line rest
 by_delimiter one other {x} line {rest} same first = grind (arith, common_steps)
 

@@ -14,7 +14,7 @@ use Rattle.ports_core.specs.Part.{File, Part, OutputsAt, StoppedBetween, FilesBe
 use Rattle.ports_core.specs.declared.slot.State.TheVariants.{Open, Closed}
 use Rattle.ports_core.specs.declared.fault.Fault.{Fault}
 use Rattle.ports_core.proofs.PartLemmas.{begins_itself, begins_trans, kept_trans, nothing_begins, marks_by, sound_at}
-use Rattle.ports_core.proofs.SlotSteps.{keeps_again, keeps_same, keeps_close, keeps_open, keeps_write, open_rose, rose_later, write_rose, writable_elsewhere, writable_within, writable_before, opened_writable, broken_there, written_size, short_size, broken_size}
+use Rattle.ports_core.proofs.SlotSteps.{keeps_again, keeps_close, keeps_open, keeps_write, open_rose, rose_later, write_rose, writable_elsewhere, writable_within, writable_before, opened_writable, broken_there, written_size, short_size, broken_size}
 use Rattle.split_core.specs.Split.{Share, share, from_start, file_at, only_files, name_of, is_named}
 use Rattle.split_core.specs.FilesState.{FilesState}
 use Rattle.split_core.specs.Round.{AreReady, output_at}
@@ -190,20 +190,6 @@ outputs_as told {before} {now} names {shares} {others} {n = n} same count at =
     subst (λ files. OutputsAt told before (only_files files) now) (same_by _ _ 0 n (λ i past within. ap (file_at names i) (same i (omega arith))))
     (subst (λ k. OutputsAt told before (part_by names shares k) now) count at)
 
--- nothing is to be done
-pub adds_idle : (told : Bool) {files : FilesState} (more : ℕ → List ℕ) (from to : ℕ) {slots : List Slot} → ((i : ℕ) → more i ≡ []) → to ≤ length files.outputs → AreReady files slots
-    → Adds told files more from to slots files slots (Ok tt)
-adds_idle told {files} more from to none few ready = record {
-  names = refl;
-  owned = λ first owns. owns;
-  ready = ready;
-  opened = omega arith;
-  sound = keeps_same _ _ refl;
-  caused = tt;
-  outside = λ i out. none i;
-  leaves = λ before had has at are. outputs_as told (from_start files.names) (λ i within. ap (share Open) (sym (are i ∙ ap (λ bytes. had i ++ bytes) (none i) ∙ append-nil (had i)))) (omega arith) at.outputs;
-}
-
 -- a fault came at a place before anything was done
 pub adds_not : (told : Bool) (files : FilesState) {names : Naming} (more : ℕ → List ℕ) {from : ℕ} (place to : ℕ) {old new : List Slot} (why : Fault) → from ≤ place → place < max 1 to → place ≤ length files.outputs
     → from_start names ≡ from_start files.names → KeepsFiles files old (record files { names = names }) new → IsOfFiles old new why → ((i : ℕ) → (i < place) ⊎ (to ≤ i) → more i ≡ [])
@@ -293,9 +279,6 @@ adds_wider {files = files} {some} {more} {from} {to} low most rest {new = new} {
 abbrev pub up_to : ℕ → (ℕ → List ℕ) → ℕ → List ℕ
 up_to n more i = cond (ltb i n) (more i) []
 
-pub sent_none : (told : Bool) {files : FilesState} (more : ℕ → List ℕ) {slots : List Slot} → AreReady files slots → Adds told files (up_to 0 more) 0 0 slots files slots (Ok tt)
-sent_none told more ready = grind (arith, common_steps)
-
 module _ {told : Bool} {files between next : FilesState} {old mid new : List Slot} {place : ℕ} (more : ℕ → List ℕ) {bytes : List ℕ} (before : Adds told files (up_to place more) 0 place old between mid (Ok tt)) (is : bytes ≡ more place) where
   pub sent_next : (result : Result (Unit {0}) Fault) → Adds told between (only_at place bytes) place (place + 1) mid next new result
       → Adds told files (up_to (place + 1) more) 0 (place + 1) old next new result
@@ -369,10 +352,6 @@ of_files {old} {new} (inr (slot, is, rose)) = subst (IsOfFiles old new) (sym is)
 pub cannot_later : (old mid new : List Slot) {why : Fault} → KeepsBroken old mid → CannotOpen mid new why → CannotOpen old new why
 cannot_later old mid new stay (inl none) = inl none
 cannot_later old mid new stay (inr (slot, is, rose)) = inr (slot, is, rose_later slot old mid new stay rose)
-
--- the file is open already
-pub reached_before : (told : Bool) {files : FilesState} {old : List Slot} (place : ℕ) → AreReady files old → place < length files.outputs → Opens told files place (place + 1) old files old (Ok tt)
-reached_before told place ready within = record { adds = adds_idle told _ place (place + 1) (λ i. refl) (omega arith) ready; caused = tt }
 
 -- the next file was opened
 pub reached : (told : Bool) (files : FilesState) {old new : List Slot} (place : ℕ) → AreReady files old → place ≡ length files.outputs
@@ -518,12 +497,6 @@ shut_now i n less = grind (arith, nat_tests, less)
 
 closed_as : (had : ℕ → List ℕ) (i n m : ℕ) → (i < n → i < m) → (i < m → i < n) → closed_first n had i ≡ closed_first m had i
 closed_as had i n m there back = grind (arith, common_steps)
-
-pub none_closed : (told : Bool) {files : FilesState} {slots : List Slot} → AreReady files slots → Closing told files 0 slots slots
-none_closed told {files} ready = grind (arith, common_steps)
-
-pub all_closed : {told : Bool} {files : FilesState} {place : ℕ} {old now : List Slot} → Closing told files place old now → place ≡ length files.outputs → ClosesAll told files old now (Ok tt)
-all_closed {told} {files} {old = old} {now} so_far all = grind (arith, common_steps)
 
 module _ (told : Bool) {files : FilesState} {place : ℕ} {old now : List Slot} (ready : AreReady files old) (within : place < length files.outputs) (so_far : Closing told files place old now) where
   closes_next : {new : List Slot} → new ≡ changed_at (output_at files place) closes now → {before : List Slot} {had : ℕ → List ℕ} → StandAt told files before had old

@@ -1,14 +1,12 @@
 pub mod StepLemmas
-pub mod PartsLemmas
 pub mod RoundLemmas
-pub mod SectionLemmas
-pub mod PlaceLemmas
 pub mod AgreedLemmas
 pub mod RoundPlacedLemmas
 pub mod CutLaws
 pub mod WaysLemmas
 pub mod UndecidedLemmas
-pub mod TakenLemmas
 pub mod MoveLemmas
 pub mod FilesLemmas
 pub mod DealLemmas
+pub mod PartsLemmas
+pub mod SectionLemmas

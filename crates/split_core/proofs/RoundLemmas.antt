@@ -35,7 +35,7 @@ use Rattle.split_core.proofs.AgreedLemmas.{dealt_settled, each_named}
 use Rattle.split_core.proofs.CutLaws.{dealt_same, dealt_past, opened_by-most}
 use Rattle.split_core.proofs.FilesLemmas.{same_by, stopped_as, stops_in_order, shut_now}
 use Rattle.split_core.proofs.MoveLemmas.{are_named_same, met_closing, met_files, named_before, unjudged}
-use Rattle.split_core.proofs.PlaceLemmas.{all_dealt}
+use Rattle.split_core.proofs.SectionLemmas.{all_dealt}
 
 -- Names
 
@@ -239,8 +239,6 @@ at_start delim elide names n {count} fresh are counted = ap (part_by (from_start
 
 module _ (told : Bool) (names : Naming) {count : ℕ} {files next : FilesState} {old new : List Slot} {result : Result (Unit {0}) Fault} (is : files ≡ no_files names)
     (opens : Opens told files 0 count old next new result) where
-  pub opens_own : OwnsFiles next (length old) new
-  opens_own = opens.adds.owned (length old) (subst (λ (those : FilesState). OwnsFiles those (length old) old) (sym is) (none_owned names))
 
   -- what is there then is all that must be written of no input
   pub opens_all : {part : Part} → part_by (from_start names) (all_open (λ i. [])) (max 0 count) ≡ part → (before : List Slot) → OutputsAt told before nothing old

@@ -6,7 +6,7 @@ use Rattle.split_core.specs.declared.splitter.Splitter.{Splitter}
 use Rattle.split_core.specs.declared.splitter.Splitter.TheVariants.{Parts, Round}
 use Rattle.split_core.specs.Ways.{Holds, work}
 use Rattle.split_core.specs.inner.Ways.{held}
-use Rattle.split_core.proofs.TakenLemmas as part
+use Rattle.split_core.proofs.PartsLemmas as part
 use Rattle.split_core.proofs.RoundLemmas as dealing
 use Rattle.std.proofs.lemmas.List.{length-map}
 use Rattle.seg_core.specs.Line.{joined}

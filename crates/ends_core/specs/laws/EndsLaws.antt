@@ -1,10 +1,11 @@
 -- Laws that traits cite: what stands at the ends of an input, and of an input that goes on.
+use Rattle.std.proofs.lemmas.Grind.{common_steps}
 use Rattle.std.proofs.Common.{◌≡◌, ℕ, ◌+◌, ◌-◌, ◌<◌, ◌≤◌, zero, suc, List, [], ◌∷◌, ◌++◌, length, take, drop, refl, sym, ◌∙◌, ap, arith, append_assoc, length-append, length-drop, inl, inr}
 use Rattle.std.proofs.lemmas.List.{append-nil, take_all, drop-drop, drop-append-le, take-append-drop, append_cancel_left, append_cancel_right}
 use Rattle.std.proofs.lemmas.Bool.{cases_lt}
 use Rattle.seg_core.specs.Line.{line_count}
 use Rattle.seg_core.proofs.Delimiters.{delimiters-append}
-use Rattle.seg_core.proofs.FirstLines.{first_lines-append, first_lines-zero, first_lines-short, first_lines_then_rest}
+use Rattle.seg_core.proofs.FirstLines.{first_lines-append, first_lines-short, first_lines_then_rest}
 use Rattle.seg_core.proofs.EndLines.{last_lines-append}
 use Rattle.seg_core.specs.declared.unit.Unit.{Unit as Counted}
 use Rattle.seg_core.specs.declared.unit.Unit.TheVariants.{Lines, Bytes}
@@ -16,8 +17,8 @@ measure-append delim Bytes x y = length-append x y
 
 take_both : (n : ℕ) (x y : List ℕ) → take n (x ++ y) ≡ take n x ++ take (n - length x) y
 take_both zero [] y = refl
-take_both (suc n) [] y = let all : suc n - 0 ≡ suc n = omega arith in ap (λ m. take m y) (sym all)
-take_both zero (byte ∷ x) y = let none : 0 - suc (length x) ≡ 0 = omega arith in ap (λ m. take m y) (sym none)
+take_both (suc n) [] y = grind (arith, common_steps)
+take_both zero (byte ∷ x) y = grind (arith, common_steps)
 take_both (suc n) (byte ∷ x) y =
     let less : n - length x ≡ suc n - suc (length x) = omega arith in
     ap (λ rest. byte ∷ rest) (take_both n x y ∙ ap (λ m. take n x ++ take m y) less)
@@ -29,7 +30,7 @@ first_of-append delim Lines n x y = first_lines-append delim n x y
 first_of-append delim Bytes n x y = take_both n x y
 
 pub first_of-zero : (delim : ℕ) (unit : Counted) (x : List ℕ) → first_of delim unit 0 x ≡ []
-first_of-zero delim Lines x = first_lines-zero delim x
+first_of-zero delim Lines x = cc
 first_of-zero delim Bytes x = refl
 
 -- a text with fewer than n complete lines or bytes is its own first n, and so is that text with one byte more
@@ -39,10 +40,7 @@ first_of-short delim Bytes n {x} short = take_all n x (omega arith)
 
 -- once there are n, what follows adds nothing
 pub first_of-full : (delim : ℕ) (unit : Counted) (n : ℕ) (x y : List ℕ) → n ≤ measure delim unit x → first_of delim unit n (x ++ y) ≡ first_of delim unit n x
-first_of-full delim unit n x y full =
-    let none : n - measure delim unit x ≡ 0 = omega arith in
-    first_of-append delim unit n x y ∙ ap (λ left. first_of delim unit n x ++ first_of delim unit left y) none
-    ∙ ap (λ more. first_of delim unit n x ++ more) (first_of-zero delim unit y) ∙ append-nil (first_of delim unit n x)
+first_of-full delim unit n x y full = grind (arith, common_steps, first_of-append, first_of-zero, append-nil)
 
 -- the first of a text and what stands after them are the text
 pub first_then_after : (delim : ℕ) (unit : Counted) (n : ℕ) (x : List ℕ) → first_of delim unit n x ++ after_of delim unit n x ≡ x
@@ -76,7 +74,7 @@ after_of-append delim unit n x y =
 -- what stands before the last of a text, and these, are the text
 pub ends_together : (delim : ℕ) (unit : Counted) (n : ℕ) (x : List ℕ) → but_last_of delim unit n x ++ last_of delim unit n x ≡ x
 ends_together delim Lines n x = first_then_after delim Lines (line_count delim x - n) x
-ends_together delim Bytes n x = first_then_after delim Bytes (length x - n) x
+ends_together delim Bytes n x = grind (arith, common_steps)
 
 last_bytes-append : (n : ℕ) (x y : List ℕ) → drop (length (x ++ y) - n) (x ++ y) ≡ drop (length (drop (length x - n) x ++ y) - n) (drop (length x - n) x ++ y)
 last_bytes-append n x y =

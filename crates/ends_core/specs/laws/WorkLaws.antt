@@ -1,9 +1,10 @@
 -- The laws of the work of `head` and of `tail`.
-use Rattle.std.proofs.Common.{◌≡◌, ℕ, ◌-◌, ◌≤◌, ◌&&◌, not, List, ◌++◌, Bool, true, false, cond, nat_le, refl, ap, arith}
+use Rattle.std.proofs.lemmas.Grind.{common_steps}
+use Rattle.std.proofs.Common.{◌≡◌, ℕ, ◌-◌, ◌&&◌, not, List, ◌++◌, Bool, true, false, cond, nat_le, refl, ap, arith, rules}
 use Rattle.std.proofs.lemmas.Bool.{false≢true, leb-true, le-leb}
 use Rattle.ports_core.specs.Part.{nothing, only_out, Begins}
 use Rattle.ports_core.specs.Work.{IsComplete, IsLawful}
-use Rattle.ports_core.proofs.PartLemmas.{out_begins, part_begins_itself, nothing_begins_part}
+use Rattle.ports_core.proofs.PartLemmas.{out_begins, part_begins_itself}
 use Rattle.seg_core.specs.declared.unit.Unit.{Unit as Counted}
 use Rattle.ends_core.specs.declared.ends.Ends.{Ends}
 use Rattle.ends_core.specs.declared.ends.Ends.TheVariants.{First, ButLast, FromNth, Last}
@@ -25,13 +26,8 @@ pub full_head : (delim : ℕ) (unit : Counted) (but_last : Bool) (n : ℕ) (x y 
     → (not but_last && nat_le n (measure delim unit x)) ≡ true
     → ((not but_last && nat_le n (measure delim unit (x ++ y))) ≡ true)
     × (head_of delim unit but_last n (x ++ y) ≡ head_of delim unit but_last n x)
-full_head delim unit true n x y full = absurd (false≢true full)
-full_head delim unit false n x y full =
-    let enough : n ≤ measure delim unit x = leb-true n (measure delim unit x) full in (
-      le-leb n (measure delim unit (x ++ y)) (let more = measure-append delim unit x y in omega arith),
-      first_of-full
-          delim unit n x y enough,
-    )
+full_head delim unit true n x y full = cc
+full_head delim unit false n x y full = grind (arith, common_steps, leb-true, le-leb, measure-append, first_of-full)
 
 stays : (delim : ℕ) (unit : Counted) (but_last : Bool) (n : ℕ) (x y : List ℕ)
     → (head_work delim unit but_last n).is_complete x ≡ true → IsComplete (head_work delim unit but_last n) x y
@@ -54,13 +50,13 @@ tail_grows : (delim : ℕ) (unit : Counted) (from_nth : Bool) (n : ℕ) (x y : L
     (cond from_nth (only_out (tail_of delim unit true n (x ++ y))) nothing)
 tail_grows delim unit true n x y = out_begins _ _
     (after_of delim unit (n - 1 - measure delim unit x) y, after_of-append delim unit (n - 1) x y)
-tail_grows delim unit false n x y = part_begins_itself nothing
+tail_grows delim unit false n x y = search rules
 
 tail_ends : (delim : ℕ) (unit : Counted) (from_nth : Bool) (n : ℕ) (x : List ℕ)
     → Begins (cond from_nth (only_out (tail_of delim unit true n x)) nothing)
     (only_out (tail_of delim unit from_nth n x))
-tail_ends delim unit true n x = part_begins_itself (only_out (after_of delim unit (n - 1) x))
-tail_ends delim unit false n x = nothing_begins_part (only_out (last_of delim unit n x))
+tail_ends delim unit true n x = grind (arith, common_steps)
+tail_ends delim unit false n x = grind (arith, common_steps)
 
 pub tail_lawful : (delim : ℕ) (unit : Counted) (from_nth : Bool) (n : ℕ) → IsLawful (tail_work delim unit from_nth n)
 tail_lawful delim unit from_nth n = record {
@@ -73,4 +69,4 @@ pub lawful : (ends : Ends) → IsLawful (work ends)
 lawful (First count front) = head_lawful front.delim front.unit false count
 lawful (ButLast kept) = head_lawful (delim_of (ButLast kept)) (unit_of (ButLast kept)) true (count_of (ButLast kept))
 lawful (FromNth count front) = tail_lawful front.delim front.unit true count
-lawful (Last kept) = tail_lawful (delim_of (Last kept)) (unit_of (Last kept)) false (count_of (Last kept))
+lawful (Last kept) = grind (arith, common_steps)

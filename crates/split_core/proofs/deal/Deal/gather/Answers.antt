@@ -3,11 +3,8 @@ use Rattle.std.proofs.lemmas.List.{take_all}
 use Rattle.ports_core.specs.Slot.{changed_at}
 use Rattle.seg_core.specs.Line.{LinesLeft, delimiters}
 use Rattle.split_core.specs.inner.Dealt.{DealState, Gathers}
-use Rattle.split_core.proofs.DealLemmas.{by_delimiter, line_goes_on, line_goes_round, first_taken, ends_here, ends_open, no_longer}
+use Rattle.split_core.proofs.DealLemmas.{by_delimiter, line_goes_on, line_goes_round, first_taken, ends_here, ends_open}
 use Rattle.split_core.proofs.deal.Deal.gather.Goals as goal
-
-pub append_to-requires-clause-enough : goal.append_to-requires-clause-enough
-append_to-requires-clause-enough c = no_longer _ c.in-Some.ensures.some c.lines.invariant.1
 
 pub lines-preserved-then-next-count : goal.lines-preserved-then-next-count
 lines-preserved-then-next-count c = (

@@ -1,16 +1,10 @@
 use Rattle.std.proofs.Common.{ap, refl, sym, ◌∙◌}
-use Rattle.ports_core.proofs.HandedOn.{result_is}
 use Rattle.split_core.specs.PartsState.{PartsState}
-use Rattle.split_core.specs.inner.Moves.{FindsFile}
 use Rattle.split_core.proofs.PartsLemmas.{found_there, found_made}
 use Rattle.split_core.proofs.parts.Parts.find_file.Goals as goal
 
 pub returns-in-Some : goal.returns-in-Some
 returns-in-Some g c = found_there _ _ _ _ (sym (ap (λ (parts : PartsState). parts.current) c.self.view_is) ∙ c.in-Some.is) c.requires
-
-pub returns-in_err-slot : goal.returns-in_err-slot
-returns-in_err-slot g c = result_is (FindsFile _ _ _ _ _) _ _ c.from_residual.ensures.1
-    (rw (← c.self.view_is) (record { none = c.in_default.is; opens = c.in_err-slot.ensures.err; same = refl; names_same = c.open_next.ensures.same }))
 
 pub returns : goal.returns
 returns g c = rw (← c.self.view_is, c.in_ok-slot.ensures.drew) (found_made _ _ _ _ c.in_default.is (rw (← c.self.view_is) at c.requires)

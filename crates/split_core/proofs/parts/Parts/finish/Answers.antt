@@ -2,7 +2,7 @@ use Rattle.std.proofs.Common.{ap, sym, subst, ◌∙◌, Ok, Err}
 use Rattle.ports_core.proofs.HandedOn.{result_is}
 use Rattle.split_core.specs.PartsState.{PartsState}
 use Rattle.split_core.specs.inner.Moves.{Finishes, WritesTo}
-use Rattle.split_core.proofs.TakenLemmas.{finishes_none, held_ends, held_moves, held_stops}
+use Rattle.split_core.proofs.PartsLemmas.{finishes_none, held_ends, held_moves, held_stops}
 use Rattle.split_core.proofs.parts.Parts.finish.Goals as goal
 
 pub returns-in_default : goal.returns-in_default

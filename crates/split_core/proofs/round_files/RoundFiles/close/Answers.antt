@@ -3,11 +3,8 @@ use Rattle.ports_core.specs.Slot.{changed_at, closes}
 use Rattle.ports_core.proofs.HandedOn.{result_is}
 use Rattle.split_core.specs.FilesState.{FilesState}
 use Rattle.split_core.specs.inner.Sharing.{ClosesAll}
-use Rattle.split_core.proofs.FilesLemmas.{all_closed, none_closed, not_closed, one_closed, output_is}
+use Rattle.split_core.proofs.FilesLemmas.{not_closed, one_closed, output_is}
 use Rattle.split_core.proofs.round_files.RoundFiles.close.Goals as goal
-
-pub loop-place-init : goal.loop-place-init
-loop-place-init g c = none_closed _ c.requires.ready
 
 pub returns-in_err-close : goal.returns-in_err-close
 returns-in_err-close g c =
@@ -21,6 +18,3 @@ loop-place-preserved g c =
     let within : c.loop-place.place < length c.args.self.now.outputs = (omega (arith, ap length items)) in
     one_closed _ c.requires.ready within c.loop-place.invariant
     (c.in_ok-close.ensures.ok ∙ ap (λ slot. changed_at slot closes (g.O.Outs.slots c.loop-place.outs)) (output_is c.args.self.now c.loop-place.place items within c.index.ensures))
-
-pub returns : goal.returns
-returns g c = all_closed c.loop-place.invariant (omega (arith, ap (λ (files : FilesState). length files.outputs) c.self.view_is))

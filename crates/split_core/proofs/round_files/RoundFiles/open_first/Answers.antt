@@ -1,11 +1,8 @@
-use Rattle.std.proofs.Common.{◌≡◌, ◌+◌, [], refl, arith, Ok}
+use Rattle.std.proofs.Common.{◌+◌, [], refl, arith, Ok}
 use Rattle.ports_core.proofs.HandedOn.{result_is}
 use Rattle.split_core.specs.inner.Sharing.{Opens}
-use Rattle.split_core.proofs.FilesLemmas.{adds_idle, adds_then, adds_wider, cannot_later}
+use Rattle.split_core.proofs.FilesLemmas.{adds_then, adds_wider, cannot_later}
 use Rattle.split_core.proofs.round_files.RoundFiles.open_first.Goals as goal
-
-pub loop-place-init : goal.loop-place-init
-loop-place-init g c = adds_idle _ _ 0 0 (λ i. refl) (omega arith) c.requires.ready
 
 pub returns-in_err-reach : goal.returns-in_err-reach
 returns-in_err-reach g c = result_is (Opens _ _ _ _ _ _ _) _ _ c.from_residual.ensures.1 (record {
@@ -16,6 +13,3 @@ returns-in_err-reach g c = result_is (Opens _ _ _ _ _ _ _) _ _ c.from_residual.e
 
 pub loop-place-preserved : goal.loop-place-preserved
 loop-place-preserved g c = adds_then (Ok tt) c.loop-place.invariant c.in_ok-reach.ensures.adds (omega arith) (omega arith) (omega arith)
-
-pub returns : goal.returns
-returns g c = let all : c.args.count ≡ c.loop-place.place = omega arith in record { adds = rw all c.loop-place.invariant; caused = tt }

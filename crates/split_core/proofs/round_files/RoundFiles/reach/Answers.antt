@@ -3,11 +3,8 @@ use Rattle.ports_core.proofs.HandedOn.{result_is}
 use Rattle.split_core.specs.FilesState.{FilesState}
 use Rattle.split_core.specs.inner.Sharing.{Opens}
 use Rattle.split_core.specs.inner.Moves.{no_memory}
-use Rattle.split_core.proofs.FilesLemmas.{reached, reached_before, reached_not}
+use Rattle.split_core.proofs.FilesLemmas.{reached, reached_not}
 use Rattle.split_core.proofs.round_files.RoundFiles.reach.Goals as goal
-
-pub returns-then-place-len : goal.returns-then-place-len
-returns-then-place-len g c = reached_before _ c.args.place c.requires.ready (omega (arith, ap (λ (files : FilesState). length files.outputs) c.self.view_is))
 
 pub returns-in_err-reserve : goal.returns-in_err-reserve
 returns-in_err-reserve g c = result_is (Opens _ _ _ _ _ _ _) _ _ c.from_residual.ensures.1 (rw (← c.self.view_is, c.in_err-reserve.ensures.items)

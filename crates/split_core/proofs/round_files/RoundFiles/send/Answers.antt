@@ -1,6 +1,5 @@
-use Rattle.std.proofs.Common.{ap, length, arith, sym, subst, IsTrue}
+use Rattle.std.proofs.Common.{ap}
 use Rattle.ports_core.proofs.HandedOn.{result_is}
-use Rattle.ports_core.specs.Slot.{is_writable}
 use Rattle.split_core.specs.FilesState.{FilesState}
 use Rattle.split_core.specs.inner.Sharing.{Adds}
 use Rattle.split_core.proofs.FilesLemmas.{sent, sent_within, sent_unreached, output_is}
@@ -8,15 +7,6 @@ use Rattle.split_core.proofs.round_files.RoundFiles.send.Goals as goal
 
 pub returns-in_err-reach : goal.returns-in_err-reach
 returns-in_err-reach g c = result_is (Adds _ _ _ _ _ _ _ _) _ _ c.from_residual.ensures.1 (sent_unreached c.args.bytes.now c.in_err-reach.ensures)
-
-pub index-requires : goal.index-requires
-index-requires g c = omega (arith, sent_within c.in_ok-reach.ensures, ap (λ (files : FilesState). length files.outputs) c.self.view_is)
-
-pub write_bytes-requires : goal.write_bytes-requires
-write_bytes-requires g c = record {
-  writable = subst (λ at. IsTrue (is_writable (g.O.Outs.slots c.reach.new.outs) at)) (sym (output_is c.reach.new.self c.args.place (ap (λ (files : FilesState). files.outputs) c.self.view_is)
-      (sent_within c.in_ok-reach.ensures) c.index.ensures)) (c.in_ok-reach.ensures.adds.ready.closable c.args.place (sent_within c.in_ok-reach.ensures)).1;
-}
 
 pub returns : goal.returns
 returns g c = sent c.args.bytes.now c.write_bytes.result c.in_ok-reach.ensures

@@ -3,15 +3,12 @@ use Rattle.std.proofs.Common.{◌≡◌, ◌<◌, ℕ, List, [], Ok, length, get
 use Rattle.std.proofs.lemmas.List.{get_or_past}
 use Rattle.ports_core.proofs.HandedOn.{result_is}
 use Rattle.split_core.specs.inner.Sharing.{Adds}
-use Rattle.split_core.proofs.FilesLemmas.{sent_none, sent_all, sent_next, sent_stops}
+use Rattle.split_core.proofs.FilesLemmas.{sent_all, sent_next, sent_stops}
 use Rattle.split_core.proofs.round_files.RoundFiles.write.Goals as goal
 
 -- what the file at a place gets, as the code reads it
 gets : (gathered : List (List ℕ)) (place : ℕ) {one bytes : List ℕ} → place < length gathered → one ≡ get_or gathered place one → bytes ≡ one → bytes ≡ get_or gathered place []
 gets gathered place {one} within is same = grind (arith, common_steps)
-
-pub loop-place-init : goal.loop-place-init
-loop-place-init g c = sent_none _ _ c.requires.ready
 
 pub returns-in_err-send : goal.returns-in_err-send
 returns-in_err-send g c = result_is (Adds _ _ _ _ _ _ _ _) _ _ c.from_residual.ensures.1 (sent_stops _ c.loop-place.invariant

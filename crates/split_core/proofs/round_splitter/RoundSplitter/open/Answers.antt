@@ -6,7 +6,7 @@ use Rattle.ports_core.proofs.PartLemmas.{nothing_begins_part, stopped_here}
 use Rattle.split_core.specs.FilesState.{FilesState}
 use Rattle.split_core.specs.Round.{round_plan, round_work}
 use Rattle.split_core.specs.Split.{from_start}
-use Rattle.split_core.proofs.RoundLemmas.{at_start, does_all, opens_all, opens_own, starts_with}
+use Rattle.split_core.proofs.RoundLemmas.{at_start, does_all, opens_all, starts_with}
 use Rattle.split_core.proofs.round_splitter.RoundSplitter.open.Goals as goal
 
 pub returns-in_err-deal-clause-cut : goal.returns-in_err-deal-clause-cut
@@ -19,9 +19,6 @@ returns-in_err-open_first-clause-cut g c = fault_is _ _ _ c.from_residual-in_err
 pub returns-clause-outputs : goal.returns-clause-outputs
 returns-clause-outputs g c before at = (opens_all g.O.Outs.told c.args.names c.new-files.ensures c.in_ok-open_first.ensures
     (at_start c.args.delim c.args.elide c.args.names c.args.count c.requires.fresh c.requires.enough (c.opened_at_start.ensures ∙ starts_with c.args.delim c.args.elide c.args.count)) before at).0
-
-pub returns-clause-owns : goal.returns-clause-owns
-returns-clause-owns g c = opens_own g.O.Outs.told c.args.names c.new-files.ensures c.in_ok-open_first.ensures
 
 pub returns-clause-does : goal.returns-clause-does
 returns-clause-does g c =

@@ -1,4 +1,4 @@
-use Rattle.split_core.proofs.TakenLemmas as part
+use Rattle.split_core.proofs.PartsLemmas as part
 use Rattle.split_core.proofs.RoundLemmas as dealing
 use Rattle.split_core.proofs.splitter.SplitterStage.finish.Goals as goal
 
