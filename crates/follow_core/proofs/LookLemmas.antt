@@ -51,10 +51,6 @@ first_some snapshot (Some file) more = record { first = version_in snapshot file
 pub some_at : (by_name : Bool) (name : List ℕ) (first : Snapshot) (snaps : List Snapshot) → Some_entries (entries_of by_name name (first ∷ snaps))
 some_at by_name name first snaps = first_some first (first.leads name) _
 
-later_said : {entries : List Entry} (more : List Entry) → Some_entries entries → drop (length (notices_of entries)) (notices_of (entries ++ more)) ≡ notices_later (last_of entries) more
-later_said more some = rw some.are (
-    ap (drop (length (notices_later some.first some.rest))) (notices-append some.first some.rest more) ∙ drop_front (notices_later some.first some.rest) _)
-
 pub entries_more : (ways : Ways) (name : List ℕ) (before : Look) (looks : List Look) (look : Look) → entries_in ways name ((before ∷ looks) ++ look ∷ []) ≡ entries_in ways name (before ∷ looks) ++ entries_at_look ways.by_name name (open_after ways.by_name name (snapshots (before ∷ looks))) look.snapshot
 entries_more ways name before looks look =
     ap (entries_of ways.by_name name) (map-append (λ (l : Look). l.snapshot) (before ∷ looks) (look ∷ []))
@@ -89,24 +85,7 @@ gains_are ways name before (look ∷ looks) =
 pub looks_give_text : (ways : Ways) (name : List ℕ) (looks : List Look) → AreKept (entries_in ways name looks) → gains_from ways name [] looks ≡ name_text ways.start (entries_in ways name looks)
 looks_give_text ways name looks kept = gains_are ways name [] looks ∙ sym (text_is_gains ways.start (entries_in ways name looks) kept)
 
--- what a later look adds to a name's text and tells of it, from the last that was seen of it and the file that is open
-pub gain_more : (ways : Ways) (name : List ℕ) (before : Look) (looks : List Look) (look : Look)
-    → gain ways name (before ∷ looks) look ≡ gains_later (last_of (entries_in ways name (before ∷ looks))) (entries_at_look ways.by_name name (open_after ways.by_name name (snapshots (before ∷ looks))) look.snapshot)
-gain_more ways name before looks look =
-    ap (gains_after ways.start (entries_in ways name (before ∷ looks))) (new_are ways name (before ∷ looks) look (entries_more ways name before looks look))
-    ∙ rw (some_at ways.by_name name before.snapshot (snapshots looks)).are refl
-
-pub more_said : (ways : Ways) (name : List ℕ) (before : Look) (looks : List Look) (look : Look)
-    → said_at_look ways name (before ∷ looks) look ≡ map (λ notice. notice_of notice name) (notices_later (last_of (entries_in ways name (before ∷ looks))) (entries_at_look ways.by_name name (open_after ways.by_name name (snapshots (before ∷ looks))) look.snapshot))
-more_said ways name before looks look =
-    let entries = entries_in ways name (before ∷ looks) in
-    ap (map (λ notice. notice_of notice name)) (ap (λ those. drop (length (notices_of entries)) (notices_of those)) (entries_more ways name before looks look)
-    ∙ later_said _ (some_at ways.by_name name before.snapshot (snapshots looks)))
-
 -- the last entry of a name: the file that is open, and how much of it was seen
-
-last_more : {entries : List Entry} (more : List Entry) → Some_entries entries → last_of (entries ++ more) ≡ last_from (last_of entries) more
-last_more more some = rw some.are (last_from-append some.first some.rest more)
 
 -- what a look leaves open is the file of its last entry, which was seen whole
 pub look_leaves : (by_name : Bool) (name : List ℕ) (opened : Option ℕ) (snapshot : Snapshot) (last : Entry)
@@ -147,12 +126,24 @@ last_file ways name before looks = by (before.snapshot.leads name) where
   by None = later_file ways.by_name name gap (snapshots looks) refl
   by (Some file) = later_file ways.by_name name (version_in before.snapshot file) (snapshots looks) refl
 
--- one look more
-pub last_added : (ways : Ways) (name : List ℕ) (before : Look) (looks : List Look) (look : Look) {opened : Option ℕ} → opened ≡ file_of (last_of (entries_in ways name (before ∷ looks)))
-    → last_of (entries_in ways name ((before ∷ looks) ++ look ∷ [])) ≡ last_from (last_of (entries_in ways name (before ∷ looks))) (entries_at_look ways.by_name name opened look.snapshot)
-last_added ways name before looks look is =
-    ap last_of (entries_more ways name before looks look) ∙ last_more _ (some_at ways.by_name name before.snapshot (snapshots looks))
-    ∙ ap (λ those. last_from (last_of (entries_in ways name (before ∷ looks))) (entries_at_look ways.by_name name those look.snapshot)) (last_file ways name before looks ∙ sym is)
+-- one look more: what further entries add to a name, are told of it, and the last of them
+adds_so : (start : List ℕ → List ℕ) (name : List ℕ) (more : List Entry) {entries all : List Entry} → Some_entries entries → all ≡ entries ++ more
+    → (gains_after start entries (drop (length entries) all) ≡ gains_later (last_of entries) more)
+    × (map (λ notice. notice_of notice name) (drop (length (notices_of entries)) (notices_of all)) ≡ said_of name (last_of entries) more)
+    × (last_of all ≡ last_from (last_of entries) more)
+adds_so start name more some is = let entries = some.first ∷ some.rest in rw (is, some.are) (
+  ap (gains_after start entries) (drop_front entries more),
+  ap (λ those. map (λ notice. notice_of notice name) (drop (length (notices_of entries)) those)) (notices-append some.first some.rest more)
+      ∙ ap (map (λ notice. notice_of notice name)) (drop_front (notices_of entries) _),
+  last_from-append some.first some.rest more,
+)
+
+pub looked_more : (ways : Ways) (name : List ℕ) (before : Look) (looks : List Look) (look : Look) {opened : Option ℕ} → opened ≡ file_of (last_of (entries_in ways name (before ∷ looks)))
+    → let entries = entries_at_look ways.by_name name opened look.snapshot in let last = last_of (entries_in ways name (before ∷ looks)) in
+    (gain ways name (before ∷ looks) look ≡ gains_later last entries) × (said_at_look ways name (before ∷ looks) look ≡ said_of name last entries)
+    × (last_of (entries_in ways name ((before ∷ looks) ++ look ∷ [])) ≡ last_from last entries)
+looked_more ways name before looks look is = adds_so ways.start name _ (some_at ways.by_name name before.snapshot (snapshots looks))
+    (entries_more ways name before looks look ∙ ap (λ file. entries_in ways name (before ∷ looks) ++ entries_at_look ways.by_name name file look.snapshot) (last_file ways name before looks ∙ sym is))
 
 -- a name that no look broke came through each
 pub came_through : (place : ℕ) (fate : Fate) (later : Option Fault) → failed_by place fate later ≡ None → fate ≡ sound
@@ -358,14 +349,8 @@ last_in ways name before looks = last_of (entries_in ways name (before ∷ looks
 pub later_due : {told_in : Bool} {ways : Ways} {name : List ℕ} {before : Look} {looks : List Look} {snapshot : Snapshot} {opened : Option ℕ} {position : ℕ}
     → (told_in ≡ true → StandsAt (last_in ways name before looks) opened position) → let entries = entries_at_look ways.by_name name opened snapshot in
     IsDue told_in ways (before ∷ looks) snapshot name (gains_later (last_in ways name before looks) entries) (said_of name (last_in ways name before looks) entries)
-later_due {ways} {name} {before} {looks} {snapshot} {opened} stands = record {
-  is = λ is fates.
-      let same : opened ≡ open_after ways.by_name name (snapshots (before ∷ looks)) = (stands is).file ∙ sym (last_file ways name before looks) in
-      let last = last_in ways name before looks in (
-        refl,
-        ap (λ file. gains_later last (entries_at_look ways.by_name name file snapshot)) same ∙ sym (gain_more ways name before looks (seeing snapshot fates)),
-        ap (λ file. said_of name last (entries_at_look ways.by_name name file snapshot)) same ∙ sym (more_said ways name before looks (seeing snapshot fates)),
-      );
+later_due {ways} {name} {before} {looks} {snapshot} stands = record {
+  is = λ is fates. let (gains, said, last) = looked_more ways name before looks (seeing snapshot fates) (stands is).file in (refl, sym gains, sym said);
 }
 
 -- Whatever looks were made before at a name that stood so: what is due at this one was given, call by call, before it is told what
@@ -599,7 +584,7 @@ later_gave {told_in} {ways} {snapshot} {place} {name} {position} {old} {new} {re
 
   at_last : told_in ≡ true → (fates : List Fate) → last_of (entries_in ways name ((before ∷ looks) ++ seeing snapshot fates ∷ []))
       ≡ last_from (last_in ways name before looks) (entries_at_look ways.by_name name opened snapshot)
-  at_last t fates = last_added ways name before looks (seeing snapshot fates) (followed.stands t).file
+  at_last t fates = (looked_more ways name before looks (seeing snapshot fates) (followed.stands t).file).2
 
   fails : (result : Result ℕ Stop) → Follows told_in ways.by_name led place old new (stop_in result) → IfErr result (FailsAs place ways.by_name (before ∷ looks))
   fails (Ok len) follows = tt

@@ -117,6 +117,7 @@ fn has_failed(fault: &Option<Fault>, known: &[bool]) -> bool
 /// Reads standard input to its end, or until no output is left, and copies it piece by piece, with the messages for outputs
 /// that break. Returns the fault that ended it sooner, if one did: `Read` where the input broke off, `TooLong` where it has
 /// more than 2^63-1 bytes.
+#[tactic(auto, using(ports_core::proofs::InputsLemmas::keeps_again, ports_core::proofs::InputsLemmas::keeps_others, ports_core::proofs::InputsLemmas::asked_again, ports_core::proofs::InputsLemmas::asked_at_end))]
 fn copy_pieces<I: Inputs, O: Outs>(
     alloc: Global,
     names: &[&str],
