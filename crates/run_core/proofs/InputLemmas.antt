@@ -1,11 +1,11 @@
 -- Lemmas on one input of a run, on the inputs for names, one after another, and on how a run ends.
-use Rattle.std.proofs.Common.{◌⊎◌, arith, inl, inr, ◌≡◌, ℕ, ◌<◌, ◌≤◌, Bool, true, false, not, ◌||◌, IsTrue, List, [], ◌∷◌, length, take, Option, Some, None, Result, Ok, Err, refl, sym, ◌∙◌, ap, subst, if◌then◌else◌, ◌++◌, lit≤, codes, ◌-◌, ◌&&◌, drop, map, get_or, Bor, append_assoc, lit<}
+use Rattle.std.proofs.Common.{◌⊎◌, arith, inl, inr, ◌≡◌, ℕ, ◌<◌, ◌≤◌, Bool, true, false, not, ◌||◌, IsTrue, List, [], ◌∷◌, length, take, Option, Some, None, Result, Ok, Err, refl, sym, ◌∙◌, ap, subst, if◌then◌else◌, ◌++◌, lit≤, codes, ◌-◌, drop, map, get_or, Bor, append_assoc, lit<}
 use Rattle.std.proofs.lemmas.Bool.{false≢true, or_left, or_right, and_parts, false_from_ne_true, or_parts}
 use Rattle.std.proofs.Math.Bool.{and-false, and-true, or-false, or-true, or_assoc}
 use Rattle.ports_core.specs.Slot.{Slot, adds, is_open, slot_at, is_writable, told_of, with_written, streams}
 use Rattle.ports_core.specs.Write.{BrokeAfter}
 use Rattle.ports_core.specs.Source.{Content, Source, source_at, source_of, missing, is_readable, IsFresh, Opens as OpensFile, OpensNothing}
-use Rattle.ports_core.specs.Part.{Part, only_out, OutputsAt, StoppedBetween, nothing}
+use Rattle.ports_core.specs.Part.{Part, only_out, OutputsAt}
 use Rattle.ports_core.specs.Swept.{Swept}
 use Rattle.ports_core.specs.Work.{Work, Needs}
 use Rattle.ports_core.specs.Guard.{GuardState}
@@ -23,8 +23,8 @@ use Rattle.run_core.specs.declared.feeding.Fed.{Fed}
 use Rattle.run_core.specs.declared.feeding.Fed.TheVariants.{Whole, Enough, Broken}
 use Rattle.run_core.specs.Feeding.{is_enough, opens, FedAs, whole, had_enough, broke_off, judged, stopped, is_stop, LeavesOf, Uses}
 use Rattle.ports_core.specs.Inputs.{BreaksOnly, OfContent, empty, AsksAtMost, largest_piece}
-use Rattle.run_core.specs.Reading.{IsDone, Leaves, AreDone, AreUntouched, count_after}
-use Rattle.run_core.specs.RunEnds.{unheaded, heading, calling, step_after, EndsAs, as_defined, stopped as run_stopped, no_room as run_unmade, RunsOver, RunStep, unopened}
+use Rattle.run_core.specs.Reading.{IsDone, Leaves, AreUntouched, count_after}
+use Rattle.run_core.specs.RunEnds.{unheaded, heading, calling, step_after, EndsAs, as_defined, stopped as run_stopped, no_room as run_unmade, RunsOver, unopened}
 use Rattle.ports_core.specs.Streams.{streams_with, standard_output, standard_error}
 use Rattle.run_core.specs.inner.RunSteps.{HeaderFails, no_room, broke, TookInput, took, cut_off, input_from, OfSource, KeepsOther, TookAll, all, stopped_at, not_begun, HasStreams, OfName, is_unopened, standard_source}
 use Rattle.run_core.specs.RunSteps.{Opens, OpensShort, world_of}

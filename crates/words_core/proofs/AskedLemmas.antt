@@ -1,5 +1,5 @@
 -- Lemmas on what one option alone asks for.
-use Rattle.std.proofs.Common.{◌≡◌, ℕ, ◌==◌, nat_lt, List, [], ◌∷◌, ◌++◌, Some, Ok, true, codes, false, arith, ap, sym, ◌∙◌, if◌then◌else◌}
+use Rattle.std.proofs.Common.{◌≡◌, ℕ, ◌==◌, nat_lt, List, [], ◌∷◌, ◌++◌, Some, Ok, true, codes, false, arith, ap}
 use Rattle.std.proofs.lemmas.Bool.Decides.{nat_tests}
 use Rattle.seg_core.specs.declared.count.Count.{Count}
 use Rattle.seg_core.specs.Count.{count_of, is_number}
@@ -10,9 +10,9 @@ use Rattle.words_core.specs.declared.table.Kind.TheVariants as kind
 use Rattle.words_core.specs.declared.table.Takes.TheVariants as takes
 use Rattle.words_core.specs.declared.spelling.State.TheVariants.{First}
 use Rattle.words_core.specs.Table.{OptionRow, option_named}
-use Rattle.words_core.specs.Value.{Counted, Meant, Size, as_value, counted, size_in, then_check, value_in}
+use Rattle.words_core.specs.Value.{Counted, Meant, Size, as_value, size_in, then_check, value_in}
 use Rattle.words_core.specs.Given.{one_option}
-use Rattle.words_core.specs.Spelling.{mixed, onward, said, spelled, valued}
+use Rattle.words_core.specs.Spelling.{spelled}
 use Rattle.words_core.specs.Words.{settings_for}
 use Rattle.words_core.proofs.ValueLemmas.{value_after_letter}
 

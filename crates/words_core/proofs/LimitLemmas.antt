@@ -1,5 +1,5 @@
 -- Whatever words spell, sizes, counts of files and widths are within their limits, and files that lines are dealt to have names.
-use Rattle.std.proofs.Common.{◌≡◌, ℕ, ◌+◌, ◌==◌, ◌≤◌, true, arith, List, [], ◌∷◌, ◌++◌, Result, Ok, Err, IfOk, sym, inl, inr, ◌⊎◌, subst}
+use Rattle.std.proofs.Common.{◌≡◌, ℕ, ◌+◌, ◌==◌, ◌≤◌, true, arith, List, [], ◌∷◌, ◌++◌, Result, Ok, Err, IfOk, inl, inr, ◌⊎◌}
 use Rattle.std.specs.Prelude.{⊤, filter}
 use Rattle.std.proofs.lemmas.Bool.Decides.{nat_tests}
 use Rattle.ports_core.specs.declared.fault.Fault.{Fault}

@@ -1,5 +1,5 @@
 -- Lemmas on the ways in which the value of an option is spelled.
-use Rattle.std.proofs.Common.{◌≡◌, ◌≢◌, ℕ, ◌+◌, ◌<◌, ◌==◌, nat_lt, not, true, false, arith, List, [], ◌∷◌, ◌++◌, length, take, drop, Option, Some, None, Result, Ok, cond, refl, sym, ap, ◌∙◌}
+use Rattle.std.proofs.Common.{◌≡◌, ◌≢◌, ℕ, ◌+◌, ◌<◌, ◌==◌, nat_lt, not, true, false, arith, List, [], ◌∷◌, ◌++◌, length, drop, Option, Some, None, Result, Ok, cond, refl, ap, ◌∙◌}
 use Rattle.std.specs.List.{list_any, position_or_len, before_first, after_first}
 use Rattle.std.proofs.lemmas.Bool.{cond-false, cond-true, eq-eqb, lt-ltb, ne_eqb, or_parts}
 use Rattle.std.proofs.lemmas.List.{append-nil, length-append}
@@ -12,8 +12,8 @@ use Rattle.words_core.specs.declared.table.Takes.TheVariants as takes
 use Rattle.words_core.specs.declared.spelling.State.TheVariants.{Reading}
 use Rattle.words_core.specs.Table.{OptionRow, option_named}
 use Rattle.words_core.specs.Value.{Meant, value_in}
-use Rattle.words_core.specs.Given.{bare, nothing}
-use Rattle.words_core.specs.Spelling.{Meaning, after_equals, awaiting, before, given_before, cluster, dashed, is_equals, lettered, long, mixed, named, onward, said, spelled}
+use Rattle.words_core.specs.Given.{bare}
+use Rattle.words_core.specs.Spelling.{Meaning, after_equals, awaiting, before, given_before, cluster, dashed, is_equals, lettered, long, mixed, named, spelled}
 use Rattle.words_core.specs.Laws.{Gives, IsLetter, IsName, IsSwitch, takes_none}
 use Rattle.words_core.proofs.SpellingLemmas.{given_before-nothing, given_before-onward}
 

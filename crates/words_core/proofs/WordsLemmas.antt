@@ -1,5 +1,5 @@
 -- Lemmas on what all words ask for, the first of which names the tool.
-use Rattle.std.proofs.Common.{◌≡◌, ℕ, ◌-◌, ◌<◌, ◌≤◌, Bor, get_or, take, drop, length, map, List, Some, Result, Ok, Err, IfOk, IfErr, sym, ◌∙◌, ap, subst, inl, inr}
+use Rattle.std.proofs.Common.{◌≡◌, ℕ, ◌-◌, ◌<◌, ◌≤◌, Bor, get_or, take, drop, length, map, List, Some, Result, Ok, Err, IfOk, IfErr, sym, ◌∙◌, ap, inl, inr}
 use Rattle.ports_core.specs.declared.fault.Fault.{Fault}
 use Rattle.ports_core.specs.declared.fault.Fault.TheVariants.{Usage}
 use Rattle.ports_core.specs.declared.fault.UsageKind.TheVariants.{MissingTool}
@@ -8,7 +8,7 @@ use Rattle.words_core.specs.Given.{Given}
 use Rattle.words_core.specs.Spelling.{IsRefused, Reads, given_by}
 use Rattle.words_core.specs.Table.{ToolRow, row_named, tools}
 use Rattle.words_core.specs.Value.{then_check}
-use Rattle.words_core.specs.Words.{HasBadOperands, settings_for, settings_of, tool_settings}
+use Rattle.words_core.specs.Words.{HasBadOperands, settings_for, settings_of}
 use Rattle.words_core.proofs.SpellingLemmas.{front_and_rest, none_left}
 
 -- the words as texts, and those after the first

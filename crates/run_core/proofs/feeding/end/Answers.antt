@@ -1,5 +1,4 @@
-use Rattle.std.proofs.Common.{sym, subst, Err}
-use Rattle.run_core.specs.inner.Feeding.{EndsSo, finished}
+use Rattle.run_core.specs.inner.Feeding.{finished}
 use Rattle.run_core.proofs.FeedingLemmas.{close_short}
 use Rattle.run_core.proofs.feeding.end.Goals as goal
 

@@ -1,11 +1,11 @@
-use Rattle.std.proofs.Common.{◌&&◌, not, inl, inr, ◌≡◌, ◌≤◌, drop, length, ◌++◌, ◌∙◌, [], true, false, sym, ap, refl, subst, take, arith, append_assoc}
+use Rattle.std.proofs.Common.{◌&&◌, not, inl, inr, ◌≡◌, ◌≤◌, drop, length, ◌++◌, ◌∙◌, [], true, false, sym, ap, refl, take, arith, append_assoc}
 use Rattle.std.proofs.lemmas.List.{append-nil}
 use Rattle.std.proofs.lemmas.Bool.{false≢true}
-use Rattle.ports_core.specs.Source.{gets_back, Source, source_at}
-use Rattle.ports_core.specs.Work.{Work, IsNeeded, IsSettled, IsSpare}
+use Rattle.ports_core.specs.Source.{gets_back, Source}
+use Rattle.ports_core.specs.Work.{Work, IsSettled}
 use Rattle.ports_core.specs.Engine.{EndsWith}
 use Rattle.ports_core.proofs.SpareLemmas.{complete_used, spare_within}
-use Rattle.run_core.specs.Feeding.{Uses, enough, to_end}
+use Rattle.run_core.specs.Feeding.{enough, to_end}
 use Rattle.run_core.proofs.FeedingLemmas.{of_more, of_read, alike_after, alike_itself, judges, judging_of, broken_off, goes_on, stopped_feeding, ended, needed_more, piece_within, ends_sound, given_so, loaded_feeds, loaded_readable, loaded_others, loaded_read, loaded_needed, loaded_asked, last_given, loaded_few, loaded_taken, needed_within, read_used, takes_more, takes_none, uses_all, uses_judged, uses_part}
 use Rattle.ports_core.proofs.InputsLemmas.{changed_source, sound_at, read_none_more, keeps_again, keeps_others, read_broken, still_readable, read_more, read_failed, read_to_end, asked_again, asked_at_end, broken_now}
 use Rattle.run_core.proofs.feeding.feed_input.Goals as goal

@@ -1,5 +1,5 @@
-use Rattle.run_core.specs.inner.RunSteps.{no_room, HeaderFails}
-use Rattle.std.proofs.Common.{subst, refl, ◌∙◌, ap, sym, arith}
+use Rattle.run_core.specs.inner.RunSteps.{no_room}
+use Rattle.std.proofs.Common.{refl, ◌∙◌, ap, sym, arith}
 use Rattle.std.proofs.lemmas.Grind.{common_steps}
 use Rattle.ports_core.proofs.HandedOn.{fault_is, of_write}
 use Rattle.run_core.proofs.InputLemmas.{broken_header}

@@ -1,7 +1,6 @@
-use Rattle.std.proofs.Common.{◌∙◌, ap, map, refl}
+use Rattle.std.proofs.Common.{◌∙◌, map, refl}
 use Rattle.ports_core.proofs.InputsLemmas.{fresh_asks}
 use Rattle.ports_core.proofs.Runs.{as_status}
-use Rattle.ports_core.specs.Slot.{is_open, slot_at}
 use Rattle.run_core.proofs.InputLemmas.{fresh_counts, from_over, no_memory_first, over_too, ran_into_as, ran_through, stop_open}
 use Rattle.run_core.proofs.inputs.run_inputs.Goals as goal
 

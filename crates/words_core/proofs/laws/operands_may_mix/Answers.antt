@@ -1,7 +1,5 @@
-use Rattle.std.proofs.Common.{◌+◌, ◌==◌, ◌∷◌, refl, ap, if◌then◌else◌}
+use Rattle.std.proofs.Common.{◌==◌, ◌∷◌, refl}
 use Rattle.std.proofs.lemmas.Bool.{not-true}
-use Rattle.words_core.specs.Given.{one_operand}
-use Rattle.words_core.specs.Spelling.{cluster, dashed, onward, reading, spelled}
 use Rattle.words_core.proofs.laws.operands_may_mix.Goals as goal
 
 pub returns : goal.returns

@@ -1,6 +1,4 @@
-use Rattle.std.proofs.Common.{refl, subst, sym}
-use Rattle.std.specs.Prelude.{◌≡◌, ◌↔◌, true}
-use Rattle.ports_core.specs.declared.slot.Mode.{Mode}
+use Rattle.std.proofs.Common.{refl}
 use Rattle.ports_core.specs.declared.slot.Mode.TheVariants.{Append, Fresh}
 use Rattle.words_core.specs.CsplitWords.{csplit_by, plain}
 use Rattle.words_core.specs.EndsWords.{ends_by, ten_lines}
