@@ -11,8 +11,7 @@ use Rattle.csplit_core.specs.Draft.{Draft, draft_part, last_contents, AreClosed}
 use Rattle.csplit_core.specs.inner.Writer.{with_section, KeepsFiles, MakesNone, unnamed, failed, Made, next_name, Appends, Makes, with_bytes, with_kept, first_draft, Goes, KeepsOrBreaks, Leaves, BegunNot, new_writer}
 use Rattle.ports_core.specs.inner.Write.{Wrote}
 use Rattle.csplit_core.specs.laws.SectionLaws.{size_lines-append}
-use Rattle.csplit_core.proofs.WriterLemmas.{more_files, reaches_as, reaches_by, where_well, leaves_again, file_begins, opens_not, reaches_again, stops_wider, section_begins, in_any, line_begins, tells_line, file_of, becomes_again}
-use Rattle.ports_core.proofs.PartSteps.{with_last, writes_to, Becomes, opens, falls_wider, close_begins, closes_last, closes_not}
+use Rattle.csplit_core.proofs.WriterLemmas.{more_files, reaches_as, reaches_by, where_well, leaves_again, file_begins, opens_not, reaches_again, stops_wider, section_begins, in_any, line_begins, tells_line}
 use Rattle.ports_core.proofs.PartSteps.{file_of, with_last, writes_to, Becomes, becomes_again, opens, falls_wider, close_begins, closes_last, closes_not}
 use Rattle.std.proofs.lemmas.Bool.{false≢true, cases_lt, eq-eqb}
 use Rattle.ports_core.specs.Slot.{Slot, has_file, slot_at, changed_at, opened, closes, with_broken, is_writable, broke, numberless, FailsToOpen, told_of}

@@ -31,7 +31,7 @@ use Rattle.split_core.specs.laws.DealLaws.{share_none}
 use Rattle.split_core.proofs.CutLaws.{first_then_after}
 use Rattle.split_core.proofs.AgreedLemmas.{bytes_named, each_named}
 use Rattle.split_core.proofs.MoveLemmas.{named_before}
-use Rattle.split_core.proofs.PlaceLemmas.{line_at, all_dealt, first_files}
+use Rattle.split_core.proofs.SectionLemmas.{line_at, all_dealt, first_files}
 use Rattle.split_core.proofs.SectionLemmas.{joined_parts, part_lines, part_bytes, lines_count, bytes_count, line_bytes_are_parts, line_bytes_within}
 use Rattle.words_core.specs.declared.settings.Settings.TheVariants.{Split}
 use Rattle.words_core.specs.SplitAsked.{SplitAsked}
