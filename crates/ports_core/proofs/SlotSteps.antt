@@ -106,12 +106,6 @@ open_has_file state broken can = absurd (false≢true can)
 pub none_past : (slots : List Slot) (place : ℕ) → length slots ≤ place → has_file (slot_at slots place).state ≡ false
 none_past slots place past = grind (arith, common_steps)
 
-pub none_opened : (slots : List Slot) (name : List ℕ) (place : ℕ) → length slots ≤ place → has_file (slot_at (slots ++ unopened name ∷ []) place).state ≡ false
-none_opened [] name zero past = refl
-none_opened [] name (suc place) past = refl
-none_opened (slot ∷ slots) name zero past = absurd (omega arith)
-none_opened (slot ∷ slots) name (suc place) past = grind (arith, common_steps)
-
 pub file_before : (slots : List Slot) (one : Slot) (place : ℕ) → place < length slots → has_file (slot_at (slots ++ one ∷ []) place).state ≡ has_file (slot_at slots place).state
 file_before slots one place within = grind (arith, common_steps)
 
@@ -124,9 +118,6 @@ swept_none false first slots no_file = refl
 pub record KeepsMade (old new : List Slot) : Type 0 where
   pub size : length new ≡ length old
   pub same : (place : ℕ) → has_file (slot_at new place).state ≡ has_file (slot_at old place).state
-
-pub made_same : (slots : List Slot) → KeepsMade slots slots
-made_same slots = grind (arith, common_steps)
 
 pub made_again : (old mid new : List Slot) → KeepsMade old mid → KeepsMade mid new → KeepsMade old new
 made_again old mid new first second = grind (arith, common_steps)
