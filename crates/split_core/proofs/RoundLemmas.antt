@@ -239,7 +239,6 @@ at_start delim elide names n {count} fresh are counted = ap (part_by (from_start
 
 module _ (told : Bool) (names : Naming) {count : ℕ} {files next : FilesState} {old new : List Slot} {result : Result (Unit {0}) Fault} (is : files ≡ no_files names)
     (opens : Opens told files 0 count old next new result) where
-
   -- what is there then is all that must be written of no input
   pub opens_all : {part : Part} → part_by (from_start names) (all_open (λ i. [])) (max 0 count) ≡ part → (before : List Slot) → OutputsAt told before nothing old
       → (OnOk result (OutputsAt told before part new)) × (IfErr result (λ why. StoppedBetween told before nothing part why new))
