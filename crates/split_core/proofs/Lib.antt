@@ -10,3 +10,6 @@ pub mod FilesLemmas
 pub mod DealLemmas
 pub mod PartsLemmas
 pub mod SectionLemmas
+pub mod DealLaws
+pub mod ShareLaws
+pub mod PlaceLemmas

@@ -22,7 +22,8 @@ use Rattle.ports_core.specs.declared.slot.State.TheVariants.{Open, Closed}
 use Rattle.ports_core.proofs.PartLemmas.{outputs_count}
 use Rattle.split_core.specs.Parts.{dealt, round_robin}
 use Rattle.split_core.specs.Split.{share, named, is_named, are_named, from_start, file_at, only_files, dealt_files, settled_by, whole_by, is_short, is_some, split_means, split_work, bytes_in, waiting_after}
-use Rattle.split_core.specs.inner.Dealt.{dealt_piece, dealt_first, reached_by, share_of}
+use Rattle.split_core.specs.inner.Dealt.{dealt_piece, dealt_first, reached_by}
+use Rattle.split_core.specs.inner.DealLaws.{share_of}
 use Rattle.split_core.specs.FilesState.{FilesState}
 use Rattle.split_core.specs.RoundState.{RoundState}
 use Rattle.split_core.specs.Round.{round_plan, plan_of, round_work, work, opened_by, Holds, OwnsFiles}
@@ -32,10 +33,10 @@ use Rattle.split_core.specs.inner.Ways.{Deals, PassesBy, FinishesBy}
 use Rattle.split_core.specs.inner.Sharing.{part_by, all_open, closed_first, StandAt, Adds, Opens, Leaves, ClosesAll}
 use Rattle.split_core.specs.laws.DealLaws.{dealt_append, dealt_none, dealt_files_are, share_none}
 use Rattle.split_core.proofs.AgreedLemmas.{dealt_settled, each_named}
-use Rattle.split_core.proofs.CutLaws.{dealt_same, dealt_past, opened_by-most}
+use Rattle.split_core.proofs.DealLaws.{dealt_same, dealt_past, opened_by-most}
 use Rattle.split_core.proofs.FilesLemmas.{same_by, stopped_as, stops_in_order, shut_now}
 use Rattle.split_core.proofs.MoveLemmas.{are_named_same, met_closing, met_files, named_before, unjudged}
-use Rattle.split_core.proofs.SectionLemmas.{all_dealt}
+use Rattle.split_core.proofs.PlaceLemmas.{all_dealt}
 
 -- Names
 
@@ -239,7 +240,6 @@ at_start delim elide names n {count} fresh are counted = ap (part_by (from_start
 
 module _ (told : Bool) (names : Naming) {count : ℕ} {files next : FilesState} {old new : List Slot} {result : Result (Unit {0}) Fault} (is : files ≡ no_files names)
     (opens : Opens told files 0 count old next new result) where
-
   -- what is there then is all that must be written of no input
   pub opens_all : {part : Part} → part_by (from_start names) (all_open (λ i. [])) (max 0 count) ≡ part → (before : List Slot) → OutputsAt told before nothing old
       → (OnOk result (OutputsAt told before part new)) × (IfErr result (λ why. StoppedBetween told before nothing part why new))

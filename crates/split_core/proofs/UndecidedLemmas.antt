@@ -1,7 +1,7 @@
 -- Where the bytes of parts that follow one another go, and which of them continuations put into different files.
 use Rattle.std.proofs.Common.{take, ◌≡◌, ℕ, ◌+◌, ◌-◌, ◌<◌, zero, suc, List, [], ◌∷◌, ◌++◌, length, get_or, inl, inr, refl, sym, ◌∙◌, ap, subst, arith, append_assoc, length-append, ◌≢◌, ◌⊎◌, ◌≤◌, map, Bool, true, false, not, rules}
 use Rattle.std.proofs.lemmas.Bool.{cond_both, cases_lt, false≢true}
-use Rattle.std.proofs.lemmas.List.{get_or_append_left, append-nil, drop_all}
+use Rattle.std.proofs.lemmas.List.{append-nil, drop_all}
 use Rattle.std.proofs.Math.Nat.{add-suc, add-zero, zero-add}
 use Rattle.std.proofs.Math.Seq.{get_or-append_right, drop-append_seam}
 use Rattle.seg_core.specs.Line.{joined, delimiters}
@@ -40,8 +40,8 @@ only_spot one (inr none) = absurd none
 -- where the byte at an offset of an output stands, there its spot is that
 spot_at : (place : ℕ) (outputs : List (List ℕ)) (k offset : ℕ) → offset < length (get_or outputs k [])
     → spots_from place outputs (length (joined (take k outputs)) + offset) ≡ spot (place + k) offset ∷ []
-spot_at place [] k offset less = absurd (omega (arith, less))
-spot_at place (bytes ∷ outputs) zero offset less = cc (zero-add offset, add-zero place, spot_in place offset bytes outputs less)
+spot_at place [] k offset less = search rules
+spot_at place (bytes ∷ outputs) zero offset less = grind (arith, common_steps)
 spot_at place (bytes ∷ outputs) (suc k) offset less =
     let long = length-append bytes (joined (take k outputs)) in
     let rest : length (bytes ++ joined (take k outputs)) + offset - length bytes ≡ length (joined (take k outputs)) + offset = omega (arith, long) in
@@ -51,9 +51,8 @@ spot_at place (bytes ∷ outputs) (suc k) offset less =
 -- and its byte is the text's
 byte_at : (outputs : List (List ℕ)) (rest : List ℕ) (k offset : ℕ) → offset < length (get_or outputs k [])
     → get_or (joined outputs ++ rest) (length (joined (take k outputs)) + offset) 0 ≡ get_or (get_or outputs k []) offset 0
-byte_at [] rest k offset less = absurd (omega (arith, less))
-byte_at (bytes ∷ outputs) rest zero offset less =
-    cc (zero-add offset, append_assoc bytes (joined outputs) rest, get_or_append_left bytes (joined outputs ++ rest) 0 offset less)
+byte_at [] rest k offset less = search rules
+byte_at (bytes ∷ outputs) rest zero offset less = grind (arith, common_steps)
 byte_at (bytes ∷ outputs) rest (suc k) offset less =
     let long = length-append bytes (joined (take k outputs)) in
     let past : length (bytes ++ joined (take k outputs)) + offset - length bytes ≡ length (joined (take k outputs)) + offset = omega (arith, long) in
@@ -86,8 +85,8 @@ goes_in place (bytes ∷ outputs) i {at} goes = elim (cases_lt i (length bytes))
 
 -- a byte that is in an output is one of the text
 in_text : (outputs : List (List ℕ)) (k offset : ℕ) → offset < length (get_or outputs k []) → length (joined (take k outputs)) + offset < length (joined outputs)
-in_text [] k offset less = absurd (omega (arith, less))
-in_text (bytes ∷ outputs) zero offset less = omega (arith, less, length-append bytes (joined outputs))
+in_text [] k offset less = search rules
+in_text (bytes ∷ outputs) zero offset less = grind (arith, common_steps)
 in_text (bytes ∷ outputs) (suc k) offset less =
     omega (arith, in_text outputs k offset less, length-append bytes (joined outputs), length-append bytes (joined (take k outputs)))
 
@@ -136,7 +135,7 @@ parts_placed limit names = record {
 
 -- after some outputs
 spots_after : (place i : ℕ) (front back : List (List ℕ)) → length (joined front) ≤ i → spots_from place (front ++ back) i ≡ spots_from (place + length front) back (i - length (joined front))
-spots_after place i [] back past = grind (arith, common_steps)
+spots_after place i [] back past = search rules
 spots_after place i (bytes ∷ front) back past =
     let long = length-append bytes (joined front) in
     spot_past place i bytes (front ++ back) (omega (arith, past, long)) ∙ spots_after (place + 1) (i - length bytes) front back (omega (arith, past, long))
@@ -150,7 +149,7 @@ OnlyLastOpen (file ∷ files) = (file.state ≡ Open → files ≡ []) × OnlyLa
 
 last_open : (names : Naming) (place : ℕ) (full : List (List ℕ)) (rest : List ℕ) → OnlyLastOpen (named names place (map (share Closed) full ++ map (share Open) (unless_empty rest)))
 last_open names place [] [] = tt
-last_open names place [] (byte ∷ rest) = grind (arith, common_steps)
+last_open names place [] (byte ∷ rest) = search rules
 last_open names place (part ∷ full) rest =
     cond_both (is_named names place) _ _ OnlyLastOpen (λ is. (λ opened. absurd (false≢true (ap is_open opened)), last_open names (place + 1) full rest))
     (λ is. tt)

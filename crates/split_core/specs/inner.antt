@@ -6,3 +6,4 @@ pub mod Ways
 pub mod Dealt
 pub mod Ahead
 pub mod CutLaws
+pub mod DealLaws

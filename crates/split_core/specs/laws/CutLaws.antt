@@ -1,6 +1,7 @@
 -- Laws that traits cite: laws of parts that follow one another: what a text that goes on is cut into.
-use Rattle.std.proofs.Common.{◌≡◌, ℕ, ◌+◌, ◌<◌, ◌≤◌, zero, suc, List, [], ◌∷◌, ◌++◌, length, take, Bool, true, false, cond, nat_lt, refl, sym, ◌∙◌, ap, subst, arith, length-append, length-drop}
-use Rattle.std.proofs.lemmas.Bool.{false≢true, ltb-true}
+use Rattle.std.proofs.lemmas.Grind.{common_steps}
+use Rattle.std.proofs.Common.{◌≡◌, ℕ, ◌+◌, ◌<◌, ◌≤◌, zero, suc, List, [], ◌∷◌, ◌++◌, length, take, Bool, true, false, cond, nat_lt, refl, sym, subst, arith, length-append, length-drop, rules}
+use Rattle.std.proofs.lemmas.Bool.{ltb-true}
 use Rattle.std.proofs.lemmas.Bool.Decides.{nat_tests}
 use Rattle.std.proofs.lemmas.List.{append-nil, take-append-le, drop-append-le, length-take, length-take-le}
 use Rattle.seg_core.specs.Line.{delimiters, first_lines}
@@ -17,38 +18,29 @@ pub full_some : (limit : Limit) (x : List ℕ) → is_full limit x ≡ true → 
 full_some limit x full = (grind (arith, nat_tests, full), grind (arith, nat_tests, full))
 
 pub full_from : (limit : Limit) (x : List ℕ) → 0 < most limit → most limit ≤ measure limit x → is_full limit x ≡ true
-full_from limit x some enough = grind (arith, nat_tests, some, enough)
+full_from limit x some enough = search rules
 
 pub short_some : (limit : Limit) (x : List ℕ) → is_full limit x ≡ false → 0 < most limit → measure limit x < most limit
-short_some limit x short some = grind (arith, nat_tests, short, some)
+short_some limit x short some = search rules
 
 pub measure-append : (limit : Limit) (x y : List ℕ) → measure limit (x ++ y) ≡ measure limit x + measure limit y
 measure-append (Lines n delim) x y = delimiters-append delim x y
 measure-append limit x y = length-append x y
 
-pub measure-le-length : (limit : Limit) (x : List ℕ) → measure limit x ≤ length x
-measure-le-length (Lines n delim) x = delimiters-le-length delim x
-measure-le-length limit x = omega arith
-
 pub full-append : (limit : Limit) (x y : List ℕ) → is_full limit x ≡ true → is_full limit (x ++ y) ≡ true
-full-append limit x y full =
-    let is = full_some limit x full in
-    full_from limit (x ++ y) is.0 (omega (arith, measure-append limit x y, is.1))
+full-append limit x y full = grind (arith, common_steps, full_some, full_from, measure-append)
 
 pub nothing_short : (limit : Limit) (x : List ℕ) → length x ≡ 0 → is_full limit x ≡ false
-nothing_short limit x none = grind (arith, nat_tests, none, measure-le-length limit x)
+nothing_short limit x none = grind (arith, common_steps)
 
 pub has_lines : (n : ℕ) → 0 < n → nat_lt 0 n ≡ true
-has_lines n some = grind (arith, nat_tests, some)
-
-pub without_lines : {n : ℕ} → n ≡ 0 → nat_lt 0 n ≡ false
-without_lines none = grind (arith, nat_tests, none)
+has_lines n some = search rules
 
 pub whole_of_lines : (delim : ℕ) (x : List ℕ) → 0 < delimiters delim x → whole_lines delim x ≡ first_lines delim (delimiters delim x) x
-whole_of_lines delim x some = ap (λ has. cond has (first_lines delim (delimiters delim x) x) x) (has_lines (delimiters delim x) some)
+whole_of_lines delim x some = grind (arith, common_steps)
 
 pub whole_of_none : (delim : ℕ) (x : List ℕ) → delimiters delim x ≡ 0 → whole_lines delim x ≡ x
-whole_of_none delim x none = ap (λ has. cond has (first_lines delim (delimiters delim x) x) x) (without_lines none)
+whole_of_none delim x none = grind (arith, common_steps)
 
 pub whole_then_open : (delim : ℕ) {x : List ℕ} → whole_lines delim x ++ open_line delim x ≡ x
 whole_then_open delim {x} = grind (arith, nat_tests, first_lines_then_rest delim (delimiters delim x) x, append-nil x)
@@ -75,7 +67,7 @@ first_within (LineBytes n delim) x = omega (arith, whole_within delim (take n x)
 
 first_some_by : (limit : Limit) (x : List ℕ) → 0 < most limit → most limit ≤ measure limit x → 0 < length (first_part limit x)
 first_some_by (Lines n delim) x some enough = omega (arith, delimiters-first_lines delim n x enough, delimiters-le-length delim (first_lines delim n x))
-first_some_by (Bytes n) x some enough = omega (arith, length-take-le n x enough)
+first_some_by (Bytes n) x some enough = grind (arith, common_steps)
 first_some_by (LineBytes n delim) x some enough = whole_some delim (take n x) (omega (arith, length-take-le n x enough))
 
 -- no part is empty
@@ -85,7 +77,7 @@ first_some limit x full = first_some_by limit x (full_some limit x full).0 (full
 first-append_by : (limit : Limit) (x y : List ℕ) → most limit ≤ measure limit x → first_part limit (x ++ y) ≡ first_part limit x
 first-append_by (Lines n delim) x y enough = first_lines-full delim n x y enough
 first-append_by (Bytes n) x y enough = take-append-le n x y enough
-first-append_by (LineBytes n delim) x y enough = ap (whole_lines delim) (take-append-le n x y enough)
+first-append_by (LineBytes n delim) x y enough = grind (arith, common_steps)
 
 pub first-append : (limit : Limit) (x y : List ℕ) → is_full limit x ≡ true → first_part limit (x ++ y) ≡ first_part limit x
 first-append limit x y full = first-append_by limit x y (full_some limit x full).1
@@ -115,9 +107,8 @@ cuts_up {x} = cuts_within (length x) (omega arith)
 once_within : {limit : Limit} (bound : ℕ) {x : List ℕ} {parts : List (List ℕ)} {rest : List ℕ} → length x ≤ bound
     → Cuts limit x parts rest → cut_within bound limit x ≡ cut_so parts rest
 once_within zero within (stops _ short) = refl
-once_within {limit} zero {x} within (goes _ parts rest full more) = absurd (false≢true (sym (nothing_short limit x (omega arith)) ∙ full))
-once_within {limit} (suc bound) {x} within (stops _ short) =
-    ap (λ full. cond full (part_before (first_part limit x) (cut_within bound limit (after_first limit x))) (uncut x)) short
+once_within {limit} zero {x} within (goes _ parts rest full more) = grind (arith, common_steps)
+once_within {limit} (suc bound) {x} within (stops _ short) = grind (arith, common_steps)
 once_within {limit} (suc bound) {x} within (goes _ parts rest full more) = cc (full, once_within bound (after_less limit x bound full within) more)
 
 -- a text is cut in one way
@@ -148,7 +139,7 @@ rest_short limit x = left_short limit x (cuts_up)
 -- three ways to go on: no part is full yet; all of the text is one; the text is one and a beginning of the next
 
 pub cut_none : (limit : Limit) (x : List ℕ) → is_full limit x ≡ false → cut_up limit x ≡ cut_so [] x
-cut_none limit x short = cut_once limit (stops x short)
+cut_none limit x short = search rules
 
 -- what is left is what is settled of it, and what waits
 pub settled_then_waiting : (limit : Limit) (rest : List ℕ) → settled_rest limit rest ++ waiting_rest limit rest ≡ rest

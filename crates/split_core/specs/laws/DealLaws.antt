@@ -1,28 +1,23 @@
 -- Laws that traits cite: how the lines of a text that goes on are dealt, and which files have a line.
+use Rattle.std.proofs.lemmas.Grind.{common_steps}
 use Rattle.std.proofs.lemmas.Bool.Decides.{nat_tests}
-use Rattle.std.proofs.Common.{◌≡◌, ℕ, ◌+◌, ◌%◌, ◌<◌, ◌≤◌, zero, suc, min, Bool, true, false, cond, eqb, List, [], ◌∷◌, ◌++◌, length, map, inl, inr, refl, sym, ◌∙◌, ap, arith, length-append}
+use Rattle.std.proofs.Common.{◌≡◌, ℕ, ◌+◌, ◌%◌, ◌<◌, ◌≤◌, zero, suc, min, Bool, true, false, cond, eqb, List, [], ◌∷◌, ◌++◌, length, map, inl, inr, refl, sym, ◌∙◌, ap, arith, length-append, rules}
 use Rattle.std.proofs.Math.Nat.{mod-eq_of_lt, zero-add}
 use Rattle.std.proofs.lemmas.List.{append-nil}
 use Rattle.std.proofs.lemmas.List.FromFn.{filter_of_map_range_with_len_more, map-range_with_len_more}
 use Rattle.std.specs.List.{filter, range_with_len, onto_first}
-use Rattle.std.proofs.lemmas.Bool.{cases_eq, cases_lt, eq-eqb, ne_eqb}
+use Rattle.std.proofs.lemmas.Bool.{cases_eq, cases_lt, eq-eqb}
 use Rattle.seg_core.specs.Line.{lines_of, delimiters, line_count}
 use Rattle.seg_core.proofs.EndLines.{line_count-grows}
 use Rattle.split_core.specs.Parts.{dealt}
 use Rattle.split_core.specs.Split.{is_some, dealt_files}
 use Rattle.split_core.specs.Round.{opened_by}
-use Rattle.split_core.specs.inner.Dealt.{EachSome, share_of}
-
--- a byte before the first line goes where that line goes
-dealt_onto : (n file place byte : ℕ) (lines : List (List ℕ)) → dealt n file place (onto_first byte lines)
-    ≡ cond (eqb (place % n) file) (byte ∷ dealt n file place lines) (dealt n file place lines)
-dealt_onto n file place byte [] = refl
-dealt_onto n file place byte (line ∷ lines) = grind (arith, nat_tests)
+use Rattle.split_core.specs.inner.DealLaws.{EachSome, share_of}
 
 pub dealt_first : (ends : Bool) (n file place byte : ℕ) (lines : List (List ℕ)) → dealt n file place (cond ends ((byte ∷ []) ∷ lines) (onto_first byte lines))
     ≡ cond (eqb (place % n) file) (byte ∷ dealt n file (cond ends (place + 1) place) lines) (dealt n file (cond ends (place + 1) place) lines)
 dealt_first true n file place byte lines = refl
-dealt_first false n file place byte lines = dealt_onto n file place byte lines
+dealt_first false n file place byte lines = search rules
 
 goes_on : (gets : Bool) (byte : ℕ) (these more : List ℕ) → cond gets (byte ∷ (these ++ more)) (these ++ more) ≡ cond gets (byte ∷ these) these ++ more
 goes_on true byte these more = refl
@@ -34,7 +29,7 @@ next_place ends place count = grind (arith, nat_tests)
 -- an open last line goes on where it began
 pub dealt_append : (delim n file place : ℕ) (x y : List ℕ) → dealt n file place (lines_of delim (x ++ y)) ≡ dealt n file place (lines_of delim x)
     ++ dealt n file (place + delimiters delim x) (lines_of delim y)
-dealt_append delim n file place [] y = let here : place ≡ place + 0 = omega arith in ap (λ at. dealt n file at (lines_of delim y)) here
+dealt_append delim n file place [] y = grind (arith, common_steps)
 dealt_append delim n file place (byte ∷ x) y =
     let next = cond (eqb byte delim) (place + 1) place in
     dealt_first (eqb byte delim) n file place byte (lines_of delim (x ++ y))
@@ -47,7 +42,7 @@ dealt_append delim n file place (byte ∷ x) y =
 -- Which files have a line
 
 differs : (n file place : ℕ) → place < file → file < n → eqb (place % n) file ≡ false
-differs n file place before within = ne_eqb (place % n) file (λ same. let here : place % n ≡ place = mod-eq_of_lt (omega arith) in omega (arith, same, here))
+differs n file place before within = grind (arith, common_steps)
 
 pub dealt_none : (n file place : ℕ) (lines : List (List ℕ)) → place + length lines ≤ file → file < n → dealt n file place lines ≡ []
 dealt_none n file place [] short within = refl
@@ -70,13 +65,9 @@ dealt_some n file place (line ∷ lines) each from before within = elim (cases_e
       let same : eqb (place % n) file ≡ true = eq-eqb (place % n) file (mod-eq_of_lt (omega arith) ∙ here) in
       rw same (omega (arith, each.0, length-append line (dealt n file (place + 1) lines)))
 
-onto_each : (byte : ℕ) (lines : List (List ℕ)) → EachSome lines → EachSome (onto_first byte lines)
-onto_each byte [] each = (omega arith, tt)
-onto_each byte (line ∷ lines) each = (omega arith, each.1)
-
 each_step : (ends : Bool) (byte : ℕ) (lines : List (List ℕ)) → EachSome lines → EachSome (cond ends ((byte ∷ []) ∷ lines) (onto_first byte lines))
 each_step true byte lines each = (omega arith, each)
-each_step false byte lines each = onto_each byte lines each
+each_step false byte lines each = search rules
 
 each_line : (delim : ℕ) (x : List ℕ) → EachSome (lines_of delim x)
 each_line delim [] = tt
@@ -95,7 +86,7 @@ share_some delim n x file before within = is_some_of _ (dealt_some n file 0 (lin
 -- where members up to a place aren't empty and those from there on are, the filter leaves those up to that place
 filter_first : (f : ℕ → List ℕ) (n end : ℕ) → ((file : ℕ) → file < n → file < end → is_some (f file) ≡ true) → ((file : ℕ) → file < n → end ≤ file → f file ≡ [])
     → filter is_some (map f (range_with_len 0 n)) ≡ map f (range_with_len 0 (min n end))
-filter_first f zero end some none = let no_more : 0 ≡ min 0 end = omega arith in ap (λ k. map f (range_with_len 0 k)) no_more
+filter_first f zero end some none = grind (arith, common_steps)
 filter_first f (suc n) end some none =
     let before = filter_first f n end (λ file within. some file (omega arith)) (λ file within. none file (omega arith)) in
     let next : suc n ≡ n + 1 = omega arith in
@@ -109,8 +100,7 @@ filter_first f (suc n) end some none =
 -- the files that have a line are the first ones
 pub dealt_files_are : (delim : ℕ) (elide : Bool) (n : ℕ) (x : List ℕ)
     → dealt_files delim elide n x ≡ map (share_of delim n x) (range_with_len 0 (opened_by delim elide n x))
-dealt_files_are delim true n x =
-    filter_first (share_of delim n x) n (line_count delim x) (λ file within before. share_some delim n x file before within) (λ file within past. share_none delim n x file past within)
+dealt_files_are delim true n x = grind (arith, common_steps, filter_first, share_some, share_none)
 dealt_files_are delim false n x = refl
 
 -- a text that goes on opens no fewer files

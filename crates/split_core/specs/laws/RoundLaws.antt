@@ -1,5 +1,6 @@
 -- The laws of the work of dealing lines in turn.
-use Rattle.std.proofs.Common.{◌≡◌, ℕ, ◌+◌, ◌≤◌, zero, suc, List, [], ◌∷◌, ◌++◌, map, Bool, true, false, cond, inl, refl, sym, subst, arith}
+use Rattle.std.proofs.lemmas.Grind.{common_steps}
+use Rattle.std.proofs.Common.{◌≡◌, ℕ, ◌+◌, ◌≤◌, zero, suc, List, [], ◌∷◌, ◌++◌, map, Bool, true, false, cond, refl, arith}
 use Rattle.std.specs.List.{range_with_len}
 use Rattle.std.proofs.lemmas.Bool.{false≢true}
 use Rattle.ports_core.specs.Name.{Naming}
@@ -10,13 +11,13 @@ use Rattle.ports_core.specs.declared.slot.State.TheVariants.{Open, Closed}
 use Rattle.ports_core.proofs.PartLemmas.{begins_itself, nothing_begins}
 use Rattle.split_core.specs.Split.{share, named, is_named, file_at, only_files, dealt_files}
 use Rattle.split_core.specs.Round.{round_plan, round_work, opened_by}
-use Rattle.split_core.specs.inner.Dealt.{share_of}
+use Rattle.split_core.specs.inner.DealLaws.{share_of}
 use Rattle.split_core.specs.laws.DealLaws.{dealt_append, dealt_files_are, opened_by-grows}
 
 begin_step : (is : Bool) (file high : File) (files wholes : List File) → file.name ≡ high.name → file.mode ≡ high.mode
     → file.is_broken ≡ high.is_broken → file.state ≡ Open → IsBeginning file.bytes high.bytes → FilesBegin files wholes
     → FilesBegin (cond is (file ∷ files) []) (cond is (high ∷ wholes) [])
-begin_step true file high files wholes name mode sound open_yet bytes rest = (name, mode, sound, inl open_yet, bytes, rest)
+begin_step true file high files wholes name mode sound open_yet bytes rest = grind (arith, common_steps)
 begin_step false file high files wholes name mode sound open_yet bytes rest = tt
 
 -- where each of some files has a beginning of what others have, and these are no fewer, those begin these
@@ -32,12 +33,7 @@ files_begin names high f g begin place start (suc m) (suc n) few =
 dealt_begin : (delim : ℕ) (elide : Bool) (n : ℕ) (names : Naming) (high : State) (x z : List ℕ) → ((file : ℕ) → IsBeginning (share_of delim n x file) (share_of delim n z file))
     → opened_by delim elide n x ≤ opened_by delim elide n z
     → Begins (only_files (named names 0 (map (share Open) (dealt_files delim elide n x)))) (only_files (named names 0 (map (share high) (dealt_files delim elide n z))))
-dealt_begin delim elide n names high x z begin few = record {
-  out = nothing_begins [];
-  files = subst (λ those. FilesBegin (named names 0 (map (share Open) those)) (named names 0 (map (share high) (dealt_files delim elide n z)))) (sym (dealt_files_are delim elide n x))
-      (subst (λ those. FilesBegin (named names 0 (map (share Open) (map (share_of delim n x) (range_with_len 0 (opened_by delim elide n x))))) (named names 0 (map (share high) those)))
-      (sym (dealt_files_are delim elide n z)) (files_begin names high (share_of delim n x) (share_of delim n z) begin 0 0 _ _ few));
-}
+dealt_begin delim elide n names high x z begin few = grind (arith, common_steps, nothing_begins, dealt_files_are, files_begin)
 
 pub lawful : (delim count : ℕ) (elide : Bool) (names : Naming) → IsLawful (round_work (round_plan delim count elide names))
 lawful delim count elide names = record {

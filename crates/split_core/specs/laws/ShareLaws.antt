@@ -1,8 +1,6 @@
 -- Laws that traits cite: laws of what files get: what is written once more came in, and in the end.
-use Rattle.std.proofs.Common.{◌≡◌, ℕ, ◌+◌, ◌-◌, ◌<◌, ◌≤◌, zero, suc, List, [], ◌∷◌, ◌++◌, length, map, take, drop, Bool, true, false, cond, ◌||◌, nat_lt, ◌⊎◌, inl, inr, refl, sym, ◌∙◌, ap, subst, arith, append_assoc, length-append}
-use Rattle.std.proofs.Math.Nat.{add-zero}
-use Rattle.std.proofs.lemmas.Bool.{false≢true}
-use Rattle.std.proofs.lemmas.Bool.Decides.{nat_tests}
+use Rattle.std.proofs.lemmas.Grind.{common_steps}
+use Rattle.std.proofs.Common.{◌≡◌, ℕ, ◌+◌, ◌-◌, ◌<◌, ◌≤◌, zero, suc, List, [], ◌∷◌, ◌++◌, length, map, take, drop, Bool, true, false, cond, ◌⊎◌, inl, inr, refl, sym, ◌∙◌, ap, subst, arith, append_assoc, rules}
 use Rattle.std.proofs.lemmas.List.{map-append, length-map, take-take}
 use Rattle.seg_core.specs.Line.{joined, lines_of, delimiters, first_lines}
 use Rattle.seg_core.proofs.Delimiters.{delimiters-append}
@@ -29,12 +27,12 @@ shares_after (share ∷ front) low high begins = (inr refl, begins_itself share.
 pub kept_file : (names : Naming) (place : ℕ) (one other : Share) → (one.state ≡ Open) ⊎ (one ≡ other)
     → ((file_at names place one).state ≡ Open) ⊎ (file_at names place one ≡ file_at names place other)
 kept_file names place one other (inl is) = inl is
-kept_file names place one other (inr same) = inr (ap (file_at names place) same)
+kept_file names place one other (inr same) = search rules
 
 files_by : (names : Naming) (has : Bool) (place : ℕ) (one other : Share) (low high : List File) → (one.state ≡ Open)
     ⊎ (one ≡ other) → IsBeginning one.bytes other.bytes → FilesBegin low high
     → FilesBegin (cond has (file_at names place one ∷ low) []) (cond has (file_at names place other ∷ high) [])
-files_by names true place one other low high kept first rest = (refl, refl, refl, kept_file names place one other kept, first, rest)
+files_by names true place one other low high kept first rest = grind (arith, common_steps)
 files_by names false place one other low high kept first rest = tt
 
 pub files_begin : (names : Naming) (place : ℕ) (low high : List Share) → SharesBegin low high → FilesBegin (named names place low) (named names place high)
@@ -49,13 +47,6 @@ part_begins names low high begins = record { out = begins_itself []; files = fil
 
 -- names that ran out
 
-no_more_test : (auto : Bool) (most place more : ℕ) → (auto || nat_lt place most) ≡ false → place ≤ more → (auto || nat_lt more most) ≡ false
-no_more_test true most place more is less = is
-no_more_test false most place more is less = grind (arith, nat_tests, is, less)
-
-pub no_more : (names : Naming) (place more : ℕ) → is_named names place ≡ false → place ≤ more → is_named names more ≡ false
-no_more names place more is less = no_more_test names.auto _ place more is less
-
 -- the place after the next ones is that after the first of them
 pub one_on : (n m : ℕ) → n + suc m ≡ n + 1 + m
 one_on n m = omega arith
@@ -64,8 +55,7 @@ one_on n m = omega arith
 pub named_short : (names : Naming) (place : ℕ) (front rest : List Share) → is_named names (place + length front) ≡ false
     → named names place (front ++ rest) ≡ named names place front
 named_short names place [] [] none = refl
-named_short names place [] (share ∷ rest) none =
-    ap (λ has. cond has (file_at names place share ∷ named names (place + 1) rest) []) (subst (λ n. is_named names n ≡ false) (add-zero place) none)
+named_short names place [] (share ∷ rest) none = grind (arith, common_steps)
 named_short names place (share ∷ front) rest none =
     ap (λ files. cond (is_named names place) (file_at names place share ∷ files) []) (named_short names (place + 1) front rest
     (subst (λ n. is_named names n ≡ false) (one_on place (length front)) none))
@@ -128,10 +118,7 @@ settled_in_whole limit x = (_, sym (settled_then_waiting limit x))
 
 pub settled_on : (limit : Limit) (x y : List ℕ) → settled_parts limit (x ++ y) ≡ map (share Closed) (cut_up limit x).full
     ++ settled_parts limit ((cut_up limit x).rest ++ y)
-settled_on limit x y = ap (λ cut. map (share Closed) cut.full ++ map (share Open) (unless_empty (settled_rest limit cut.rest))) (cut_on limit x y)
-    ∙ ap (λ front. front ++ map (share Open) (unless_empty (settled_rest limit (cut_up limit ((cut_up limit x).rest ++ y)).rest)))
-    (map-append (share Closed) (cut_up limit x).full (cut_up limit ((cut_up limit x).rest ++ y)).full)
-    ∙ append_assoc (map (share Closed) (cut_up limit x).full) _ _
+settled_on limit x y = grind (arith, common_steps, cut_on, map-append)
 
 pub parts_on : (limit : Limit) (x y : List ℕ) → parts limit (x ++ y) ≡ (cut_up limit x).full ++ parts limit ((cut_up limit x).rest ++ y)
 parts_on limit x y = ap (λ cut. cut.full ++ unless_empty cut.rest) (cut_on limit x y) ∙ append_assoc (cut_up limit x).full _ _
@@ -167,65 +154,42 @@ rest_begins limit rest y short = rest_begins_by limit rest y (is_full limit (res
 
 -- what is written stays
 pub settled_grow : (limit : Limit) (x y : List ℕ) → SharesBegin (settled_parts limit x) (settled_parts limit (x ++ y))
-settled_grow limit x y = subst (SharesBegin (settled_parts limit x)) (sym (settled_on limit x y)) (shares_after (map (share Closed) (cut_up limit x).full) _ _
-    (rest_begins limit (cut_up limit x).rest y (rest_short limit x)))
+settled_grow limit x y = grind (arith, common_steps, settled_on, shares_after, rest_begins, rest_short)
 
 pub settled_end : (limit : Limit) (x : List ℕ) → SharesBegin (settled_parts limit x) (whole_parts limit x)
-settled_end limit x = subst (SharesBegin (settled_parts limit x)) (sym (map-append (share Closed) (cut_up limit x).full (unless_empty (cut_up limit x).rest)))
-    (shares_after (map (share Closed) (cut_up limit x).full) _ _ (opens_more Closed (settled_rest limit (cut_up limit x).rest) (cut_up limit x).rest
-    (settled_in_whole limit (cut_up limit x).rest)))
+settled_end limit x = grind (arith, common_steps, map-append, shares_after, opens_more, settled_in_whole)
 
 -- there are as many shares as the text has parts
 
 unless_count : (low high : List ℕ) → (0 < length high → 0 < length low) → (0 < length low → 0 < length high)
     → length (unless_empty low) ≡ length (unless_empty high)
 unless_count [] [] some back = refl
-unless_count [] (byte ∷ high) some back = absurd (let none : 0 < 0 = some (omega arith) in omega (arith, none))
-unless_count (byte ∷ low) [] some back = absurd (let none : 0 < 0 = back (omega arith) in omega (arith, none))
+unless_count [] (byte ∷ high) some back = grind (arith, common_steps)
+unless_count (byte ∷ low) [] some back = grind (arith, common_steps)
 unless_count (byte ∷ low) (first ∷ high) some back = refl
 
 pub settled_count : (limit : Limit) (x : List ℕ) → length (settled_parts limit x) ≡ length (parts limit x)
-settled_count limit x = length-append (map (share Closed) (cut_up limit x).full) _
-    ∙ ap (λ n. n + length (map (share Open) (unless_empty (settled_rest limit (cut_up limit x).rest)))) (length-map (cut_up limit x).full (share Closed))
-    ∙ ap (λ n. length (cut_up limit x).full + n) (length-map (unless_empty (settled_rest limit (cut_up limit x).rest)) (share Open)
-    ∙ unless_count _ _ (settled_some limit (cut_up limit x).rest) few) ∙ sym (length-append (cut_up limit x).full (unless_empty (cut_up limit x).rest)) where
-      few : 0 < length (settled_rest limit (cut_up limit x).rest) → 0 < length (cut_up limit x).rest
-      few some = let begins = settled_in_whole limit (cut_up limit x).rest in
-          omega (arith, ap length begins.1 ∙ length-append (settled_rest limit (cut_up limit x).rest) begins.0, some)
+settled_count limit x = grind (arith, common_steps, length-map, unless_count, settled_some, settled_in_whole)
 
 -- Once names ran out, nothing more is written.
 
-are_named_by : (names : Naming) (count place : ℕ) → are_named names count ≡ false → count ≤ place + 1 → is_named names place ≡ false
-are_named_by names zero place none few = absurd (false≢true (sym none))
-are_named_by names (suc last) place none few = no_more names last place none (omega arith)
-
 pub are_named_more : (names : Naming) (count more : ℕ) → are_named names count ≡ false → count ≤ more → are_named names more ≡ false
-are_named_more names zero more none few = absurd (false≢true (sym none))
-are_named_more names (suc last) zero none few = absurd (omega (arith, few))
-are_named_more names (suc last) (suc more) none few = no_more names last more none (omega arith)
-
-parts_few : (limit : Limit) (x : List ℕ) → length (parts limit x) ≤ length (cut_up limit x).full + 1
-parts_few limit x = by (cut_up limit x).full (cut_up limit x).rest where
-  by : (full : List (List ℕ)) (rest : List ℕ) → length (full ++ unless_empty rest) ≤ length full + 1
-  by full [] = omega (arith, length-append full (unless_empty []))
-  by full (byte ∷ rest) = omega (arith, length-append full (unless_empty (byte ∷ rest)))
+are_named_more names zero more none few = cc
+are_named_more names (suc last) zero none few = search rules
+are_named_more names (suc last) (suc more) none few = grind (arith, common_steps)
 
 place_nameless : (names : Naming) (limit : Limit) (x : List ℕ) → are_named names (length (parts limit x)) ≡ false
     → is_named names (0 + length (map (share Closed) (cut_up limit x).full)) ≡ false
-place_nameless names limit x short =
-    are_named_by names (length (parts limit x)) _ short (omega (arith, length-map (cut_up limit x).full (share Closed), parts_few limit x))
+place_nameless names limit x short = grind (arith, common_steps)
 
 -- the files are those of the full parts alone
 pub files_settled : (names : Naming) (limit : Limit) (x y : List ℕ) → are_named names (length (parts limit x)) ≡ false
     → named names 0 (settled_parts limit (x ++ y)) ≡ named names 0 (map (share Closed) (cut_up limit x).full)
-files_settled names limit x y short =
-    ap (named names 0) (settled_on limit x y) ∙ named_short names 0 (map (share Closed) (cut_up limit x).full) _ (place_nameless names limit x short)
+files_settled names limit x y short = grind (arith, common_steps, settled_on, named_short, place_nameless)
 
 pub files_whole : (names : Naming) (limit : Limit) (x y : List ℕ) → are_named names (length (parts limit x)) ≡ false
     → named names 0 (whole_parts limit (x ++ y)) ≡ named names 0 (map (share Closed) (cut_up limit x).full)
-files_whole names limit x y short =
-    ap (λ those. named names 0 (map (share Closed) those)) (parts_on limit x y) ∙ ap (named names 0) (map-append (share Closed) (cut_up limit x).full _)
-    ∙ named_short names 0 (map (share Closed) (cut_up limit x).full) _ (place_nameless names limit x short)
+files_whole names limit x y short = grind (arith, common_steps, parts_on, map-append, named_short, place_nameless)
 
 pub shares_fewer : (low high : List Share) → SharesBegin low high → length low ≤ length high
 shares_fewer [] high begins = omega arith
