@@ -42,7 +42,6 @@ impl Printer {
     /// # Errors
     ///
     /// `Memory` where there is no room for the header, `Write(0)` where standard output broke.
-    #[tactic(auto, using(crate::proofs::CallLemmas::puts_none))]
     pub(crate) fn put<O: Outs>(
         &mut self,
         opened: bool,

@@ -375,7 +375,6 @@ fn begin_at<O: Outs>(
 /// # Errors
 ///
 /// `Memory` where there was none for the line.
-#[tactic(auto, using(crate::proofs::CallLemmas::untold))]
 fn tell<O: Outs>(alloc: Global, found: Notice, name: &str, outs: &mut O) -> Result<(), Fault>
     requires can { CanPrint (O.slots outs.old) }
     ensures ends { (told_in : Bool) (printer : PrinterState) → Ends told_in O.told false printer name.now [] (notice_of found name.now ∷ []) (O.slots outs.old) printer (O.slots outs.new) (over_in result) }

@@ -161,7 +161,6 @@ fn open_files<O: Outs>(names: &[&str], mode: Mode, outs: &mut O) -> Result<(), F
 /// # Errors
 ///
 /// `Memory` where no number is left.
-#[tactic(auto, using(crate::proofs::StartLemmas::opened_one, crate::proofs::StartLemmas::in_vain))]
 fn open_file<O: Outs>(name: &str, mode: Mode, outs: &mut O) -> Result<usize, Fault>
     ensures ok { IfOk result (λ slot. (slot ≡ length (O.slots outs.old)) × OpensOne mode name.now (O.slots outs.old) (O.slots outs.new)) }
     ensures bound { IfOk result (λ slot. slot < 2 ^ 64) }
