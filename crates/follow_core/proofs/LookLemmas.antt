@@ -11,7 +11,7 @@ use Rattle.follow_core.specs.inner.Calls.{said_of, Keeps, Follows}
 use Rattle.follow_core.specs.Look.{Fate, Look, Ways, entries_in, failed_by, failed_in, fate_at, is_dropped, snapshots, sound, unopened, unread, is_first}
 use Rattle.std.proofs.Math.Seq.{drop-append_seam as drop_front, take-append_seam}
 use Rattle.follow_core.specs.Run.{AreKept, name_text}
-use Rattle.follow_core.specs.Notice.{notice_of, notices_of, notices_later, is_missing}
+use Rattle.follow_core.specs.Notice.{notice_of, notices_of, is_missing}
 use Rattle.follow_core.specs.Share.{share_by, gain, gains_from, new_entries, said_at_look, IsFront, missing_share, Share, BeginsShare, no_share}
 use Rattle.follow_core.proofs.RunLemmas.{gains-append, last_from-append, notices-append, text_goes_on, text_is_gains, entries-append}
 use Rattle.ports_core.specs.Slot.{Slot, changed_at}

@@ -73,6 +73,7 @@ impl Printer {
     /// # Errors
     ///
     /// `Memory` where there is no room for the header, `Write(0)` where standard output broke.
+    #[tactic(auto, using(crate::proofs::CallLemmas::no_memory))]
     fn show<O: Outs>(&mut self, due: bool, name: &str, outs: &mut O) -> Result<(), Fault>
         requires { IsTrue (is_writable (O.slots outs.old) 0) }
         ensures out { OnOk result (O.slots outs.new ≡ with_written 0 (told_of O.told (if due then header_of name.now (is_none self.old.last) else [])) (O.slots outs.old)) }
