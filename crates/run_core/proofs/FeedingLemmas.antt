@@ -222,10 +222,6 @@ pub of_more : (told : Bool) (there : Content) (x rest : List ℕ) (is_broken : B
 of_more true there x rest is_broken P all holds = (there, λ t. refl, (holds there (λ t. refl) rest (all refl), λ untold. absurd (false≢true (sym untold))))
 of_more false there x rest is_broken P all holds = (record { bytes = x; breaks_off = false }, λ t. absurd (false≢true t), (holds _ (λ t. absurd (false≢true t)) [] (sym (append-nil x)), λ untold breaks. absurd (false≢true breaks)))
 
--- the same of the fault that is handed on
-pub given_so : {told : Bool} {before new : List Slot} {work : Work} {opening : Needs} {most : ℕ} {content : Content} (WasRead : List ℕ → Type 0) {given fault : Fault} → given ≡ fault → FedAs told before work opening most content WasRead new (Err fault) → FedAs told before work opening most content WasRead new (Err given)
-given_so WasRead is fed = rw is fed
-
 -- Lemmas on an engine that took in a front of its input without a read: the loop that feeds it goes on from there.
 
 needed_front : {is_complete : List ℕ → Bool} {most : ℕ} {x : List ℕ} → (x ≡ []) ⊎ (is_complete x ≡ false) → IsNeeded is_complete most x

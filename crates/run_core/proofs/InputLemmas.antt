@@ -3,7 +3,6 @@ use Rattle.std.proofs.Common.{◌⊎◌, arith, inl, inr, ◌≡◌, ℕ, ◌<�
 use Rattle.std.proofs.lemmas.Bool.{false≢true, or_left, or_right, and_parts, false_from_ne_true, or_parts}
 use Rattle.std.proofs.Math.Bool.{and-false, and-true, or-false, or-true, or_assoc}
 use Rattle.ports_core.specs.Slot.{Slot, adds, is_open, slot_at, is_writable, told_of, with_written, streams}
-use Rattle.ports_core.specs.Write.{BrokeAfter}
 use Rattle.ports_core.specs.Source.{Content, Source, source_at, source_of, missing, is_readable, IsFresh, Opens as OpensFile, OpensNothing}
 use Rattle.ports_core.specs.Part.{Part, only_out, OutputsAt}
 use Rattle.ports_core.specs.Swept.{Swept}
@@ -12,7 +11,6 @@ use Rattle.ports_core.specs.Guard.{GuardState}
 use Rattle.ports_core.specs.Engine.{is_verdict}
 use Rattle.ports_core.specs.Text.{message_of}
 use Rattle.ports_core.specs.Message.{SaysOn, SaysAll, output_named}
-use Rattle.ports_core.specs.declared.tool.Tool.{Tool}
 use Rattle.ports_core.specs.declared.fault.Fault.{Fault}
 use Rattle.ports_core.specs.declared.fault.Fault.TheVariants.{Memory, Write, Read, Open}
 use Rattle.ports_core.proofs.PartLemmas.{out_more, out_cut, part_begins_itself, stopped_here, broken_at, outputs_count, nothing_out}
@@ -21,13 +19,13 @@ use Rattle.ports_core.proofs.SlotLemmas.{length-changed_at}
 use Rattle.run_core.specs.declared.inputs.Progress.{Progress}
 use Rattle.run_core.specs.declared.feeding.Fed.{Fed}
 use Rattle.run_core.specs.declared.feeding.Fed.TheVariants.{Whole, Enough, Broken}
-use Rattle.run_core.specs.Feeding.{is_enough, opens, FedAs, whole, had_enough, broke_off, judged, stopped, is_stop, LeavesOf, Uses}
+use Rattle.run_core.specs.Feeding.{is_enough, FedAs, whole, had_enough, broke_off, judged, stopped, is_stop, LeavesOf, Uses}
 use Rattle.ports_core.specs.Inputs.{BreaksOnly, OfContent, empty, AsksAtMost, largest_piece}
 use Rattle.run_core.specs.Reading.{IsDone, Leaves, AreUntouched, count_after}
 use Rattle.run_core.specs.RunEnds.{unheaded, heading, calling, step_after, EndsAs, as_defined, stopped as run_stopped, no_room as run_unmade, RunsOver, unopened}
 use Rattle.ports_core.specs.Streams.{streams_with, standard_output, standard_error}
 use Rattle.run_core.specs.inner.RunSteps.{HeaderFails, no_room, broke, TookInput, took, cut_off, input_from, OfSource, KeepsOther, TookAll, all, stopped_at, not_begun, HasStreams, OfName, is_unopened, standard_source}
-use Rattle.run_core.specs.RunSteps.{Opens, OpensShort, world_of}
+use Rattle.run_core.specs.RunSteps.{Opens, world_of}
 use Rattle.run_core.specs.Task.{Task, Outcome, after_part, header_text, of_content, made_by, no_outcome, joined, of_input, of_inputs, is_missing, are_missing, ends_badly}
 use Rattle.run_core.proofs.ReadingLemmas.{left_of, StayDone, all_done, count_more, done_more, done_with, last_source, missing_done, rest_untouched, still_done}
 use Rattle.run_core.proofs.StopLemmas.{after_assoc, out_on, at_after, stop_after, none_to_sweep, nothing_after, swept_from, said_swept, swept_error, error_open, stop_error, stop_swept, said_at}
@@ -40,11 +38,6 @@ use Rattle.ports_core.proofs.InputsLemmas.{fresh_asks}
 use Rattle.ports_core.specs.Source as from
 
 -- Lemmas on one input of a run.
-
--- headers
-
-pub broken_header : {told : Bool} {text said : List ℕ} {old new : List Slot} {n : ℕ} → said ≡ text → BrokeAfter told old new 0 said n → HeaderFails told text old new (Write 0)
-broken_header {n} is cut = broke n (rw is at cut)
 
 -- the streams
 
@@ -150,18 +143,13 @@ module _ (told_in told : Bool) (task : Task) (most : ℕ) (is_first failed was_r
 pub swept_open : (clears : Bool) (reached new : List Slot) {first : ℕ} → 2 ≤ first → is_open (slot_at reached 1).state ≡ true → Swept clears first reached new → is_open (slot_at new 1).state ≡ true
 swept_open clears reached new past opened swept = rw (swept_error clears reached new past swept, opened)
 
-pub fed_open : {told : Bool} {work : Work} {opening : Needs} {most : ℕ} {error : Slot} {part : Part} {mid new : List Slot} {content : Content} (WasRead : List ℕ → Type 0) {fed : Fed} → fed ≡ Broken → is_open error.state ≡ true → OutputsAt told (streams_with error) part mid → FedAs told mid work opening most content WasRead new (Ok fed) → is_open (slot_at new 1).state ≡ true
-fed_open {work} {new} WasRead is opened at (broke_off breaks going reached there swept) =
-    swept_open work.clears reached new (part_two at) (part_open opened (at_after at there)) swept
-fed_open WasRead is opened at ends = absurd (cc)
-
-pub judged_open : {told : Bool} {work : Work} {opening : Needs} {most : ℕ} {error : Slot} {part : Part} {mid new : List Slot} {content : Content} (WasRead : List ℕ → Type 0) {fault : Fault} → is_verdict fault ≡ true → is_open error.state ≡ true → OutputsAt told (streams_with error) part mid → FedAs told mid work opening most content WasRead new (Err fault) → is_open (slot_at new 1).state ≡ true
-judged_open {work} {new} WasRead judging opened at (judged _ is enough judges reached there swept) = swept_open work.clears reached new (part_two at) (part_open opened (at_after at there)) swept
-judged_open WasRead judging opened at (stopped _ unjudged call is_call read reached why stop swept) = absurd (false≢true (sym unjudged ∙ judging))
-
--- an engine that could not be opened
-pub not_opened : {told : Bool} {work : Work} {opening : Needs} {most : ℕ} {content : Content} (WasRead : List ℕ → Type 0) {old new : List Slot} {fault : Fault} → OpensShort work opening told old new fault → WasRead [] → FedAs told old work opening most content WasRead new (Err fault)
-not_opened WasRead {fault} short read = stopped fault short.unjudged _ opens read short.reached short.why short.stop short.swept
+pub fed_open : {told : Bool} {work : Work} {opening : Needs} {most : ℕ} {error : Slot} {part : Part} {mid new : List Slot} {content : Content} (WasRead : List ℕ → Type 0) {result : Result Fed Fault} → is_open error.state ≡ true → OutputsAt told (streams_with error) part mid
+    → FedAs told mid work opening most content WasRead new result → is_open (slot_at new 1).state ≡ true
+fed_open WasRead opened at (whole sound going well there) = part_open opened (at_after at there)
+fed_open WasRead opened at (had_enough complete well there) = part_open opened (at_after at there)
+fed_open {work} {new} WasRead opened at (broke_off breaks going reached there swept) = swept_open work.clears reached new (part_two at) (part_open opened (at_after at there)) swept
+fed_open {work} {new} WasRead opened at (judged fault is enough judges reached there swept) = swept_open work.clears reached new (part_two at) (part_open opened (at_after at there)) swept
+fed_open {work} {new} WasRead opened at (stopped fault is call is_call read reached why stop swept) = swept_open work.clears reached new (part_two at) (error_open (stop_error opened (stop_after at stop))) swept
 
 -- what was fed to the engine that was opened
 pub fed_as : {S : Type 0} (Holds : S → List ℕ → Type 0) (Owns : S → ℕ → List Slot → Type 0) {work : S → Work} (Ready : S → List Slot → Type 0) {asked : Work} (opening : Needs) {told told_in : Bool} {old mid new : List Slot} {engine : GuardState S} {source : Option ℕ} {slot : ℕ} (sources left : List Source) {most : ℕ} {result : Result Fed Fault}
@@ -184,17 +172,7 @@ pub keeps_all : (source : Option ℕ) (sources : List Source) → KeepsOther sou
 keeps_all None sources = refl
 keeps_all (Some slot) sources = record { count = refl; others = λ place differs. refl }
 
--- a message by the names that a tool gives
-pub said_as : {told : Bool} {tool other : Tool} (fault : Fault) {name called : List ℕ} {old new : List Slot} → tool ≡ other → name ≡ called → SaysOn told tool (message_of tool fault name) old new → SaysOn told other (message_of other fault called) old new
-said_as fault one two says = rw (one, two) at says
-
 -- Lemmas on how a run ends.
-
-pub over_too : {told_in : Bool} {world : World} {names : List (List ℕ)} (P Q : List Input → Type 0) → ((found : List Input) → P found → Q found) → RunsOver told_in world names P → RunsOver told_in world names Q
-over_too P Q more (found, finds, holds) = (found, finds, more found holds)
-
-pub from_over : {told_in : Bool} {world : World} {names : List (List ℕ)} (P : List Input → Type 0) (Q : Type 0) → ((found : List Input) → P found → Q) → RunsOver told_in world names P → Q
-from_over P Q more (found, finds, holds) = more found holds
 
 -- the run that reached the end of its inputs
 pub ran_through : {told_in told : Bool} {task : Task} {found : List Input} {sources : List Source} {new : List Slot} {failed : Bool} {status : ℕ} → status ≡ (if failed then 1 else 0) → TookAll told_in told task found sources new (Ok failed) → EndsAs told_in told task found sources new status
@@ -218,11 +196,6 @@ ran_into {told} {task} {mid} {fault} (stopped_at _ before input after error step
 ran_into (not_begun at_first untouched none) says =
     let said = says standard_output standard_error [] at_first in
     run_unmade said.0 (said.0, said.1, refl) said.2 untouched none refl
-
--- what was said by the name that a tool gives itself
-pub ran_into_as : {told_in told : Bool} {task : Task} {tool : Tool} {found : List Input} {sources : List Source} {mid new : List Slot} {fault : Fault} → tool ≡ task.tool → TookAll told_in told task found sources mid (Err fault) → SaysOn told tool (message_of tool fault (output_named mid fault)) mid new
-    → EndsAs told_in told task found sources new 1
-ran_into_as is taken says = ran_into taken (rw is at says)
 
 -- Lemmas on taking the inputs for names, one after another.
 

@@ -6,7 +6,7 @@ use Rattle.ports_core.specs.Work.{Work, IsSettled}
 use Rattle.ports_core.specs.Engine.{EndsWith}
 use Rattle.ports_core.proofs.SpareLemmas.{complete_used, spare_within}
 use Rattle.run_core.specs.Feeding.{enough, to_end}
-use Rattle.run_core.proofs.FeedingLemmas.{of_more, of_read, alike_after, alike_itself, judges, judging_of, broken_off, goes_on, stopped_feeding, ended, needed_more, piece_within, ends_sound, given_so, loaded_feeds, loaded_readable, loaded_others, loaded_read, loaded_needed, loaded_asked, last_given, loaded_few, loaded_taken, needed_within, read_used, takes_more, takes_none, uses_all, uses_judged, uses_part}
+use Rattle.run_core.proofs.FeedingLemmas.{of_more, of_read, alike_after, alike_itself, judges, judging_of, broken_off, goes_on, stopped_feeding, ended, needed_more, piece_within, ends_sound, loaded_feeds, loaded_readable, loaded_others, loaded_read, loaded_needed, loaded_asked, last_given, loaded_few, loaded_taken, needed_within, read_used, takes_more, takes_none, uses_all, uses_judged, uses_part}
 use Rattle.ports_core.proofs.InputsLemmas.{changed_source, sound_at, read_none_more, keeps_again, keeps_others, read_broken, still_readable, read_more, read_failed, read_to_end, asked_again, asked_at_end, broken_now}
 use Rattle.run_core.proofs.feeding.feed_input.Goals as goal
 
@@ -138,7 +138,7 @@ returns-in-Err-feed g c =
           let within : length (take c.in-Ok.n c.read_part.new.buffer) ≤ length c.args.buffer.now = piece_within c.read_part.new.buffer (omega (arith, c.in-Ok.ensures.bound, c.piece_size-size.ensures.within, so_far.room)) in
           let more = λ (told : g.I.Inputs.told ≡ true). (read_more _ _ _ _ _ _ _ _ _ (so_far.read told) so_far.readable (c.in-Ok.ensures.bytes told) c.in-Ok.ensures.rest).bytes in
           of_more g.I.Inputs.told _ (so_far.fed ++ take c.in-Ok.n c.read_part.new.buffer) _ _ _ more
-          (λ content is rest bytes. given_so _ c.given_up.ensures.same (stopped_feeding _ _ _ g.met.S.Stage.lawful _ c.feed.new.self _ (take c.in-Ok.n c.read_part.new.buffer) rest so_far.feeds own at bytes within going
+          (λ content is rest bytes. rw c.given_up.ensures.same (stopped_feeding _ _ _ g.met.S.Stage.lawful _ c.feed.new.self _ (take c.in-Ok.n c.read_part.new.buffer) rest so_far.feeds own at bytes within going
           (sound_at (g.I.Inputs.sources c.read_part.new.inputs) c.args.slot (still_readable _ _ _ _ c.in-Ok.n c.in-Ok.ensures.rest so_far.readable), λ told. is told ∙ more told)
           c.in-Err-feed.ensures.cut c.in-Err-feed.ensures.refused c.feed.ensures.same (λ unjudged. c.feed.ensures.owns) c.given_up.ensures.judged c.given_up.ensures.swept));
       others = keeps_again _ _ _ _ so_far.others (keeps_others _ _ _ _ c.in-Ok.ensures.rest);

@@ -1,12 +1,14 @@
 use Rattle.std.proofs.Common.{not, ◌∙◌, ap, sym}
 use Rattle.std.proofs.lemmas.Bool.{false≢true}
 use Rattle.ports_core.proofs.HandedOn.{handed_on}
-use Rattle.run_core.proofs.InputLemmas.{not_opened, fed_as, fed_none, keeps_all}
+use Rattle.run_core.proofs.InputLemmas.{fed_as, fed_none, keeps_all}
 use Rattle.run_core.proofs.ReadingLemmas.{unread_source, asks_there, still_within}
+use Rattle.run_core.specs.Feeding.{opens, stopped}
 use Rattle.run_core.proofs.inputs.feed_source.Goals as goal
 
 pub returns-in_err-engine-clause-fed : goal.returns-in_err-engine-clause-fed
-returns-in_err-engine-clause-fed g c = rw (handed_on _ _ c.from_residual.ensures.1) (unread_source _ _ _ _ c.requires.input (λ content unread. (not_opened _ c.in_err-engine.ensures.err unread, λ ends. absurd (false≢true (sym ends ∙ ap not c.in_err-engine.ensures.err.unjudged)))))
+returns-in_err-engine-clause-fed g c = rw (handed_on _ _ c.from_residual.ensures.1) (unread_source _ _ _ _ c.requires.input (λ content unread.
+    let short = c.in_err-engine.ensures.err in (stopped _ short.unjudged _ opens unread short.reached short.why short.stop short.swept, λ ends. absurd (false≢true (sym ends ∙ ap not short.unjudged)))))
 
 pub returns-in-Some-clause-fed : goal.returns-in-Some-clause-fed
 returns-in-Some-clause-fed g c = fed_as _ _ _ _ _ _ c.in-Some.is c.in_ok-engine.ensures.ok (still_within c.in-Some.is c.requires.input c.feed_input.ensures.others) c.feed_input.ensures.ends (λ told ends. c.feed_input.ensures.used told ends (rw c.in-Some.is at c.requires.unread))

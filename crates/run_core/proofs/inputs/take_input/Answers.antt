@@ -1,7 +1,6 @@
 use Rattle.std.proofs.Common.{not, ap, inl, inr, sym, refl}
-use Rattle.ports_core.specs.declared.fault.Fault.TheVariants as fault
 use Rattle.ports_core.proofs.HandedOn.{handed_on}
-use Rattle.run_core.proofs.InputLemmas.{of_source_too, from_source, part_writable, part_two, headed, headed_count, stopped_in_header, took_well, took_broken, took_verdict, took_stopped, fed_open, judged_open, keeps_all, said_as}
+use Rattle.run_core.proofs.InputLemmas.{of_source_too, from_source, part_writable, part_two, headed, headed_count, stopped_in_header, took_well, took_broken, took_verdict, took_stopped, fed_open, keeps_all}
 use Rattle.run_core.proofs.ReadingLemmas.{unread_source}
 use Rattle.run_core.proofs.inputs.take_input.Goals as goal
 
@@ -24,12 +23,12 @@ returns-in_err-put_header-clause-others g c = keeps_all _ _
 pub say-requires : goal.say-requires
 say-requires g c =
     let had = c.requires.outputs in
-    from_source _ _ _ _ _ _ (λ content fed done. fed_open _ c.in-Ok-Broken.field-0-is had.opened (headed _ had.at c.in_ok-put_header.ensures.ok) fed) c.in-Ok-Broken.ensures.fed
+    from_source _ _ _ _ _ _ (λ content fed done. fed_open _ had.opened (headed _ had.at c.in_ok-put_header.ensures.ok) fed) c.in-Ok-Broken.ensures.fed
 
 pub say-requires-in-Err : goal.say-requires-in-Err
 say-requires-in-Err g c =
     let had = c.requires.outputs in
-    from_source _ _ _ _ _ _ (λ content fed done. judged_open _ (sym c.if-not-is_verdict.ensures) had.opened (headed _ had.at c.in_ok-put_header.ensures.ok) fed) c.in-Err.ensures.fed
+    from_source _ _ _ _ _ _ (λ content fed done. fed_open _ had.opened (headed _ had.at c.in_ok-put_header.ensures.ok) fed) c.in-Err.ensures.fed
 
 pub returns-in-Ok-Whole-clause-took : goal.returns-in-Ok-Whole-clause-took
 returns-in-Ok-Whole-clause-took g c so_far error opened at =
@@ -41,7 +40,7 @@ returns-in-Ok-Enough-clause-took g c so_far error opened at =
 
 pub returns-in-Ok-Broken-clause-took : goal.returns-in-Ok-Broken-clause-took
 returns-in-Ok-Broken-clause-took g c so_far error opened at =
-    of_source_too _ _ _ _ _ _ (λ content fed done. took_broken _ _ _ _ _ _ _ _ so_far error _ _ _ _ (headed_count g.O.Outs.told _ _ c.in_ok-put_header.ensures.ok) (part_two at) (headed _ at c.in_ok-put_header.ensures.ok) (done refl) c.in-Ok-Broken.field-0-is fed (said_as (fault.Read 0) c.tool.ensures refl c.say.ensures)) c.in-Ok-Broken.ensures.fed
+    of_source_too _ _ _ _ _ _ (λ content fed done. took_broken _ _ _ _ _ _ _ _ so_far error _ _ _ _ (headed_count g.O.Outs.told _ _ c.in_ok-put_header.ensures.ok) (part_two at) (headed _ at c.in_ok-put_header.ensures.ok) (done refl) c.in-Ok-Broken.field-0-is fed (rw c.tool.ensures at c.say.ensures)) c.in-Ok-Broken.ensures.fed
 
 pub returns-then-not-is_verdict-clause-took : goal.returns-then-not-is_verdict-clause-took
 returns-then-not-is_verdict-clause-took g c so_far error opened at =
@@ -49,4 +48,4 @@ returns-then-not-is_verdict-clause-took g c so_far error opened at =
 
 pub returns-else-not-is_verdict-clause-took : goal.returns-else-not-is_verdict-clause-took
 returns-else-not-is_verdict-clause-took g c so_far error opened at =
-    of_source_too _ _ _ _ _ _ (λ content fed done. took_verdict _ _ _ _ _ _ _ _ so_far error _ _ _ _ (headed_count g.O.Outs.told _ _ c.in_ok-put_header.ensures.ok) (part_two at) (headed _ at c.in_ok-put_header.ensures.ok) (done (ap not (sym c.if-not-is_verdict.ensures))) (sym c.if-not-is_verdict.ensures) fed (said_as _ c.tool-in-Err.ensures c.subject-subject.ensures c.say-in-Err.ensures)) c.in-Err.ensures.fed
+    of_source_too _ _ _ _ _ _ (λ content fed done. took_verdict _ _ _ _ _ _ _ _ so_far error _ _ _ _ (headed_count g.O.Outs.told _ _ c.in_ok-put_header.ensures.ok) (part_two at) (headed _ at c.in_ok-put_header.ensures.ok) (done (ap not (sym c.if-not-is_verdict.ensures))) (sym c.if-not-is_verdict.ensures) fed (rw (c.tool-in-Err.ensures, c.subject-subject.ensures) at c.say-in-Err.ensures)) c.in-Err.ensures.fed

@@ -1,6 +1,6 @@
-use Rattle.std.proofs.Common.{◌∙◌, sym, refl, arith}
+use Rattle.std.proofs.Common.{◌∙◌, sym, arith}
 use Rattle.std.proofs.lemmas.Grind.{common_steps}
-use Rattle.run_core.proofs.InputLemmas.{said_as, of_missing, of_no_room, took_opened, took_standard}
+use Rattle.run_core.proofs.InputLemmas.{of_missing, of_no_room, took_opened, took_standard}
 use Rattle.run_core.proofs.ReadingLemmas.{takes_dash, takes_file, takes_missing}
 use Rattle.run_core.proofs.inputs.take_name.Goals as goal
 
@@ -26,7 +26,7 @@ returns-in-Ok-clause-takes g c = takes_file (sym c.is_dash.ensures ∙ c.if-is_d
 
 pub returns-else-not-is_unopened-clause-took : goal.returns-else-not-is_unopened-clause-took
 returns-else-not-is_unopened-clause-took g c so_far error opened at =
-    of_missing (sym c.is_dash.ensures ∙ c.if-is_dash.false) c.in-Err.ensures.err (sym c.if-not-is_unopened.ensures) at (said_as c.in-Err.fault c.tool.ensures refl c.say.ensures)
+    of_missing (sym c.is_dash.ensures ∙ c.if-is_dash.false) c.in-Err.ensures.err (sym c.if-not-is_unopened.ensures) at (rw c.tool.ensures at c.say.ensures)
 
 pub returns-else-not-is_unopened-clause-takes : goal.returns-else-not-is_unopened-clause-takes
 returns-else-not-is_unopened-clause-takes g c = takes_missing (sym c.is_dash.ensures ∙ c.if-is_dash.false) c.requires.some c.in-Err.ensures.err
