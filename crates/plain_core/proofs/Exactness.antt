@@ -16,6 +16,7 @@ use Rattle.bre_core.specs.Flat.{read_on, tree_of, current_after, around_after, A
 use Rattle.bre_core.specs.Pattern.{Pattern, nothing, append, Item, repeat}
 use Rattle.plain_core.specs.inner.Plain.{State, IsSettled, TookLeaf, TookRepeat, Advances}
 use Rattle.bre_core.proofs.Searching.{parts_stay, stays, item_stays}
+use Rattle.std.proofs.Common.{rules}
 
 -- Sets of places, place by place.
 
@@ -35,10 +36,7 @@ pub record RowsAre (places : ℕ) (P : ℕ → ℕ → Type 0) (rows : List (Lis
 
 -- whole, they are stretches
 pub rows_whole : {places : ℕ} (P : ℕ → ℕ → Type 0) {rows : List (List Bool)} → RowsAre places P rows → length rows ≡ places → ((from to : ℕ) → from < places → P from to → from ≤ to) → AreSpans rows
-rows_whole P {rows} r e f = record {
-  square = λ from h. r.each from h ∙ sym e;
-  forward = λ from to s. let h = spans_within rows from to s in f from to (omega (arith, h, e)) ((r.exact from to h).0 s);
-}
+rows_whole P {rows} r e f = search (rules, spans_within)
 
 -- The stretches of a repeated item.
 
@@ -161,14 +159,7 @@ again_more ends {item} below {new} {new'} {row} a here e forward absorbed = reco
         before less (inr f) = absurd (omega (arith, less, forward middle f))
 
 pub again_skip : (ends : List Bool) {item : List (List Bool)} (below : ℕ) {new : List Bool} → Again ends item below new → get_or new below false ≡ false → Again ends item (below + 1) new
-again_skip ends below {new} a absent = record {
-  kept = a.kept;
-  sound = a.sound;
-  closed = λ middle to h g s. elim (cases_eq middle below) [
-    | inl same ↦ absurd (false≢true (sym absent ∙ subst (EndsAt new) same g))
-    | inr other ↦ a.closed middle to (omega (arith, h, other)) g s
-  ];
-}
+again_skip ends below {new} a absent = search (rules, cases_eq)
 
 pub again_ends : (ends : List Bool) {item : List (List Bool)} (below : ℕ) {new : List Bool} → Again ends item below new → length item ≤ below → (to : ℕ) → EndsAt new to ↔ EndsAfter AnyTimes ends item to
 again_ends ends {item} below {new} a h to = (a.sound to, λ led. follow led.1 to led.0 led.2 led.3)
@@ -258,38 +249,18 @@ pub record Means (line : List ℕ) (current : Pattern) (around : List Pattern) (
 
 leaf_taken : (line : List ℕ) {token : Token} {item : Item} {current : Pattern} {around : List Pattern} {old new : State} → Means line current around old → TookLeaf token line old new
     → ((from to : ℕ) → LeafEnds token line from to ↔ MatchesItem item line from to) → Means line (append current item) around new
-leaf_taken line {current} {around} {old} {new} m t same = record {
-  frame = (
-    settled_exact line current old.before new.before old.last m.frame t.before,
-    t.item,
-    t.last,
-    record {
-      places = t.leaf.places;
-      exact = λ from to h. (λ s. (same from to).0 ((t.leaf.exact from to h).0 s), λ k. (t.leaf.exact from to h).1 ((same from to).1 k));
-    },
-  );
-  outer = subst (λ spans. AroundAre line spans around) (sym t.around) m.outer;
-}
+leaf_taken line {current} {around} {old} {new} m t same = search (rules, settled_exact)
 
 pub advanced : (line : List ℕ) (token : Token) (current : Pattern) (around : List Pattern) {old new : State}
     → Means line current around old → Advances token line old new → Means line (current_after token current around) (around_after token current around) new
 advanced line (Set bytes) current around m t = leaf_taken line m t (λ from to. (λ h. h, λ h. h))
 advanced line Front current around m t = leaf_taken line m t (λ from to. (λ h. h, λ h. h))
 advanced line End current around m t = leaf_taken line m t (λ from to. (λ h. h, λ h. h))
-advanced line Open current around {old} m t = record {
-  frame = (nothing_exact line t.before, t.last);
-  outer = (old.around, t.outer, t.around, settled_exact line current old.before t.outer old.last m.frame t.settled, m.outer);
-}
+advanced line Open current around {old} m t = search (rules, nothing_exact, settled_exact)
 advanced line Close current [] m (inl t) = subst (Means line current []) (sym t.1) m
 advanced line Close current [] {new} m (inr t) = absurd (no_end new.around new.before (sym t.around ∙ m.outer))
 advanced line Close current (outer ∷ around) m (inl t) = absurd (no_end m.outer.0 m.outer.1 (sym m.outer.2 ∙ t.0))
-advanced line Close current (outer ∷ around) {old} {new} m (inr t) =
-    let same = same_end new.around m.outer.0 new.before m.outer.1 (sym t.around ∙ m.outer.2) in
-    let inner = settled_exact line current old.before t.inner old.last m.frame t.settled in
-    record {
-      frame = (subst (Exact line (Matches outer line)) (sym same.1) m.outer.3, t.inner, t.last, record { places = inner.places; exact = inner.exact });
-      outer = subst (λ spans. AroundAre line spans around) (sym same.0) m.outer.4;
-    }
+advanced line Close current (outer ∷ around) {old} {new} m (inr t) = search (rules, same_end, settled_exact)
 advanced line (Repeat low high) nothing around {old} {new} m t =
     subst (Means line nothing around) (sym (subst (λ last. MatchOption last (new ≡ old) (λ item. TookRepeat low high item old new)) m.frame.1 t)) m
 advanced line (Repeat low high) (append pattern item) around {old} {new} m t =
