@@ -14,7 +14,7 @@ use Rattle.seg_core.specs.declared.unit.Unit.{Unit as Counted}
 use Rattle.seg_core.specs.declared.unit.Unit.TheVariants.{Lines, Bytes}
 use Rattle.ends_core.specs.Ends.{size, measure, first_of, last_of, but_last_of, head_of, tail_of, after_of}
 use Rattle.ends_core.specs.laws.EndsLaws.{measure-append, first_of-append, first_of-short, first_of-full, first_then_after, ends_together, but_last_of-append}
-use Rattle.ends_core.proofs.EndsLaws.{measure-delimiters, last_is_drop, last_is_small}
+use Rattle.ends_core.proofs.KeptLemmas.{measure-delimiters, last_is_drop, last_is_small}
 use Rattle.ends_core.specs.Head.{head_work, head_waiting}
 use Rattle.ends_core.specs.Tail.{tail_work, tail_waiting}
 use Rattle.ends_core.specs.Place.{head_spots, skipped, tail_spots}

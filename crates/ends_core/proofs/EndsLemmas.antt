@@ -24,8 +24,8 @@ use Rattle.ends_core.specs.Kept.{most_of, delim_of as kept_delim, unit_of as kep
 use Rattle.ends_core.specs.inner.Kept.{Passes, Stops}
 use Rattle.ends_core.specs.laws.WorkLaws.{full_head}
 use Rattle.ends_core.specs.laws.EndsLaws.{ends_together, first_then_after, measure-append, first_of-append, first_of-short, after_of-append, last_of-append, but_last_of-append, first_of-full}
-use Rattle.ends_core.proofs.EndsLaws.{measure-delimiters, first_of-more, but_last_grows, first_of-nil}
-use Rattle.ends_core.proofs.StopLemmas as stop
+use Rattle.ends_core.proofs.KeptLemmas.{measure-delimiters, first_of-more, but_last_grows, first_of-nil}
+use Rattle.ends_core.proofs.KeptLemmas as stop
 use Rattle.ends_core.proofs.LoadLemmas.{last_none, after-past}
 use Rattle.ports_core.specs.Guard.{GuardState, HoldsIn}
 use Rattle.ports_core.proofs.SpareLemmas.{all_used}

@@ -26,7 +26,7 @@ use Rattle.split_core.specs.laws.PartStateLaws as part_law
 use Rattle.split_core.specs.laws.RoundLaws as round_law
 use Rattle.split_core.proofs.MoveLemmas.{named_before}
 use Rattle.split_core.proofs.SectionLemmas.{settled_list, settled_bytes}
-use Rattle.split_core.proofs.ShareLaws.{bytes_of_shares}
+use Rattle.split_core.proofs.CutLaws.{bytes_of_shares}
 use Rattle.split_core.proofs.StepLemmas.{lines_stay}
 
 -- The bytes of files that have names

@@ -22,7 +22,7 @@ use Rattle.ports_core.specs.Slot.{changed_at}
 use Rattle.ports_core.proofs.SlotLemmas.{length-changed_at, set-changed}
 use Rattle.split_core.specs.Parts.{dealt}
 use Rattle.split_core.specs.inner.Dealt.{dealt_piece, Gathers}
-use Rattle.split_core.proofs.DealLaws.{dealt_same}
+use Rattle.split_core.proofs.CutLaws.{dealt_same}
 use Rattle.ports_core.proofs.CounterLemmas.{no_length}
 
 none_append : (delim : ℕ) (x y : List ℕ) → HasNone delim x → HasNone delim y → HasNone delim (x ++ y)

@@ -10,6 +10,3 @@ pub mod FilesLemmas
 pub mod DealLemmas
 pub mod PartsLemmas
 pub mod SectionLemmas
-pub mod DealLaws
-pub mod ShareLaws
-pub mod PlaceLemmas

@@ -21,7 +21,7 @@ use Rattle.ports_core.specs.inner.Write.{WritesShort, broke}
 use Rattle.ports_core.proofs.SlotSteps.{keeps_again, rose_later, write_rose, open_rose}
 use Rattle.split_core.specs.Split.{Share, share, split_means, is_named, are_named, from_start, only_files, file_at, named, name_of}
 use Rattle.split_core.specs.inner.CutLaws.{AllShut, SharesBegin}
-use Rattle.split_core.proofs.ShareLaws.{shares_more, shares_themselves, shares_trans, last_grows}
+use Rattle.split_core.proofs.CutLaws.{shares_more, shares_themselves, shares_trans, last_grows}
 use Rattle.split_core.specs.laws.ShareLaws.{part_begins, one_on, shares_fewer}
 use Rattle.split_core.specs.inner.PartsState.{IsAtEnd}
 use Rattle.split_core.specs.PartsState.{PartsState, IsReady, OwnsFile}

@@ -16,8 +16,7 @@ use Rattle.split_core.specs.Parts.{most, unless_empty, CutUp, cut_up, settled_re
 use Rattle.split_core.specs.Split.{Share, share, is_some, is_named, are_named, from_start, name_of, named, settled_parts, only_files}
 use Rattle.split_core.specs.laws.DealLaws.{is_some_of}
 use Rattle.split_core.specs.laws.ShareLaws.{shares_after, part_begins, settled_on, settled_grow, are_named_more, settled_count}
-use Rattle.split_core.proofs.ShareLaws.{shut_more, shut_map, shares_trans}
-use Rattle.split_core.proofs.CutLaws.{cut_two}
+use Rattle.split_core.proofs.CutLaws.{shut_more, cut_two, shut_map, shares_trans}
 use Rattle.split_core.specs.PartsState.{PartsState, IsReady, is_given, Lacks, Stands}
 use Rattle.split_core.specs.inner.CutLaws.{AllShut, cut_so, SharesBegin, whole_parts}
 use Rattle.split_core.specs.inner.Moves.{Keeps, KeepsFile, Breaks, Draft, draft, written, Begun, gets, turns, Moves, Found, HasNone, Extends, Turns, Shuts, WritesTo, breaks_write, numbers, Takes, Steps, Finishes, CannotClose, wants_memory, lacks_names}

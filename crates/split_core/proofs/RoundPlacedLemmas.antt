@@ -19,9 +19,9 @@ use Rattle.split_core.specs.Split.{Plan, is_named, whole_by, split_work, dealt_f
 use Rattle.split_core.specs.Place.{dealt_to, dealt_spots, split_spots}
 use Rattle.split_core.specs.Round.{round_plan, opened_by}
 use Rattle.split_core.specs.Splitter.{IsPositive}
-use Rattle.split_core.specs.inner.DealLaws.{share_of}
+use Rattle.split_core.specs.inner.Dealt.{share_of}
 use Rattle.split_core.specs.laws.DealLaws.{dealt_append, dealt_first, next_place, dealt_files_are}
-use Rattle.split_core.proofs.DealLaws.{opened_by-most}
+use Rattle.split_core.proofs.CutLaws.{opened_by-most}
 use Rattle.split_core.proofs.MoveLemmas.{named_before}
 use Rattle.split_core.proofs.AgreedLemmas.{named_bytes, dealt_whole, plan_by}
 use Rattle.split_core.specs.laws.ShareLaws.{one_on}

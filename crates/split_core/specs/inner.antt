@@ -6,4 +6,3 @@ pub mod Ways
 pub mod Dealt
 pub mod Ahead
 pub mod CutLaws
-pub mod DealLaws

@@ -3,7 +3,7 @@ use Rattle.std.specs.Prelude.{ℕ, ◌≡◌, ◌+◌, ◌%◌, List, map, min}
 use Rattle.std.specs.List.{range_with_len}
 use Rattle.seg_core.specs.Line.{lines_of, line_count, delimiters}
 use Rattle.split_core.specs.Parts.{dealt}
-use Rattle.std.proofs.Common.{ℕ, List}
+use Rattle.std.proofs.Common.{ℕ, ◌<◌, List, [], ◌∷◌, length}
 
 -- what each of n files gets of a piece, whose first byte goes to the file at this place
 abbrev pub dealt_piece : ℕ → ℕ → ℕ → List ℕ → List (List ℕ)
@@ -31,3 +31,11 @@ pub record DealState : Type 0 where
   pub next : ℕ
   -- the byte that lines end with
   pub delim : ℕ
+
+abbrev pub EachSome : List (List ℕ) → Type 0
+EachSome [] = Unit {0}
+EachSome (line ∷ lines) = (0 < length line) × EachSome lines
+
+-- what a file has of a text
+abbrev pub share_of : ℕ → ℕ → List ℕ → ℕ → List ℕ
+share_of delim n x file = dealt n file 0 (lines_of delim x)

@@ -12,7 +12,7 @@ use Rattle.seg_core.proofs.EndLines.{line_count-grows}
 use Rattle.split_core.specs.Parts.{dealt}
 use Rattle.split_core.specs.Split.{is_some, dealt_files}
 use Rattle.split_core.specs.Round.{opened_by}
-use Rattle.split_core.specs.inner.DealLaws.{EachSome, share_of}
+use Rattle.split_core.specs.inner.Dealt.{EachSome, share_of}
 
 pub dealt_first : (ends : Bool) (n file place byte : ℕ) (lines : List (List ℕ)) → dealt n file place (cond ends ((byte ∷ []) ∷ lines) (onto_first byte lines))
     ≡ cond (eqb (place % n) file) (byte ∷ dealt n file (cond ends (place + 1) place) lines) (dealt n file (cond ends (place + 1) place) lines)

@@ -1,8 +1,7 @@
 use Rattle.std.proofs.lemmas.Grind.{common_steps}
 use Rattle.std.proofs.Common.{arith}
 use Rattle.std.proofs.lemmas.List.{take_rest}
-use Rattle.ends_core.proofs.EndsLaws.{after_is_drop}
-use Rattle.ends_core.proofs.StopLemmas.{broke_in}
+use Rattle.ends_core.proofs.KeptLemmas.{after_is_drop, broke_in}
 use Rattle.ends_core.proofs.front.pass_after.Goals as goal
 
 pub returns-in-Ok-clause-out : goal.returns-in-Ok-clause-out

@@ -5,7 +5,7 @@ use Rattle.ports_core.specs.Work.{IsSpare}
 use Rattle.ports_core.specs.Engine.{MayGet}
 use Rattle.ends_core.specs.Stage.{Holds, work}
 use Rattle.ends_core.specs.inner.Stage.{due, due_at_end}
-use Rattle.ends_core.proofs.StopLemmas.{writable_still}
+use Rattle.ends_core.proofs.KeptLemmas.{writable_still}
 use Rattle.ends_core.proofs.EndsLemmas.{on_ok_each, same_work, takes_in, puts_out, cuts_off, met, finishes, ends_short, end_met, loads, waits_within, full_is, done_is_exact, may_get, spare_here, wants_some}
 use Rattle.ends_core.proofs.ends.EndsStage.TheImpl.Goals as goal
 
