@@ -14,7 +14,7 @@ use Rattle.ports_core.proofs.SlotSteps.{none_past, swept_none}
 use Rattle.seg_core.specs.declared.unit.Unit.{Unit as Counted}
 use Rattle.seg_core.specs.declared.unit.Unit.TheVariants.{Lines, Bytes}
 use Rattle.ends_core.specs.Ends.{size, after_of, head_of, tail_of}
-use Rattle.ends_core.proofs.EndsLaws.{first_of-nil}
+use Rattle.ends_core.proofs.KeptLemmas.{first_of-nil}
 use Rattle.ends_core.specs.Head.{head_work}
 use Rattle.ends_core.specs.Tail.{tail_work}
 use Rattle.seg_core.specs.declared.cut.Cut.{Cut}

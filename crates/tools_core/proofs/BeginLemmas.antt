@@ -22,12 +22,12 @@ use Rattle.seg_core.specs.declared.cut.Cut.TheVariants.{Lines, Bytes, LineBytes,
 use Rattle.split_core.specs.declared.limit.Limit.TheVariants as limit
 use Rattle.split_core.specs.Split.{share, are_named, dealt_files, split_work, whole_by}
 use Rattle.split_core.specs.Round.{opened_by, round_plan}
-use Rattle.split_core.specs.inner.DealLaws.{share_of}
+use Rattle.split_core.specs.inner.Dealt.{share_of}
 use Rattle.split_core.specs.laws.DealLaws.{dealt_files_are}
 use Rattle.split_core.specs.laws.PartStateLaws as part_law
 use Rattle.split_core.specs.laws.RoundLaws as round_law
 use Rattle.split_core.proofs.AgreedLemmas.{plan_by}
-use Rattle.split_core.proofs.DealLaws.{opened_by-most}
+use Rattle.split_core.proofs.CutLaws.{opened_by-most}
 use Rattle.run_core.specs.Feeding.{HasAll, IsCall, Step, enough, to_end, opens, feeds, closes}
 use Rattle.run_core.specs.Input.{Input}
 use Rattle.run_core.specs.RunEnds.{EndsAs, RunStep, as_defined, calling, heading, no_room, stopped}

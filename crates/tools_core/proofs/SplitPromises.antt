@@ -25,13 +25,13 @@ use Rattle.split_core.specs.Parts.{parts, round_robin, whole_lines}
 use Rattle.split_core.specs.Sections.{AreLineByteParts}
 use Rattle.split_core.specs.Sections as piece
 use Rattle.split_core.specs.Split.{Share, share, name_of, is_named, file_at, named, are_named, is_some, dealt_files, whole_shares}
-use Rattle.split_core.specs.inner.DealLaws.{share_of}
+use Rattle.split_core.specs.inner.Dealt.{share_of}
 use Rattle.split_core.specs.laws.CutLaws.{whole_of_lines, whole_of_none}
 use Rattle.split_core.specs.laws.DealLaws.{share_none}
 use Rattle.split_core.proofs.CutLaws.{first_then_after}
 use Rattle.split_core.proofs.AgreedLemmas.{bytes_named, each_named}
 use Rattle.split_core.proofs.MoveLemmas.{named_before}
-use Rattle.split_core.proofs.PlaceLemmas.{line_at, all_dealt, first_files}
+use Rattle.split_core.proofs.SectionLemmas.{line_at, all_dealt, first_files}
 use Rattle.split_core.proofs.SectionLemmas.{joined_parts, part_lines, part_bytes, lines_count, bytes_count, line_bytes_are_parts, line_bytes_within}
 use Rattle.words_core.specs.declared.settings.Settings.TheVariants.{Split}
 use Rattle.words_core.specs.SplitAsked.{SplitAsked}
@@ -42,7 +42,7 @@ use Rattle.tools_core.proofs.RunLemmas.{can_run}
 use Rattle.tools_core.proofs.NumberLemmas.{order_by}
 use Rattle.tools_core.proofs.OutcomeLemmas.{named_each, pieces_of, shares_are, slot_of}
 use Rattle.tools_core.proofs.PromiseLemmas.{did_one, one_made}
-use Rattle.split_core.proofs.ShareLaws.{bytes_of_shares}
+use Rattle.split_core.proofs.CutLaws.{bytes_of_shares}
 
 -- The pieces, and their files
 
