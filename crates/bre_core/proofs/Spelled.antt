@@ -1,10 +1,9 @@
 -- A text is read as a bracket list where it is spelled as one, and only there.
-use Rattle.std.proofs.Common.{◌≡◌, ℕ, ◌+◌, ◌-◌, ◌*◌, ◌<◌, ◌≤◌, true, List, [], ◌∷◌, length, get_or, drop, Some, None, ap, ◌∙◌, arith, rules, ◌≢◌, ◌↔◌, ◌⊎◌, inl, inr, false, cond, ◌++◌, Option, refl, sym, subst, append_assoc, Bool, ◌&&◌, eqb, map}
+use Rattle.std.proofs.Common.{◌≡◌, ℕ, ◌+◌, ◌-◌, ◌*◌, ◌<◌, ◌≤◌, true, List, [], ◌∷◌, length, get_or, drop, Some, None, ap, ◌∙◌, arith, rules, ◌≢◌, ◌↔◌, ◌⊎◌, inl, inr, false, cond, ◌++◌, Option, refl, sym, subst, append_assoc, Bool, ◌&&◌, eqb, map, fold, option_map, option_and_then, nat_le}
 use Rattle.std.proofs.lemmas.Bool.{cond-true, cond-false, cond_both, le-leb, lt-leb, and_from as both, and_right, cases_Bool, and_parts, and_from, eqb-true, leb-true, false≢true, and_left, or_from}
 use Rattle.std.proofs.lemmas.List.{at_drop_more}
 use Rattle.bre_core.specs.Class.{is_between, class_named}
 use Rattle.bre_core.specs.Interval.{number_from, number_at, begins_with_digit, after_close, high_at, bounds_at, interval_at}
-use Rattle.std.specs.Prelude.{fold, option_map, option_and_then, nat_le}
 use Rattle.std.specs.List.{list_all}
 use Rattle.std.proofs.lemmas.Option.{none-some, same_Some, cond_some, option_and_then_some}
 use Rattle.bre_core.specs.declared.token.Context.{Context}

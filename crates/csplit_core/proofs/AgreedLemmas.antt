@@ -1,5 +1,5 @@
 -- What is settled is what all continuations agree on, and where lines go.
-use Rattle.std.proofs.Common.{◌≡◌, inl, inr, ℕ, suc, ◌+◌, ◌-◌, ◌<◌, ◌≤◌, ◌&&◌, Bool, true, false, cond, List, [], ◌∷◌, ◌++◌, length, get_or, refl, sym, ◌∙◌, ap, subst, arith, length-append, zero, map, take, drop, append_assoc, nat_lt, nat_le, min, length-take, ◌⊎◌, ne_eqb, eq-eqb, length-drop, length-take-le, take_all, rules}
+use Rattle.std.proofs.Common.{◌≡◌, inl, inr, ℕ, suc, ◌+◌, ◌-◌, ◌<◌, ◌≤◌, ◌&&◌, Bool, true, false, cond, List, [], ◌∷◌, ◌++◌, length, get_or, refl, sym, ◌∙◌, ap, subst, arith, length-append, zero, map, take, drop, append_assoc, nat_lt, nat_le, min, length-take, ◌⊎◌, ne_eqb, eq-eqb, length-drop, length-take-le, take_all, rules, ◌≢◌}
 use Rattle.csplit_core.specs.Agreed.{CanCome, kept_lines, whole_outputs, settled_outputs, IsFront, AreFronts, output_at, IsAgreed}
 use Rattle.std.proofs.lemmas.Bool.{cases_lt, false≢true}
 use Rattle.bre_core.specs.Pattern.{Pattern}
@@ -11,7 +11,6 @@ use Rattle.std.proofs.lemmas.List.{append-nil, map-append, take-append-drop, dro
 use Rattle.csplit_core.specs.Planned.{plan, Plan}
 use Rattle.csplit_core.specs.Section.{Section, section, section_of, lines_between, is_last_kept, whole_end, settled_end, sections_by, whole_sections, is_final, waiting_lines}
 use Rattle.csplit_core.specs.laws.SectionLaws.{between_still, ends_as, are_within, closed_still, plan_grows, whole_covers, plan_goes_on}
-use Rattle.std.specs.Prelude.{◌≢◌}
 use Rattle.std.proofs.lemmas.Bool.Decides.{nat_tests}
 use Rattle.csplit_core.specs.Place.{Place, in_section, left_out, nowhere, place_from, place_of, IsUndecided, is_in, lines_into, ArePlaced}
 use Rattle.csplit_core.proofs.WholeLemmas.{between_rest, after_within, ends_after_all}

@@ -1,6 +1,6 @@
 -- Lemmas on the cutter of lines: what is settled, and what holding lines leaves.
 use Rattle.std.proofs.lemmas.Grind.{common_steps}
-use Rattle.std.proofs.Common.{◌≡◌, ℕ, ◌+◌, ◌-◌, ◌≤◌, Bool, true, false, List, [], ◌++◌, length, map, refl, sym, ◌∙◌, ap, arith, ◌⊎◌, inl, inr, Option, None, subst, ◌<◌, min, Some, Result, Ok, Err, OnOk, IfErr, take, drop}
+use Rattle.std.proofs.Common.{◌≡◌, ℕ, ◌+◌, ◌-◌, ◌≤◌, Bool, true, false, List, [], ◌++◌, length, map, refl, sym, ◌∙◌, ap, arith, ◌⊎◌, inl, inr, Option, None, subst, ◌<◌, min, Some, Result, Ok, Err, OnOk, IfErr, take, drop, IfNone}
 use Rattle.std.proofs.lemmas.Bool.{false≢true, cases_lt}
 use Rattle.std.proofs.lemmas.List.{append-nil, length-take-le, length-drop, take-append-le, take_all, drop_all, drop-drop}
 use Rattle.seg_core.specs.Line.{line_count, first_lines, after_lines, but_last_lines, last_lines}
@@ -24,8 +24,7 @@ use Rattle.csplit_core.proofs.LineLemmas.{all_lines-append, bytes_between, lengt
 use Rattle.ports_core.specs.Slot.{Slot}
 use Rattle.ports_core.specs.declared.fault.Fault.{Fault}
 use Rattle.csplit_core.specs.inner.Writer.{with_bytes, Goes, Reaches}
-use Rattle.ports_core.specs.inner.Part.{fault_in}
-use Rattle.ports_core.specs.inner.Part.{fault_in}
+use Rattle.ports_core.specs.inner.Part.{fault_in, InTurn}
 use Rattle.csplit_core.specs.Writer.{WriterState, Writes, IsCurrent, IsReady, size_of}
 use Rattle.csplit_core.proofs.WriterLemmas.{leaves_again, bytes_begin, leaves_lacking, leaves_still, reaches_again, reaches_as, reaches_still, where_three}
 use Rattle.std.proofs.Math.Nat.{min-eq_left, min-eq_right}
@@ -34,11 +33,9 @@ use Rattle.seg_core.specs.Window.{Window, without_first}
 use Rattle.seg_core.proofs.FirstLines.{first_lines-is_take}
 use Rattle.seg_core.proofs.Carried.{left_after, left_alone, but_last_lines-last, over-le-length}
 use Rattle.ports_core.specs.Part.{Begins, Part}
-use Rattle.ports_core.specs.inner.Part.{InTurn}
 use Rattle.ports_core.specs.declared.fault.Fault.TheVariants.{Memory}
 use Rattle.ports_core.proofs.PartLemmas.{part_begins_itself, turn_last, turn_next}
 use Rattle.csplit_core.proofs.WriterCalls.{goes_again, goes_wider, open_part, part_none, closed_files}
-use Rattle.std.specs.Prelude.{IfNone}
 
 -- Lemmas on the cutter of lines, and on what is settled of complete lines, by where the plan over them ends.
 

@@ -1,8 +1,7 @@
 -- Lines of a text as operands see them, their bytes, and what follows the last newline, where more bytes come.
-use Rattle.std.proofs.Common.{◌≡◌, ◌⊎◌, inl, inr, ℕ, suc, ◌+◌, ◌-◌, ◌<◌, ◌≤◌, List, [], ◌∷◌, ◌++◌, length, map, take, drop, refl, sym, ◌∙◌, ap, subst, arith, length-append, Bool, true, false, cond, append_assoc}
+use Rattle.std.proofs.Common.{◌≡◌, ◌⊎◌, inl, inr, ℕ, suc, ◌+◌, ◌-◌, ◌<◌, ◌≤◌, List, [], ◌∷◌, ◌++◌, length, map, take, drop, refl, sym, ◌∙◌, ap, subst, arith, length-append, Bool, true, false, cond, append_assoc, take-add}
 use Rattle.std.proofs.lemmas.Bool.{cases_lt, cases_eq, eq-eqb, ne_eqb}
 use Rattle.std.proofs.lemmas.List.{take-append-drop, take_all, map-append, take-map, drop-map, length-map, length-drop, drop_at, drop_all, drop-append-le, take-append-le, drop-drop, append-nil, append_cancel_left, length-take, length-take-le}
-use Rattle.std.proofs.Math.Seq.{take-add}
 use Rattle.seg_core.specs.Line.{lines_of, line_count, delimiters, joined, first_lines, after_lines, ends_with, EndsAt, FallsShort, HasNone, AreLines, LastEndsAt}
 use Rattle.seg_core.proofs.LinesOf.{lines_of-append, joined-lines_of, AreLines-lines_of, lines_of-joined}
 use Rattle.seg_core.proofs.LineCounts.{line_count-closed, ends_with-append, line_count-le-length, line_count-open, ends_with-some}

@@ -1,11 +1,9 @@
 -- What stays of a plan when more lines come, what a turn says of it, and what trying the next operand with the last line says.
-use Rattle.std.proofs.Common.{◌≡◌, inl, inr, ℕ, suc, ◌+◌, ◌-◌, ◌<◌, ◌≤◌, Bool, true, false, List, [], ◌∷◌, ◌++◌, length, get_or, refl, ◌∙◌, ap, arith, length-append, zero, ◌*◌, ◌^◌, drop, sym, subst, None, Result, Ok, Err, OnOk, IfErr, Option, Some, rules}
-use Rattle.std.proofs.lemmas.List.{append-nil}
+use Rattle.std.proofs.Common.{◌≡◌, inl, inr, ℕ, suc, ◌+◌, ◌-◌, ◌<◌, ◌≤◌, Bool, true, false, List, [], ◌∷◌, ◌++◌, length, get_or, refl, ◌∙◌, ap, arith, length-append, zero, ◌*◌, ◌^◌, drop, sym, subst, None, Result, Ok, Err, OnOk, IfErr, Option, Some, rules, append-nil, min}
 use Rattle.csplit_core.specs.Operand.{Target, Number, Search, Operand, Line, unmarked, is_match, Offset, moved, has_more}
 use Rattle.csplit_core.specs.Plan.{State, Step, Ending, missed, above, search_line, IsFirst, MatchesNone, Misses, line_after, Runs, is_used_up, misses, is_above, is_below, cuts, used_up, below, CutsAt, operands_after, repetition_after, state_after}
 use Rattle.csplit_core.specs.Planned.{plan}
 use Rattle.csplit_core.specs.laws.PlanLaws.{cuts_still, goes_on, plan_runs, plan_once, line_some, fewer_left, fewer_moves}
-use Rattle.std.specs.Prelude.{min}
 use Rattle.bre_core.specs.Pattern.{Pattern}
 use Rattle.csplit_core.specs.Progress.{state_of, EndsHere, AimsAt}
 use Rattle.csplit_core.specs.inner.Cutter.{AreSeen, Turns, FallsAt, MovesOn, GoesPast, WillCut, PassesOn, WentOn, PassesCut, IsWhole, IsLine, Joins, Looked, IsFound, IsNoCut, search_after, StaysNear, Tries, TriesNext}

@@ -1,6 +1,5 @@
 -- What is written of a draft, whose the files are, and what the calls of the writer of sections do.
-use Rattle.std.proofs.Common.{◌≡◌, ℕ, ◌+◌, suc, Bool, true, false, cond, not, ◌&&◌, List, [], ◌∷◌, ◌++◌, length, decimal, refl, sym, ◌∙◌, ap, subst, arith, length-append, ◌⊎◌, inl, inr, ◌<◌, ◌≤◌, eqb, eq-eqb, ne_eqb, ◌||◌, IsTrue, zero, take, drop, replicate, Option, Some, None, Err}
-use Rattle.std.proofs.lemmas.List.{append-nil}
+use Rattle.std.proofs.Common.{◌≡◌, ℕ, ◌+◌, suc, Bool, true, false, cond, not, ◌&&◌, List, [], ◌∷◌, ◌++◌, length, decimal, refl, sym, ◌∙◌, ap, subst, arith, length-append, ◌⊎◌, inl, inr, ◌<◌, ◌≤◌, eqb, eq-eqb, ne_eqb, ◌||◌, IsTrue, zero, take, drop, replicate, Option, Some, None, Err, append-nil, IfNone}
 use Rattle.ports_core.specs.Name.{numbered_name}
 use Rattle.ports_core.specs.Part.{Part, Begins, IsBeginning, OutputsAt, IsNext, File as PartFile}
 use Rattle.ports_core.specs.inner.Part.{AllClosed}
@@ -9,7 +8,7 @@ use Rattle.csplit_core.specs.Input.{newline}
 use Rattle.csplit_core.specs.Output.{Style, Contents, makes_file, file_at, files_of, size_line, size_lines, part_by, is_empty}
 use Rattle.csplit_core.specs.Draft.{Draft, draft_part, last_contents, AreClosed}
 use Rattle.csplit_core.specs.inner.Writer.{with_section, KeepsFiles, MakesNone, unnamed, failed, Made, next_name, Appends, Makes, with_bytes, with_kept, first_draft, Goes, KeepsOrBreaks, Leaves, BegunNot, new_writer}
-use Rattle.ports_core.specs.inner.Write.{Wrote}
+use Rattle.ports_core.specs.inner.Write.{Wrote, WritesShort}
 use Rattle.csplit_core.specs.laws.SectionLaws.{size_lines-append}
 use Rattle.csplit_core.proofs.WriterLemmas.{more_files, reaches_as, reaches_by, where_well, leaves_again, file_begins, opens_not, reaches_again, stops_wider, section_begins, in_any, line_begins, tells_line}
 use Rattle.ports_core.proofs.PartSteps.{file_of, with_last, writes_to, Becomes, becomes_again, opens, falls_wider, close_begins, closes_last, closes_not}
@@ -24,11 +23,9 @@ use Rattle.ports_core.specs.inner.Write as short
 use Rattle.csplit_core.specs.declared.section_writer.Current.TheVariants.{File, Unopened, Skipped, Unmade}
 use Rattle.ports_core.proofs.SlotSteps.{KeepsMade, none_past, file_before, at_end, opened_last, writable_within, write_rose, close_rose, keeps_write, made_write, written_writable, made_short, keeps_open, writable_before, opened_writable, made_again, made_close, made_break, keeps_close, writable_elsewhere}
 use Rattle.ports_core.proofs.SweepLemmas.{by_place, all_cleared, left_apart, left_has, left_there, same_size}
-use Rattle.ports_core.specs.inner.Write.{WritesShort}
 use Rattle.std.proofs.Math.Seq.{take-append-add}
 use Rattle.ports_core.specs.declared.fault.Fault.TheVariants.{Memory}
 use Rattle.csplit_core.specs.declared.section_writer.Current.{Current}
-use Rattle.std.specs.Prelude.{IfNone}
 use Rattle.std.proofs.lemmas.Grind.{common_steps}
 
 -- What is written of sections, of which one more was begun or ended.

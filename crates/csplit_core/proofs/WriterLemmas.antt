@@ -1,8 +1,8 @@
 -- From one state of the outputs to another: what their steps do, and what is so of a writer before and after.
-use Rattle.std.proofs.Common.{◌≡◌, ℕ, ◌+◌, ◌<◌, suc, Bool, false, List, [], ◌∷◌, ◌++◌, length, take, Option, Some, None, inl, inr, refl, sym, ◌∙◌, arith, length-append, true, Result, Ok, Err, OnOk, IsErrAnd, subst, append_assoc}
+use Rattle.std.proofs.Common.{◌≡◌, ℕ, ◌+◌, ◌<◌, suc, Bool, false, List, [], ◌∷◌, ◌++◌, length, take, Option, Some, None, inl, inr, refl, sym, ◌∙◌, arith, length-append, true, Result, Ok, Err, OnOk, IsErrAnd, subst, append_assoc, IfNone, append-nil}
 use Rattle.ports_core.specs.Slot.{Slot, broke, numberless, opened, changed_at, adds, closes, with_written, with_broken, told_of}
 use Rattle.ports_core.specs.Part.{File, Part, OutputsAt, Begins, FilesBegin, IsNext, Marks, IsAt}
-use Rattle.ports_core.specs.inner.Part.{AllClosed, InTurn}
+use Rattle.ports_core.specs.inner.Part.{AllClosed, InTurn, IsThere, fault_in}
 use Rattle.ports_core.specs.declared.fault.Fault.{Fault}
 use Rattle.ports_core.specs.declared.slot.Mode.TheVariants.{Fresh}
 use Rattle.ports_core.specs.declared.slot.State.{State}
@@ -11,10 +11,7 @@ use Rattle.ports_core.proofs.SlotLemmas.{length-changed_at}
 use Rattle.ports_core.proofs.FileLemmas.{gets, ended, file_more, last_changes, write_makes, close_makes}
 use Rattle.ports_core.proofs.PartLemmas.{begins_itself, begins_more, take_begins_after, files_begin_themselves, part_begins_itself, out_more, outputs_count, turn_between, turn_last, turn_next}
 use Rattle.csplit_core.specs.inner.Writer.{MakesNone, unnamed, failed, with_bytes, with_section, At, KeepsFiles, KeepsOrBreaks, Leaves, Reaches}
-use Rattle.ports_core.specs.inner.Part.{IsThere, fault_in}
 use Rattle.ports_core.specs.inner.Write.{Wrote}
-use Rattle.std.specs.Prelude.{IfNone}
-use Rattle.std.proofs.lemmas.List.{append-nil}
 use Rattle.ports_core.specs.inner.Slot.{KeepsBroken}
 use Rattle.ports_core.specs.declared.fault.Fault.TheVariants.{Memory, Write, Open}
 use Rattle.ports_core.proofs.HandedOn.{handed_on}

@@ -1,8 +1,6 @@
 -- Lemmas on taking in the last lines or bytes of a text from its end.
 use Rattle.std.proofs.lemmas.Grind.{common_steps}
-use Rattle.std.proofs.Common.{◌≡◌, ℕ, zero, suc, ◌+◌, ◌-◌, ◌<◌, ◌≤◌, Bool, true, false, eqb, IsTrue, List, [], ◌∷◌, ◌++◌, length, take, drop, replicate, Result, Ok, Err, OnOk, refl, sym, ◌∙◌, ap, arith, length-append, length-drop, rules}
-use Rattle.std.specs.Prelude.{if◌then◌else◌, is_err}
-use Rattle.std.proofs.Math.Seq.{take-add}
+use Rattle.std.proofs.Common.{◌≡◌, ℕ, zero, suc, ◌+◌, ◌-◌, ◌<◌, ◌≤◌, Bool, true, false, eqb, IsTrue, List, [], ◌∷◌, ◌++◌, length, take, drop, replicate, Result, Ok, Err, OnOk, refl, sym, ◌∙◌, ap, arith, length-append, length-drop, rules, if◌then◌else◌, is_err, take-add}
 use Rattle.std.proofs.lemmas.List.{append-nil, drop_all, drop_at, drop-drop, nil_from_length, take-append-drop, take_all, length-replicate}
 use Rattle.std.proofs.lemmas.Bool.{eq-eqb, or_left, or_right}
 use Rattle.seg_core.specs.Line.{line_count, last_lines, but_last_lines, first_lines}

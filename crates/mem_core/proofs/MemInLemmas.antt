@@ -1,9 +1,7 @@
 -- Lemmas on inputs in memory: how far one was read, where it breaks off, and what opening one finds.
-use Rattle.std.proofs.Common.{◌≡◌, ℕ, ◌+◌, ◌-◌, ◌<◌, ◌≤◌, max, Bool, true, false, IsTrue, List, [], ◌∷◌, ◌++◌, Some, None, length, take, drop, get_or, set, eqb, refl, sym, ◌∙◌, ap, subst, arith, length-take, length-drop, take-take, drop-drop, take-add}
-use Rattle.std.specs.Prelude.{if◌then◌else◌}
+use Rattle.std.proofs.Common.{◌≡◌, ℕ, ◌+◌, ◌-◌, ◌<◌, ◌≤◌, max, Bool, true, false, IsTrue, List, [], ◌∷◌, ◌++◌, Some, None, length, take, drop, get_or, set, eqb, refl, sym, ◌∙◌, ap, subst, arith, length-take, length-drop, take-take, drop-drop, take-add, if◌then◌else◌, leb}
 use Rattle.std.proofs.lemmas.List.{drop-take, take-append-drop}
 use Rattle.std.proofs.lemmas.Bool.{cond_both, le-leb, lt-ltb}
-use Rattle.std.proofs.Math.Dec.{leb}
 use Rattle.ports_core.specs.Slot.{changed_at}
 use Rattle.ports_core.specs.Source.{Content, Opens, OpensNothing, Source, broke, cut, gets_back, gives, is_readable, missing, no_room, skips, source_of}
 use Rattle.ports_core.specs.declared.fault.Fault.TheVariants as fault

@@ -1,9 +1,8 @@
 -- A watch in memory sees at each look what was planned for it.
-use Rattle.std.proofs.Common.{◌≡◌, ℕ, ◌+◌, ◌<◌, ◌≤◌, zero, suc, Bool, true, List, [], ◌∷◌, ◌++◌, Option, Some, length, refl, sym, ◌∙◌, ap, subst, arith, get_or, set, length-append}
+use Rattle.std.proofs.Common.{◌≡◌, ℕ, ◌+◌, ◌<◌, ◌≤◌, zero, suc, Bool, true, List, [], ◌∷◌, ◌++◌, Option, Some, length, refl, sym, ◌∙◌, ap, subst, arith, get_or, set, length-append, is_some}
 use Rattle.watch_core.specs.Snapshot.{Snapshot, latest}
 use Rattle.watch_core.specs.Edits.{World, empty_world, held_in, led_to, seen_in}
 use Rattle.watch_core.specs.Watched.{Watched, Finds, Reopens, open_contents, opens, watched_at}
-use Rattle.std.specs.Prelude.{is_some}
 use Rattle.watch_core.specs.declared.watch.Seen.{Seen}
 use Rattle.mem_core.specs.MemWatchState.{MemWatchState, world_at, seen_by, seen, shows}
 use Rattle.watch_core.proofs.NameLemmas.{latest-last, name_changes, name_there}

@@ -1,11 +1,8 @@
 -- What a word spells and aims at, and how deep counts go.
-use Rattle.std.proofs.Common.{◌≡◌, ℕ, suc, ◌+◌, ◌-◌, take, drop, add-one, ◌<◌, ◌&&◌, Bool, true, false, not, cond, List, [], ◌∷◌, ◌++◌, Option, Some, None, refl, sym, ◌∙◌, ap, arith, rules, ◌≤◌, subst, Result, Ok, Err, zero, inl, inr, append_assoc, append-nil}
-use Rattle.std.proofs.lemmas.Bool.{eq-eqb, ne_eqb, lt-ltb, le-ltb}
+use Rattle.std.proofs.Common.{◌≡◌, ℕ, suc, ◌+◌, ◌-◌, take, drop, add-one, ◌<◌, ◌&&◌, Bool, true, false, not, cond, List, [], ◌∷◌, ◌++◌, Option, Some, None, refl, sym, ◌∙◌, ap, arith, rules, ◌≤◌, subst, Result, Ok, Err, zero, inl, inr, append_assoc, append-nil, eq-eqb, ne_eqb, lt-ltb, le-ltb, ◌==◌, ◌≢◌, option_map, length, IfSome, IsErrAnd}
 use Rattle.std.proofs.lemmas.List.{take_rest}
-use Rattle.std.specs.Prelude.{◌==◌, ◌≢◌, option_map, length, IfSome}
 use Rattle.operand_core.specs.Operand.{Offset, Target, Number, Search, Times}
 use Rattle.operand_core.specs.Word.{is_escape, closing, before_brace, closed_at, searched, offset_of, number, spelling}
-use Rattle.std.specs.Result.{IsErrAnd}
 use Rattle.std.proofs.lemmas.Result.{err_from_is_err_and}
 use Rattle.bre_core.specs.Pattern.{Pattern, Reads, depth_of, positions_of, nothing, append, Item, set, front, end, group, repeat, written, written_item, depth_after, depth_of_item}
 use Rattle.bre_core.specs.Refusal.{IsOfText, IsTooLarge}

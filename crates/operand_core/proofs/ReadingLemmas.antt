@@ -1,9 +1,7 @@
 -- Reading operands, and that there is one reading.
 use Rattle.std.proofs.lemmas.Grind.{common_steps}
-use Rattle.std.proofs.Common.{◌≡◌, ℕ, suc, ◌+◌, ◌-◌, ◌<◌, ◌≤◌, Bor, get_or, List, [], ◌∷◌, ◌++◌, map, length, drop, length-drop, Option, Some, None, Result, Ok, Err, refl, sym, ◌∙◌, ap, subst, arith, append_assoc, rules}
+use Rattle.std.proofs.Common.{◌≡◌, ℕ, suc, ◌+◌, ◌-◌, ◌<◌, ◌≤◌, Bor, get_or, List, [], ◌∷◌, ◌++◌, map, length, drop, length-drop, Option, Some, None, Result, Ok, Err, refl, sym, ◌∙◌, ap, subst, arith, append_assoc, rules, eqb-true, ◌==◌, true}
 use Rattle.std.proofs.lemmas.List.{append-nil, drop-map}
-use Rattle.std.proofs.lemmas.Bool.{eqb-true}
-use Rattle.std.specs.Prelude.{◌==◌, true}
 use Rattle.operand_core.specs.Operand.{Target, Number, Search, Times, Count, Operand}
 use Rattle.operand_core.specs.Word.{spelling}
 use Rattle.operand_core.specs.Reading.{Aim, line, match, Spelled, aims, fails, aim_of, least_after, times_by, Words, failed, with_operand, words_from, words_of, IsTarget, IsRead, AreRead, IsFault, Asks, HasRefused, is_wrong, is_refused, no_memory, IsOfWords}

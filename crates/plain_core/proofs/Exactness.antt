@@ -1,14 +1,11 @@
 -- The stretches that are found are those that the tree matches.
-use Rattle.std.proofs.Common.{◌≡◌, ◌⊎◌, ◌↔◌, ℕ, zero, suc, ◌<◌, ◌≤◌, Bool, List, [], ◌∷◌, length, sym, ◌∙◌, arith, inl, inr, ◌+◌, ◌-◌, Option, Some, None, refl, subst, false, get_or, true, ◌++◌, drop, ap}
+use Rattle.std.proofs.Common.{◌≡◌, ◌⊎◌, ◌↔◌, ℕ, zero, suc, ◌<◌, ◌≤◌, Bool, List, [], ◌∷◌, length, sym, ◌∙◌, arith, inl, inr, ◌+◌, ◌-◌, Option, Some, None, refl, subst, false, get_or, true, ◌++◌, drop, ap, IsTrue, MatchBool, MatchOption, rules}
 use Rattle.std.proofs.lemmas.Bool.{false≢true, cases_lt, cases_eq}
 use Rattle.plain_core.specs.inner.Spans.{EndsAt, ends_from, IsSpan, AreSpans, Run, EndsAfter, StandAfter, AreRepeated, LeafEnds, GoesOn, AreLeaf}
 use Rattle.plain_core.specs.declared.ends.Times.TheVariants.{Once, AtMostOnce, AnyTimes}
 use Rattle.bre_core.specs.Match.{IsAtMost, Parts, Matches, MatchesItem, Contains}
 use Rattle.plain_core.specs.declared.ends.Times.{Times}
-use Rattle.std.specs.Prelude.{IsTrue}
-use Rattle.std.specs.Bool.{MatchBool}
 use Rattle.std.proofs.lemmas.List.{at_drop_more, at_drop_all}
-use Rattle.std.specs.Option.{MatchOption}
 use Rattle.bre_core.proofs.Existence.{no_end, same_end}
 use Rattle.bre_core.specs.declared.token.Token.{Token}
 use Rattle.bre_core.specs.declared.token.Token.TheVariants.{Set, Front, End, Open, Close, Repeat}
@@ -16,7 +13,6 @@ use Rattle.bre_core.specs.Flat.{read_on, tree_of, current_after, around_after, A
 use Rattle.bre_core.specs.Pattern.{Pattern, nothing, append, Item, repeat}
 use Rattle.plain_core.specs.inner.Plain.{State, IsSettled, TookLeaf, TookRepeat, Advances}
 use Rattle.bre_core.proofs.Searching.{parts_stay, stays, item_stays}
-use Rattle.std.proofs.Common.{rules}
 
 -- Sets of places, place by place.
 

@@ -1,7 +1,6 @@
 -- Lemmas on what reads leave of the inputs of a run.
 use Rattle.std.proofs.lemmas.Grind.{common_steps}
-use Rattle.std.proofs.Common.{◌≡◌, ℕ, ◌≤◌, Bool, true, false, IsTrue, List, [], ◌++◌, take, slice_index_or, arith, sym, ◌∙◌, ap, subst}
-use Rattle.std.proofs.lemmas.List.{append-nil, take-append-drop}
+use Rattle.std.proofs.Common.{◌≡◌, ℕ, ◌≤◌, Bool, true, false, IsTrue, List, [], ◌++◌, take, slice_index_or, arith, sym, ◌∙◌, ap, subst, append-nil, take-append-drop}
 use Rattle.std.proofs.lemmas.Bool.{and_parts, not-true}
 use Rattle.ports_core.specs.Inputs.{AsksAtMost, BreaksOnly, KeepsOthers, OfContent}
 use Rattle.ports_core.specs.Slot.{changed_at}

@@ -1,8 +1,7 @@
 -- Lemmas on removing many files.
 use Rattle.std.proofs.lemmas.Grind.{common_steps}
-use Rattle.std.proofs.Common.{◌≡◌, ℕ, ◌+◌, ◌<◌, ◌≤◌, zero, suc, eqb, eq-eqb, true, false, ◌||◌, List, [], ◌∷◌, ◌++◌, length, get_or, set, take, drop, Result, Ok, Err, is_ok, OnOk, IfErr, IsTrue, refl, sym, ◌∙◌, ap, subst, arith, length-set, take-suc, take-suc-set, drop-cons, drop-set-lt, rules}
+use Rattle.std.proofs.Common.{◌≡◌, ℕ, ◌+◌, ◌<◌, ◌≤◌, zero, suc, eqb, eq-eqb, true, false, ◌||◌, List, [], ◌∷◌, ◌++◌, length, get_or, set, take, drop, Result, Ok, Err, is_ok, OnOk, IfErr, IsTrue, refl, sym, ◌∙◌, ap, subst, arith, length-set, take-suc, take-suc-set, drop-cons, drop-set-lt, rules, append-nil}
 use Rattle.std.proofs.lemmas.Bool.{false≢true, or_parts}
-use Rattle.std.proofs.lemmas.List.{append-nil}
 use Rattle.ports_core.specs.Slot.{Slot, has_file, slot_at, changed_at, with_broken, removes, closes, breaks, is_removable}
 use Rattle.ports_core.specs.Swept.{Cleared, SweptFrom, removed, stuck, none, is_among, AreThere, Removes, all_tried, goes, stays}
 use Rattle.ports_core.specs.declared.fault.Fault.{Fault}

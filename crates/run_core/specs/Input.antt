@@ -1,6 +1,5 @@
 -- What a run finds at the names that it is to read, one after another.
-use Rattle.std.specs.Prelude.{◌≡◌, ℕ, ◌+◌, Bool, true, false, ◌||◌, List, [], ◌∷◌, Option, Some, None, codes, if◌then◌else◌}
-use Rattle.std.specs.Str.{bytes_eq}
+use Rattle.std.specs.Prelude.{◌≡◌, ℕ, ◌+◌, Bool, true, false, ◌||◌, List, [], ◌∷◌, Option, Some, None, codes, if◌then◌else◌, bytes_eq}
 use Rattle.ports_core.specs.Inputs.{empty}
 use Rattle.ports_core.specs.Source.{Content}
 

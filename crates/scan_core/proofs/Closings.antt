@@ -1,8 +1,7 @@
 -- Hops: numbers of a word that lead to the same one beyond it.
-use Rattle.std.proofs.Common.{rules, ◌≡◌, ℕ, ◌+◌, ◌*◌, ◌/◌, ◌%◌, ◌^◌, ◌<◌, List, length, get_or, set, min, sym, ap, ◌∙◌, subst, arith, w64, ◌⊎◌, inl, inr, zero, suc, ◌≤◌, Bool, false, [], ◌∷◌, refl, ◌↔◌, ◌-◌, true, IsTrue, ◌++◌, length-append, append_assoc, eqb, not}
+use Rattle.std.proofs.Common.{rules, ◌≡◌, ℕ, ◌+◌, ◌*◌, ◌/◌, ◌%◌, ◌^◌, ◌<◌, List, length, get_or, set, min, sym, ap, ◌∙◌, subst, arith, w64, ◌⊎◌, inl, inr, zero, suc, ◌≤◌, Bool, false, [], ◌∷◌, refl, ◌↔◌, ◌-◌, true, IsTrue, ◌++◌, length-append, append_assoc, eqb, not, bit_and, bit_or}
 use Rattle.std.proofs.lemmas.Nat.{and_le_l, le_or_l, or_lt}
 use Rattle.std.proofs.lemmas.Nat.Bits.{bit_at-trailing_zeros, bit_at_and, bit_at-lt, bit_at-zero}
-use Rattle.std.specs.Prelude.{bit_and, bit_or}
 use Rattle.std.specs.Int.{bit_at, trailing_zeros, bit_not}
 use Rattle.scan_core.specs.declared.hops.Hop.{Hop}
 use Rattle.scan_core.specs.inner.Hops.{Hopped, HoppedBy, no_hop, AreHops}

@@ -1,8 +1,7 @@
 -- The code that is written is the pattern's.
 use Rattle.std.proofs.lemmas.Grind.{common_steps}
-use Rattle.std.proofs.Common.{rules, arith, ◌≡◌, ℕ, ◌≤◌, Option, Some, length, List, [], ◌∷◌, ◌++◌, reverse, None, sym, ap, ◌∙◌, subst, ◌⊎◌, inl, inr, zero, suc, ◌+◌, ◌-◌, ◌<◌, drop, get_or, refl, append_assoc, append-nil}
+use Rattle.std.proofs.Common.{rules, arith, ◌≡◌, ℕ, ◌≤◌, Option, Some, length, List, [], ◌∷◌, ◌++◌, reverse, None, sym, ap, ◌∙◌, subst, ◌⊎◌, inl, inr, zero, suc, ◌+◌, ◌-◌, ◌<◌, drop, get_or, refl, append_assoc, append-nil, All}
 use Rattle.std.proofs.lemmas.List.{reverse-append, reverse-reverse, at_drop_more}
-use Rattle.std.specs.List.{All}
 use Rattle.std.proofs.lemmas.List.Elements.{All-pop}
 use Rattle.scan_core.specs.declared.compile.Compiling.{Compiling}
 use Rattle.scan_core.specs.declared.compile.Pending.{Pending}

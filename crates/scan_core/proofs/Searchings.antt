@@ -1,7 +1,6 @@
 -- A search by sets of words, place by place.
-use Rattle.std.proofs.Common.{◌≡◌, ◌⊎◌, ◌↔◌, inl, inr, ℕ, suc, ◌+◌, ◌*◌, ◌<◌, ◌≤◌, Bool, true, false, IsTrue, List, length, slice_index, refl, sym, ◌∙◌, subst, arith, rules, ◌/◌, ◌%◌, [], ◌∷◌, ◌++◌, length-append, get_or, ap}
+use Rattle.std.proofs.Common.{◌≡◌, ◌⊎◌, ◌↔◌, inl, inr, ℕ, suc, ◌+◌, ◌*◌, ◌<◌, ◌≤◌, Bool, true, false, IsTrue, List, length, slice_index, refl, sym, ◌∙◌, subst, arith, rules, ◌/◌, ◌%◌, [], ◌∷◌, ◌++◌, length-append, get_or, ap, mul-le-mul}
 use Rattle.std.proofs.lemmas.Bool.{false≢true, cases_eq}
-use Rattle.std.proofs.Math.Nat.{mul-le-mul}
 use Rattle.scan_core.specs.declared.base.Base.{Base}
 use Rattle.scan_core.specs.declared.node.Node.{Node}
 use Rattle.scan_core.specs.inner.Base.{IsBase}

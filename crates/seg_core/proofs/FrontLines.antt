@@ -1,13 +1,11 @@
 -- The last lines of a text before which a block stands.
 use Rattle.std.proofs.lemmas.Grind.{common_steps}
-use Rattle.std.proofs.Common.{rules, ◌≡◌, ℕ, ◌+◌, ◌-◌, ◌<◌, ◌≤◌, Bool, not, eqb, List, [], ◌∷◌, ◌++◌, length, get_or, sym, ap, ◌∙◌, arith}
+use Rattle.std.proofs.Common.{rules, ◌≡◌, ℕ, ◌+◌, ◌-◌, ◌<◌, ◌≤◌, Bool, not, eqb, List, [], ◌∷◌, ◌++◌, length, get_or, sym, ap, ◌∙◌, arith, append-nil, length-append}
 use mir.Val.{bool_byte}
-use Rattle.std.proofs.lemmas.List.{append-nil, length-append}
 use Rattle.seg_core.specs.Line.{delimiters, ends_with, line_count, first_lines, after_lines, last_lines}
 use Rattle.seg_core.proofs.Delimiters.{delimiters-append, delimiters-le-length}
 use Rattle.seg_core.proofs.FirstLines.{first_lines_then_rest}
-use Rattle.seg_core.proofs.LineCounts.{ends_with-last, line_count-by_end}
-use Rattle.seg_core.proofs.LineCounts.{line_count-front}
+use Rattle.seg_core.proofs.LineCounts.{ends_with-last, line_count-by_end, line_count-front}
 use Rattle.seg_core.proofs.EndLines.{after_lines-append}
 
 -- and so it is no longer than the text

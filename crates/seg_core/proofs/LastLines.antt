@@ -1,7 +1,6 @@
 -- The last lines of a text, and of a text that goes on.
 use Rattle.std.proofs.lemmas.Grind.{common_steps}
-use Rattle.std.proofs.Common.{◌≡◌, ℕ, zero, suc, ◌+◌, ◌-◌, ◌<◌, ◌≤◌, true, List, [], ◌∷◌, ◌++◌, length, take, drop, refl, sym, ap, ◌∙◌, arith}
-use Rattle.std.proofs.lemmas.List.{take-append-drop, take-take, append_assoc, length-append, length-take-le}
+use Rattle.std.proofs.Common.{◌≡◌, ℕ, zero, suc, ◌+◌, ◌-◌, ◌<◌, ◌≤◌, true, List, [], ◌∷◌, ◌++◌, length, take, drop, refl, sym, ap, ◌∙◌, arith, take-append-drop, take-take, append_assoc, length-append, length-take-le}
 use Rattle.seg_core.specs.Line.{delimiters, ends_with, first_lines, line_count, last_lines, but_last_lines, BeginsAt}
 use Rattle.seg_core.proofs.Delimiters.{delimiters-append, delimiters-take-drop}
 use Rattle.seg_core.proofs.FirstLines.{first_lines-all, first_lines-full, first_lines_then_rest}

@@ -1,8 +1,7 @@
 -- Laws of parts that follow one another, of what files get of them, and of lines that are dealt.
 use Rattle.std.proofs.lemmas.Grind.{common_steps}
-use Rattle.std.proofs.Common.{◌≡◌, ℕ, ◌<◌, ◌≤◌, List, [], ◌∷◌, ◌++◌, length, take, drop, true, false, cond, refl, sym, ◌∙◌, ap, subst, arith, append_assoc, map, ◌⊎◌, inr, ◌+◌, ◌%◌, Bool, eqb, rules}
+use Rattle.std.proofs.Common.{◌≡◌, ℕ, ◌<◌, ◌≤◌, List, [], ◌∷◌, ◌++◌, length, take, drop, true, false, cond, refl, sym, ◌∙◌, ap, subst, arith, append_assoc, map, ◌⊎◌, inr, ◌+◌, ◌%◌, Bool, eqb, rules, take_all, take-append-drop, ne_eqb}
 use Rattle.std.proofs.lemmas.Bool.Decides.{nat_tests}
-use Rattle.std.proofs.lemmas.List.{take_all, take-append-drop}
 use Rattle.std.proofs.Math.Seq.{drop-append_seam}
 use Rattle.seg_core.specs.Line.{joined, delimiters, after_lines}
 use Rattle.seg_core.proofs.FirstLines.{first_lines-is_take}
@@ -18,7 +17,6 @@ use Rattle.ports_core.proofs.PartLemmas.{begins_itself, begins_trans, kept_trans
 use Rattle.split_core.specs.Split.{Share, share}
 use Rattle.split_core.specs.laws.ShareLaws.{shares_after}
 use Rattle.std.proofs.Math.Nat.{mod-add-mod, mod-lt}
-use Rattle.std.proofs.lemmas.Bool.{ne_eqb}
 use Rattle.split_core.specs.Round.{opened_by}
 
 pub short_from : (limit : Limit) (x : List ℕ) → measure limit x < most limit → is_full limit x ≡ false

@@ -1,7 +1,6 @@
 -- How the files of `split` change, as they are opened, written and closed, and how what waits is written.
 use Rattle.std.proofs.lemmas.Grind.{common_steps}
-use Rattle.std.proofs.Common.{◌≡◌, ℕ, ◌+◌, ◌≤◌, zero, suc, List, [], ◌∷◌, ◌++◌, ◌⊎◌, length, Bool, true, false, IsTrue, Option, Some, None, Result, Ok, Err, OnOk, IfErr, inl, inr, refl, sym, ap, subst, arith, length-append, rules, take, drop, ◌∙◌, append_assoc}
-use Rattle.std.proofs.Math.Nat.{zero-add}
+use Rattle.std.proofs.Common.{◌≡◌, ℕ, ◌+◌, ◌≤◌, zero, suc, List, [], ◌∷◌, ◌++◌, ◌⊎◌, length, Bool, true, false, IsTrue, Option, Some, None, Result, Ok, Err, OnOk, IfErr, inl, inr, refl, sym, ap, subst, arith, length-append, rules, take, drop, ◌∙◌, append_assoc, zero-add}
 use Rattle.std.proofs.lemmas.Bool.{cond_both, false≢true}
 use Rattle.std.proofs.lemmas.Result.{IfErr-weaker, on_ok_weaker}
 use Rattle.ports_core.specs.Name.{Naming, next_name, has_next, with_one_drawn}
@@ -10,13 +9,12 @@ use Rattle.ports_core.specs.inner.Slot.{KeepsBroken}
 use Rattle.ports_core.specs.declared.slot.Mode.TheVariants.{Fresh}
 use Rattle.ports_core.specs.declared.slot.State.TheVariants as state
 use Rattle.ports_core.specs.Part.{Part, Marks, IsAt}
-use Rattle.ports_core.specs.inner.Part.{AllClosed, InTurn}
+use Rattle.ports_core.specs.inner.Part.{AllClosed, InTurn, fault_in}
 use Rattle.ports_core.specs.Engine.{IsMet, is_verdict}
 use Rattle.ports_core.specs.declared.fault.Fault.{Fault}
 use Rattle.ports_core.specs.declared.fault.Fault.TheVariants.{Write, Suffixes}
 use Rattle.ports_core.proofs.PartLemmas.{begins_itself, begins_more, turn_last, turn_next}
 use Rattle.ports_core.proofs.PartSteps.{Becomes, with_last, becomes_again, falls_wider, halts_here, opens, writes_to, closes_last, closes_not}
-use Rattle.ports_core.specs.inner.Part.{fault_in}
 use Rattle.ports_core.specs.inner.Write.{WritesShort, broke}
 use Rattle.ports_core.proofs.SlotSteps.{keeps_again, rose_later, write_rose, open_rose}
 use Rattle.split_core.specs.Split.{Share, share, split_means, is_named, are_named, from_start, only_files, file_at, named, name_of}

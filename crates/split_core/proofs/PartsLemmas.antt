@@ -1,6 +1,6 @@
 -- What each call on parts leaves: a step of a piece, a piece that is taken in step by step, the end of the input, and what the stage owes.
 use Rattle.std.proofs.lemmas.Grind.{common_steps}
-use Rattle.std.proofs.Common.{◌≡◌, ℕ, ◌+◌, ◌-◌, ◌<◌, ◌≤◌, suc, List, [], ◌∷◌, ◌++◌, length, map, Bool, true, false, eqb, IsTrue, Option, Some, None, Result, Ok, Err, OnOk, IfErr, refl, sym, ◌∙◌, ap, subst, add-one, arith, length-append, rules, take, drop, IfOk, inl, append_assoc, not, cond}
+use Rattle.std.proofs.Common.{◌≡◌, ℕ, ◌+◌, ◌-◌, ◌<◌, ◌≤◌, suc, List, [], ◌∷◌, ◌++◌, length, map, Bool, true, false, eqb, IsTrue, Option, Some, None, Result, Ok, Err, OnOk, IfErr, refl, sym, ◌∙◌, ap, subst, add-one, arith, length-append, rules, take, drop, IfOk, inl, append_assoc, not, cond, zero-add}
 use Rattle.std.proofs.lemmas.List.{append-nil, drop-take, take-append-drop, length-map}
 use Rattle.std.proofs.lemmas.Bool.{false≢true}
 use Rattle.std.proofs.lemmas.Result.{IfErr-weaker, on_ok_weaker}
@@ -35,7 +35,6 @@ use Rattle.split_core.specs.laws.CutLaws.{cut_on, cut_none, first_some, settled_
 use Rattle.split_core.specs.inner.Step.{IsTurned, Leads}
 use Rattle.split_core.specs.inner.Moves as run
 use Rattle.split_core.proofs.AgreedLemmas.{one_of}
-use Rattle.std.proofs.Math.Nat.{zero-add}
 use Rattle.ports_core.specs.Part.{OutputsAt}
 use Rattle.ports_core.specs.Engine.{CutsOff, EndsWith, EndsThere, is_verdict}
 use Rattle.ports_core.specs.Engine as engine

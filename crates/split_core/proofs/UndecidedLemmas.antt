@@ -1,8 +1,7 @@
 -- Where the bytes of parts that follow one another go, and which of them continuations put into different files.
-use Rattle.std.proofs.Common.{take, ◌≡◌, ℕ, ◌+◌, ◌-◌, ◌<◌, zero, suc, List, [], ◌∷◌, ◌++◌, length, get_or, inl, inr, refl, sym, ◌∙◌, ap, subst, arith, append_assoc, length-append, ◌≢◌, ◌⊎◌, ◌≤◌, map, Bool, true, false, not, rules}
+use Rattle.std.proofs.Common.{take, ◌≡◌, ℕ, ◌+◌, ◌-◌, ◌<◌, zero, suc, List, [], ◌∷◌, ◌++◌, length, get_or, inl, inr, refl, sym, ◌∙◌, ap, subst, arith, append_assoc, length-append, ◌≢◌, ◌⊎◌, ◌≤◌, map, Bool, true, false, not, rules, add-suc, add-zero, zero-add}
 use Rattle.std.proofs.lemmas.Bool.{cond_both, cases_lt, false≢true}
 use Rattle.std.proofs.lemmas.List.{append-nil, drop_all}
-use Rattle.std.proofs.Math.Nat.{add-suc, add-zero, zero-add}
 use Rattle.std.proofs.Math.Seq.{get_or-append_right, drop-append_seam}
 use Rattle.seg_core.specs.Line.{joined, delimiters}
 use Rattle.seg_core.proofs.FirstLines.{joined-append}

@@ -7,7 +7,7 @@ use Rattle.seg_core.specs.declared.unit.Unit.{Unit as Counted}
 use Rattle.seg_core.specs.declared.unit.Unit.TheVariants.{Lines, Bytes}
 use Rattle.ends_core.specs.Ends.{head_of, tail_of, after_of, first_of}
 use Rattle.ends_core.specs.laws.EndsLaws.{first_then_after, ends_together}
-use Rattle.run_core.specs.Task.{header_text}
+use Rattle.run_core.specs.Task.{header_text, Outcome}
 use Rattle.words_core.specs.declared.settings.Settings.TheVariants.{Tee}
 use Rattle.words_core.specs.EndsAsked.{EndsAsked}
 use Rattle.tools_core.specs.Tasks.{head_task, is_minus, is_plus, tail_task}
@@ -16,7 +16,6 @@ use Rattle.tools_core.proofs.BeginLemmas.{ending}
 use Rattle.tools_core.proofs.LeftLemmas.{copies_are, copy, tee_made}
 use Rattle.tools_core.proofs.OutcomeLemmas.{slots_of}
 use Rattle.tools_core.proofs.PromiseLemmas.{did_one, one_made}
-use Rattle.run_core.specs.Task.{Outcome}
 use Rattle.std.proofs.lemmas.List.Elements.{All-map}
 use Rattle.ports_core.specs.Source.{Content}
 use Rattle.ports_core.specs.declared.slot.Mode.{Mode}

@@ -1,12 +1,9 @@
 -- Numbered names are in the order of their numbers, while none has more digits than it is filled to.
-use Rattle.std.proofs.Common.{◌≡◌, ℕ, ◌+◌, ◌-◌, ◌/◌, ◌%◌, ◌^◌, ◌<◌, ◌≤◌, zero, suc, List, [], ◌∷◌, ◌++◌, length, replicate, inl, inr, refl, sym, ◌∙◌, ap, arith, append_assoc, length-append, decimal, Less}
-use Rattle.std.specs.Ordering.{nat_cmp}
+use Rattle.std.proofs.Common.{◌≡◌, ℕ, ◌+◌, ◌-◌, ◌/◌, ◌%◌, ◌^◌, ◌<◌, ◌≤◌, zero, suc, List, [], ◌∷◌, ◌++◌, length, replicate, inl, inr, refl, sym, ◌∙◌, ap, arith, append_assoc, length-append, decimal, Less, nat_cmp, append-nil, div-add-mod'}
 use Rattle.std.specs.Cmp.Lexicographic.{slice_cmp}
 use Rattle.std.proofs.Math.Nat.{mod-lt, pow-suc, pow-zero}
 use Rattle.std.proofs.lemmas.Bool.{cases_lt}
 use Rattle.std.proofs.lemmas.Fmt.{decimal_by_steps}
-use Rattle.std.proofs.lemmas.List.{append-nil}
-use Rattle.std.proofs.lemmas.Nat.{div-add-mod'}
 use Rattle.ports_core.specs.Name.{numbered_name, zero_filled}
 use Rattle.ports_core.proofs.OrderLemmas.{IsBelow, first_less, same_front}
 use Rattle.tools_core.specs.Promises.{AreInOrder, text_at}

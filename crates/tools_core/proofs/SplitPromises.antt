@@ -1,7 +1,5 @@
 -- What `split` leaves of its input.
-use Rattle.std.proofs.Common.{◌≡◌, ℕ, ◌+◌, ◌-◌, ◌*◌, ◌/◌, ◌%◌, ◌<◌, ◌≤◌, zero, suc, min, Bool, true, false, not, cond, List, [], ◌∷◌, ◌++◌, append_assoc, length-append, length, map, take, drop, filter, get_or, Some, None, inl, inr, refl, sym, ◌∙◌, ap, arith}
-use Rattle.std.specs.List.{All}
-use Rattle.std.proofs.Math.Nat.{mul-le-mul_right, suc-mul}
+use Rattle.std.proofs.Common.{◌≡◌, ℕ, ◌+◌, ◌-◌, ◌*◌, ◌/◌, ◌%◌, ◌<◌, ◌≤◌, zero, suc, min, Bool, true, false, not, cond, List, [], ◌∷◌, ◌++◌, append_assoc, length-append, length, map, take, drop, filter, get_or, Some, None, inl, inr, refl, sym, ◌∙◌, ap, arith, All, mul-le-mul_right, suc-mul}
 use Rattle.std.proofs.lemmas.Bool.{cases_lt}
 use Rattle.std.proofs.lemmas.List.{length-map, length-take, length-take-le, length-drop, get_or-take, get_or_past, take-append-drop}
 use Rattle.std.proofs.lemmas.List.FromFn.{get_or-map-range_with_len, length-map-range_with_len}
@@ -28,11 +26,10 @@ use Rattle.split_core.specs.Split.{Share, share, name_of, is_named, file_at, nam
 use Rattle.split_core.specs.inner.Dealt.{share_of}
 use Rattle.split_core.specs.laws.CutLaws.{whole_of_lines, whole_of_none}
 use Rattle.split_core.specs.laws.DealLaws.{share_none}
-use Rattle.split_core.proofs.CutLaws.{first_then_after}
+use Rattle.split_core.proofs.CutLaws.{first_then_after, bytes_of_shares}
 use Rattle.split_core.proofs.AgreedLemmas.{bytes_named, each_named}
 use Rattle.split_core.proofs.MoveLemmas.{named_before}
-use Rattle.split_core.proofs.SectionLemmas.{line_at, all_dealt, first_files}
-use Rattle.split_core.proofs.SectionLemmas.{joined_parts, part_lines, part_bytes, lines_count, bytes_count, line_bytes_are_parts, line_bytes_within}
+use Rattle.split_core.proofs.SectionLemmas.{line_at, all_dealt, first_files, joined_parts, part_lines, part_bytes, lines_count, bytes_count, line_bytes_are_parts, line_bytes_within}
 use Rattle.words_core.specs.declared.settings.Settings.TheVariants.{Split}
 use Rattle.words_core.specs.SplitAsked.{SplitAsked}
 use Rattle.words_core.specs.SplitWords.{CanSplit, IsInLimits}
@@ -42,7 +39,6 @@ use Rattle.tools_core.proofs.RunLemmas.{can_run}
 use Rattle.tools_core.proofs.NumberLemmas.{order_by}
 use Rattle.tools_core.proofs.OutcomeLemmas.{named_each, pieces_of, shares_are, slot_of}
 use Rattle.tools_core.proofs.PromiseLemmas.{did_one, one_made}
-use Rattle.split_core.proofs.CutLaws.{bytes_of_shares}
 
 -- The pieces, and their files
 

@@ -2,9 +2,8 @@
 -- coreutils manual, for `-q`, `-v`, `-z`, the `-c` of `head`, the `-C`, `-n`, `-d`, `-x`, `-e`, `-t` and
 -- `--additional-suffix` of `split`, the `--suppress-matched` of `csplit`, the `-F`, `--follow` and `--retry` of `tail`,
 -- and the long names; `--looks` is of these tools alone.
-use Rattle.std.specs.Prelude.{ℕ, Bool, true, false, List, [], ◌∷◌, ◌++◌, map, codes, Option, Some, None, if◌then◌else◌}
+use Rattle.std.specs.Prelude.{ℕ, Bool, true, false, List, [], ◌∷◌, ◌++◌, map, codes, Option, Some, None, if◌then◌else◌, bytes_eq}
 use Rattle.std.specs.Borrow.{Bor}
-use Rattle.std.specs.Str.{bytes_eq}
 use Rattle.ports_core.specs.declared.tool.Tool.{Tool}
 use Rattle.ports_core.specs.declared.tool.Tool.TheVariants.{Head, Tail, Split, Csplit, Tee}
 use Rattle.words_core.specs.declared.table.Choice.{Choice}

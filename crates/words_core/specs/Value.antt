@@ -1,8 +1,7 @@
 -- What the value of an option says, or what is wrong with it, by its kind. A value that isn't of its form is told
 -- before one that is too large, and that before 0.
-use Rattle.std.specs.Prelude.{ℕ, ◌-◌, ◌^◌, ◌==◌, ◌&&◌, nat_le, codes, List, [], ◌∷◌, Result, Ok, Err, if◌then◌else◌}
+use Rattle.std.specs.Prelude.{ℕ, ◌-◌, ◌^◌, ◌==◌, ◌&&◌, nat_le, codes, List, [], ◌∷◌, Result, Ok, Err, if◌then◌else◌, bytes_eq}
 use Rattle.std.specs.List.{list_any}
-use Rattle.std.specs.Str.{bytes_eq}
 use Rattle.seg_core.specs.Count.{count_of, digits_of}
 use Rattle.seg_core.specs.declared.count.Count.{Count}
 use Rattle.seg_core.specs.declared.count.CountFault.{CountFault}

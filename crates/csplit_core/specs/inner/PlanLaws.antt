@@ -1,5 +1,5 @@
 -- What private calls say: the plan that is computed is the one plan there is, and what sections are as more lines come.
-use Rattle.std.proofs.Common.{◌≡◌, ℕ, suc, ◌+◌, ◌<◌, true, false, List, length, Option, Some, None, ◌-◌, ◌*◌, Bool, [], ◌∷◌, ◌≤◌, ◌++◌}
+use Rattle.std.specs.Prelude.{◌≡◌, ℕ, suc, ◌+◌, ◌<◌, true, false, List, length, Option, Some, None, ◌-◌, ◌*◌, Bool, [], ◌∷◌, ◌≤◌, ◌++◌}
 use Rattle.csplit_core.specs.Operand.{Operand, Line, Target, Number, Search, is_kept, most_held}
 use Rattle.csplit_core.specs.Plan.{IsFirst, MatchesNone, State, Step, Ending, Runs, used_up, missed, above, below, CutsAt, Misses}
 use Rattle.csplit_core.specs.Planned.{Plan, Turn, ends, goes, turn, ended, with_step, plan_within, plan}

@@ -1,5 +1,5 @@
 -- What private calls say: parts that follow one another, and what files get of them.
-use Rattle.std.proofs.Common.{◌≡◌, ℕ, List, [], ◌∷◌, true, false, map, ◌⊎◌}
+use Rattle.std.specs.Prelude.{◌≡◌, ℕ, List, [], ◌∷◌, true, false, map, ◌⊎◌}
 use Rattle.split_core.specs.declared.limit.Limit.{Limit}
 use Rattle.split_core.specs.Parts.{is_full, first_part, after_first, CutUp, parts}
 use Rattle.ports_core.specs.Part.{IsBeginning}

@@ -1,9 +1,8 @@
 -- The lines of a piece, dealt to files.
-use Rattle.std.specs.Prelude.{ℕ, ◌≡◌, ◌+◌, ◌%◌, List, map, min}
+use Rattle.std.specs.Prelude.{ℕ, ◌≡◌, ◌+◌, ◌%◌, List, map, min, ◌<◌, [], ◌∷◌, length}
 use Rattle.std.specs.List.{range_with_len}
 use Rattle.seg_core.specs.Line.{lines_of, line_count, delimiters}
 use Rattle.split_core.specs.Parts.{dealt}
-use Rattle.std.proofs.Common.{ℕ, ◌<◌, List, [], ◌∷◌, length}
 
 -- what each of n files gets of a piece, whose first byte goes to the file at this place
 abbrev pub dealt_piece : ℕ → ℕ → ℕ → List ℕ → List (List ℕ)

@@ -1,5 +1,4 @@
-use Rattle.std.proofs.Common.{length, take, sym, ◌∙◌, ap, subst}
-use Rattle.std.proofs.lemmas.List.{take_at}
+use Rattle.std.proofs.Common.{length, take, sym, ◌∙◌, ap, subst, take_at}
 use Rattle.csplit_core.specs.inner.Cutter.{IsLine}
 use Rattle.csplit_core.proofs.LineLemmas.{first_line}
 use Rattle.csplit_core.proofs.line_cutter.first_size.Goals as goal

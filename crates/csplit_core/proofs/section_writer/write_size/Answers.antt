@@ -2,10 +2,9 @@ use Rattle.std.proofs.Common.{◌∙◌, ap, subst, arith}
 use Rattle.std.proofs.lemmas.Grind.{common_steps}
 use Rattle.ports_core.specs.Slot.{told_of, with_written}
 use Rattle.ports_core.specs.Write.{BrokeAfter}
-use Rattle.ports_core.specs.inner.Write.{broke}
+use Rattle.ports_core.specs.inner.Write.{broke, Wrote}
 use Rattle.ports_core.proofs.HandedOn.{of_write}
 use Rattle.csplit_core.proofs.WriterLemmas.{stop_is}
-use Rattle.ports_core.specs.inner.Write.{Wrote}
 use Rattle.csplit_core.proofs.WriterCalls.{line_is}
 use Rattle.csplit_core.proofs.section_writer.write_size.Goals as goal
 

@@ -1,5 +1,4 @@
-use Rattle.std.proofs.Common.{arith}
-use Rattle.std.proofs.lemmas.List.{length-take}
+use Rattle.std.proofs.Common.{arith, length-take}
 use Rattle.run_core.proofs.FeedingLemmas.{gave_part}
 use Rattle.run_core.proofs.feeding.read_part.Goals as goal
 

@@ -1,5 +1,4 @@
-use Rattle.std.proofs.Common.{◌≡◌, List, [], ◌∷◌, map, drop, Option, Some, None, Result, Ok, Err, sym, ◌∙◌, ap}
-use Rattle.std.specs.Prelude.{IfOk, IfSome}
+use Rattle.std.proofs.Common.{◌≡◌, List, [], ◌∷◌, map, drop, Option, Some, None, Result, Ok, Err, sym, ◌∙◌, ap, IfOk, IfSome}
 use Rattle.seg_core.specs.Line.{joined}
 use Rattle.ports_core.specs.Slot.{Slot}
 use Rattle.ports_core.specs.declared.fault.Fault.{Fault}

@@ -1,5 +1,4 @@
-use Rattle.std.proofs.Common.{◌≡◌, ℕ, true, Result, Ok, Err, sym, ◌∙◌, ap, arith}
-use Rattle.std.specs.Prelude.{IfOk}
+use Rattle.std.proofs.Common.{◌≡◌, ℕ, true, Result, Ok, Err, sym, ◌∙◌, ap, arith, IfOk}
 use Rattle.ports_core.specs.Slot.{slot_at}
 use Rattle.ports_core.specs.declared.fault.Fault.{Fault}
 use Rattle.run_tests.proofs.law_tests.status_of.Goals as goal

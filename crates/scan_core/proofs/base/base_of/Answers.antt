@@ -1,5 +1,4 @@
-use Rattle.std.proofs.Common.{◌≡◌, ◌∙◌, ℕ, length, false, ap, subst, sym, arith}
-use Rattle.std.specs.Prelude.{◌↔◌}
+use Rattle.std.proofs.Common.{◌≡◌, ◌∙◌, ℕ, length, false, ap, subst, sym, arith, ◌↔◌}
 use Rattle.std.proofs.lemmas.List.{with_items_is}
 use Rattle.scan_core.specs.inner.Base.{IsLeading}
 use Rattle.scan_core.specs.inner.Each.{AreEach}

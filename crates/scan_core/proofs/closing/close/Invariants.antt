@@ -1,5 +1,4 @@
-use Rattle.std.proofs.Common.{get_or}
-use Rattle.std.specs.Prelude.{bit_and}
+use Rattle.std.proofs.Common.{get_or, bit_and}
 use Rattle.scan_core.proofs.Insides.{Visiting}
 use Rattle.scan_core.proofs.closing.close.Given as goal
 

@@ -1,6 +1,5 @@
-use Rattle.std.proofs.Common.{rules, ◌≡◌, ℕ, get_or, set, sym, ap, ◌∙◌, arith}
+use Rattle.std.proofs.Common.{rules, ◌≡◌, ℕ, get_or, set, sym, ap, ◌∙◌, arith, bit_and, bit_or}
 use Rattle.std.proofs.lemmas.List.{get_or-set_same, get_or_default}
-use Rattle.std.specs.Prelude.{bit_and, bit_or}
 use Rattle.scan_core.proofs.Closings.{close_all, close_none}
 use Rattle.scan_core.proofs.Insides.{visit_starts}
 use Rattle.scan_core.proofs.closing.close_some.Goals as goal

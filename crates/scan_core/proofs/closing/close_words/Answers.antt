@@ -1,6 +1,5 @@
-use Rattle.std.proofs.Common.{◌+◌, ◌<◌, get_or, refl, sym, ap, ◌∙◌, subst, arith}
+use Rattle.std.proofs.Common.{◌+◌, ◌<◌, get_or, refl, sym, ap, ◌∙◌, subst, arith, bit_and, bit_or}
 use Rattle.std.proofs.lemmas.List.{get_or_default}
-use Rattle.std.specs.Prelude.{bit_and, bit_or}
 use Rattle.scan_core.specs.inner.Words.{width}
 use Rattle.scan_core.proofs.Closings.{Apart, apart_skip, apart_more, apart_ends}
 use Rattle.scan_core.proofs.closing.close_words.Goals as goal

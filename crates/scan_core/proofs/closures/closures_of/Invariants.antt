@@ -1,5 +1,4 @@
-use Rattle.std.proofs.Common.{None}
-use Rattle.std.specs.Prelude.{IfSome}
+use Rattle.std.proofs.Common.{None, IfSome}
 use Rattle.scan_core.specs.inner.Closures.{AreNexts, ArePeers, IsLeaving}
 use Rattle.scan_core.specs.inner.Each.{AreEach}
 use Rattle.scan_core.proofs.closures.closures_of.Given as goal

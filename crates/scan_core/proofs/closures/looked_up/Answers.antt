@@ -1,5 +1,4 @@
-use Rattle.std.proofs.Common.{◌+◌, ◌*◌, ◌/◌, ◌%◌, ◌^◌, ◌-◌, ◌<◌, ℕ, drop, ◌∙◌, arith}
-use Rattle.std.proofs.lemmas.List.{get_or-take, get_or-drop}
+use Rattle.std.proofs.Common.{◌+◌, ◌*◌, ◌/◌, ◌%◌, ◌^◌, ◌-◌, ◌<◌, ℕ, drop, ◌∙◌, arith, get_or-take, get_or-drop}
 use Rattle.scan_core.proofs.Insides.{join_more}
 use Rattle.scan_core.proofs.closures.looked_up.Goals as goal
 

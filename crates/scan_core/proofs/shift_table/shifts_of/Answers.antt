@@ -1,5 +1,4 @@
-use Rattle.std.proofs.Common.{refl, sym, subst, arith}
-use Rattle.std.specs.Prelude.{IfSome}
+use Rattle.std.proofs.Common.{refl, sym, subst, arith, IfSome}
 use Rattle.scan_core.specs.inner.Shifts.{AreLight}
 use Rattle.scan_core.specs.inner.Table.{IsTable}
 use Rattle.scan_core.proofs.Enterings.{each_more, each_to}

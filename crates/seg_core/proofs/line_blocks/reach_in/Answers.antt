@@ -1,6 +1,5 @@
 use Rattle.std.proofs.lemmas.Grind.{common_steps}
-use Rattle.std.proofs.Common.{◌≡◌, ◌+◌, ◌<◌, ◌≤◌, ◌++◌, ℕ, List, drop, length, arith}
-use Rattle.std.proofs.lemmas.List.{length-append}
+use Rattle.std.proofs.Common.{◌≡◌, ◌+◌, ◌<◌, ◌≤◌, ◌++◌, ℕ, List, drop, length, arith, length-append}
 use Rattle.seg_core.specs.Line.{delimiters, first_lines}
 use Rattle.seg_core.specs.Blocks.{text_of}
 use Rattle.seg_core.proofs.Delimiters.{delimiters-append}

@@ -1,6 +1,5 @@
 use Rattle.std.proofs.lemmas.Grind.{common_steps}
-use Rattle.std.proofs.Common.{arith}
-use Rattle.std.proofs.lemmas.List.{drop-drop, length-take-le}
+use Rattle.std.proofs.Common.{arith, drop-drop, length-take-le}
 use Rattle.std.proofs.lemmas.Simd.{put_chunk_is}
 use Rattle.split_core.proofs.gathered.copy_chunk.Goals as goal
 

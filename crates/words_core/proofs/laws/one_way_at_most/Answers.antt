@@ -1,4 +1,4 @@
-use Rattle.std.specs.Prelude.{filter}
+use Rattle.std.proofs.Common.{filter}
 use Rattle.words_core.specs.SplitWords.{is_way}
 use Rattle.words_core.proofs.ChoiceLemmas.{few_ways, second_told, way_is}
 use Rattle.words_core.proofs.laws.one_way_at_most.Goals as goal

@@ -1,5 +1,4 @@
-use Rattle.std.proofs.Common.{◌≡◌, map, length}
-use Rattle.std.specs.Str.{IsUtf8}
+use Rattle.std.proofs.Common.{◌≡◌, map, length, IsUtf8}
 use Rattle.words_core.specs.Table.{row_seen}
 use Rattle.words_core.specs.Spelling.{before, cluster}
 use Rattle.words_core.proofs.spelling.read_cluster.Given as goal

@@ -1,5 +1,4 @@
-use Rattle.std.proofs.Common.{◌≡◌, map, length}
-use Rattle.std.specs.Prelude.{filter}
+use Rattle.std.proofs.Common.{◌≡◌, map, length, filter}
 use Rattle.words_core.specs.Given.{option_seen}
 use Rattle.words_core.specs.SplitWords.{is_way, way_of}
 use Rattle.words_core.proofs.ChoiceLemmas.{way_then}

@@ -1,6 +1,5 @@
-use Rattle.std.proofs.Common.{rules, ◌+◌, ◌/◌, ◌≤◌, length, sym, ap, ◌∙◌, subst, arith}
+use Rattle.std.proofs.Common.{rules, ◌+◌, ◌/◌, ◌≤◌, length, sym, ap, ◌∙◌, subst, arith, length-take}
 use Rattle.bre_core.specs.Pattern.{positions_of}
-use Rattle.std.proofs.lemmas.List.{length-take}
 use Rattle.scan_core.specs.inner.Sets.{IsCode}
 use Rattle.scan_core.proofs.Codes.{is_code, enough_room}
 use Rattle.scan_core.proofs.bre.Bre.search.Goals as goal

@@ -1,6 +1,5 @@
 use Rattle.std.proofs.lemmas.Grind.{common_steps}
-use Rattle.std.proofs.Common.{arith}
-use Rattle.std.proofs.lemmas.List.{length-append}
+use Rattle.std.proofs.Common.{arith, length-append}
 use Rattle.seg_core.proofs.Delimiters.{delimiters-le-length}
 use Rattle.seg_core.proofs.LineCounts.{line_count-le-length}
 use Rattle.seg_core.proofs.LastLines.{but_last_lines-zero, over_begins, over_short}
